@@ -16,6 +16,10 @@ abbrev pub got_of : LinkGot → List ℕ → ReadGot
 got_of (got.Bytes n) into = happened.Given (take n into)
 got_of got.NotYet into = happened.NotYet
 
+-- how many bytes a write took
+abbrev pub taken_count : LinkTook → ℕ
+taken_count (took.Took n) = n
+
 -- what a write took, of the piece that was offered
 abbrev pub took_of : LinkTook → List ℕ → Option (List ℕ)
 took_of (took.Took n) piece = Some (take n piece)

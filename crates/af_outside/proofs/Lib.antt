@@ -1,1 +1,2 @@
 pub mod Outsides
+pub mod FarEnds

@@ -2,3 +2,5 @@ pub mod Told
 pub mod Flow
 pub mod World
 pub mod Outside
+pub mod Tape
+pub mod TapeLaws

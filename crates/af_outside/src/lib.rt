@@ -2,13 +2,17 @@
 #![tactic(auto)]
 
 mod bytes;
+mod far_end;
 mod flow;
 mod happening;
+mod logbook;
 mod script;
+mod tape;
 mod world;
 
 pub use bytes::Bytes;
 pub use flow::{Got, Put, Sink, Source};
 pub use happening::{Happening, ReadGot, Wake, Why};
 pub use script::{Config, DeviceSpec, Step};
+pub use tape::Tape;
 pub use world::{LinkGot, LinkTook, World};

@@ -3,4 +3,5 @@ pub mod Flow
 pub mod World
 pub mod Outside
 pub mod Tape
+pub mod Memory
 pub mod TapeLaws

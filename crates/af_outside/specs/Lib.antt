@@ -4,4 +4,5 @@ pub mod World
 pub mod Outside
 pub mod Tape
 pub mod Memory
+pub mod Real
 pub mod TapeLaws

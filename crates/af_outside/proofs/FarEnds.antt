@@ -29,18 +29,9 @@ peer_at-past (x ∷ far_ends) (suc k) past = peer_at-past far_ends k (omega arit
 pub outside_of-set : (far_ends : List KeptPeer) (k : ℕ) (far_end : KeptPeer) → outside_of (set far_ends k far_end) ≡ with_peer (outside_of far_ends) k far_end.peer
 outside_of-set far_ends k far_end = ap (λ (peers : List (Option Peer)). (let o : Outside = record { peers = peers } in o)) (map-set (λ (e : KeptPeer). e.peer) far_ends k far_end)
 
-set_past : {A : Type 0} (xs : List A) (k : ℕ) (x : A) → length xs ≤ k → set xs k x ≡ xs
-set_past [] k x past = refl
-set_past (y ∷ xs) zero x past = absurd (omega arith)
-set_past (y ∷ xs) (suc k) x past = ap (λ ys. y ∷ ys) (set_past xs k x (omega arith))
-
 length-peers : (far_ends : List KeptPeer) → length (outside_of far_ends).peers ≡ length far_ends
 length-peers [] = refl
 length-peers (x ∷ far_ends) = ap suc (length-peers far_ends)
-
--- nothing changes past the far ends
-pub with_peer-past : (far_ends : List KeptPeer) (k : ℕ) (peer : Option Peer) → length far_ends ≤ k → with_peer (outside_of far_ends) k peer ≡ outside_of far_ends
-with_peer-past far_ends k peer past = ap (λ (peers : List (Option Peer)). (let o : Outside = record { peers = peers } in o)) (set_past (outside_of far_ends).peers k peer (omega (arith, length-peers far_ends)))
 
 slice_get-set_cases : {A : Type 0} (xs : List A) (k j : ℕ) (x y : A) → slice_get (set xs k x) j ≡ Some y → (P : Type 0) → (j ≡ k → x ≡ y → P) → (slice_get xs j ≡ Some y → P) → P
 slice_get-set_cases [] k j x y e P here there = there e

@@ -1,15 +1,10 @@
--- What the calls of a tape lead to: the laws of its relation, and one more answer.
+-- What the calls of a tape lead to: the laws of its relation.
 use Rattle.std.proofs.Common.{◌≡◌, [], ◌∷◌, ◌++◌, refl, sym, ap, ◌∙◌, append_assoc}
 use Rattle.std.proofs.lemmas.List.{append-nil}
 use Rattle.std.specs.declared.option.Option.{Option}
 use Rattle.std.specs.declared.option.Option.TheVariants.{None, Some}
-use Rattle.af_outside.specs.declared.happening.Happening.{Happening}
-use Rattle.af_outside.specs.Told.{Log, Grew}
+use Rattle.af_outside.specs.Told.{Log}
 use Rattle.af_outside.specs.Outside.{Outside, TapeState, TapeLeadsTo, Answered, answered, replayed, then_outside}
-
-then_outside-assoc : (o : Option Outside) (f g : Outside → Option Outside) → then_outside (then_outside o f) g ≡ then_outside o (λ o. then_outside (f o) g)
-then_outside-assoc None f g = refl
-then_outside-assoc (Some o) f g = refl
 
 -- a log of two parts is replayed part by part
 pub replayed-append : (o : Outside) (front back : Log) → replayed o (front ++ back) ≡ then_outside (replayed o front) (λ o. replayed o back)
@@ -43,9 +38,3 @@ TapeLeadsTo-trans a b c p q = record {
   left = q.left ∙ p.left;
   answered = answered_trans a.log b.log c.log a.outside b.outside c.outside p.answered q.answered;
 }
-
--- one more happening, which is answered as the script states
-pub Answered-one : (before after : Option Log) (h : Happening) (o o' : Outside) → Grew before (h ∷ []) after → answered o h ≡ Some o' → Answered before o after o'
-Answered-one before None h o o' grew here = tt
-Answered-one None (Some after) h o o' grew here = absurd grew
-Answered-one (Some before) (Some after) h o o' grew here = (h ∷ [], grew, ap (λ x. then_outside x (λ o. replayed o [])) here)

@@ -22,3 +22,6 @@ pub use real::{StdSink, StdSource};
 pub use script::{Config, DeviceSpec, Step};
 pub use tape::Tape;
 pub use world::{LinkGot, LinkTook, World};
+
+#[cfg(test)]
+mod tests;

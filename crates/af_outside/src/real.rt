@@ -31,6 +31,7 @@ impl<R: Read + Drop> Model for StdSource<R> {
 }
 
 impl<R: Read + Drop> StdSource<R> {
+    /// A source of what this reader gives.
     pub fn new(reader: R) -> StdSource<R>
         ensures { result ≡ record { remaining = R.remaining reader; faults = 0 } }
     {
@@ -77,6 +78,7 @@ impl<W: Write + Drop> Model for StdSink<W> {
 }
 
 impl<W: Write + Drop> StdSink<W> {
+    /// A sink that hands all to this writer.
     pub fn new(writer: W) -> StdSink<W>
         ensures { result ≡ record { contents = W.contents writer; faults = 0 } }
     {

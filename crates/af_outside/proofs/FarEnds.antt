@@ -1,16 +1,17 @@
 -- The far ends of a tape's links, and the outside that they make up.
-use Rattle.std.proofs.Common.{◌≡◌, ℕ, zero, suc, ◌+◌, ◌<◌, ◌≤◌, List, [], ◌∷◌, length, get_or, set, map, refl, sym, ap, ◌∙◌, subst, arith, slice_get, slice_set, take, drop, ◌++◌, true, false, is_some, rules, replicate}
+use Rattle.std.proofs.Common.{◌≡◌, ℕ, zero, suc, ◌+◌, ◌<◌, ◌≤◌, List, [], ◌∷◌, length, get_or, set, map, refl, sym, ap, ◌∙◌, subst, arith, slice_get, slice_set, take, drop, ◌++◌, true, false, is_some, replicate}
 use Rattle.std.proofs.Math.Seq.{map-set_same}
 use Rattle.std.proofs.lemmas.List.{map-set, map-append, replicate-append-replicate, length-replicate}
 use Rattle.std.proofs.lemmas.List.Sums.{sum_by-cons}
 use Rattle.std.proofs.lemmas.Option.{slice_get-get_or}
-use Rattle.std.specs.Prelude.{sum_by, if◌then◌else◌, ◌==◌}
+use Rattle.std.specs.Prelude.{sum_by, if◌then◌else◌}
 use Rattle.std.specs.declared.option.Option.{Option}
 use Rattle.std.specs.declared.option.Option.TheVariants.{None, Some}
 use Rattle.af_outside.specs.declared.script.Step.{Step}
 use Rattle.af_outside.specs.declared.script.Step.TheVariants as step
 use Rattle.af_outside.specs.declared.happening.ReadGot.TheVariants.{Given, NotYet}
-use Rattle.af_outside.specs.Outside.{Outside, Peer, peer_at, with_peer, gives_of, opened_at, sent_at, read_answered, same_bytes}
+use Rattle.af_outside.specs.Outside.{Outside, Peer, peer_at, with_peer, gives_of, opened_at, sent_at, read_answered}
+use Rattle.af_outside.proofs.Outsides.{eq-refl, same_bytes-refl}
 use Rattle.af_outside.specs.Tape.{KeptPeer, outside_of, HasRoom, sent_by, peer_sent, peer_given}
 
 -- the peer of a link is that of its far end
@@ -63,9 +64,6 @@ HasRoom-kept far_ends k d new steps below room more = HasRoom-changed far_ends k
 pub HasRoom-less : (far_ends : List KeptPeer) (step : Step) (steps : List Step) → HasRoom far_ends (step ∷ steps) → HasRoom far_ends steps
 HasRoom-less far_ends step steps room = record { each = λ k e at. let r = room.each k e at in let more = sum_by-cons (sent_by k) step steps in omega arith }
 
-same_link : (k : ℕ) → (k == k) ≡ true
-same_link k = search rules
-
 -- a step's bytes take the room that was kept for them
 pub HasRoom-sent : (far_ends : List KeptPeer) (k : ℕ) (bytes : List ℕ) (d new : KeptPeer) (steps : List Step) → k < length far_ends → HasRoom far_ends (step.Send k bytes ∷ steps) →
     (get_or far_ends k d).room ≤ new.room + length bytes → HasRoom (slice_set far_ends k new) steps
@@ -74,7 +72,7 @@ HasRoom-sent far_ends k bytes d new steps below room more =
     (λ j. let all = sum_by-cons (sent_by j) (step.Send k bytes) steps in omega arith)
     (λ fits.
     let all = sum_by-cons (sent_by k) (step.Send k bytes) steps in
-    let sent : sent_by k (step.Send k bytes) ≡ length bytes = ap (λ t. if t then length bytes else 0) (same_link k) in
+    let sent : sent_by k (step.Send k bytes) ≡ length bytes = ap (λ t. if t then length bytes else 0) (eq-refl k) in
     omega arith)
 
 -- what is sent on a link that is open
@@ -87,13 +85,9 @@ drop_taken zero xs = refl
 drop_taken (suc n) [] = refl
 drop_taken (suc n) (x ∷ xs) = drop_taken n xs
 
-same_bytes_refl : (xs : List ℕ) → same_bytes xs xs ≡ true
-same_bytes_refl [] = refl
-same_bytes_refl (x ∷ xs) = let e = same_bytes_refl xs in search rules
-
 first_bytes : (o : Outside) (k : ℕ) (xs : List ℕ) → 0 < length (take 16384 xs) → read_answered o k xs (Given (take 16384 xs)) ≡ Some (with_peer o k (Some (record { gives = drop 16384 xs })))
 first_bytes o k [] some = absurd (omega (arith, some))
-first_bytes o k (x ∷ xs) some = ap (λ t. if t then Some (with_peer o k (Some (record { gives = drop 16384 (x ∷ xs) }))) else None) (same_bytes_refl (take 16384 (x ∷ xs)))
+first_bytes o k (x ∷ xs) some = ap (λ t. if t then Some (with_peer o k (Some (record { gives = drop 16384 (x ∷ xs) }))) else None) (same_bytes-refl (take 16384 (x ∷ xs)))
 
 -- the first bytes of a link are the answer to a read
 pub read_bytes : (o : Outside) (k n room : ℕ) (bytes : List ℕ) (peer peer' : Option Peer) → room ≡ 16384 → n ≡ length (take room (gives_of peer)) → 0 < n → bytes ≡ take room (gives_of peer) → peer' ≡ peer_given n peer →

@@ -197,3 +197,8 @@ read_all n (line ∷ rest) =
 -- a text that is read from its first line on gives the script that it is
 pub read_text : (text : List ℕ) → read_on (no_steps []) 1 (lines text) ≡ script_of text
 read_text text = read_all 1 (lines text)
+
+pub read_start : (text : List ℕ) (config : List DeviceSpec) (steps : List Step) → config ≡ [] → steps ≡ [] → read_on (record { config = config; steps = steps }) 1 (lines text) ≡ script_of text
+read_start text config steps no_config none =
+    ap (λ (ds : List DeviceSpec). read_on (record { config = ds; steps = steps }) 1 (lines text)) no_config
+    ∙ ap (λ (xs : List Step). read_on (record { config = []; steps = xs }) 1 (lines text)) none ∙ read_text text

@@ -4,3 +4,4 @@ pub mod Statement
 pub mod Script
 pub mod Reading
 pub mod Transcript
+pub mod Printing

@@ -12,15 +12,23 @@ abbrev pub cause_word : Why → List ℕ
 cause_word BadSetup = codes "setup"
 cause_word Malformed = codes "malformed"
 
--- a line of a word, a number and what comes behind it
-abbrev pub line_of : List ℕ → ℕ → List ℕ → List ℕ
-line_of name number text = name ++ codes " " ++ decimal number ++ codes " " ++ text ++ codes "\n"
+-- a line begins with a name, and a number between two spaces
+abbrev pub head_of : List ℕ → ℕ → List ℕ
+head_of name number = name ++ codes " " ++ decimal number ++ codes " "
 
--- a link has a line where it took some bytes, or failed
+-- a line of a name, a number and a text
+abbrev pub line_of : List ℕ → ℕ → List ℕ → List ℕ
+line_of name number text = head_of name number ++ text ++ codes "\n"
+
+-- the line of a link that took these bytes, if they are some
+abbrev pub taken_line : ℕ → List ℕ → List ℕ
+taken_line link [] = []
+taken_line link (b ∷ bytes) = line_of (codes "link") link (encode_lower (b ∷ bytes))
+
+-- the line of a write to a link, of which None stands for a failed one
 abbrev pub wrote_line : ℕ → Option (List ℕ) → List ℕ
 wrote_line link None = line_of (codes "write") link (codes "failed")
-wrote_line link (Some []) = []
-wrote_line link (Some (b ∷ bytes)) = line_of (codes "link") link (encode_lower (b ∷ bytes))
+wrote_line link (Some bytes) = taken_line link bytes
 
 -- the line of a happening; wakes and reads have none
 abbrev pub line_for : Happening → List ℕ

@@ -10,6 +10,6 @@ mod statement;
 mod steps;
 
 pub use fault::ScriptFault;
-//pub use print::print_log;
+pub use print::print_log;
 pub use read::{Script, read_script};
 pub use steps::Steps;

@@ -1,10 +1,10 @@
 // A text is read as a script, line by line.
-ghost use Rattle.std.specs.Prelude.{◌≡◌, ◌≤◌, ◌^◌, ◌⊎◌, ℕ, [], Some, length, All, IfOk, IfErr, option_map, ◌++◌, ◌∷◌, ◌<◌};
+ghost use Rattle.std.specs.Prelude.{◌≡◌, ◌≤◌, ◌&&◌, ◌⊎◌, ℕ, [], Some, length, All, IfOk, IfErr, option_map, ◌++◌, ◌∷◌, ◌<◌};
 ghost use Rattle.af_outside.specs.Outside.{IsStep};
 ghost use Rattle.af_script.specs.Lines.{words};
 ghost use Rattle.af_script.specs.Script.{script_of, IsFault, HasListedRate};
 ghost use Rattle.af_script.specs.Words.{then_some};
-ghost use Rattle.af_script.specs.Statement.{device_with, step_of_kind};
+ghost use Rattle.af_script.specs.Statement.{is_device_kind, device_with, step_of_kind};
 ghost use Rattle.af_script.specs.Reading.{with_line, can_take_device};
 
 use crate::lines::{next_line, next_word, passes_over};
@@ -73,7 +73,7 @@ fn add_line(alloc: Global, line: &[u8], config: &mut Config, steps: &mut Vec<Ste
     let Some(kind) = kind_named(name) else {
         return Ok(false);
     };
-    if kind == Kind::Device && takes_device(config, steps) {
+    if is_further_device(kind, config, steps) {
         return Ok(add_device(arguments, config));
     }
     if config.is_empty() {
@@ -82,11 +82,11 @@ fn add_line(alloc: Global, line: &[u8], config: &mut Config, steps: &mut Vec<Ste
     add_step(alloc, kind, arguments, config.len(), steps)
 }
 
-/// Whether a further device may be stated.
-fn takes_device(config: &Config, steps: &Vec<Step>) -> bool
-    ensures { result ≡ can_take_device (record { config = config.now.items; steps = steps.now.items }) }
+/// Whether a line of this kind states a further device.
+fn is_further_device(kind: Kind, config: &Config, steps: &Vec<Step>) -> bool
+    ensures { result ≡ (can_take_device (record { config = config.now.items; steps = steps.now.items }) && is_device_kind (Some kind)) }
 {
-    steps.is_empty() && config.len() < MOST_DEVICES
+    kind == Kind::Device && steps.is_empty() && config.len() < MOST_DEVICES
 }
 
 /// Adds the device that the words behind `device` state, and says whether they state one.

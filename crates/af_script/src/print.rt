@@ -101,9 +101,16 @@ fn print_head<K: Sink>(name: &[u8], number: u8, sink: &mut K) -> Result<(), Brok
 {
     put(name, sink)?;
     put(b" ", sink)?;
-    let mut buffer = Buffer::new();
-    put(buffer.format(number).as_bytes(), sink)?;
+    print_number(number, sink)?;
     put(b" ", sink)
+}
+
+/// Prints a number in decimal digits.
+fn print_number<K: Sink>(number: u8, sink: &mut K) -> Result<(), Broken>
+    ensures { Prints result (filled (K.held sink.old) (K.faults sink.old)) (decimal number) (filled (K.held sink.new) (K.faults sink.new)) }
+{
+    let mut buffer = Buffer::new();
+    put(buffer.format(number).as_bytes(), sink)
 }
 
 /// Prints bytes in hexadecimal.

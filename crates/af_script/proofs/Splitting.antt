@@ -18,7 +18,6 @@ unwrap_or-position p xs r e =
 abbrev pub before : ℕ → List ℕ → ℕ
 before stop bytes = position_or_len (λ b. nat_eq b stop) bytes
 
-
 -- the first line ends before the first LF
 pub lines_first : (text : List ℕ) → 0 < length text → lines text ≡ take (before 10 text) text ∷ lines (drop (suc (before 10 text)) text)
 lines_first [] h = absurd (omega arith)

@@ -54,7 +54,7 @@ number_from low high word n e =
 -- a rate that is stated is listed
 rate_from : (word : List ℕ) (rate : ℕ) → rate_of word ≡ Some rate → is_listed_rate rate ≡ true
 rate_from word rate e =
-    let a = and_then_from (only_if is_listed_rate) (number_within 0 4294967295 word) rate e in
+    let a = and_then_from (only_if is_listed_rate) (number_of word) rate e in
     let b = only_if_from is_listed_rate a.0 rate a.2 in
     subst (λ r. is_listed_rate r ≡ true) b.1 b.0
 
@@ -111,7 +111,7 @@ send_from devices (link ∷ hex ∷ []) s e =
 
 device_number_from : (devices : ℕ) (word : List ℕ) (d : ℕ) → device_number devices word ≡ Some d → d < devices
 device_number_from devices word d e =
-    let a = and_then_from (only_if (λ x. nat_lt x devices)) (number_within 0 7 word) d e in
+    let a = and_then_from (only_if (λ x. nat_lt x devices)) (number_of word) d e in
     let b = only_if_from (λ x. nat_lt x devices) a.0 d a.2 in
     let below = b.0 in
     let is = b.1 in

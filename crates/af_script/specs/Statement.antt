@@ -5,7 +5,7 @@ use Rattle.af_outside.specs.declared.script.Step.{Step}
 use Rattle.af_outside.specs.declared.script.Step.TheVariants as step
 use Rattle.af_script.specs.declared.statement.Kind.{Kind}
 use Rattle.af_script.specs.declared.statement.Kind.TheVariants as kind
-use Rattle.af_script.specs.Words.{number_within, only_if, sent_bytes}
+use Rattle.af_script.specs.Words.{number_of, number_within, only_if, sent_bytes}
 
 -- the kind of a line by its first word
 abbrev pub kind_of : List ℕ → Option Kind
@@ -41,7 +41,7 @@ is_listed_rate rate = rate == 8000
 
 -- the rate of a word, where it is listed
 abbrev pub rate_of : List ℕ → Option ℕ
-rate_of word = option_and_then (only_if is_listed_rate) (number_within 0 (2 ^ 32 - 1) word)
+rate_of word = option_and_then (only_if is_listed_rate) (number_of word)
 
 abbrev pub device_at : ℕ → ℕ → DeviceSpec
 device_at rate start = record { rate = rate; start = start }
@@ -65,13 +65,17 @@ device_of (name ∷ arguments) = device_of_kind (kind_of name) arguments
 
 -- Steps
 
+-- links are numbered from 0 to this
+abbrev pub last_link : ℕ
+last_link = 0
+
 -- the number of a link
 abbrev pub link_of : List ℕ → Option ℕ
-link_of word = number_within 0 0 word
+link_of word = number_within 0 last_link word
 
 -- the number of one of so many devices
 abbrev pub device_number : ℕ → List ℕ → Option ℕ
-device_number devices word = option_and_then (only_if (λ d. nat_lt d devices)) (number_within 0 7 word)
+device_number devices word = option_and_then (only_if (λ d. nat_lt d devices)) (number_of word)
 
 -- `open K`
 abbrev pub open_of : List (List ℕ) → Option Step

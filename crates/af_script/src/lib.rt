@@ -13,3 +13,6 @@ pub use fault::ScriptFault;
 pub use print::print_log;
 pub use read::{Script, read_script};
 pub use steps::Steps;
+
+#[cfg(test)]
+mod tests;

@@ -17,7 +17,10 @@ fn count_leading(bytes: &[u8], skipped: u8) -> usize
     ensures value { result ≡ position_or_len (λ b. not (b == skipped)) bytes.now }
     ensures bound { result ≤ length bytes.now }
 {
-    bytes.iter().position(|b| *b != skipped).unwrap_or(bytes.len())
+    bytes
+        .iter()
+        .position(|b| *b != skipped)
+        .unwrap_or(bytes.len())
 }
 
 /// The first line of a text that is not empty, without its LF, and the text behind it.
@@ -27,7 +30,11 @@ pub fn next_line(text: &[u8]) -> (&[u8], &[u8])
     ensures shorter { length result.1.now < length text.now }
 {
     let end = count_before(text, b'\n');
-    if end < text.len() { (&text[..end], &text[end + 1..]) } else { (text, &[]) }
+    if end < text.len() {
+        (&text[..end], &text[end + 1..])
+    } else {
+        (text, &[])
+    }
 }
 
 /// The first word of a line, and the line behind it.
@@ -48,7 +55,11 @@ pub fn one_word(line: &[u8]) -> Option<&[u8]>
     ensures { MatchOption result ((w : List ℕ) → words line.now ≢ w ∷ []) (λ w. words line.now ≡ w.now ∷ []) }
 {
     let (word, rest) = next_word(line)?;
-    if next_word(rest).is_some() { None } else { Some(word) }
+    if next_word(rest).is_some() {
+        None
+    } else {
+        Some(word)
+    }
 }
 
 /// The words of a line that has just two.

@@ -10,7 +10,7 @@ use af_outside::{Happening, Put, Sink, Why};
 use itoa::Buffer;
 
 /// How many bytes are written in hexadecimal at once.
-const CHUNK: usize = 256;
+const CHUNK: usize = 1024;
 
 /// The sink has failed.
 #[derive(Clone, Copy, Debug, PartialEq, Eq)]
@@ -44,11 +44,27 @@ fn print_happening<K: Sink>(happening: &Happening, sink: &mut K) -> Result<(), B
 {
     match happening {
         Happening::Woke(_) | Happening::Read { .. } => Ok(()),
-        Happening::Wrote { link, took: None, .. } => print_word(b"write", *link, b"failed", sink),
-        Happening::Wrote { link, took: Some(bytes), .. } => print_taken(*link, bytes.as_slice(), sink),
+        Happening::Wrote {
+            link,
+            took: None,
+            ..
+        } => print_word(b"write", *link, b"failed", sink),
+        Happening::Wrote {
+            link,
+            took: Some(bytes),
+            ..
+        } => print_taken(*link, bytes.as_slice(), sink),
         Happening::Closed { link, why } => print_word(b"closed", *link, cause(*why), sink),
-        Happening::Emitted { device, sound, done: true } => print_bytes(b"emit", *device, sound.as_slice(), sink),
-        Happening::Emitted { device, done: false, .. } => print_word(b"emit", *device, b"failed", sink),
+        Happening::Emitted {
+            device,
+            sound,
+            done: true,
+        } => print_bytes(b"emit", *device, sound.as_slice(), sink),
+        Happening::Emitted {
+            device,
+            done: false,
+            ..
+        } => print_word(b"emit", *device, b"failed", sink),
     }
 }
 
@@ -129,7 +145,7 @@ fn print_hex<K: Sink>(bytes: &[u8], sink: &mut K) -> Result<(), Broken>
 /// Prints a chunk of bytes in hexadecimal.
 fn print_chunk<K: Sink>(bytes: &[u8], sink: &mut K) -> Result<(), Broken>
     requires some { 0 < length bytes.now }
-    requires bound { length bytes.now ≤ 256 }
+    requires bound { length bytes.now ≤ 1024 }
     ensures { Prints result (filled (K.held sink.old) (K.faults sink.old)) (encode_lower bytes.now) (filled (K.held sink.new) (K.faults sink.new)) }
 {
     let mut text = [0u8; 2 * CHUNK];

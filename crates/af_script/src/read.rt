@@ -60,7 +60,12 @@ pub fn read_script(alloc: Global, text: &[u8]) -> Result<Script, ScriptFault>
 }
 
 /// Adds what a line states, and says whether the line was allowed there.
-fn add_line(alloc: Global, line: &[u8], config: &mut Config, steps: &mut Vec<Step>) -> Result<bool, OutOfMemory>
+fn add_line(
+    alloc: Global,
+    line: &[u8],
+    config: &mut Config,
+    steps: &mut Vec<Step>,
+) -> Result<bool, OutOfMemory>
     ensures { IfOk result (λ allowed. with_line (record { config = config.old.items; steps = steps.old.items }) line.now
         ≡ then_some allowed (record { config = config.new.items; steps = steps.new.items })) }
 {
@@ -104,7 +109,14 @@ fn add_device(arguments: &[u8], config: &mut Config) -> bool
 }
 
 /// Adds the step that a line of this kind states by the words behind its name, and says whether they state one.
-fn add_step(alloc: Global, kind: Kind, arguments: &[u8], devices: usize, steps: &mut Vec<Step>) -> Result<bool, OutOfMemory>
+fn add_step(
+    alloc: Global,
+    kind: Kind,
+    arguments: &[u8],
+    devices: usize,
+    steps: &mut Vec<Step>,
+) -> Result<bool, OutOfMemory>
+    requires { devices ≤ 8 }
     ensures { IfOk result (λ allowed. option_map (λ step. steps.old.items ++ step ∷ []) (step_of_kind devices (Some kind) (words arguments.now))
         ≡ then_some allowed steps.new.items) }
 {

@@ -5,11 +5,14 @@ ghost use Rattle.af_script.specs.Words.{number_within, sent_bytes};
 ghost use Rattle.af_script.specs.Statement.{kind_of, device_with, device_number, link_of, rate_of, open_of, send_of, tick_of, idle_of, step_of_kind};
 
 use crate::lines::{next_word, one_word, two_words};
-use crate::number::number_between;
+use crate::number::{number, number_between};
 use af_outside::{Bytes, DeviceSpec, Step};
 use af_time::OutOfMemory;
 use hex::FromHexError;
 use std::alloc::Global;
+
+/// Links are numbered from 0 to this.
+const LAST_LINK: u32 = 0;
 
 /// What the first word of a line says that the line is.
 #[derive(Clone, Copy, Debug, PartialEq, Eq)]
@@ -65,8 +68,8 @@ pub fn device_stated(arguments: &[u8]) -> Option<DeviceSpec>
 fn listed_rate(word: &[u8]) -> Option<u32>
     ensures { result ≡ rate_of word.now }
 {
-    match number_between(0, u32::MAX, word)? {
-        rate @ 8000 => Some(rate),
+    match number(word)? {
+        8000 => Some(8000),
         _ => None,
     }
 }
@@ -75,16 +78,21 @@ fn listed_rate(word: &[u8]) -> Option<u32>
 fn link(word: &[u8]) -> Option<u8>
     ensures { result ≡ link_of word.now }
 {
-    let number = number_between(0, 0, word)?;
+    let number = number_between(0, LAST_LINK, word)?;
     Some(number as u8)
 }
 
 /// The number of one of so many devices.
 fn device(devices: usize, word: &[u8]) -> Option<u8>
+    requires { devices ≤ 8 }
     ensures { result ≡ device_number devices word.now }
 {
-    let number = number_between(0, 7, word)?;
-    if (number as usize) < devices { Some(number as u8) } else { None }
+    let number = number(word)?;
+    if number < devices as u64 {
+        Some(number as u8)
+    } else {
+        None
+    }
 }
 
 /// The bytes of a word in hexadecimal, where they are as many as may be sent at once.
@@ -92,7 +100,9 @@ fn bytes_sent(alloc: Global, word: &[u8]) -> Result<Option<Bytes>, OutOfMemory>
     ensures { IfOk result (λ bytes. bytes ≡ sent_bytes word.now) }
 {
     match hex::decode(alloc, word) {
-        Ok(bytes) if 1 <= bytes.len() && bytes.len() <= 16384 => Ok(Some(Bytes::copied(alloc, &bytes)?)),
+        Ok(bytes) if 1 <= bytes.len() && bytes.len() <= 16384 => Ok(Some(Bytes::copied(
+            alloc, &bytes,
+        )?)),
         Err(FromHexError::OutOfMemory) => Err(OutOfMemory),
         _ => Ok(None),
     }
@@ -121,6 +131,7 @@ fn send(alloc: Global, arguments: &[u8]) -> Result<Option<Step>, OutOfMemory>
 
 /// `tick D N`
 fn tick(devices: usize, arguments: &[u8]) -> Option<Step>
+    requires { devices ≤ 8 }
     ensures { result ≡ tick_of devices (words arguments.now) }
 {
     let (first, second) = two_words(arguments)?;
@@ -140,7 +151,13 @@ fn idle(arguments: &[u8]) -> Option<Step>
 }
 
 /// The step of a line of this kind, by the words behind its name, where there are so many devices.
-pub fn step_stated(alloc: Global, devices: usize, kind: Kind, arguments: &[u8]) -> Result<Option<Step>, OutOfMemory>
+pub fn step_stated(
+    alloc: Global,
+    devices: usize,
+    kind: Kind,
+    arguments: &[u8],
+) -> Result<Option<Step>, OutOfMemory>
+    requires { devices ≤ 8 }
     ensures { IfOk result (λ step. step ≡ step_of_kind devices (Some kind) (words arguments.now)) }
 {
     match kind {

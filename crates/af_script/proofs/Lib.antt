@@ -1,0 +1,4 @@
+pub mod Splitting
+pub mod LineByLine
+pub mod Stating
+pub mod Printing

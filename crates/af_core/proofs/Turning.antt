@@ -22,11 +22,13 @@ use Rattle.af_core.proofs.Doing.{grew_more, does_nothing, does_one}
 use Rattle.af_core.proofs.Devices.{found}
 
 pub turns : (a b c d : Option Log) (wake : Wake) (ds ds' ds'' : List Device) (links links' links'' : List (Option LinkState)) →
-    fits (outline_of (record { devices = ds; links = links })) wake ≡ true → Grew a (Woke wake ∷ []) b →
+    fits (outline_of (record { devices = ds; links = links })) wake ≡ true → length ds'' ≡ length ds → length links'' ≡ length links → Grew a (Woke wake ∷ []) b →
     Does b c (StandsFor ds links) (StandsFor ds' links') (wake_phase wake) behind → Does c d (StandsFor ds' links') (StandsFor ds'' links'') serve_all behind →
     Turns a d wake (record { devices = ds; links = links }) (record { devices = ds''; links = links'' })
 unfolding turn
-turns a b c d wake ds ds' ds'' links links' links'' fit told w e = record {
+turns a b c d wake ds ds' ds'' links links' links'' fit devices_stay links_stay told w e = record {
+  devices = devices_stay;
+  links = links_stay;
   part = Woke wake ∷ (w.part ++ e.part);
   told = grew_more a b d (Woke wake ∷ []) (w.part ++ e.part) told (grew_more b c d w.part e.part w.told e.told);
   rest = w.part ++ e.part;

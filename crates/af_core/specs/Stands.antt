@@ -72,8 +72,11 @@ pub record TurnsFrom (part : Log) (s : State) (kept : Kept) : Type 0 where
   pub stands : Stands kept next
 
 -- What was added to the log, where it is told, is one part that begins with this wake and has no other; and from each state
--- that the core stood for, the part is one turn, to a state that the core stands for then.
+-- that the core stood for, the part is one turn, to a state that the core stands for then. There are as many devices and
+-- numbers for links as before.
 pub record Turns (before after : Option Log) (wake : Wake) (old new : Kept) : Type 0 where
+  pub devices : length new.devices ≡ length old.devices
+  pub links : length new.links ≡ length old.links
   pub part : Log
   pub told : Grew before part after
   pub rest : Log

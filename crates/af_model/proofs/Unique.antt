@@ -33,7 +33,7 @@ turn_inv s (Closed k why ∷ rest) b e = absurd (none_some e)
 turn_inv s (Emitted d sound done ∷ rest) b e = absurd (none_some e)
 
 -- the turns of one step are alike
-turn_alike : (s : State) (o : Outside) (step : Step) (steps : List Step) (log1 log2 : Log) (b1 b2 : Behind State) (e1 e2 : Outside) → Agree s o → turn s log1 ≡ Some b1 → turn s log2 ≡ Some b2 →
+pub turn_alike : (s : State) (o : Outside) (step : Step) (steps : List Step) (log1 log2 : Log) (b1 b2 : Behind State) (e1 e2 : Outside) → Agree s o → turn s log1 ≡ Some b1 → turn s log2 ≡ Some b2 →
     AnswersTo o log1 (step ∷ steps) e1 → AnswersTo o log2 (step ∷ steps) e2 → Agreed steps Agree log1 log2 e1 e2 b1 b2
 turn_alike s o step steps log1 log2 b1 b2 e1 e2 at f1 f2 r1 r2 =
     let i1 = turn_inv s log1 b1 f1 in

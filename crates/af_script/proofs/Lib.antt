@@ -2,3 +2,4 @@ pub mod Splitting
 pub mod LineByLine
 pub mod Stating
 pub mod Printing
+pub mod Playing

@@ -18,10 +18,9 @@ pub fn run_tape(alloc: Global, config: &Config, tape: &mut Tape) -> Result<(), O
     let mut core = Core::new(alloc, config)?;
     while let Some(wake) = tape.step() {
         core.turn(wake, tape);
+        if !tape.tells() {
+            return Err(OutOfMemory);
+        }
     }
-    if tape.tells() {
-        Ok(())
-    } else {
-        Err(OutOfMemory)
-    }
+    Ok(())
 }

@@ -1,0 +1,3 @@
+pub mod Flowing
+pub mod Ending
+pub mod Words

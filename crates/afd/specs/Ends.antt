@@ -1,0 +1,70 @@
+-- How the script command ends: what was read, what it was, and what was written. Each list of bytes is told or not.
+use Rattle.std.specs.Prelude.{◌≡◌, ℕ, ◌<◌, ◌≤◌, Bool, true, false, List, length, Result, Ok, Err}
+use Rattle.std.specs.declared.option.Option.{Option}
+use Rattle.af_outside.specs.Told.{Log, Gave, Grew}
+use Rattle.af_outside.specs.Flow.{IsSpent, GrewByPrefix}
+use Rattle.af_model.specs.Script.{OneLog}
+use Rattle.af_script.specs.Script.{Stated, script_of}
+use Rattle.af_script.specs.Transcript.{transcript}
+use Rattle.afd.specs.declared.script.ScriptEnd.{ScriptEnd}
+use Rattle.afd.specs.declared.script.ScriptEnd.TheVariants as end
+
+-- how many bytes a script may have
+abbrev pub longest_script : ℕ
+longest_script = 1048576
+
+-- the source was read to its end, and this is all that it gave
+pub record GaveWhole (before after : Option (List ℕ)) (text : List ℕ) : Type 0 where
+  pub gave : Gave before text after
+  pub spent : IsSpent after
+  pub within : length text ≤ longest_script
+
+-- the source gave no more than a script may have
+pub record GaveWithin (before after : Option (List ℕ)) : Type 0 where
+  pub text : List ℕ
+  pub gave : Gave before text after
+  pub within : length text ≤ longest_script
+
+-- the source gave more than a script may have
+pub record GaveTooMuch (before after : Option (List ℕ)) : Type 0 where
+  pub text : List ℕ
+  pub gave : Gave before text after
+  pub beyond : longest_script < length text
+
+-- the text is a script, and this is its one log
+pub record IsLogOf (text : List ℕ) (log : Log) : Type 0 where
+  pub script : Stated
+  pub is_script : script_of text ≡ Ok script
+  pub one : OneLog script.config script.steps log
+
+-- all that the source gave is a script, and the transcript of its one log was written
+pub record RanWhole (left left' held held' : Option (List ℕ)) : Type 0 where
+  pub text : List ℕ
+  pub read : GaveWhole left left' text
+  pub log : Log
+  pub ran : IsLogOf text log
+  pub written : Grew held (transcript log) held'
+
+-- all that the source gave is a script, and a prefix of the transcript of its one log was written
+pub record RanCutOff (left left' held held' : Option (List ℕ)) : Type 0 where
+  pub text : List ℕ
+  pub read : GaveWhole left left' text
+  pub log : Log
+  pub ran : IsLogOf text log
+  pub written : GrewByPrefix held (transcript log) held'
+
+-- all that the source gave is no script, and this is the first line that is not allowed where it stands
+pub record IsFaultyAt (line : ℕ) (left left' : Option (List ℕ)) : Type 0 where
+  pub text : List ℕ
+  pub read : GaveWhole left left' text
+  pub fault : script_of text ≡ Err line
+
+-- the ends at which something may have been written
+abbrev pub writes : ScriptEnd → Bool
+writes end.Done = true
+writes end.Usage = false
+writes end.ReadFault = false
+writes end.TooLong = false
+writes (end.ScriptFault line) = false
+writes end.SinkFault = true
+writes end.OutOfMemory = false

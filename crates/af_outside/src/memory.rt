@@ -24,13 +24,19 @@ impl<'a> Model for MemSource<'a> {
 
     ghost Value = { SourceState };
 
-    ghost view = { λ a. record { left = a.left.now; piece = a.piece; fails = a.fails.now; calls = a.calls; faults = a.faults } };
+    ghost view = { λ a. record {
+      left = a.left.now;
+      piece = a.piece;
+      fails = a.fails.now;
+      calls = a.calls;
+      faults = a.faults;
+    } };
 
     ghost invariant = { λ a. 1 ≤ a.piece };
 }
 
 impl<'a> MemSource<'a> {
-    /// A source of these bytes, in pieces of at most so many. The calls of `read` with these numbers, from 0, will fail.
+    /// A source of these bytes, in pieces of at most so many. The calls of `read` with these numbers, from 0, fail.
     pub fn new(bytes: &'a [u8], piece: usize, fails: &'a [u64]) -> MemSource<'a>
         requires { 1 ≤ piece }
         ensures { result ≡ record { left = bytes.now; piece = piece; fails = fails.now; calls = 0; faults = 0 } }
@@ -64,11 +70,13 @@ impl<'a> Source for MemSource<'a> {
         ensures count { self.old.faults ≤ self.new.faults }
         ensures cause { result ≡ Got.Failed → Rose self.old.faults self.new.faults }
         ensures failed { (result ≡ Got.Failed) ↔ Contains self.old.fails self.old.calls }
-        ensures whole { (n : ℕ) → result ≡ Got.Bytes n → n ≡ min (min self.old.piece (length into.new)) (length self.old.left) }
+        ensures whole { (n : ℕ) → result ≡ Got.Bytes n
+            → n ≡ min (min self.old.piece (length into.new)) (length self.old.left) }
         ensures fault { result ≡ Got.Failed → self.new.faults ≡ counted self.old.faults }
         ensures no_fault { ¬ (result ≡ Got.Failed) → self.new.faults ≡ self.old.faults }
         ensures calls { self.new.calls ≡ counted self.old.calls }
-        ensures rest { self.new ≡ record self.old { left = self.new.left; calls = self.new.calls; faults = self.new.faults } }
+        ensures rest { self.new
+            ≡ record self.old { left = self.new.left; calls = self.new.calls; faults = self.new.faults } }
     {
         let fails = self.fails.contains(&self.calls);
         self.calls = self.calls.saturating_add(1);
@@ -87,8 +95,10 @@ impl<'a> Source for MemSource<'a> {
     }
 }
 
-/// Holds what is written, in room that it is given. The calls whose numbers are listed fail, and so does a write that does
-/// not fit: both write nothing.
+/// Holds what is written, in room that it is given. The calls whose numbers are listed fail, and so does a write that
+/// does not fit: both write nothing.
+///
+/// The number of a call and the count of faults of both types stand still at 2^64 - 1.
 #[derive(Drop)]
 pub struct MemSink<'a> {
     room: &'a mut [u8],
@@ -104,13 +114,19 @@ impl<'a> Model for MemSink<'a> {
 
     ghost Value = { SinkState };
 
-    ghost view = { λ a. record { held = take a.written a.room.now; size = length a.room.now; fails = a.fails.now; calls = a.calls; faults = a.faults } };
+    ghost view = { λ a. record {
+      held = take a.written a.room.now;
+      size = length a.room.now;
+      fails = a.fails.now;
+      calls = a.calls;
+      faults = a.faults;
+    } };
 
     ghost invariant = { λ a. a.written ≤ length a.room.now };
 }
 
 impl<'a> MemSink<'a> {
-    /// A sink that holds nothing yet, with room for so many bytes. The calls of `write` with these numbers, from 0, will fail.
+    /// A sink that holds nothing yet, in this room. The calls of `write` with these numbers, from 0, fail.
     pub fn new(room: &'a mut [u8], fails: &'a [u64]) -> MemSink<'a>
         ensures { result ≡ record { held = []; size = length room.old; fails = fails.now; calls = 0; faults = 0 } }
     {
@@ -147,7 +163,8 @@ impl<'a> Sink for MemSink<'a> {
         ensures fault { result ≡ Put.Failed → self.new.faults ≡ counted self.old.faults }
         ensures no_fault { result ≡ Put.Done → self.new.faults ≡ self.old.faults }
         ensures calls { self.new.calls ≡ counted self.old.calls }
-        ensures rest { self.new ≡ record self.old { held = self.new.held; calls = self.new.calls; faults = self.new.faults } }
+        ensures rest { self.new
+            ≡ record self.old { held = self.new.held; calls = self.new.calls; faults = self.new.faults } }
     {
         let fails = self.fails.contains(&self.calls);
         self.calls = self.calls.saturating_add(1);

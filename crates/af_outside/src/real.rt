@@ -14,8 +14,8 @@ use std::marker::Model;
 // A call, and at most 1000 more where it is interrupted.
 const ATTEMPTS: u32 = 1001;
 
-/// A source over any reader. An interrupted read is made again, at most 1000 times, and then it is a fault, as every other
-/// error is.
+/// A source over any reader. An interrupted read is made again, at most 1000 times, and then it is a fault, as every
+/// other error is. The count of faults stands still at 2^64 - 1.
 #[derive(Drop)]
 pub struct StdSource<R: Read + Drop> {
     reader: R,
@@ -61,8 +61,8 @@ impl<R: Read + Drop> Source for StdSource<R> {
     }
 }
 
-/// A sink over any writer. An interrupted write is made again, at most 1000 times, and then it is a fault, as every other
-/// error is, and a write that takes nothing.
+/// A sink over any writer. An interrupted write is made again, at most 1000 times, and then it is a fault, as every
+/// other error is, and a write that takes nothing. The count of faults stands still at 2^64 - 1.
 #[derive(Drop)]
 pub struct StdSink<W: Write + Drop> {
     writer: W,

@@ -44,8 +44,8 @@ impl Model for Tape {
 }
 
 impl Tape {
-    /// A tape that plays these steps for these devices. Its log is empty and told. All the memory for what its links give is
-    /// taken here.
+    /// A tape that plays these steps for these devices. Its log is empty and told. All the memory for what its links give
+    /// is taken here.
     pub fn new(alloc: Global, config: &Config, steps: &[Step]) -> Result<Tape, OutOfMemory>
         ensures { IfOk result (λ tape. tape ≡ fresh config.now.items steps.now) }
     {
@@ -164,7 +164,8 @@ fn send(far_ends: &mut [FarEnd], link: u8, bytes: &[u8]) -> Wake
     requires { HasRoom far_ends.old (Step.Send link bytes.now ∷ []) }
     ensures wake { result ≡ wake_of (outside_of far_ends.old) (Step.Send link bytes.now) }
     ensures outside { outside_of far_ends.new ≡ stepped (outside_of far_ends.old) (Step.Send link bytes.now) }
-    ensures room { (steps : List Step) → HasRoom far_ends.old (Step.Send link bytes.now ∷ steps) → HasRoom far_ends.new steps }
+    ensures room { (steps : List Step)
+        → HasRoom far_ends.old (Step.Send link bytes.now ∷ steps) → HasRoom far_ends.new steps }
 {
     let place = link as usize;
     if place >= far_ends.len() || !far_ends[place].is_open() {
@@ -192,7 +193,8 @@ fn take_step(far_ends: &mut [FarEnd], step: &Step) -> Wake
 // Gives the first bytes that are left for a link.
 fn give(far_ends: &mut [FarEnd], link: u8, into: &mut [u8]) -> LinkGot
     requires { length into.old ≡ 16384 }
-    ensures answered { answered (outside_of far_ends.old) (Read link (got_of result into.new)) ≡ Some (outside_of far_ends.new) }
+    ensures answered { answered (outside_of far_ends.old) (Read link (got_of result into.new))
+        ≡ Some (outside_of far_ends.new) }
     ensures bound { GotFits result (length into.new) }
     ensures room { (steps : List Step) → HasRoom far_ends.old steps → HasRoom far_ends.new steps }
 {

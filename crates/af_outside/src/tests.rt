@@ -39,7 +39,7 @@ fn lines_of(alloc: Global, log: &[Happening]) -> Result<String, AllocError> {
     Ok(text)
 }
 
-// What is done to a tape: its next step is taken and noted as a wake, which is Stop after the last one, or a call is made.
+// What is done to a tape: its next step is taken and its wake noted, which is Stop after the last one, or a call is made.
 #[derive(Clone, Copy)]
 enum Act {
     Step,
@@ -89,7 +89,7 @@ fn a_tape_plays_a_script(rt: HostRuntime) -> Result<(), Fail> {
         Step::Idle,
     ]?;
     let mut tape = Tape::new(alloc, &config, steps.as_slice())?;
-    // the second opening of a link that is open, and a sending on one that is not, are idle; what was sent before a close is gone
+    // opening a link that is open, and sending on one that is not, are idle; what was sent before a close is gone
     let acts = [
         Act::Step,
         Act::Read(3),

@@ -74,3 +74,6 @@ fn main(rt: HostRuntime) -> ExitCode {
     let _ = report(&rt, end);
     ExitCode::from(status_of(end))
 }
+
+#[cfg(test)]
+mod tests;

@@ -1,0 +1,3 @@
+pub mod SampleTypes
+pub mod Gains
+pub mod Mixing

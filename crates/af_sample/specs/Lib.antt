@@ -1,3 +1,3 @@
 pub mod SampleTypes
-pub mod Gains
 pub mod Mixing
+pub mod Gains

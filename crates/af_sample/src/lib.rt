@@ -8,7 +8,7 @@ ghost use Rattle.af_sample.specs.Mixing.{mixed};
 mod decibels;
 mod sample_type;
 
-pub use decibels::Gain;
+pub use decibels::{Gain, gained};
 pub use sample_type::SampleType;
 
 /// The sum of two samples, saturated to 16 bits.

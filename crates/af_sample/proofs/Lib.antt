@@ -1,3 +1,6 @@
 pub mod Tables
 pub mod Multipliers
 pub mod Scaling
+pub mod Intervals
+pub mod Segments
+pub mod MuLaw

@@ -1,3 +1,4 @@
 pub mod SampleTypes
 pub mod Mixing
 pub mod Gains
+pub mod G711

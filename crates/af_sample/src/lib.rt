@@ -6,6 +6,7 @@ ghost use Rattle.std.specs.Prelude.{◌≡◌};
 ghost use Rattle.af_sample.specs.Mixing.{mixed};
 
 mod decibels;
+mod mu_law;
 mod sample_type;
 
 pub use decibels::{Gain, gained};

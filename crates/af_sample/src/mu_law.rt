@@ -1,5 +1,5 @@
 // Mu-law: a sample in one byte, by ITU-T G.711.
-ghost use Rattle.std.specs.Prelude.{◌≡◌, ◌+◌, ◌-◌, ◌*◌, ◌/◌, ◌%◌, ◌^◌, ◌<◌};
+ghost use Rattle.std.specs.Prelude.{◌≡◌, ◌+◌, ◌-◌, ◌*◌, ◌/◌, ◌%◌, ◌^◌, ◌<◌, ◌≤◌};
 ghost use Rattle.af_sample.specs.G711.{from_mu_law, interval_of, mu_law_starts, to_mu_law};
 
 // What is added to a magnitude, so that each segment begins at a power of two.
@@ -11,7 +11,8 @@ const CLIP: u16 = 32635;
 // The magnitude in the middle of an interval 0..127: 16 intervals to a segment.
 fn middle(interval: u8) -> u16
     requires { interval < 128 }
-    ensures { result ≡ (8 * (interval % 16) + 132) * 2 ^ (interval / 16) - 132 }
+    ensures value { result ≡ (8 * (interval % 16) + 132) * 2 ^ (interval / 16) - 132 }
+    ensures most { result ≤ 32124 }
 {
     ((u16::from(interval & 15) * 8 + BIAS) << (interval >> 4)) - BIAS
 }

@@ -3,4 +3,5 @@ pub mod Multipliers
 pub mod Scaling
 pub mod Intervals
 pub mod Segments
-pub mod MuLaw
+pub mod MuLawLemmas
+pub mod AlawLemmas

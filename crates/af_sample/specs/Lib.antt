@@ -2,3 +2,4 @@ pub mod SampleTypes
 pub mod Mixing
 pub mod Gains
 pub mod G711
+pub mod Samples

@@ -5,11 +5,16 @@
 ghost use Rattle.std.specs.Prelude.{◌≡◌};
 ghost use Rattle.af_sample.specs.Mixing.{mixed};
 
+mod alaw;
+mod coding;
 mod decibels;
 mod mu_law;
+mod runs;
 mod sample_type;
 
+pub use coding::{convert_in, convert_out, decode, encode};
 pub use decibels::{Gain, gained};
+pub use runs::{gain_run, mix_into};
 pub use sample_type::SampleType;
 
 /// The sum of two samples, saturated to 16 bits.

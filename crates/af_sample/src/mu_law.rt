@@ -41,5 +41,9 @@ pub(crate) fn compressed(x: i16) -> u8
     ensures { result ≡ to_mu_law x }
 {
     let interval = interval(x.unsigned_abs());
-    if x < 0 { 0x7F - interval } else { 0xFF - interval }
+    if x < 0 {
+        0x7F - interval
+    } else {
+        0xFF - interval
+    }
 }

@@ -1,4 +1,4 @@
-use Rattle.af_sample.proofs.MuLaw.{negative_byte, positive_byte}
+use Rattle.af_sample.proofs.MuLawLemmas.{negative_byte, positive_byte}
 use Rattle.af_sample.proofs.mu_law.compressed.Goals as goal
 
 pub returns-then-x-lt0 : goal.returns-then-x-lt0

@@ -2,7 +2,7 @@ use Rattle.std.proofs.Common.{◌≡◌, ◌<◌, ◌≤◌, ◌∙◌, ◌-ℤ�
 use Rattle.std.specs.Int.{w16}
 use Rattle.std.specs.Prelude.{FitsSigned}
 use Rattle.std.proofs.lemmas.Int.{ints, to_z-of_z}
-use Rattle.af_sample.proofs.MuLaw.{negative_is, positive_is}
+use Rattle.af_sample.proofs.MuLawLemmas.{negative_is, positive_is}
 use Rattle.af_sample.proofs.mu_law.expanded.Goals as goal
 
 pub returns-then-byte-lt128 : goal.returns-then-byte-lt128

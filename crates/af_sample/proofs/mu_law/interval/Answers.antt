@@ -1,4 +1,4 @@
-use Rattle.af_sample.proofs.MuLaw.{zeros_few, code_value, code_low}
+use Rattle.af_sample.proofs.MuLawLemmas.{zeros_few, code_value, code_low}
 use Rattle.af_sample.proofs.mu_law.interval.Goals as goal
 
 pub overflow_sub-segment : goal.overflow_sub-segment

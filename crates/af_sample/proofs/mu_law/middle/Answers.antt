@@ -13,10 +13,10 @@ pub returns-clause-value : goal.returns-clause-value
 returns-clause-value c =
     ap (λ step. (step * 8 + 132) * 2 ^ (c.args.interval / 16) % 65536 - 132) c.from.ensures
     ∙ eqb-true (masked c.args.interval) (plain c.args.interval)
-      (agree_below_at (λ n. nat_eq (masked n) (plain n)) (λ _. true) 128 c.args.interval refl c.requires)
+    (agree_below_at (λ n. nat_eq (masked n) (plain n)) (λ _. true) 128 c.args.interval refl c.requires)
 
 pub returns-clause-most : goal.returns-clause-most
 returns-clause-most c =
     let low : plain c.args.interval ≤ 32124 = leb-true (plain c.args.interval) 32124
-        (agree_below_at (λ n. nat_le (plain n) 32124) (λ _. true) 128 c.args.interval refl c.requires) in
+    (agree_below_at (λ n. nat_le (plain n) 32124) (λ _. true) 128 c.args.interval refl c.requires) in
     subst (λ n. n ≤ 32124) (sym (returns-clause-value c)) low

@@ -12,7 +12,7 @@ use Rattle.std.proofs.Math.Nat.{pow-suc}
 use Rattle.af_sample.specs.G711.{mu_law_starts, mu_law_decisions, interval_of, mu_law_samples, from_mu_law, to_mu_law}
 use Rattle.af_sample.proofs.Tables.{all_from, entry_passes}
 use Rattle.af_sample.proofs.Intervals.{rises, interval_is}
-use Rattle.af_sample.proofs.Segments.{InSegment, segment_of, joined}
+use Rattle.af_sample.proofs.Segments.{InSegment, segment_of, place, code, code_is, from, to}
 
 -- a start, biased, is 16 and more steps of its segment, but for the first, which is 0
 abbrev is_start : ℕ → ℕ → Bool
@@ -40,68 +40,30 @@ start_is p low =
     let start : ℕ = slice_index mu_law_starts p in
     let here : is_start p start ≡ true = ap (λ i. is_start i start) place ∙ entry_passes is_start 0 mu_law_starts p passes (subst (λ n. p < n) (sym long) low) in
     elim (or_cases (nat_eq (start + 132) ((16 + p % 16) * 2 ^ (p / 16 + 3))) (nat_eq p 0 && nat_eq start 0) here) [
-      inl e ↦ inl (eqb-true (start + 132) ((16 + p % 16) * 2 ^ (p / 16 + 3)) e)
-    | inr e ↦
+      | inl e ↦ inl (eqb-true (start + 132) ((16 + p % 16) * 2 ^ (p / 16 + 3)) e)
+      | inr e ↦
           let parts = and_parts (nat_eq p 0) (nat_eq start 0) e in
           inr (eqb-true p 0 parts.0, eqb-true start 0 parts.1)
     ]
 
 -- a start by its segment and step
-start_of : (p e m : ℕ) → m < 16 → p ≡ e * 16 + m → p < 128 → 0 < p → slice_index mu_law_starts p + 132 ≡ (16 + m) * 2 ^ (e + 3)
+start_of : (p e m : ℕ) → m < 16 → p ≡ e * 16 + m → p < 128 → 1 ≤ p → slice_index mu_law_starts p + 132 ≡ (16 + m) * 2 ^ (e + 3)
 start_of p e m small same low some =
     let step : p % 16 ≡ m = omega arith in
     let segment : p / 16 ≡ e = omega arith in
     elim (start_is p low) [
-      inl formula ↦ formula ∙ ap (λ k. (16 + k) * 2 ^ (p / 16 + 3)) step ∙ ap (λ k. (16 + m) * 2 ^ (k + 3)) segment
-    | inr none ↦ absurd (let first : p ≡ 0 = none.0 in omega arith)
+      | inl formula ↦ formula ∙ ap (λ k. (16 + k) * 2 ^ (p / 16 + 3)) step ∙ ap (λ k. (16 + m) * 2 ^ (k + 3)) segment
+      | inr none ↦ absurd (let first : p ≡ 0 = none.0 in omega arith)
     ]
 
--- the interval of a biased magnitude
-abbrev pub place : ℕ → ℕ → ℕ
-place a e = e * 16 + a / 2 ^ (e + 3) % 16
-
-from : (m a e : ℕ) → a ≡ m + 132 → InSegment a e → slice_index mu_law_starts (place a e) ≤ m
-from m a e biased seg =
-    let q : ℕ = a / 2 ^ (e + 3) in
-    let d : ℕ = 2 ^ (e + 3) in
-    let few : e ≤ 7 = seg.few in
-    let least : 16 ≤ q = seg.least in
-    let most : q < 32 = seg.most in
+start_at : (m a e : ℕ) → a ≡ m + 132 → InSegment a e → slice_index mu_law_starts (place a e) ≤ m
+start_at m a e biased seg =
     elim (cases_lt 0 (place a e)) [
-      inl some ↦
-          let e1 = start_of (place a e) e (q % 16) (omega arith) refl (omega arith) some in
-          let whole : 16 + q % 16 ≡ q = omega arith in
-          let e2 : slice_index mu_law_starts (place a e) + 132 ≡ q * d = e1 ∙ ap (λ k. k * d) whole in
-          let e3 : q * d ≤ a = seg.from in
-          omega arith
-    | inr none ↦
+      | inl some ↦ from mu_law_starts 132 1 start_of m a e biased seg (omega arith)
+      | inr none ↦
           let first : place a e ≡ 0 = omega arith in
           let e1 : slice_index mu_law_starts (place a e) ≡ slice_index mu_law_starts 0 = ap (slice_index mu_law_starts) first in
           let e2 : slice_index mu_law_starts 0 ≡ 0 = start_zero in
-          omega arith
-    ]
-
-to : (m a e : ℕ) → a ≡ m + 132 → InSegment a e → suc (place a e) < 128 → m < slice_index mu_law_starts (suc (place a e))
-to m a e biased seg more =
-    let q : ℕ = a / 2 ^ (e + 3) in
-    let d : ℕ = 2 ^ (e + 3) in
-    let few : e ≤ 7 = seg.few in
-    let least : 16 ≤ q = seg.least in
-    let most : q < 32 = seg.most in
-    let top : a < q * d + d = seg.to in
-    elim (cases_lt (q % 16) 15) [
-      inl inside ↦
-          let e1 = start_of (suc (place a e)) e (suc (q % 16)) (omega arith) (omega arith) more (omega arith) in
-          let whole : 16 + suc (q % 16) ≡ suc q = omega arith in
-          let e2 : slice_index mu_law_starts (suc (place a e)) + 132 ≡ suc q * d = e1 ∙ ap (λ k. k * d) whole in
-          let e3 : suc q * d ≡ q * d + d = search rules in
-          omega arith
-    | inr last ↦
-          let e1 = start_of (suc (place a e)) (suc e) 0 (omega arith) (omega arith) more (omega arith) in
-          let e2 : slice_index mu_law_starts (suc (place a e)) + 132 ≡ 16 * 2 ^ (suc e + 3) = e1 in
-          let e3 : 2 ^ (suc e + 3) ≡ d * 2 = ap (λ k. 2 ^ k) (let k : suc e + 3 ≡ suc (e + 3) = omega arith in k) ∙ pow-suc 2 (e + 3) in
-          let full : q ≡ 31 = omega arith in
-          let e4 : q * d ≡ 31 * d = ap (λ k. k * d) full in
           omega arith
     ]
 
@@ -110,19 +72,8 @@ pub place_is : (m a e : ℕ) → a ≡ m + 132 → InSegment a e → place a e �
 place_is m a e biased seg =
     let few : e ≤ 7 = seg.few in
     let low : place a e < 128 = omega arith in
-    sym (interval_is mu_law_starts m (place a e) up (subst (λ n. place a e < n) (sym long) low) (from m a e biased seg)
-        (λ more. to m a e biased seg (subst (λ n. suc (place a e) < n) long more)))
-
--- what the code makes of a number of so many bits
-abbrev pub code : ℕ → ℕ
-code a = bit_or ((8 - count_leading_zeros 16 a) * 16 % 256) (bit_and (a / 2 ^ (8 - count_leading_zeros 16 a + 3)) 15)
-
-code_is : (a e : ℕ) → InSegment a e → code a ≡ place a e
-code_is a e seg =
-    let few : e ≤ 7 = seg.few in
-    let zeros : count_leading_zeros 16 a ≡ 8 - e = seg.zeros in
-    let segment : 8 - count_leading_zeros 16 a ≡ e = omega arith in
-    ap (λ k. bit_or (k * 16 % 256) (bit_and (a / 2 ^ (k + 3)) 15)) segment ∙ joined e (a / 2 ^ (e + 3)) few
+    sym (interval_is mu_law_starts m (place a e) up (subst (λ n. place a e < n) (sym long) low) (start_at m a e biased seg)
+    (λ more. to mu_law_starts 132 1 start_of m a e biased seg (omega arith) (subst (λ n. suc (place a e) < n) long more)))
 
 -- every magnitude from the last start on is in the last interval
 last_interval : (m : ℕ) → 31612 ≤ m → interval_of mu_law_starts m ≡ 127
@@ -135,9 +86,9 @@ code_value m r limited =
     let seg = segment_of (r + 132) (omega arith) (omega arith) in
     code_is (r + 132) seg.0 seg.1 ∙ place_is r (r + 132) seg.0 refl seg.1
     ∙ elim (cases_lt 32635 m) [
-        inl over ↦ last_interval r (omega arith) ∙ sym (last_interval m (omega arith))
+      | inl over ↦ last_interval r (omega arith) ∙ sym (last_interval m (omega arith))
       | inr within ↦ ap (interval_of mu_law_starts) (let e : r ≡ m = omega arith in e)
-      ]
+    ]
 
 pub code_low : (m r : ℕ) → r ≡ min m 32635 → code (r + 132) < 128
 code_low m r limited =

@@ -1,5 +1,5 @@
 -- A-law: the list of interval starts is what the code's shifts make, and so are its samples.
-use Rattle.std.proofs.Common.{◌≡◌, ◌<◌, ◌≤◌, ◌+◌, ◌-◌, ◌*◌, ◌/◌, ◌%◌, ◌^◌, ◌&&◌, ◌||◌, ◌⊎◌, inl, inr, ℕ, zero, suc, Bool, true, false, cond, nat_eq, nat_lt, nat_le, length, slice_index, bit_and, bit_or, bit_xor, refl, sym, ap, ◌∙◌, subst, arith, rules, max, ℤ, pos, negsuc, ◌-ℤ◌, nat_abs, to_z, of_z, map, List, slice_index_or}
+use Rattle.std.proofs.Common.{◌≡◌, ◌<◌, ◌≤◌, ◌+◌, ◌-◌, ◌*◌, ◌/◌, ◌%◌, ◌^◌, ◌&&◌, ◌||◌, ◌⊎◌, inl, inr, ℕ, zero, suc, Bool, true, false, cond, nat_eq, nat_lt, nat_le, length, slice_index, bit_and, bit_or, bit_xor, refl, sym, ap, ◌∙◌, subst, arith, max, ℤ, pos, negsuc, ◌-ℤ◌, nat_abs, to_z, of_z, map, List, slice_index_or}
 use Rattle.std.specs.Int.{w16}
 use Rattle.std.specs.Prelude.{FitsSigned}
 use Rattle.std.specs.Int.Count.{count_leading_zeros}
@@ -13,7 +13,7 @@ use lib.Signed.{lt_z}
 use Rattle.af_sample.specs.G711.{alaw_starts, interval_of, alaw_samples, from_alaw, to_alaw}
 use Rattle.af_sample.proofs.Tables.{all_from, entry_passes}
 use Rattle.af_sample.proofs.Intervals.{rises, interval_is}
-use Rattle.af_sample.proofs.Segments.{InSegment, segment_of, place, code, code_is, joined, from, to}
+use Rattle.af_sample.proofs.Segments.{InSegment, segment_of, place, code, joined, from, to}
 
 -- a start is so many times 16 in the first segment, and 16 and more steps of each other
 abbrev is_start : ℕ → ℕ → Bool

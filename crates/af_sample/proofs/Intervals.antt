@@ -1,6 +1,6 @@
 -- The interval of a magnitude, where the starts rise: the place whose start is not above it and whose
 -- next start is.
-use Rattle.std.proofs.Common.{◌≡◌, ◌<◌, ◌≤◌, ◌+◌, ◌-◌, ◌&&◌, ℕ, zero, suc, Bool, true, false, cond, nat_le, List, [], ◌∷◌, length, slice_index, refl, sym, ap, ◌∙◌, arith}
+use Rattle.std.proofs.Common.{◌≡◌, ◌<◌, ◌≤◌, ◌+◌, ◌-◌, ◌&&◌, ℕ, zero, suc, Bool, true, cond, nat_le, List, [], ◌∷◌, length, slice_index, refl, ap, ◌∙◌, arith}
 use Rattle.std.specs.List.{count_by}
 use Rattle.std.proofs.lemmas.Bool.{and_parts, leb-true, le-leb, lt-leb}
 use Rattle.std.proofs.lemmas.List.Sums.{sum_by-cons}

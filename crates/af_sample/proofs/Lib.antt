@@ -5,3 +5,4 @@ pub mod Intervals
 pub mod Segments
 pub mod MuLawLemmas
 pub mod AlawLemmas
+pub mod RunLemmas

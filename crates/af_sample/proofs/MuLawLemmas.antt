@@ -1,5 +1,5 @@
 -- Mu-law: the list of decision values is what the code's shifts make.
-use Rattle.std.proofs.Common.{◌≡◌, ◌<◌, ◌≤◌, ◌≢◌, ◌+◌, ◌-◌, ◌*◌, ◌/◌, ◌%◌, ◌^◌, ◌&&◌, ◌||◌, ◌⊎◌, inl, inr, ℕ, zero, suc, Bool, true, nat_eq, length, slice_index, bit_and, bit_or, refl, sym, ap, ◌∙◌, subst, arith, rules, min, ℤ, pos, negsuc, ◌-ℤ◌, nat_abs, to_z, of_z, false, cond, nat_lt, map, List, slice_index_or}
+use Rattle.std.proofs.Common.{◌≡◌, ◌<◌, ◌≤◌, ◌+◌, ◌-◌, ◌*◌, ◌/◌, ◌%◌, ◌^◌, ◌&&◌, ◌||◌, ◌⊎◌, inl, inr, ℕ, suc, Bool, true, nat_eq, length, slice_index, bit_and, refl, sym, ap, ◌∙◌, subst, arith, min, ℤ, pos, negsuc, ◌-ℤ◌, nat_abs, to_z, of_z, false, cond, nat_lt, map, List, slice_index_or}
 use Rattle.std.specs.Int.{w16}
 use Rattle.std.specs.Prelude.{FitsSigned}
 use Rattle.std.proofs.lemmas.Int.{to_z-of_z}
@@ -8,7 +8,6 @@ use Rattle.std.specs.Int.Count.{count_leading_zeros}
 use Rattle.std.specs.List.{range_with_len}
 use Rattle.std.proofs.lemmas.List.FromFn.{get_or-map-range_with_len}
 use Rattle.std.proofs.lemmas.Bool.{and_parts, or_cases, eqb-true, cases_lt, lt-ltb, le-ltb, ltb-true, true≢false, cond-true, cond-false}
-use Rattle.std.proofs.Math.Nat.{pow-suc}
 use Rattle.af_sample.specs.G711.{mu_law_starts, mu_law_decisions, interval_of, mu_law_samples, from_mu_law, to_mu_law}
 use Rattle.af_sample.proofs.Tables.{all_from, entry_passes}
 use Rattle.af_sample.proofs.Intervals.{rises, interval_is}

@@ -1,4 +1,4 @@
-use Rattle.std.proofs.Common.{◌≡◌, ◌<◌, ◌≤◌, ◌∙◌, ◌-ℤ◌, pos, to_z, of_z, arith}
+use Rattle.std.proofs.Common.{◌∙◌, ◌-ℤ◌, pos, to_z, arith}
 use Rattle.std.specs.Int.{w16}
 use Rattle.std.proofs.lemmas.Int.{ints, to_z-of_z}
 use Rattle.af_sample.proofs.AlawLemmas.{negative_is, positive_is}

@@ -1,4 +1,4 @@
-use Rattle.std.proofs.Common.{◌≡◌, ◌<◌, subst, sym}
+use Rattle.std.proofs.Common.{◌<◌, subst, sym}
 use Rattle.af_sample.proofs.AlawLemmas.{code_value, interval_low}
 use Rattle.af_sample.proofs.alaw.interval.Goals as goal
 

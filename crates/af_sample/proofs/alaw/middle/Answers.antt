@@ -1,5 +1,5 @@
-use Rattle.std.proofs.Common.{◌≡◌, ◌≤◌, ◌+◌, ◌-◌, ◌*◌, ◌/◌, ◌%◌, ◌^◌, ◌∙◌, ◌||◌, ap, sym, subst, refl, inl, inr, ℕ, Bool, true, nat_eq, nat_lt, nat_le, bit_and, arith}
-use Rattle.std.proofs.lemmas.Bool.{agree_below_at, and_parts, or_cases, eqb-true, leb-true, ltb-true}
+use Rattle.std.proofs.Common.{◌≤◌, ◌+◌, ◌-◌, ◌*◌, ◌/◌, ◌%◌, ◌^◌, ◌∙◌, ◌||◌, ap, sym, subst, refl, inl, inr, ℕ, Bool, true, nat_eq, nat_lt, nat_le, bit_and, arith}
+use Rattle.std.proofs.lemmas.Bool.{agree_below_at, or_cases, eqb-true, leb-true, ltb-true}
 use Rattle.af_sample.proofs.AlawLemmas.{middle}
 use Rattle.af_sample.proofs.alaw.middle.Goals as goal
 

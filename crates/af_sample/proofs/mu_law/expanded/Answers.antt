@@ -1,6 +1,5 @@
-use Rattle.std.proofs.Common.{◌≡◌, ◌<◌, ◌≤◌, ◌∙◌, ◌-ℤ◌, pos, to_z, of_z, arith}
+use Rattle.std.proofs.Common.{◌∙◌, ◌-ℤ◌, pos, to_z, arith}
 use Rattle.std.specs.Int.{w16}
-use Rattle.std.specs.Prelude.{FitsSigned}
 use Rattle.std.proofs.lemmas.Int.{ints, to_z-of_z}
 use Rattle.af_sample.proofs.MuLawLemmas.{negative_is, positive_is}
 use Rattle.af_sample.proofs.mu_law.expanded.Goals as goal

@@ -6,3 +6,4 @@ pub mod Segments
 pub mod MuLawLemmas
 pub mod AlawLemmas
 pub mod RunLemmas
+pub mod Hearing

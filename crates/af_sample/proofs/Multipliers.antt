@@ -1,7 +1,7 @@
 -- The multiplier of a gain: the greatest number within its decibels, and the table of them all.
-use Rattle.std.proofs.Common.{◌≡◌, ◌<◌, ◌≤◌, ◌+◌, ◌*◌, ◌^◌, ◌&&◌, inl, inr, ℕ, ℤ, pos, negsuc, nat_abs, ◌+ℤ◌, ◌-ℤ◌, zero, suc, Bool, true, false, not, cond, nat_le, slice_index, length, List, sym, ap, ◌∙◌, arith, to_z, of_z, w32}
+use Rattle.std.proofs.Common.{◌≡◌, ◌<◌, ◌≤◌, ◌+◌, ◌*◌, ◌^◌, ◌&&◌, inl, inr, ℕ, ℤ, pos, negsuc, nat_abs, ◌+ℤ◌, ◌-ℤ◌, zero, suc, Bool, true, false, not, cond, nat_le, slice_index, length, List, sym, subst, ap, ◌∙◌, arith, to_z, of_z, w32}
 use Rattle.std.proofs.lemmas.Int.{ints}
-use Rattle.std.proofs.lemmas.Bool.{and_parts, cases_lt, cases_order, not-true, leb-true, le-leb, lt-leb, false_from_ne_true, true≢false}
+use Rattle.std.proofs.lemmas.Bool.{and_parts, cases_lt, cases_order, cases_Bool, not-true, leb-true, le-leb, lt-leb, false_from_ne_true, true≢false}
 use Rattle.std.proofs.lemmas.Nat.{mul-le}
 use Rattle.std.proofs.Math.Nat.{pow-le-pow_left, one-le-pow, pow-suc}
 use Rattle.af_sample.specs.Gains.{is_within, greatest, multiplier, IsGain}
@@ -68,6 +68,48 @@ multiplier_is db m here next =
       | inr low ↦ low
     ] in
     greatest_is (is_within db) (1024 ^ 20 * 10 ^ nat_abs db) m low here over
+
+none_within : (db : ℤ) → is_within db 0 ≡ true
+none_within (pos n) = le-leb 0 (1024 ^ 20 * 10 ^ n) (omega arith)
+none_within (negsuc n) = le-leb (0 ^ 20 * 10 ^ suc n) (1024 ^ 20) (omega arith)
+
+greatest_passes : (passes : ℕ → Bool) (n : ℕ) → passes 0 ≡ true → passes (greatest passes n) ≡ true
+greatest_passes passes zero none = none
+greatest_passes passes (suc n) none =
+    elim (cases_Bool (passes (suc n))) [
+      | inl top ↦ ap (λ b. passes (cond b (suc n) (greatest passes n))) top ∙ top
+      | inr less ↦ ap (λ b. passes (cond b (suc n) (greatest passes n))) less ∙ greatest_passes passes n none
+    ]
+
+greatest_above : (passes : ℕ → Bool) (n m : ℕ) → m ≤ n → passes m ≡ true → m ≤ greatest passes n
+greatest_above passes zero m low here = low
+greatest_above passes (suc n) m low here =
+    elim (cases_Bool (passes (suc n))) [
+      | inl top ↦ subst (λ k. m ≤ k) (sym (ap (λ b. cond b (suc n) (greatest passes n)) top)) low
+      | inr less ↦
+          subst (λ k. m ≤ k) (sym (ap (λ b. cond b (suc n) (greatest passes n)) less))
+          (elim (cases_order m (suc n)) [
+            | inl same ↦ absurd (true≢false (sym here ∙ ap passes same ∙ less))
+            | inr other ↦ elim other [
+              | inl below ↦ greatest_above passes n m (omega arith) here
+              | inr above ↦ absurd (omega arith)
+            ]
+          ])
+    ]
+
+-- the numbers within so many decibels are those up to the multiplier
+pub within_multiplier : (db : ℤ) (m : ℕ) → m ≤ multiplier db → is_within db m ≡ true
+unfolding multiplier
+within_multiplier db m low =
+    within_less db m (multiplier db) low (greatest_passes (is_within db) (1024 ^ 20 * 10 ^ nat_abs db) (none_within db))
+
+pub multiplier_above : (db : ℤ) (m : ℕ) → is_within db m ≡ true → m ≤ multiplier db
+unfolding multiplier
+multiplier_above db m here =
+    elim (cases_lt (1024 ^ 20 * 10 ^ nat_abs db) m) [
+      | inl high ↦ absurd (true≢false (sym here ∙ bounded db m high))
+      | inr low ↦ greatest_above (is_within db) (1024 ^ 20 * 10 ^ nat_abs db) m low here
+    ]
 
 -- the gain of a place in the table
 abbrev pub gain_at : ℕ → ℤ

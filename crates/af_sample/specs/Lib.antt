@@ -3,3 +3,5 @@ pub mod Mixing
 pub mod Gains
 pub mod G711
 pub mod Samples
+pub mod Heard
+pub mod Window

@@ -8,6 +8,7 @@ ghost use Rattle.af_sample.specs.Mixing.{mixed};
 mod alaw;
 mod coding;
 mod decibels;
+pub mod laws;
 mod mu_law;
 mod runs;
 mod sample_type;

@@ -1,5 +1,5 @@
 -- What is heard, and what is recorded, as more is accepted and captured.
-use Rattle.std.proofs.Common.{◌≡◌, ◌<◌, ◌≤◌, ◌+◌, ◌-◌, ◌&&◌, inl, inr, ℕ, suc, ℤ, pos, cond, nat_le, nat_lt, List, [], ◌∷◌, ◌++◌, length, slice_index_or, refl, sym, ap, ◌∙◌, arith}
+use Rattle.std.proofs.Common.{◌≡◌, ◌<◌, ◌≤◌, ◌+◌, ◌-◌, ◌&&◌, inl, inr, ℕ, suc, ℤ, pos, negsuc, Bool, true, false, cond, nat_le, nat_lt, List, [], ◌∷◌, ◌++◌, length, slice_index_or, refl, sym, ap, ◌∙◌, arith}
 use Rattle.std.specs.List.{fold, All}
 use Rattle.std.proofs.lemmas.Bool.{cases_lt, le-leb, lt-leb, lt-ltb}
 use Rattle.std.proofs.lemmas.List.{get_or_append_left}
@@ -26,6 +26,18 @@ late_entries (e ∷ more) t sound late =
 pub heard-append : (accepted more : List Entry) (t : ℕ) → All (λ e. t < e.at) more → heard (accepted ++ more) t ≡ heard accepted t
 unfolding heard
 heard-append accepted more t late = fold-append (with_entry t) (pos 0) accepted more ∙ late_entries more t (heard accepted t) late
+
+-- three plays at one time: two that saturate, and a third that is mixed with their sum or replaces it
+abbrev play : ℤ → Bool → Entry
+play x preempt = record { start = 2; samples = x ∷ []; preempt = preempt; at = 0 }
+
+mixed_third : heard (play (pos 30000) false ∷ play (pos 10000) false ∷ play (negsuc 19999) false ∷ []) 2 ≡ pos 12767
+unfolding heard
+mixed_third = refl
+
+preempting_third : heard (play (pos 30000) false ∷ play (pos 10000) false ∷ play (negsuc 19999) true ∷ []) 2 ≡ negsuc 19999
+unfolding heard
+preempting_third = refl
 
 -- a time of the window, and one before the begin
 pub recorded_within : (captured : List ℤ) (begin now horizon t : ℕ) → now ≤ t + horizon → t < now → begin ≤ t → recorded captured begin now horizon t ≡ slice_index_or captured (t - begin) (pos 0)

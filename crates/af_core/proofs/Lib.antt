@@ -1,0 +1,5 @@
+pub mod Devices
+pub mod Taking
+pub mod Doing
+pub mod Serving
+pub mod Turning

@@ -1,0 +1,92 @@
+-- Advancing a link comes to an end, and goes on from each step.
+use Rattle.std.proofs.Common.{◌≡◌, ℕ, zero, suc, ◌≤◌, ◌<◌, Bool, true, false, List, [], ◌∷◌, length, take, refl, ◌∙◌, ap, subst, arith, length-drop, cond, slice_get}
+use Rattle.std.specs.declared.option.Option.{Option}
+use Rattle.std.specs.declared.option.Option.TheVariants.{None, Some}
+use Rattle.af_wire.specs.declared.front.Front.{Front}
+use Rattle.af_wire.specs.declared.front.Front.TheVariants.{NeedMore, Frame, Malformed}
+use Rattle.af_wire.specs.declared.front.SetupFront.{SetupFront}
+use Rattle.af_wire.specs.declared.front.SetupFront.TheVariants as setup
+use Rattle.af_wire.specs.Front.{setup_front, frame_front, IsFrameWithin, IsSetupWithin}
+use Rattle.af_model.specs.State.{Place, DeviceState, place}
+use Rattle.af_model.specs.Perform.{Request, get_time, request_in, perform, time_told, counted}
+use Rattle.af_model.specs.Advance.{advance, advance_by, advance_step, after_frame, after_setup, after_front, takes_more, requested, without_front, or_else}
+
+frame_within : (xs : List ℕ) → IsFrameWithin (frame_front xs) (length xs)
+frame_within [] = tt
+frame_within (a ∷ []) = tt
+frame_within (a ∷ b ∷ []) = tt
+frame_within (a ∷ b ∷ c ∷ []) = tt
+frame_within (a ∷ b ∷ c ∷ d ∷ xs) = grind arith
+
+setup_within : (xs : List ℕ) → IsSetupWithin (setup_front xs) (length xs)
+setup_within xs = grind arith
+
+time_told_rest : (d : ℕ) (o : Option DeviceState) (p : Place) → (time_told d o p).link.rest ≡ p.link.rest
+time_told_rest d None p = refl
+time_told_rest d (Some device) p = refl
+
+-- performing leaves the input alone
+pub perform_rest : (k : ℕ) (request : Request) (p : Place) → (perform k request p).link.rest ≡ p.link.rest
+perform_rest k (get_time d) p = time_told_rest d (slice_get p.around.devices d) (place p.around (counted p.link))
+
+requested_rest : (k : ℕ) (o : Option Request) (p : Place) → length (requested k o p).link.rest ≤ length p.link.rest
+requested_rest k None p = omega arith
+requested_rest k (Some request) p = let e = ap length (perform_rest k request p) in omega (arith, e)
+
+-- what is left is shorter than n
+abbrev pub IsShorter : ℕ → Option Place → Type 0
+IsShorter n None = Unit {0}
+IsShorter n (Some q) = length q.link.rest < n
+
+frame_shorter : (k : ℕ) (front : Front) (p : Place) → IsFrameWithin front (length p.link.rest) → IsShorter (length p.link.rest) (after_frame k front p)
+frame_shorter k NeedMore p w = tt
+frame_shorter k Malformed p w = w
+frame_shorter k (Frame n) p w =
+    let less = requested_rest k (request_in (take n p.link.rest)) (place p.around (without_front n p.link)) in
+    omega (arith, less, length-drop n p.link.rest, w)
+
+setup_shorter : (front : SetupFront) (p : Place) → IsSetupWithin front (length p.link.rest) → IsShorter (length p.link.rest) (after_setup front p)
+setup_shorter setup.NeedMore p w = tt
+setup_shorter setup.Setup p w = omega (arith, w, length-drop 8 p.link.rest)
+setup_shorter (setup.BadSetup value) p w = omega (arith, w)
+
+front_shorter : (b : Bool) (k : ℕ) (p : Place) → IsShorter (length p.link.rest) (cond b (after_frame k (frame_front p.link.rest) p) (after_setup (setup_front p.link.rest) p))
+front_shorter true k p = frame_shorter k (frame_front p.link.rest) p (frame_within p.link.rest)
+front_shorter false k p = setup_shorter (setup_front p.link.rest) p (setup_within p.link.rest)
+
+taken_shorter : (b : Bool) (k : ℕ) (p : Place) → IsShorter (length p.link.rest) (cond b (after_front k p) None)
+taken_shorter true k p = front_shorter p.link.is_set_up k p
+taken_shorter false k p = tt
+
+-- each step takes at least one byte off
+pub step_shorter : (k : ℕ) (p : Place) → IsShorter (length p.link.rest) (advance_step k p)
+step_shorter k p = taken_shorter (takes_more p.link) k p
+
+-- any bound on the steps that is large enough serves
+same_by : (n m k : ℕ) (p : Place) → length p.link.rest ≤ n → length p.link.rest ≤ m → advance_by n k p ≡ advance_by m k p
+same_by zero zero k p h g = refl
+same_by zero (suc m) k p h g =
+    elim (advance_step k p) as (λ o. IsShorter (length p.link.rest) o → p ≡ or_else p (advance_by m k) o) [ None ↦ λ s. refl | Some q ↦ λ s. absurd (omega (arith, s, h)) ] (step_shorter k p)
+same_by (suc n) zero k p h g =
+    elim (advance_step k p) as (λ o. IsShorter (length p.link.rest) o → or_else p (advance_by n k) o ≡ p) [ None ↦ λ s. refl | Some q ↦ λ s. absurd (omega (arith, s, g)) ] (step_shorter k p)
+same_by (suc n) (suc m) k p h g =
+    elim (advance_step k p) as (λ o. IsShorter (length p.link.rest) o → or_else p (advance_by n k) o ≡ or_else p (advance_by m k) o) [ None ↦ λ s. refl | Some q ↦ λ s. same_by n m k q (omega (arith, s, h)) (omega (arith, s, g)) ] (step_shorter k p)
+
+by_some : (n k : ℕ) (p q : Place) → advance_step k p ≡ Some q → advance_by (suc n) k p ≡ advance_by n k q
+by_some n k p q e = ap (λ o. or_else p (advance_by n k) o) e
+
+by_none : (n k : ℕ) (p : Place) → advance_step k p ≡ None → advance_by n k p ≡ p
+by_none zero k p e = refl
+by_none (suc n) k p e = ap (λ o. or_else p (advance_by n k) o) e
+
+-- where there is one to take, advancing goes on behind it
+pub advance-some : (k : ℕ) (p q : Place) → advance_step k p ≡ Some q → advance k p ≡ advance k q
+unfolding advance
+advance-some k p q e =
+    let s : length q.link.rest < length p.link.rest = subst (λ o. IsShorter (length p.link.rest) o) e (step_shorter k p) in
+    same_by (length p.link.rest) (suc (length p.link.rest)) k p (omega arith) (omega arith) ∙ by_some (length p.link.rest) k p q e ∙ same_by (length p.link.rest) (length q.link.rest) k q (omega arith) (omega arith)
+
+-- where there is none to take, nothing changes
+pub advance-none : (k : ℕ) (p : Place) → advance_step k p ≡ None → advance k p ≡ p
+unfolding advance
+advance-none k p e = by_none (length p.link.rest) k p e

@@ -1,0 +1,433 @@
+-- Two logs that go through a phase from one state, and are answered by one outside, go through it alike: their happenings
+-- and the states behind them are the same, and the links that are open inside stay those that are open outside.
+use Rattle.std.proofs.Common.{◌≡◌, ℕ, zero, suc, ◌+◌, Bool, true, false, cond, ◌&&◌, ◌==◌, List, [], ◌∷◌, length, take, drop, map, slice_get, slice_set, is_some, refl, sym, ap, ◌∙◌, subst, eqb-true, IsSomeAnd}
+use Rattle.std.proofs.lemmas.List.{map-set}
+use Rattle.std.specs.declared.option.Option.{Option}
+use Rattle.std.specs.declared.option.Option.TheVariants.{None, Some}
+use Rattle.af_outside.specs.declared.happening.Happening.{Happening}
+use Rattle.af_outside.specs.declared.happening.Happening.TheVariants.{Woke, Read, Wrote, Closed, Emitted}
+use Rattle.af_outside.specs.declared.happening.ReadGot.{ReadGot}
+use Rattle.af_outside.specs.declared.happening.ReadGot.TheVariants.{Given, NotYet}
+use Rattle.af_outside.specs.declared.happening.Why.{Why}
+use Rattle.af_outside.specs.declared.happening.Why.TheVariants as why
+use Rattle.af_outside.specs.declared.happening.Wake.{Wake}
+use Rattle.af_outside.specs.declared.happening.Wake.TheVariants.{Opened, Readable, Ticked, Idle, Stop}
+use Rattle.af_outside.specs.declared.script.Step.{Step}
+use Rattle.af_outside.specs.Told.{Log}
+use Rattle.af_outside.specs.Outside.{Outside, Peer, answered, read_answered, write_answered, peer_at, with_peer, gives_of, same_bytes}
+use Rattle.af_model.specs.State.{State, Slot, Around, Place, LinkState, DeviceState, place, opened, slot_at, some_slot, with_slot, links_of}
+use Rattle.af_model.specs.Tick.{sound, tick}
+use Rattle.af_model.specs.Turn.{Behind, behind, and_then, then_go, take_one, Door, door, wants_read, is_read, read_by, read_phase, after_read, wants_write, write_by, write_taken, write_phase, after_write, same_why, close_due, close_by, close_for, close_phase, serve_link, serve_open, serve_door, door_at, with_door, serve_at, serve_from, serve_all, ready, in_open, in_slot, emit_by, tick_phase, wake_phase}
+use Rattle.af_model.specs.Script.{AnswersTo}
+use Rattle.af_model.proofs.Tests.{cond-some, cond-true, both-true, none_some, same_bytes-true}
+use Rattle.af_model.proofs.Slots.{links_of-set}
+
+-- two ends of a phase from one state
+pub record Agreed {T : Type 0} (steps : List Step) (Q : T → Outside → Type 0) (log1 log2 : Log) (e1 e2 : Outside) (b1 b2 : Behind T) : Type 0 where
+  pub outside : Outside
+  pub stands : Q b1.state outside
+  pub state : b1.state ≡ b2.state
+  pub first : AnswersTo outside b1.log steps e1
+  pub second : AnswersTo outside b2.log steps e2
+  pub same : b1.log ≡ b2.log → log1 ≡ log2
+
+-- a phase that goes from what holds of a state and an outside to what holds of the next
+abbrev pub GoesAlike : {S T : Type 0} → (S → Log → Option (Behind T)) → (S → Outside → Type 0) → (T → Outside → Type 0) → Type 0
+GoesAlike {S} {T} f P Q = (steps : List Step) (s : S) (o : Outside) (log1 log2 : Log) (b1 b2 : Behind T) (e1 e2 : Outside) →
+    P s o → f s log1 ≡ Some b1 → f s log2 ≡ Some b2 → AnswersTo o log1 steps e1 → AnswersTo o log2 steps e2 → Agreed steps Q log1 log2 e1 e2 b1 b2
+
+module _ {S T : Type 0} where
+  then_inv : (x : Option (Behind S)) (g : S → Log → Option (Behind T)) (b : Behind T) → and_then x g ≡ Some b → (c : Behind S) × (x ≡ Some c) × (g c.state c.log ≡ Some b)
+  then_inv None g b e = absurd cc
+  then_inv (Some c) g b e = (c, refl, e)
+
+module _ {S T R : Type 0} where
+  -- one phase after another
+  pub alike_then : (f : S → Log → Option (Behind T)) (g : T → Log → Option (Behind R)) (P : S → Outside → Type 0) (Q : T → Outside → Type 0) (X : R → Outside → Type 0) →
+      GoesAlike f P Q → GoesAlike g Q X → GoesAlike (λ s log. and_then (f s log) g) P X
+  alike_then f g P Q X af ag steps s o log1 log2 b1 b2 e1 e2 p f1 f2 r1 r2 =
+      let i1 = then_inv (f s log1) g b1 f1 in
+      let i2 = then_inv (f s log2) g b2 f2 in
+      let a = af steps s o log1 log2 i1.0 i2.0 e1 e2 p i1.1 i2.1 r1 r2 in
+      let g2 : g i1.0.state i2.0.log ≡ Some b2 = subst (λ t. g t i2.0.log ≡ Some b2) (sym a.state) i2.2 in
+      let b = ag steps i1.0.state a.outside i1.0.log i2.0.log b1 b2 e1 e2 a.stands i1.2 g2 a.first a.second in
+      record { outside = b.outside; stands = b.stands; state = b.state; first = b.first; second = b.second; same = λ e. a.same (b.same e) }
+
+module _ {T : Type 0} where
+  at_ends : (steps : List Step) (Q : T → Outside → Type 0) (log1 log2 : Log) (e1 e2 : Outside) (x1 x2 b1 b2 : Behind T) → x1 ≡ b1 → x2 ≡ b2 → Agreed steps Q log1 log2 e1 e2 x1 x2 → Agreed steps Q log1 log2 e1 e2 b1 b2
+  at_ends steps Q log1 log2 e1 e2 x1 x2 b1 b2 s1 s2 a = subst (λ b. Agreed steps Q log1 log2 e1 e2 b1 b) s2 (subst (λ b. Agreed steps Q log1 log2 e1 e2 b x2) s1 a)
+
+module _ {S T : Type 0} where
+  -- a phase that takes nothing off
+  pub alike_nothing : (n : S → T) (P : S → Outside → Type 0) (Q : T → Outside → Type 0) → ((s : S) (o : Outside) → P s o → Q (n s) o) → GoesAlike (λ s log. behind (n s) log) P Q
+  alike_nothing n P Q stands steps s o log1 log2 b1 b2 e1 e2 p f1 f2 r1 r2 =
+      let x1 : record { state = n s; log = log1 } ≡ b1 = cc in
+      let x2 : record { state = n s; log = log2 } ≡ b2 = cc in
+      at_ends steps Q log1 log2 e1 e2 (record { state = n s; log = log1 }) (record { state = n s; log = log2 }) b1 b2 x1 x2
+      (record { outside = o; stands = stands s o p; state = refl; first = r1; second = r2; same = λ e. e })
+
+-- Phases that take one happening off
+
+abbrev pub is_quiet : Happening → Bool
+is_quiet (Woke wake) = false
+is_quiet (Read k got) = true
+is_quiet (Wrote k offered took) = true
+is_quiet (Closed k why) = true
+is_quiet (Emitted d sound done) = true
+
+some_and : (x : Option Outside) (P : Outside → Type 0) → IsSomeAnd x P → (o : Outside) × (x ≡ Some o) × P o
+some_and None P h = absurd h
+some_and (Some o) P h = (o, refl, h)
+
+-- what a happening is answered with, and what is answered behind it
+pub answered_first : (o : Outside) (h : Happening) (log : Log) (steps : List Step) (e : Outside) → is_quiet h ≡ true → AnswersTo o (h ∷ log) steps e →
+    (o' : Outside) × (answered o h ≡ Some o') × AnswersTo o' log steps e
+answered_first o (Woke wake) log steps e q a = absurd cc
+answered_first o (Read k got) log steps e q a = some_and (answered o (Read k got)) (λ o. AnswersTo o log steps e) a
+answered_first o (Wrote k offered took) log steps e q a = some_and (answered o (Wrote k offered took)) (λ o. AnswersTo o log steps e) a
+answered_first o (Closed k why) log steps e q a = some_and (answered o (Closed k why)) (λ o. AnswersTo o log steps e) a
+answered_first o (Emitted d sound done) log steps e q a = some_and (answered o (Emitted d sound done)) (λ o. AnswersTo o log steps e) a
+
+-- The one happening that may come, of a state and the outside: where a happening is taken and answered, it is that one, and
+-- what is to hold holds behind it.
+pub record TakesOne {S T : Type 0} (f : S → Happening → Option T) (P : S → Outside → Type 0) (Q : T → Outside → Type 0) (s : S) (o : Outside) (h : Happening) (want : Happening) : Type 0 where
+  pub quiet : is_quiet h ≡ true
+  pub is : (o' : Outside) → answered o h ≡ Some o' → h ≡ want
+  pub stands : (t : T) (o' : Outside) → P s o → f s h ≡ Some t → answered o h ≡ Some o' → Q t o'
+
+module _ {S T : Type 0} where
+  go_inv : (x : Option S) (g : S → Option T) (b : T) → then_go x g ≡ Some b → (c : S) × (x ≡ Some c) × (g c ≡ Some b)
+  go_inv None g b e = absurd cc
+  go_inv (Some c) g b e = (c, refl, e)
+
+-- one happening at the head of both
+record Headed {T : Type 0} (steps : List Step) (Q : T → Outside → Type 0) (o : Outside) (h1 h2 : Happening) (rest1 rest2 : Log) (e1 e2 : Outside) (t1 t2 : T) : Type 0 where
+  outside : Outside
+  stands : Q t1 outside
+  state : t1 ≡ t2
+  first : AnswersTo outside rest1 steps e1
+  second : AnswersTo outside rest2 steps e2
+  happening : h1 ≡ h2
+
+module _ {S T : Type 0} where
+  headed : (f : S → Happening → Option T) (P : S → Outside → Type 0) (Q : T → Outside → Type 0) (want : S → Outside → Happening) →
+      ((s : S) (o : Outside) (h : Happening) (t : T) → f s h ≡ Some t → TakesOne f P Q s o h (want s o)) →
+      (steps : List Step) (s : S) (o : Outside) (h1 h2 : Happening) (rest1 rest2 : Log) (e1 e2 : Outside) (t1 t2 : T) → P s o → f s h1 ≡ Some t1 → f s h2 ≡ Some t2 →
+      AnswersTo o (h1 ∷ rest1) steps e1 → AnswersTo o (h2 ∷ rest2) steps e2 → Headed steps Q o h1 h2 rest1 rest2 e1 e2 t1 t2
+  headed f P Q want one steps s o h1 h2 rest1 rest2 e1 e2 t1 t2 p f1 f2 r1 r2 =
+      let w1 = one s o h1 t1 f1 in
+      let w2 = one s o h2 t2 f2 in
+      let a1 = answered_first o h1 rest1 steps e1 w1.quiet r1 in
+      let a2 = answered_first o h2 rest2 steps e2 w2.quiet r2 in
+      let h : h1 ≡ h2 = w1.is a1.0 a1.1 ∙ sym (w2.is a2.0 a2.1) in
+      let both : Some a1.0 ≡ Some a2.0 = sym a1.1 ∙ ap (answered o) h ∙ a2.1 in
+      let same : a2.0 ≡ a1.0 = cc in
+      let states : Some t1 ≡ Some t2 = sym f1 ∙ ap (f s) h ∙ f2 in
+      record {
+        outside = a1.0;
+        stands = w1.stands t1 a1.0 p f1 a1.1;
+        state = cc;
+        first = a1.2;
+        second = subst (λ x. AnswersTo x rest2 steps e2) same a2.2;
+        happening = h;
+      }
+
+  pub alike_one : (f : S → Happening → Option T) (P : S → Outside → Type 0) (Q : T → Outside → Type 0) (want : S → Outside → Happening) →
+      ((s : S) (o : Outside) (h : Happening) (t : T) → f s h ≡ Some t → TakesOne f P Q s o h (want s o)) → GoesAlike (λ s log. take_one (f s) log) P Q
+  alike_one f P Q want one steps s o [] log2 b1 b2 e1 e2 p f1 f2 r1 r2 = absurd (none_some f1)
+  alike_one f P Q want one steps s o (h1 ∷ rest1) [] b1 b2 e1 e2 p f1 f2 r1 r2 = absurd (none_some f2)
+  alike_one f P Q want one steps s o (h1 ∷ rest1) (h2 ∷ rest2) b1 b2 e1 e2 p f1 f2 r1 r2 =
+      let i1 = go_inv (f s h1) (λ t. behind t rest1) b1 f1 in
+      let i2 = go_inv (f s h2) (λ t. behind t rest2) b2 f2 in
+      let g1 = i1.2 in
+      let g2 = i2.2 in
+      let x1 : record { state = i1.0; log = rest1 } ≡ b1 = cc in
+      let x2 : record { state = i2.0; log = rest2 } ≡ b2 = cc in
+      let h = headed f P Q want one steps s o h1 h2 rest1 rest2 e1 e2 i1.0 i2.0 p i1.1 i2.1 r1 r2 in
+      at_ends steps Q (h1 ∷ rest1) (h2 ∷ rest2) e1 e2 (record { state = i1.0; log = rest1 }) (record { state = i2.0; log = rest2 }) b1 b2 x1 x2
+      (record { outside = h.outside; stands = h.stands; state = h.state; first = h.first; second = h.second; same = λ e. ap (λ x. x ∷ rest1) h.happening ∙ ap (λ r. h2 ∷ r) e })
+
+-- Which links are open
+
+-- the links that are open outside
+abbrev pub opens : Outside → List Bool
+opens o = map {A = Option Peer} {B = Bool} is_some o.peers
+
+-- the links that are open inside
+abbrev pub open_links : List Slot → List Bool
+open_links slots = map {A = Option LinkState} {B = Bool} is_some (links_of slots)
+
+abbrev pub Agree : State → Outside → Type 0
+Agree s o = opens o ≡ open_links s.slots
+
+abbrev pub AtPlace : List Bool → ℕ → Place → Outside → Type 0
+AtPlace w k p o = opens o ≡ slice_set w k true
+
+abbrev pub AtDoor : List Bool → ℕ → Door → Outside → Type 0
+AtDoor w k d o = opens o ≡ slice_set w k (is_some d.link)
+
+pub opens-set : (o : Outside) (k : ℕ) (peer : Option Peer) → opens (with_peer o k peer) ≡ slice_set (opens o) k (is_some peer)
+opens-set o k peer = map-set is_some o.peers k peer
+
+set-set : (w : List Bool) (k : ℕ) (a b : Bool) → slice_set (slice_set w k a) k b ≡ slice_set w k b
+set-set [] k a b = refl
+set-set (x ∷ w) zero a b = refl
+set-set (x ∷ w) (suc k) a b = ap (λ v. x ∷ v) (set-set w k a b)
+
+-- Reads
+
+expected : List ℕ → ReadGot
+expected [] = NotYet
+expected (x ∷ xs) = Given (take 16384 (x ∷ xs))
+
+record ReadAnswered (w : List Bool) (o o' : Outside) (k : ℕ) (xs : List ℕ) (got : ReadGot) : Type 0 where
+  is : got ≡ expected xs
+  opens : opens o ≡ slice_set w k true → opens o' ≡ slice_set w k true
+
+read_answer : (w : List Bool) (o o' : Outside) (k : ℕ) (xs : List ℕ) (got : ReadGot) → read_answered o k xs got ≡ Some o' → ReadAnswered w o o' k xs got
+unfolding expected
+read_answer w o o' k [] NotYet e = record { is = refl; opens = let same : o ≡ o' = cc in λ p. subst (λ x. opens x ≡ slice_set w k true) same p }
+read_answer w o o' k [] (Given bytes) e = absurd cc
+read_answer w o o' k (x ∷ xs) NotYet e = absurd cc
+read_answer w o o' k (x ∷ xs) (Given bytes) e =
+    let left : Peer = record { gives = drop 16384 (x ∷ xs) } in
+    let i = cond-some (same_bytes bytes (take 16384 (x ∷ xs))) (Some (with_peer o k (Some left))) o' e in
+    let j = i.1 in
+    let same : with_peer o k (Some left) ≡ o' = cc in
+    record {
+      is = ap Given (same_bytes-true bytes (take 16384 (x ∷ xs)) i.0);
+      opens = λ p. subst (λ y. opens y ≡ slice_set w k true) same (opens-set o k (Some left) ∙ ap (λ v. slice_set v k true) p ∙ set-set w k true true);
+    }
+
+read_one : (w : List Bool) (k : ℕ) (p : Place) (o : Outside) (h : Happening) (t : Place) → read_by k p h ≡ Some t →
+    TakesOne (read_by k) (AtPlace w k) (AtPlace w k) p o h (Read k (expected (gives_of (peer_at o k))))
+read_one w k p o (Woke wake) t e = absurd (none_some e)
+read_one w k p o (Wrote j offered took) t e = absurd (none_some e)
+read_one w k p o (Closed j why) t e = absurd (none_some e)
+read_one w k p o (Emitted d sound done) t e = absurd (none_some e)
+read_one w k p o (Read j got) t e =
+    let i = cond-some (j == k && is_read got) (Some (after_read k got p)) t e in
+    let n : j ≡ k = eqb-true j k (both-true (j == k) (is_read got) i.0).0 in
+    let xs = gives_of (peer_at o k) in
+    let at_k : (o' : Outside) → answered o (Read j got) ≡ Some o' → read_answered o k xs got ≡ Some o' = λ o' a. subst (λ m. read_answered o m (gives_of (peer_at o m)) got ≡ Some o') n a in
+    record {
+      quiet = refl;
+      is = λ o' a. ap (λ m. Read m got) n ∙ ap (Read k) (read_answer w o o' k xs got (at_k o' a)).is;
+      stands = λ t o' p' f a. (read_answer w o o' k xs got (at_k o' a)).opens p';
+    }
+
+read_alike : (w : List Bool) (k : ℕ) → GoesAlike (read_phase k) (AtPlace w k) (AtPlace w k)
+unfolding read_phase
+read_alike w k steps p o log1 log2 b1 b2 e1 e2 at f1 f2 r1 r2 =
+    elim (wants_read p.link) as (λ t. cond t (take_one (read_by k p) log1) (behind p log1) ≡ Some b1 → cond t (take_one (read_by k p) log2) (behind p log2) ≡ Some b2 → Agreed steps (AtPlace w k) log1 log2 e1 e2 b1 b2) [
+      | true ↦ λ f1 f2. alike_one (read_by k) (AtPlace w k) (AtPlace w k) (λ p o. Read k (expected (gives_of (peer_at o k)))) (read_one w k) steps p o log1 log2 b1 b2 e1 e2 at f1 f2 r1 r2
+      | false ↦ λ f1 f2. alike_nothing (λ (p : Place). p) (AtPlace w k) (AtPlace w k) (λ p o at. at) steps p o log1 log2 b1 b2 e1 e2 at f1 f2 r1 r2
+    ] f1 f2
+
+-- Writes
+
+record WriteTaken (k offered : ℕ) (took : Option (List ℕ)) (p : Place) : Type 0 where
+  all : offered ≡ length p.link.pending
+  bytes : took ≡ Some p.link.pending
+
+write_taken_inv : (k offered : ℕ) (took : Option (List ℕ)) (p t : Place) → write_taken k offered took p ≡ Some t → WriteTaken k offered took p
+write_taken_inv k offered None p t e = absurd (none_some e)
+write_taken_inv k offered (Some bytes) p t e =
+    let i = cond-some (offered == length p.link.pending && same_bytes bytes p.link.pending) (Some (after_write k bytes p)) t e in
+    let j = both-true (offered == length p.link.pending) (same_bytes bytes p.link.pending) i.0 in
+    record { all = eqb-true offered (length p.link.pending) j.0; bytes = ap (λ b. Some b) (same_bytes-true bytes p.link.pending j.1) }
+
+write_opens : (w : List Bool) (k offered : ℕ) (took : Option (List ℕ)) (o o' : Outside) → write_answered o offered took ≡ Some o' → opens o ≡ slice_set w k true → opens o' ≡ slice_set w k true
+write_opens w k offered None o o' e p = absurd (none_some e)
+write_opens w k offered (Some bytes) o o' e p =
+    let i = (cond-some (length bytes == offered) (Some o) o' e).1 in
+    let same : o ≡ o' = cc in
+    subst (λ x. opens x ≡ slice_set w k true) same p
+
+write_one : (w : List Bool) (k : ℕ) (p : Place) (o : Outside) (h : Happening) (t : Place) → write_by k p h ≡ Some t →
+    TakesOne (write_by k) (AtPlace w k) (AtPlace w k) p o h (Wrote k (length p.link.pending) (Some p.link.pending))
+write_one w k p o (Woke wake) t e = absurd (none_some e)
+write_one w k p o (Read j got) t e = absurd (none_some e)
+write_one w k p o (Closed j why) t e = absurd (none_some e)
+write_one w k p o (Emitted d sound done) t e = absurd (none_some e)
+write_one w k p o (Wrote j offered took) t e =
+    let i = cond-some (j == k) (write_taken k offered took p) t e in
+    let n : j ≡ k = eqb-true j k i.0 in
+    let v = write_taken_inv k offered took p t i.1 in
+    record {
+      quiet = refl;
+      is = λ o' a. ap (λ m. Wrote m offered took) n ∙ ap (λ m. Wrote k m took) v.all ∙ ap (Wrote k (length p.link.pending)) v.bytes;
+      stands = λ t o' p' f a. write_opens w k offered took o o' a p';
+    }
+
+write_idle : (w : List Bool) (k : ℕ) (steps : List Step) (p : Place) (o : Outside) (log1 log2 : Log) (b1 b2 : Behind Place) (e1 e2 : Outside) → wants_write p.link ≡ false →
+    AtPlace w k p o → write_phase k p log1 ≡ Some b1 → write_phase k p log2 ≡ Some b2 → AnswersTo o log1 steps e1 → AnswersTo o log2 steps e2 → Agreed steps (AtPlace w k) log1 log2 e1 e2 b1 b2
+write_idle w k steps p o log1 log2 b1 b2 e1 e2 idle at f1 f2 r1 r2 =
+    alike_nothing (λ (p : Place). p) (AtPlace w k) (AtPlace w k) (λ p o at. at) steps p o log1 log2 b1 b2 e1 e2 at (sym (nothing log1) ∙ f1) (sym (nothing log2) ∙ f2) r1 r2
+  where
+    nothing : (log : Log) → write_phase k p log ≡ behind p log
+    nothing [] = rw idle
+    nothing (h ∷ log) = rw idle
+
+write_none : (k : ℕ) (p : Place) (b : Behind Place) → wants_write p.link ≡ true → write_phase k p [] ≡ Some b → ⊥
+write_none k p b wants e = none_some (cond-true (wants_write p.link) None (behind p []) (Some b) wants e)
+
+write_inv : (k : ℕ) (p : Place) (h : Happening) (log : Log) (b : Behind Place) → wants_write p.link ≡ true → write_phase k p (h ∷ log) ≡ Some b →
+    (q : Place) × (write_by k p h ≡ Some q) × (write_phase k q log ≡ Some b)
+write_inv k p h log b wants e = go_inv (write_by k p h) (λ q. write_phase k q log) b (cond-true (wants_write p.link) (then_go (write_by k p h) (λ q. write_phase k q log)) (behind p (h ∷ log)) (Some b) wants e)
+
+write_alike : (w : List Bool) (k : ℕ) (steps : List Step) (p : Place) (o : Outside) (log1 log2 : Log) (b1 b2 : Behind Place) (e1 e2 : Outside) →
+    AtPlace w k p o → write_phase k p log1 ≡ Some b1 → write_phase k p log2 ≡ Some b2 → AnswersTo o log1 steps e1 → AnswersTo o log2 steps e2 → Agreed steps (AtPlace w k) log1 log2 e1 e2 b1 b2
+write_alike w k steps p o [] log2 b1 b2 e1 e2 at f1 f2 r1 r2 =
+    elim (wants_write p.link) as (λ t. wants_write p.link ≡ t → Agreed steps (AtPlace w k) [] log2 e1 e2 b1 b2) [
+      | true ↦ λ wants. absurd (write_none k p b1 wants f1)
+      | false ↦ λ idle. write_idle w k steps p o [] log2 b1 b2 e1 e2 idle at f1 f2 r1 r2
+    ] refl
+write_alike w k steps p o (h1 ∷ log1) [] b1 b2 e1 e2 at f1 f2 r1 r2 =
+    elim (wants_write p.link) as (λ t. wants_write p.link ≡ t → Agreed steps (AtPlace w k) (h1 ∷ log1) [] e1 e2 b1 b2) [
+      | true ↦ λ wants. absurd (write_none k p b2 wants f2)
+      | false ↦ λ idle. write_idle w k steps p o (h1 ∷ log1) [] b1 b2 e1 e2 idle at f1 f2 r1 r2
+    ] refl
+write_alike w k steps p o (h1 ∷ log1) (h2 ∷ log2) b1 b2 e1 e2 at f1 f2 r1 r2 =
+    elim (wants_write p.link) as (λ t. wants_write p.link ≡ t → Agreed steps (AtPlace w k) (h1 ∷ log1) (h2 ∷ log2) e1 e2 b1 b2) [
+      | true ↦ λ wants.
+          let i1 = write_inv k p h1 log1 b1 wants f1 in
+          let i2 = write_inv k p h2 log2 b2 wants f2 in
+          let h = headed (write_by k) (AtPlace w k) (AtPlace w k) (λ p o. Wrote k (length p.link.pending) (Some p.link.pending)) (write_one w k) steps p o h1 h2 log1 log2 e1 e2 i1.0 i2.0 at i1.1 i2.1 r1 r2 in
+          let next2 : write_phase k i1.0 log2 ≡ Some b2 = subst (λ q. write_phase k q log2 ≡ Some b2) (sym h.state) i2.2 in
+          let a = write_alike w k steps i1.0 h.outside log1 log2 b1 b2 e1 e2 h.stands i1.2 next2 h.first h.second in
+          record { outside = a.outside; stands = a.stands; state = a.state; first = a.first; second = a.second; same = λ e. ap (λ x. x ∷ log1) h.happening ∙ ap (λ r. h2 ∷ r) (a.same e) }
+      | false ↦ λ idle. write_idle w k steps p o (h1 ∷ log1) (h2 ∷ log2) b1 b2 e1 e2 idle at f1 f2 r1 r2
+    ] refl
+
+-- Closes
+
+same_why-true : (a b : Why) → same_why a b ≡ true → a ≡ b
+same_why-true why.BadSetup why.BadSetup e = refl
+same_why-true why.BadSetup why.Malformed e = absurd cc
+same_why-true why.Malformed why.BadSetup e = absurd cc
+same_why-true why.Malformed why.Malformed e = refl
+
+close_one : (w : List Bool) (k : ℕ) (cause : Why) (p : Place) (o : Outside) (h : Happening) (t : Door) → close_by k p.around cause h ≡ Some t →
+    TakesOne (λ p. close_by k p.around cause) (AtPlace w k) (AtDoor w k) p o h (Closed k cause)
+close_one w k cause p o (Woke wake) t e = absurd (none_some e)
+close_one w k cause p o (Read j got) t e = absurd (none_some e)
+close_one w k cause p o (Wrote j offered took) t e = absurd (none_some e)
+close_one w k cause p o (Emitted d sound done) t e = absurd (none_some e)
+close_one w k cause p o (Closed j why) t e =
+    let i = cond-some (j == k && same_why why cause) (Some (door p.around None)) t e in
+    let v = both-true (j == k) (same_why why cause) i.0 in
+    let n : j ≡ k = eqb-true j k v.0 in
+    record {
+      quiet = refl;
+      is = λ o' a. ap (λ m. Closed m why) n ∙ ap (Closed k) (same_why-true why cause v.1);
+      stands = λ u o' p' f a.
+          let g : Some (door p.around None) ≡ Some u = (cond-some (j == k && same_why why cause) (Some (door p.around None)) u f).1 in
+          let shut : door p.around None ≡ u = cc in
+          let gone : with_peer o j None ≡ o' = cc in
+          let closed : opens (with_peer o k None) ≡ slice_set w k false = opens-set o k None ∙ ap (λ v. slice_set v k false) p' ∙ set-set w k true false in
+          subst (λ y. opens y ≡ slice_set w k (is_some u.link)) gone
+          (subst (λ m. opens (with_peer o m None) ≡ slice_set w k (is_some u.link)) (sym n) (subst (λ d. opens (with_peer o k None) ≡ slice_set w k (is_some d.link)) shut closed));
+    }
+
+close_alike : (w : List Bool) (k : ℕ) → GoesAlike (close_phase k) (AtPlace w k) (AtDoor w k)
+unfolding close_phase
+close_alike w k steps p o log1 log2 b1 b2 e1 e2 at f1 f2 r1 r2 =
+    elim (close_due p.link) as (λ d. close_for k p d log1 ≡ Some b1 → close_for k p d log2 ≡ Some b2 → Agreed steps (AtDoor w k) log1 log2 e1 e2 b1 b2) [
+      | None ↦ λ f1 f2. alike_nothing (λ (p : Place). door p.around (Some p.link)) (AtPlace w k) (AtDoor w k) (λ p o at. at) steps p o log1 log2 b1 b2 e1 e2 at f1 f2 r1 r2
+      | Some cause ↦ λ f1 f2. alike_one (λ (p : Place). close_by k p.around cause) (AtPlace w k) (AtDoor w k) (λ p o. Closed k cause) (close_one w k cause) steps p o log1 log2 b1 b2 e1 e2 at f1 f2 r1 r2
+    ] f1 f2
+
+-- A link, and all links
+
+link_alike : (w : List Bool) (k : ℕ) → GoesAlike (serve_link k) (AtPlace w k) (AtDoor w k)
+unfolding serve_link
+link_alike w k = alike_then (read_phase k) (λ p log. and_then (write_phase k p log) (close_phase k)) (AtPlace w k) (AtPlace w k) (AtDoor w k) (read_alike w k)
+    (alike_then (write_phase k) (close_phase k) (AtPlace w k) (AtPlace w k) (AtDoor w k) (write_alike w k) (close_alike w k))
+
+open_alike : (w : List Bool) (k : ℕ) (steps : List Step) (a : Around) (link : Option LinkState) (o : Outside) (log1 log2 : Log) (b1 b2 : Behind Door) (e1 e2 : Outside) →
+    opens o ≡ slice_set w k (is_some link) → serve_open k a link log1 ≡ Some b1 → serve_open k a link log2 ≡ Some b2 → AnswersTo o log1 steps e1 → AnswersTo o log2 steps e2 → Agreed steps (AtDoor w k) log1 log2 e1 e2 b1 b2
+open_alike w k steps a None o log1 log2 b1 b2 e1 e2 at f1 f2 r1 r2 =
+    alike_nothing (λ (d : Door). d) (AtDoor w k) (AtDoor w k) (λ d o at. at) steps (door a None) o log1 log2 b1 b2 e1 e2 at f1 f2 r1 r2
+open_alike w k steps a (Some l) o log1 log2 b1 b2 e1 e2 at f1 f2 r1 r2 = link_alike w k steps (place a l) o log1 log2 b1 b2 e1 e2 at f1 f2 r1 r2
+
+door_alike : (w : List Bool) (k : ℕ) → GoesAlike (serve_door k) (AtDoor w k) (AtDoor w k)
+door_alike w k steps d o log1 log2 b1 b2 e1 e2 at f1 f2 r1 r2 = open_alike w k steps d.around d.link o log1 log2 b1 b2 e1 e2 at f1 f2 r1 r2
+
+pub open_links-set : (slots : List Slot) (k : ℕ) (x : Slot) → open_links (slice_set slots k x) ≡ slice_set (open_links slots) k (is_some x.link)
+open_links-set slots k x = ap (λ l. map {A = Option LinkState} {B = Bool} is_some l) (links_of-set slots k x) ∙ map-set is_some (links_of slots) k x.link
+
+pub open_links-same : (slots : List Slot) (k : ℕ) → slice_set (open_links slots) k (is_some (some_slot (slice_get slots k)).link) ≡ open_links slots
+open_links-same [] k = refl
+open_links-same (x ∷ slots) zero = refl
+open_links-same (x ∷ slots) (suc k) = ap (λ v. is_some x.link ∷ v) (open_links-same slots k)
+
+at_alike : (k : ℕ) → GoesAlike (serve_at k) Agree Agree
+at_alike k steps s o log1 log2 b1 b2 e1 e2 at f1 f2 r1 r2 =
+    alike_then (λ (u : State) log. serve_door k (door_at k s) log) (λ d log. behind (with_door k s d) log) (λ u o. Agree s o) (AtDoor (open_links s.slots) k) Agree
+    (λ steps u o log1 log2 b1 b2 e1 e2 at f1 f2 r1 r2. door_alike (open_links s.slots) k steps (door_at k s) o log1 log2 b1 b2 e1 e2 (at ∙ sym (open_links-same s.slots k)) f1 f2 r1 r2)
+    (alike_nothing (with_door k s) (AtDoor (open_links s.slots) k) Agree (λ d o at. at ∙ sym (open_links-set s.slots k (record { link = d.link; said = d.around.said }))))
+    steps s o log1 log2 b1 b2 e1 e2 at f1 f2 r1 r2
+
+from_alike : (n k : ℕ) → GoesAlike (serve_from n k) Agree Agree
+unfolding serve_from
+from_alike zero k = alike_nothing (λ s. s) Agree Agree (λ s o at. at)
+from_alike (suc n) k = alike_then (serve_at k) (serve_from n (k + 1)) Agree Agree Agree (at_alike k) (from_alike n (k + 1))
+
+pub all_alike : GoesAlike serve_all Agree Agree
+all_alike steps s o log1 log2 b1 b2 e1 e2 at f1 f2 r1 r2 = from_alike (length s.slots) 0 steps s o log1 log2 b1 b2 e1 e2 at f1 f2 r1 r2
+
+-- Wakes
+
+-- which links are open after a wake
+abbrev pub open_after : List Bool → Wake → List Bool
+open_after w (Opened k) = slice_set w k true
+open_after w (Readable k) = w
+open_after w (Ticked d n) = w
+open_after w Idle = w
+open_after w Stop = w
+
+abbrev pub Woken : Wake → State → Outside → Type 0
+Woken wake s o = opens o ≡ open_after (open_links s.slots) wake
+
+in_open-some : (f : LinkState → LinkState) (link : Option LinkState) → is_some (in_open f link) ≡ is_some link
+in_open-some f None = refl
+in_open-some f (Some l) = refl
+
+readied : (s : State) (k : ℕ) → open_links (slice_set s.slots k (in_slot ready (slot_at k s))) ≡ open_links s.slots
+readied s k = open_links-set s.slots k (in_slot ready (slot_at k s)) ∙ ap (λ b. slice_set (open_links s.slots) k b) (in_open-some ready (slot_at k s).link) ∙ open_links-same s.slots k
+
+emit_one : (d n : ℕ) (device : DeviceState) (s : State) (o : Outside) (h : Happening) (t : State) → emit_by d n device s h ≡ Some t →
+    TakesOne (λ s. emit_by d n device s) Agree Agree s o h (Emitted d (sound device n) true)
+emit_one d n device s o (Woke wake) t e = absurd (none_some e)
+emit_one d n device s o (Read j got) t e = absurd (none_some e)
+emit_one d n device s o (Wrote j offered took) t e = absurd (none_some e)
+emit_one d n device s o (Closed j why) t e = absurd (none_some e)
+emit_one d n device s o (Emitted j bytes done) t e =
+    let i = cond-some (j == d && same_bytes bytes (sound device n) && done) (Some (tick d n s)) t e in
+    let v = both-true (j == d && same_bytes bytes (sound device n)) done i.0 in
+    let u = both-true (j == d) (same_bytes bytes (sound device n)) v.0 in
+    record {
+      quiet = refl;
+      is = λ o' a. ap (λ m. Emitted m bytes done) (eqb-true j d u.0) ∙ ap (λ b. Emitted d b done) (same_bytes-true bytes (sound device n) u.1) ∙ ap (Emitted d (sound device n)) v.1;
+      stands = λ t o' p f a.
+          let g : Some (tick d n s) ≡ Some t = (cond-some (j == d && same_bytes bytes (sound device n) && done) (Some (tick d n s)) t f).1 in
+          let next : tick d n s ≡ t = cc in
+          let same : Some o ≡ Some o' = cond-true done (Some o) None (Some o') v.1 a in
+          let stays : o ≡ o' = cc in
+          subst (λ x. Agree x o') next (subst (λ y. opens y ≡ open_links s.slots) stays p);
+    }
+
+tick_alike : (d n : ℕ) (device : Option DeviceState) (steps : List Step) (s : State) (o : Outside) (log1 log2 : Log) (b1 b2 : Behind State) (e1 e2 : Outside) →
+    Agree s o → tick_phase d n device s log1 ≡ Some b1 → tick_phase d n device s log2 ≡ Some b2 → AnswersTo o log1 steps e1 → AnswersTo o log2 steps e2 → Agreed steps Agree log1 log2 e1 e2 b1 b2
+tick_alike d n None steps s o log1 log2 b1 b2 e1 e2 at f1 f2 r1 r2 = absurd (none_some f1)
+tick_alike d n (Some device) steps s o log1 log2 b1 b2 e1 e2 at f1 f2 r1 r2 =
+    alike_one (λ s. emit_by d n device s) Agree Agree (λ s o. Emitted d (sound device n) true) (emit_one d n device) steps s o log1 log2 b1 b2 e1 e2 at f1 f2 r1 r2
+
+pub wake_alike : (wake : Wake) → GoesAlike (wake_phase wake) (Woken wake) Agree
+unfolding wake_phase
+wake_alike (Opened k) = alike_nothing (λ s. with_slot k (record { link = Some opened; said = [] }) s) (Woken (Opened k)) Agree (λ s o at. at ∙ sym (open_links-set s.slots k (record { link = Some opened; said = [] })))
+wake_alike (Readable k) = alike_nothing (λ s. with_slot k (in_slot ready (slot_at k s)) s) (Woken (Readable k)) Agree (λ s o at. at ∙ sym (readied s k))
+wake_alike (Ticked d n) = λ steps s o log1 log2 b1 b2 e1 e2 at f1 f2 r1 r2. tick_alike d n (slice_get s.devices d) steps s o log1 log2 b1 b2 e1 e2 at f1 f2 r1 r2
+wake_alike Idle = alike_nothing (λ s. s) (Woken Idle) Agree (λ s o at. at)
+wake_alike Stop = alike_nothing (λ s. s) (Woken Stop) Agree (λ s o at. at)

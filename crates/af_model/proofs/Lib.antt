@@ -1,0 +1,7 @@
+pub mod Advancing
+pub mod Running
+pub mod Slots
+pub mod Tests
+pub mod Alike
+pub mod Steps
+pub mod Unique

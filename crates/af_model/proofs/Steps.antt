@@ -1,0 +1,78 @@
+-- A script's step opens the same links inside and outside, and its wake fits.
+use Rattle.std.proofs.Common.{◌≡◌, ℕ, zero, suc, ◌<◌, ◌≤◌, ◌&&◌, Bool, true, false, not, cond, List, [], ◌∷◌, ◌++◌, length, map, slice_get, slice_set, is_some, nat_lt, nat_le, refl, sym, ap, ◌∙◌, subst, arith, rules}
+use Rattle.std.proofs.lemmas.Grind.{common_steps}
+use Rattle.std.specs.declared.option.Option.{Option}
+use Rattle.std.specs.declared.option.Option.TheVariants.{None, Some}
+use Rattle.af_outside.specs.declared.happening.Wake.TheVariants as wake
+use Rattle.af_outside.specs.declared.script.DeviceSpec.{DeviceSpec}
+use Rattle.af_outside.specs.declared.script.Step.{Step}
+use Rattle.af_outside.specs.declared.script.Step.TheVariants.{Open, Send, Tick, Idle}
+use Rattle.af_outside.specs.Outside.{Outside, Peer, outside_start, peer_at, some_peer, opened_at, sent_at, stepped, wake_of, IsStep}
+use Rattle.af_model.specs.State.{State, opening, outline}
+use Rattle.af_model.specs.Turn.{fits, is_open_at, is_closed_at}
+use Rattle.af_model.proofs.Alike.{Agree, Woken, opens, opens-set, open_after}
+
+-- whether a link is open outside
+peer_is_open : (peers : List (Option Peer)) (k : ℕ) → is_some (some_peer (slice_get peers k)) ≡ is_open_at (slice_get (map {A = Option Peer} {B = Bool} is_some peers) k)
+peer_is_open [] k = refl
+peer_is_open (x ∷ peers) zero = refl
+peer_is_open (x ∷ peers) (suc k) = peer_is_open peers k
+
+open_stays : (w : List Bool) (k : ℕ) → is_open_at (slice_get w k) ≡ true → slice_set w k true ≡ w
+open_stays [] k e = refl
+open_stays (x ∷ w) zero e = ap (λ b. b ∷ w) (sym e)
+open_stays (x ∷ w) (suc k) e = ap (λ l. x ∷ l) (open_stays w k e)
+
+closed_at : (w : List Bool) (k : ℕ) → k < length w → is_open_at (slice_get w k) ≡ false → is_closed_at (slice_get w k) ≡ true
+closed_at [] k lt e = absurd (omega arith)
+closed_at (x ∷ w) zero lt e = ap not e
+closed_at (x ∷ w) (suc k) lt e = closed_at w k (omega arith) e
+
+open_outside : (o : Outside) (k : ℕ) → is_some (peer_at o k) ≡ is_open_at (slice_get (opens o) k)
+open_outside o k = peer_is_open o.peers k
+
+-- the links that are open outside after a step
+stepped_opens : (o : Outside) (step : Step) → opens (stepped o step) ≡ open_after (opens o) (wake_of o step)
+stepped_opens o (Open k) =
+    elim (peer_at o k) as (λ p. opens (opened_at o k p) ≡ open_after (opens o) (cond (is_some p) wake.Idle (wake.Opened k))) [
+      | None ↦ opens-set o k (Some (record { gives = [] }))
+      | Some peer ↦ refl
+    ]
+stepped_opens o (Send k bytes) =
+    elim (peer_at o k) as (λ p. is_some p ≡ is_open_at (slice_get (opens o) k) → opens (sent_at o k bytes p) ≡ open_after (opens o) (cond (is_some p) (wake.Readable k) wake.Idle)) [
+      | None ↦ λ e. refl
+      | Some peer ↦ λ e. opens-set o k (Some (record { gives = peer.gives ++ bytes })) ∙ open_stays (opens o) k (sym e)
+    ] (open_outside o k)
+stepped_opens o (Tick d n) = refl
+stepped_opens o Idle = refl
+
+pub agree_step : (s : State) (o : Outside) (step : Step) → Agree s o → Woken (wake_of o step) s (stepped o step)
+agree_step s o step at = stepped_opens o step ∙ ap (λ w. open_after w (wake_of o step)) at
+
+pub agree_start : (config : List DeviceSpec) → Agree (opening config) outside_start
+agree_start config = refl
+
+-- the wake of a step that may stand in a script fits
+pub step_fits : (s : State) (o : Outside) (step : Step) → Agree s o → length o.peers ≡ 32 → IsStep (length s.devices) step → fits (outline s) (wake_of o step) ≡ true
+step_fits s o (Open k) at l f =
+    elim (peer_at o k) as (λ p. is_some p ≡ is_open_at (slice_get (opens o) k) → fits (outline s) (cond (is_some p) wake.Idle (wake.Opened k)) ≡ true) [
+      | None ↦ λ e. subst (λ w. is_closed_at (slice_get w k) ≡ true) at (closed_at (opens o) k (opens_length o.peers k l f) (sym e))
+      | Some peer ↦ λ e. refl
+    ] (open_outside o k)
+  where
+    opens_length : (peers : List (Option Peer)) (k : ℕ) → length peers ≡ 32 → k < 32 → k < length (map {A = Option Peer} {B = Bool} is_some peers)
+    opens_length peers k l f = let e : length (map {A = Option Peer} {B = Bool} is_some peers) ≡ length peers = same peers in omega arith
+      where
+        same : (peers : List (Option Peer)) → length (map {A = Option Peer} {B = Bool} is_some peers) ≡ length peers
+        same [] = refl
+        same (x ∷ peers) = ap suc (same peers)
+step_fits s o (Send k bytes) at l f =
+    elim (peer_at o k) as (λ p. is_some p ≡ is_open_at (slice_get (opens o) k) → fits (outline s) (cond (is_some p) (wake.Readable k) wake.Idle) ≡ true) [
+      | None ↦ λ e. refl
+      | Some peer ↦ λ e. subst (λ w. is_open_at (slice_get w k) ≡ true) at (sym e)
+    ] (open_outside o k)
+step_fits s o (Tick d n) at l f = ticks d n (length s.devices) f.0 f.1 f.2
+  where
+    ticks : (d n devices : ℕ) → d < devices → 1 ≤ n → n ≤ 4096 → (nat_lt d devices && nat_le 1 n && nat_le n 4096) ≡ true
+    ticks d n devices a b c = search (rules, common_steps)
+step_fits s o Idle at l f = refl

@@ -1,0 +1,30 @@
+-- What tests that came out true say.
+use Rattle.std.proofs.Common.{◌≡◌, ℕ, Bool, true, false, cond, ◌&&◌, ◌==◌, List, [], ◌∷◌, refl, eqb-true}
+use Rattle.std.specs.declared.option.Option.{Option}
+use Rattle.std.specs.declared.option.Option.TheVariants.{None, Some}
+use Rattle.af_outside.specs.Outside.{same_bytes}
+
+pub cond-some : {A : Type 0} (t : Bool) (x : Option A) (b : A) → cond t x None ≡ Some b → (t ≡ true) × (x ≡ Some b)
+cond-some true x b e = (refl, e)
+cond-some false x b e = absurd cc
+
+pub cond-true : {A : Type 0} (t : Bool) (x y b : A) → t ≡ true → cond t x y ≡ b → x ≡ b
+cond-true true x y b e h = h
+cond-true false x y b e h = absurd cc
+
+pub both-true : (s t : Bool) → (s && t) ≡ true → (s ≡ true) × (t ≡ true)
+both-true true t e = (refl, e)
+both-true false t e = absurd cc
+
+pub none_some : {A : Type 0} {b : A} → None ≡ Some b → ⊥
+none_some e = cc
+
+pub same_bytes-true : (xs ys : List ℕ) → same_bytes xs ys ≡ true → xs ≡ ys
+same_bytes-true [] [] e = refl
+same_bytes-true [] (y ∷ ys) e = absurd cc
+same_bytes-true (x ∷ xs) [] e = absurd cc
+same_bytes-true (x ∷ xs) (y ∷ ys) e =
+    let t = both-true (x == y) (same_bytes xs ys) e in
+    let h : x ≡ y = eqb-true x y t.0 in
+    let r : xs ≡ ys = same_bytes-true xs ys t.1 in
+    cc

@@ -1,0 +1,66 @@
+-- Advancing a link: what stands whole at the front of its input is taken off and answered.
+use Rattle.std.specs.Prelude.{ℕ, zero, suc, Bool, true, List, ◌++◌, length, take, drop, if◌then◌else◌, ◌&&◌, nat_le, is_none}
+use Rattle.std.specs.declared.option.Option.{Option}
+use Rattle.std.specs.declared.option.Option.TheVariants.{None, Some}
+use Rattle.af_outside.specs.declared.happening.Why.TheVariants as why
+use Rattle.af_wire.specs.declared.front.Front.{Front}
+use Rattle.af_wire.specs.declared.front.Front.TheVariants.{NeedMore, Frame, Malformed}
+use Rattle.af_wire.specs.declared.front.SetupFront.{SetupFront}
+use Rattle.af_wire.specs.declared.front.SetupFront.TheVariants as setup
+use Rattle.af_wire.specs.Front.{setup_front, frame_front}
+use Rattle.af_wire.specs.Message.{error}
+use Rattle.af_model.specs.State.{LinkState, Place, place, say, stopped}
+use Rattle.af_model.specs.Reply.{setup_reply, rates_of}
+use Rattle.af_model.specs.Perform.{Request, request_in, perform}
+
+-- n bytes are taken off the front of the input
+abbrev pub without_front : ℕ → LinkState → LinkState
+without_front n l = record l { rest = drop n l.rest }
+
+-- link k makes a request, or a frame that is none closes it
+abbrev pub requested : ℕ → Option Request → Place → Place
+requested k None p = place p.around (stopped why.Malformed p.link)
+requested k (Some request) p = perform k request p
+
+-- what becomes of link k with a frame at the front of its input; None where there is none yet
+abbrev pub after_frame : ℕ → Front → Place → Option Place
+after_frame k NeedMore p = None
+after_frame k Malformed p = Some (place p.around (stopped why.Malformed p.link))
+after_frame k (Frame n) p = Some (requested k (request_in (take n p.link.rest)) (place p.around (without_front n p.link)))
+
+-- what becomes of a link with a setup at the front of its input; a bad one is answered with BadSetup (1) and closes the link
+abbrev pub after_setup : SetupFront → Place → Option Place
+after_setup setup.NeedMore p = None
+after_setup setup.Setup p =
+    Some (say (place p.around (record (without_front 8 p.link) { is_set_up = true })) (setup_reply (rates_of p.around.devices)))
+after_setup (setup.BadSetup value) p = Some (say (place p.around (stopped why.BadSetup p.link)) (error 1 value 0 0))
+
+-- nothing is taken off while a link is closing, or while more than 16384 bytes wait to be sent to it
+abbrev pub takes_more : LinkState → Bool
+takes_more l = is_none l.closing && nat_le (length l.pending) 16384
+
+abbrev pub after_front : ℕ → Place → Option Place
+after_front k p =
+    if p.link.is_set_up then after_frame k (frame_front p.link.rest) p else after_setup (setup_front p.link.rest) p
+
+-- one setup or frame is taken off; None where there is none to take
+abbrev pub advance_step : ℕ → Place → Option Place
+advance_step k p = if takes_more p.link then after_front k p else None
+
+abbrev pub or_else : {A : Type 0} → A → (A → A) → Option A → A
+or_else x f None = x
+or_else x f (Some y) = f y
+
+-- as long as there is one to take, at most n of them
+abbrev pub advance_by : ℕ → ℕ → Place → Place
+advance_by zero k p = p
+advance_by (suc n) k p = or_else p (advance_by n k) (advance_step k p)
+
+-- as long as there is one to take: each takes at least one byte off
+unfoldable pub advance : ℕ → Place → Place
+advance k p = advance_by (length p.link.rest) k p
+
+-- link k gets these bytes, which a closing link never does
+abbrev pub absorb : ℕ → List ℕ → Place → Place
+absorb k bytes p =
+    if is_none p.link.closing then advance k (place p.around (record p.link { rest = p.link.rest ++ bytes })) else p

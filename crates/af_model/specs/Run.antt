@@ -1,0 +1,33 @@
+-- A run: turns, one after the other, from the opening state.
+use Rattle.std.specs.Prelude.{◌≡◌, ℕ, zero, suc, true, List, [], ◌∷◌, is_some}
+use Rattle.std.specs.declared.option.Option.{Option}
+use Rattle.std.specs.declared.option.Option.TheVariants.{None, Some}
+use Rattle.af_outside.specs.declared.happening.Happening.TheVariants.{Woke}
+use Rattle.af_outside.specs.declared.script.DeviceSpec.{DeviceSpec}
+use Rattle.af_outside.specs.Told.{Log}
+use Rattle.af_model.specs.State.{State, opening}
+use Rattle.af_model.specs.Turn.{Behind, turn}
+
+-- how many turns a log has: as many as wakes
+abbrev pub wakes : Log → ℕ
+wakes [] = zero
+wakes (Woke wake ∷ log) = suc (wakes log)
+wakes (h ∷ log) = wakes log
+
+abbrev pub then_end : Option (Behind State) → (State → Log → Option State) → Option State
+then_end None f = None
+then_end (Some b) f = f b.state b.log
+
+-- the state behind n turns, where the log is exactly these
+abbrev pub end_by : ℕ → State → Log → Option State
+end_by zero s [] = Some s
+end_by zero s (h ∷ log) = None
+end_by (suc n) s log = then_end (turn s log) (end_by n)
+
+-- the state that a log ends in, where it is a run of the configuration
+unfoldable pub end_state : List DeviceSpec → Log → Option State
+end_state config log = end_by (wakes log) (opening config) log
+
+-- the log is a run of the abstract server with these devices
+abbrev pub IsRun : List DeviceSpec → Log → Type 0
+IsRun config log = is_some (end_state config log) ≡ true

@@ -1,0 +1,95 @@
+-- The state of the abstract server: its devices, its links, and what was ever said to each link.
+use Rattle.std.specs.Prelude.{ℕ, ◌+◌, ◌^◌, Bool, false, List, [], ◌++◌, map, replicate, slice_get, slice_set, is_some, length}
+use Rattle.std.specs.declared.option.Option.{Option}
+use Rattle.std.specs.declared.option.Option.TheVariants.{None, Some}
+use Rattle.af_outside.specs.declared.happening.Why.{Why}
+use Rattle.af_outside.specs.declared.script.DeviceSpec.{DeviceSpec}
+
+-- A device. Its time is unbounded, and begins 2^32 above the stated start, so that times before the start are natural
+-- numbers too: only differences of times, and times modulo 2^32, are ever seen.
+pub record DeviceState : Type 0 where
+  pub rate : ℕ
+  pub now : ℕ
+
+-- An open link: its unread input, its unsent output, whether it may have something to read, why it is to be closed, and
+-- how many requests it has made, modulo 2^16.
+pub record LinkState : Type 0 where
+  pub is_set_up : Bool
+  pub rest : List ℕ
+  pub pending : List ℕ
+  pub is_ready : Bool
+  pub closing : Option Why
+  pub sequence : ℕ
+
+-- A number for a link, open or not. What was said is history: all that was appended to the link's output since it was
+-- opened last, which stays behind a close.
+pub record Slot : Type 0 where
+  pub link : Option LinkState
+  pub said : List ℕ
+
+pub record State : Type 0 where
+  pub devices : List DeviceState
+  pub slots : List Slot
+
+-- What is around a link: what all links share, and the link's own history.
+pub record Around : Type 0 where
+  pub devices : List DeviceState
+  pub said : List ℕ
+
+-- an open link with what is around it
+pub record Place : Type 0 where
+  pub around : Around
+  pub link : LinkState
+
+abbrev pub place : Around → LinkState → Place
+place a l = record { around = a; link = l }
+
+-- Bytes are appended to a link's output, and so were said. Nothing else writes either.
+abbrev pub say : Place → List ℕ → Place
+say p bytes =
+    place (record p.around { said = p.around.said ++ bytes }) (record p.link { pending = p.link.pending ++ bytes })
+
+-- a link that was just opened
+abbrev pub opened : LinkState
+opened = record { is_set_up = false; rest = []; pending = []; is_ready = false; closing = None; sequence = 0 }
+
+-- a link that is to be closed, for its first cause; nothing more of its input is read
+abbrev pub stopped : Why → LinkState → LinkState
+stopped cause l = record l { rest = []; closing = Some cause }
+
+-- a device at its start
+abbrev pub opening_device : DeviceSpec → DeviceState
+opening_device d = record { rate = d.rate; now = d.start + 2 ^ 32 }
+
+abbrev pub closed_slot : Slot
+closed_slot = record { link = None; said = [] }
+
+-- no link is open, and each device stands at its start
+abbrev pub opening : List DeviceSpec → State
+opening config = record { devices = map opening_device config; slots = replicate 32 closed_slot }
+
+-- the slot of a link's number
+abbrev pub some_slot : Option Slot → Slot
+some_slot None = closed_slot
+some_slot (Some slot) = slot
+
+abbrev pub slot_at : ℕ → State → Slot
+slot_at k s = some_slot (slice_get s.slots k)
+
+abbrev pub with_slot : ℕ → Slot → State → State
+with_slot k slot s = record s { slots = slice_set s.slots k slot }
+
+-- the links at their numbers
+abbrev pub links_of : List Slot → List (Option LinkState)
+links_of slots = map (λ slot. slot.link) slots
+
+-- What decides whether a wake may come: how many devices there are, and which links are open.
+pub record Outline : Type 0 where
+  pub devices : ℕ
+  pub links : List Bool
+
+abbrev pub outline_with : ℕ → List (Option LinkState) → Outline
+outline_with devices links = record { devices = devices; links = map is_some links }
+
+abbrev pub outline : State → Outline
+outline s = outline_with (length s.devices) (links_of s.slots)

@@ -1,0 +1,207 @@
+-- A turn, phase by phase. Each phase takes its own happenings off the front of a log; the answers in them are the
+-- outside's, and all else is determined. What is behind a phase is the next state and the rest of the log, or nothing where
+-- the log does not go on as it must.
+use Rattle.std.specs.Prelude.{◌≡◌, ℕ, zero, suc, ◌+◌, Bool, true, false, not, List, [], ◌∷◌, ◌++◌, length, drop, if◌then◌else◌, ◌==◌, ◌&&◌, nat_le, nat_lt, is_none, slice_get}
+use Rattle.std.specs.declared.option.Option.{Option}
+use Rattle.std.specs.declared.option.Option.TheVariants.{None, Some}
+use Rattle.af_outside.specs.declared.happening.Happening.{Happening}
+use Rattle.af_outside.specs.declared.happening.Happening.TheVariants.{Woke, Read, Wrote, Closed, Emitted}
+use Rattle.af_outside.specs.declared.happening.ReadGot.{ReadGot}
+use Rattle.af_outside.specs.declared.happening.ReadGot.TheVariants.{Given, NotYet}
+use Rattle.af_outside.specs.declared.happening.Wake.{Wake}
+use Rattle.af_outside.specs.declared.happening.Wake.TheVariants.{Opened, Readable, Ticked, Idle, Stop}
+use Rattle.af_outside.specs.declared.happening.Why.{Why}
+use Rattle.af_outside.specs.declared.happening.Why.TheVariants as why
+use Rattle.af_outside.specs.Told.{Log}
+use Rattle.af_outside.specs.Outside.{same_bytes}
+use Rattle.af_model.specs.State.{State, DeviceState, Slot, LinkState, Around, Place, Outline, place, opened, slot_at, with_slot, outline}
+use Rattle.af_model.specs.Advance.{advance, absorb}
+use Rattle.af_model.specs.Tick.{sound, tick}
+
+-- a state, and the log that is left behind it
+pub record Behind (S : Type 0) : Type 0 where
+  pub state : S
+  pub log : Log
+
+abbrev pub behind : {S : Type 0} → S → Log → Option (Behind S)
+behind s log = Some (record { state = s; log = log })
+
+-- one phase after another
+abbrev pub and_then : {S T : Type 0} → Option (Behind S) → (S → Log → Option (Behind T)) → Option (Behind T)
+and_then None f = None
+and_then (Some b) f = f b.state b.log
+
+abbrev pub then_go : {S T : Type 0} → Option S → (S → Option T) → Option T
+then_go None f = None
+then_go (Some s) f = f s
+
+-- one happening, which leads to a state where it is the one that must come
+abbrev pub take_one : {S : Type 0} → (Happening → Option S) → Log → Option (Behind S)
+take_one f [] = None
+take_one f (h ∷ log) = then_go (f h) (λ s. behind s log)
+
+-- Reads: one, where the link may have something to read, is not closing, and at most 16384 bytes wait to be sent to it
+
+abbrev pub wants_read : LinkState → Bool
+wants_read l = l.is_ready && is_none l.closing && nat_le (length l.pending) 16384
+
+-- a read gives 1 to 16384 bytes
+abbrev pub is_read : ReadGot → Bool
+is_read (Given bytes) = nat_lt 0 (length bytes) && nat_le (length bytes) 16384
+is_read NotYet = true
+
+abbrev pub after_read : ℕ → ReadGot → Place → Place
+after_read k (Given bytes) p = absorb k bytes p
+after_read k NotYet p = place p.around (record p.link { is_ready = false })
+
+abbrev pub read_by : ℕ → Place → Happening → Option Place
+read_by k p (Read link got) = if link == k && is_read got then Some (after_read k got p) else None
+read_by k p _ = None
+
+unfoldable pub read_phase : ℕ → Place → Log → Option (Behind Place)
+read_phase k p log = if wants_read p.link then take_one (read_by k p) log else behind p log
+
+-- Writes: of all that waits to be sent, as long as anything does
+
+abbrev pub wants_write : LinkState → Bool
+wants_write l = not (length l.pending == 0)
+
+-- the bytes that were taken are sent, and requests are performed again
+abbrev pub after_write : ℕ → List ℕ → Place → Place
+after_write k bytes p = advance k (place p.around (record p.link { pending = drop (length bytes) p.link.pending }))
+
+-- all that waits to be sent is offered, and all that is offered is taken
+abbrev pub write_taken : ℕ → ℕ → Option (List ℕ) → Place → Option Place
+write_taken k offered None p = None
+write_taken k offered (Some bytes) p =
+    if offered == length p.link.pending && same_bytes bytes p.link.pending then Some (after_write k bytes p) else None
+
+abbrev pub write_by : ℕ → Place → Happening → Option Place
+write_by k p (Wrote link offered took) = if link == k then write_taken k offered took p else None
+write_by k p _ = None
+
+abbrev pub write_phase : ℕ → Place → Log → Option (Behind Place)
+write_phase k p [] = if wants_write p.link then None else behind p []
+write_phase k p (h ∷ log) =
+    if wants_write p.link then then_go (write_by k p h) (λ q. write_phase k q log) else behind p (h ∷ log)
+
+-- Closes: one, where the link is closing and nothing waits to be sent to it
+
+-- what is around a link's number, and the link that is open there
+pub record Door : Type 0 where
+  pub around : Around
+  pub link : Option LinkState
+
+abbrev pub door : Around → Option LinkState → Door
+door a link = record { around = a; link = link }
+
+abbrev pub same_why : Why → Why → Bool
+same_why why.BadSetup why.BadSetup = true
+same_why why.BadSetup why.Malformed = false
+same_why why.Malformed why.BadSetup = false
+same_why why.Malformed why.Malformed = true
+
+-- the cause of a link that is to be closed now
+abbrev pub close_due : LinkState → Option Why
+close_due l = if length l.pending == 0 then l.closing else None
+
+abbrev pub close_by : ℕ → Around → Why → Happening → Option Door
+close_by k a cause (Closed link why) = if link == k && same_why why cause then Some (door a None) else None
+close_by k a cause _ = None
+
+abbrev pub close_for : ℕ → Place → Option Why → Log → Option (Behind Door)
+close_for k p None log = behind (door p.around (Some p.link)) log
+close_for k p (Some cause) log = take_one (close_by k p.around cause) log
+
+unfoldable pub close_phase : ℕ → Place → Log → Option (Behind Door)
+close_phase k p log = close_for k p (close_due p.link) log
+
+-- A link is served by a read, writes and a close; all links are by rising number
+
+unfoldable pub serve_link : ℕ → Place → Log → Option (Behind Door)
+serve_link k p log = and_then (read_phase k p log) (λ p log. and_then (write_phase k p log) (close_phase k))
+
+abbrev pub serve_open : ℕ → Around → Option LinkState → Log → Option (Behind Door)
+serve_open k a None log = behind (door a None) log
+serve_open k a (Some l) log = serve_link k (place a l) log
+
+abbrev pub serve_door : ℕ → Door → Log → Option (Behind Door)
+serve_door k d log = serve_open k d.around d.link log
+
+abbrev pub door_at : ℕ → State → Door
+door_at k s = door (record { devices = s.devices; said = (slot_at k s).said }) (slot_at k s).link
+
+abbrev pub with_door : ℕ → State → Door → State
+with_door k s d = with_slot k (record { link = d.link; said = d.around.said }) (record s { devices = d.around.devices })
+
+abbrev pub serve_at : ℕ → State → Log → Option (Behind State)
+serve_at k s log = and_then (serve_door k (door_at k s) log) (λ d log. behind (with_door k s d) log)
+
+-- n links from number k on
+unfoldable pub serve_from : ℕ → ℕ → State → Log → Option (Behind State)
+serve_from zero k s log = behind s log
+serve_from (suc n) k s log = and_then (serve_at k s log) (serve_from n (k + 1))
+
+abbrev pub serve_all : State → Log → Option (Behind State)
+serve_all s log = serve_from (length s.slots) 0 s log
+
+-- Wakes
+
+-- of the links at their numbers, whether the one at a number is open
+abbrev pub is_open_at : Option Bool → Bool
+is_open_at None = false
+is_open_at (Some is_open) = is_open
+
+-- whether the number is a link's, and that link is not open
+abbrev pub is_closed_at : Option Bool → Bool
+is_closed_at None = false
+is_closed_at (Some is_open) = not is_open
+
+-- whether a wake may come: a link is opened that is not open, may be read that is, and a device that is there ticks 1 to
+-- 4096 frames
+abbrev pub fits : Outline → Wake → Bool
+fits o (Opened k) = is_closed_at (slice_get o.links k)
+fits o (Readable k) = is_open_at (slice_get o.links k)
+fits o (Ticked d n) = nat_lt d o.devices && nat_le 1 n && nat_le n 4096
+fits o Idle = true
+fits o Stop = true
+
+-- a link may have something to read
+abbrev pub ready : LinkState → LinkState
+ready l = record l { is_ready = true }
+
+-- what becomes of a link, where it is open
+abbrev pub in_open : (LinkState → LinkState) → Option LinkState → Option LinkState
+in_open f None = None
+in_open f (Some l) = Some (f l)
+
+abbrev pub in_slot : (LinkState → LinkState) → Slot → Slot
+in_slot f slot = record slot { link = in_open f slot.link }
+
+-- a device hands its sound out, and time goes by
+abbrev pub emit_by : ℕ → ℕ → DeviceState → State → Happening → Option State
+emit_by d n device s (Emitted e bytes done) =
+    if e == d && same_bytes bytes (sound device n) && done then Some (tick d n s) else None
+emit_by d n device s _ = None
+
+abbrev pub tick_phase : ℕ → ℕ → Option DeviceState → State → Log → Option (Behind State)
+tick_phase d n None s log = None
+tick_phase d n (Some device) s log = take_one (emit_by d n device s) log
+
+-- what a wake does
+unfoldable pub wake_phase : Wake → State → Log → Option (Behind State)
+wake_phase (Opened k) s log = behind (with_slot k (record { link = Some opened; said = [] }) s) log
+wake_phase (Readable k) s log = behind (with_slot k (in_slot ready (slot_at k s)) s) log
+wake_phase (Ticked d n) s log = tick_phase d n (slice_get s.devices d) s log
+wake_phase Idle s log = behind s log
+wake_phase Stop s log = behind s log
+
+-- A whole turn: a wake that may come, with what it does, and then all links
+
+unfoldable pub turn : State → Log → Option (Behind State)
+turn s (Woke wake ∷ log) = if fits (outline s) wake then and_then (wake_phase wake s log) serve_all else None
+turn s _ = None
+
+-- the part of a log is exactly one turn from the state, whatever follows it, and leads to the next state
+abbrev pub IsTurn : State → Log → State → Type 0
+IsTurn s part next = (more : Log) → turn s (part ++ more) ≡ behind next more

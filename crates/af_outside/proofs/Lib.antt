@@ -1,0 +1,3 @@
+pub mod Outsides
+pub mod FarEnds
+pub mod Known

@@ -1,0 +1,40 @@
+-- What the calls of a tape lead to: the laws of its relation.
+use Rattle.std.proofs.Common.{◌≡◌, [], ◌∷◌, ◌++◌, refl, sym, ap, ◌∙◌, append_assoc}
+use Rattle.std.proofs.lemmas.List.{append-nil}
+use Rattle.std.specs.declared.option.Option.{Option}
+use Rattle.std.specs.declared.option.Option.TheVariants.{None, Some}
+use Rattle.af_outside.specs.Told.{Log}
+use Rattle.af_outside.specs.Outside.{Outside, TapeState, TapeLeadsTo, Answered, answered, replayed, then_outside}
+
+-- a log of two parts is replayed part by part
+pub replayed-append : (o : Outside) (front back : Log) → replayed o (front ++ back) ≡ then_outside (replayed o front) (λ o. replayed o back)
+replayed-append o [] back = refl
+replayed-append o (h ∷ front) back =
+    elim (answered o h) as (λ x. then_outside x (λ o. replayed o (front ++ back)) ≡ then_outside (then_outside x (λ o. replayed o front)) (λ o. replayed o back))
+    [ None ↦ refl | Some o' ↦ replayed-append o' front back ]
+
+answered_refl : (log : Option Log) (o : Outside) → Answered log o log o
+answered_refl None o = tt
+answered_refl (Some log) o = ([], sym (append-nil log), refl)
+
+answered_trans : (x y z : Option Log) (a b c : Outside) → Answered x a y b → Answered y b z c → Answered x a z c
+answered_trans x y None a b c p q = tt
+answered_trans x None (Some z) a b c p q = absurd q
+answered_trans None (Some y) (Some z) a b c p q = absurd p
+answered_trans (Some x) (Some y) (Some z) a b c p q = (
+  p.0 ++ q.0,
+  q.1 ∙ ap (λ log. log ++ q.0) p.1 ∙ append_assoc x p.0 q.0,
+  replayed-append a p.0 q.0 ∙ ap (λ o. then_outside o (λ o. replayed o q.0)) p.2 ∙ q.2,
+)
+
+-- no call leads anywhere by itself
+pub TapeLeadsTo-refl : (a : TapeState) → TapeLeadsTo a a
+TapeLeadsTo-refl a = record { config = refl; left = refl; answered = answered_refl a.log a.outside }
+
+-- calls after calls are calls
+pub TapeLeadsTo-trans : (a b c : TapeState) → TapeLeadsTo a b → TapeLeadsTo b c → TapeLeadsTo a c
+TapeLeadsTo-trans a b c p q = record {
+  config = q.config ∙ p.config;
+  left = q.left ∙ p.left;
+  answered = answered_trans a.log b.log c.log a.outside b.outside c.outside p.answered q.answered;
+}

@@ -1,0 +1,38 @@
+-- What the answers of a world are in its log.
+use Rattle.std.specs.Prelude.{◌≡◌, ℕ, ◌≤◌, Bool, true, false, List, take}
+use Rattle.std.specs.declared.option.Option.{Option}
+use Rattle.std.specs.declared.option.Option.TheVariants.{Some}
+use Rattle.af_outside.specs.declared.happening.ReadGot.{ReadGot}
+use Rattle.af_outside.specs.declared.happening.ReadGot.TheVariants as happened
+use Rattle.af_outside.specs.declared.flow.Put.{Put}
+use Rattle.af_outside.specs.declared.flow.Put.TheVariants as put
+use Rattle.af_outside.specs.declared.world.LinkGot.{LinkGot}
+use Rattle.af_outside.specs.declared.world.LinkGot.TheVariants as got
+use Rattle.af_outside.specs.declared.world.LinkTook.{LinkTook}
+use Rattle.af_outside.specs.declared.world.LinkTook.TheVariants as took
+
+-- what a read gave, of the slice that was read into
+abbrev pub got_of : LinkGot → List ℕ → ReadGot
+got_of (got.Bytes n) into = happened.Given (take n into)
+got_of got.NotYet into = happened.NotYet
+
+-- how many bytes a write took
+abbrev pub taken_count : LinkTook → ℕ
+taken_count (took.Took n) = n
+
+-- what a write took, of the piece that was offered
+abbrev pub took_of : LinkTook → List ℕ → Option (List ℕ)
+took_of (took.Took n) piece = Some (take n piece)
+
+abbrev pub is_done : Put → Bool
+is_done put.Done = true
+is_done put.Failed = false
+
+-- a read gives at least one byte and at most as many as there is room for
+abbrev pub GotFits : LinkGot → ℕ → Type 0
+GotFits (got.Bytes n) room = (1 ≤ n) × (n ≤ room)
+GotFits got.NotYet room = Unit {0}
+
+-- a write takes all that was offered
+abbrev pub TookFits : LinkTook → ℕ → Type 0
+TookFits (took.Took n) offered = n ≡ offered

@@ -1,0 +1,58 @@
+// The words of a command line, which contracts see as a list of words, each a list of bytes.
+ghost use Rattle.std.specs.Prelude.{◌≡◌, ◌++◌, [], ◌∷◌, length, option_map, slice_get, OnOk, OnErr};
+
+use af_time::OutOfMemory;
+use std::alloc::Global;
+use std::marker::Model;
+
+/// The words of a command line.
+#[derive(Drop)]
+pub struct Args {
+    words: Vec<String>,
+}
+
+impl Model for Args {
+    ghost use Rattle.std.specs.Prelude.{List, ℕ, map, string_bytes};
+
+    ghost Value = { List (List ℕ) };
+
+    ghost view = { λ a. map string_bytes a.words.items };
+}
+
+impl Args {
+    /// No words so far.
+    pub fn new(alloc: Global) -> Args
+        ensures { result ≡ [] }
+    {
+        Args {
+            words: Vec::new(alloc),
+        }
+    }
+
+    /// Adds a word at the end. Where memory runs out nothing changes.
+    pub fn push(&mut self, word: &str) -> Result<(), OutOfMemory>
+        ensures ok { OnOk result (self.new ≡ self.old ++ word.now ∷ []) }
+        ensures err { OnErr result (self.new ≡ self.old) }
+    {
+        let word = String::from_str(*self.words.allocator(), word)?;
+        self.words.push(word)?;
+        Ok(())
+    }
+
+    /// The number of words.
+    pub fn len(&self) -> usize
+        ensures { result ≡ length self.now }
+    {
+        self.words.len()
+    }
+
+    /// The word at a place, counted from 0, or None exactly where the place is not below the length.
+    pub fn word(&self, place: usize) -> Option<&str>
+        ensures { option_map (λ word. word.now) result ≡ slice_get self.now place }
+    {
+        match self.words.get(place) {
+            Some(word) => Some(word.as_str()),
+            None => None,
+        }
+    }
+}

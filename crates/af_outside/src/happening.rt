@@ -1,0 +1,56 @@
+// What happens to the server: the wakes that begin its turns, and the answers that the outside gives to its calls.
+use crate::Bytes;
+
+/// What begins a turn.
+#[derive(Clone, Copy, Debug, PartialEq, Eq)]
+pub enum Wake {
+    /// A link is new.
+    Opened(u8),
+    /// A link may have something to read.
+    Readable(u8),
+    /// So many sample periods of a device went by.
+    Ticked(u8, u32),
+    Idle,
+    Stop,
+}
+
+/// Why a link is closed.
+#[derive(Clone, Copy, Debug, PartialEq, Eq)]
+pub enum Why {
+    /// Its first eight bytes are no setup.
+    BadSetup,
+    /// A front came to be read that is no request.
+    Malformed,
+}
+
+/// What a read gave.
+#[derive(Drop)]
+pub enum ReadGot {
+    Given(Bytes),
+    NotYet,
+}
+
+/// A wake, or a call of the server with what the outside answered.
+#[derive(Drop)]
+pub enum Happening {
+    Woke(Wake),
+    Read {
+        link: u8,
+        got: ReadGot,
+    },
+    /// So many bytes were offered to a link, and these were taken. None stands for a failed write.
+    Wrote {
+        link: u8,
+        offered: u32,
+        took: Option<Bytes>,
+    },
+    Closed {
+        link: u8,
+        why: Why,
+    },
+    Emitted {
+        device: u8,
+        sound: Bytes,
+        done: bool,
+    },
+}

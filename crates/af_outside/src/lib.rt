@@ -1,0 +1,27 @@
+//! The outside of the server: where bytes come from and go to, what happens, and a world in memory.
+#![tactic(auto)]
+
+mod args;
+mod bytes;
+mod far_end;
+mod flow;
+mod happening;
+mod logbook;
+mod memory;
+mod real;
+mod script;
+mod tape;
+mod world;
+
+pub use args::Args;
+pub use bytes::Bytes;
+pub use flow::{Got, Put, Sink, Source};
+pub use happening::{Happening, ReadGot, Wake, Why};
+pub use memory::{MemSink, MemSource};
+pub use real::{StdSink, StdSource};
+pub use script::{Config, DeviceSpec, Step};
+pub use tape::Tape;
+pub use world::{LinkGot, LinkTook, World};
+
+#[cfg(test)]
+mod tests;

@@ -1,0 +1,259 @@
+// What the outside in memory and the adapters do, on examples worked by hand.
+use super::*;
+use std::alloc::{AllocError, Global};
+use std::fmt::Write as _;
+use std::io;
+use std::io::{ErrorKind, Read, Write};
+use std::test::Fail;
+
+// Writes a line of text for a happening.
+fn write_line(text: &mut String, happening: &Happening) -> Result<(), AllocError> {
+    match happening {
+        Happening::Woke(wake) => writeln!(text, "woke {wake:?}"),
+        Happening::Read { link, got } => match got {
+            ReadGot::Given(bytes) => writeln!(text, "read {link} {:?}", bytes.as_slice()),
+            ReadGot::NotYet => writeln!(text, "read {link} none"),
+        },
+        Happening::Wrote {
+            link,
+            offered,
+            took,
+        } => match took {
+            Some(bytes) => writeln!(text, "wrote {link} {offered} {:?}", bytes.as_slice()),
+            None => writeln!(text, "wrote {link} {offered} failed"),
+        },
+        Happening::Closed { link, why } => writeln!(text, "closed {link} {why:?}"),
+        Happening::Emitted {
+            device,
+            sound,
+            done,
+        } => writeln!(text, "emitted {device} {:?} {done}", sound.as_slice()),
+    }
+}
+
+fn lines_of(alloc: Global, log: &[Happening]) -> Result<String, AllocError> {
+    let mut text = String::new(alloc);
+    for happening in log {
+        write_line(&mut text, happening)?;
+    }
+    Ok(text)
+}
+
+// What is done to a tape: its next step is taken and noted as a wake, which is Stop after the last one, or a call is made.
+#[derive(Clone, Copy)]
+enum Act {
+    Step,
+    Read(u8),
+    Write(u8),
+    Close(u8),
+    Emit(u8),
+}
+
+fn carry_out(tape: &mut Tape, act: Act) {
+    match act {
+        Act::Step => {
+            let wake = tape.step().unwrap_or(Wake::Stop);
+            tape.woke(wake);
+        }
+        Act::Read(link) => {
+            let mut into = [0u8; 16384];
+            tape.read(link, &mut into);
+        }
+        Act::Write(link) => {
+            tape.write(link, &[9, 8]);
+        }
+        Act::Close(link) => tape.close(link, Why::Malformed),
+        Act::Emit(device) => {
+            tape.emit(device, &[0, 0]);
+        }
+    }
+}
+
+#[test]
+fn a_tape_plays_a_script(rt: HostRuntime) -> Result<(), Fail> {
+    let alloc = rt.alloc();
+    let mut config = Config::new();
+    config.push(DeviceSpec {
+        rate: 8000,
+        start: 7,
+    });
+    let steps = vec![in alloc;
+        Step::Open(3),
+        Step::Send(3, Bytes::copied(alloc, &[1, 2, 3])?),
+        Step::Send(3, Bytes::copied(alloc, &[4])?),
+        Step::Tick(0, 2),
+        Step::Open(3),
+        Step::Send(4, Bytes::copied(alloc, &[5])?),
+        Step::Send(3, Bytes::copied(alloc, &[6])?),
+        Step::Open(3),
+        Step::Idle,
+    ]?;
+    let mut tape = Tape::new(alloc, &config, steps.as_slice())?;
+    // the second opening of a link that is open, and a sending on one that is not, are idle; what was sent before a close is gone
+    let acts = [
+        Act::Step,
+        Act::Read(3),
+        Act::Step,
+        Act::Step,
+        Act::Read(3),
+        Act::Read(3),
+        Act::Write(3),
+        Act::Step,
+        Act::Emit(0),
+        Act::Step,
+        Act::Step,
+        Act::Step,
+        Act::Close(3),
+        Act::Step,
+        Act::Read(3),
+        Act::Step,
+        Act::Step,
+    ];
+    for next in acts {
+        carry_out(&mut tape, next);
+    }
+    let log = "woke Opened(3)\n\
+               read 3 none\n\
+               woke Readable(3)\n\
+               woke Readable(3)\n\
+               read 3 [1, 2, 3, 4]\n\
+               read 3 none\n\
+               wrote 3 2 [9, 8]\n\
+               woke Ticked(0, 2)\n\
+               emitted 0 [0, 0] true\n\
+               woke Idle\n\
+               woke Idle\n\
+               woke Readable(3)\n\
+               closed 3 Malformed\n\
+               woke Opened(3)\n\
+               read 3 none\n\
+               woke Idle\n\
+               woke Stop\n";
+    assert!(rt; tape.tells());
+    assert_eq!(rt; lines_of(alloc, tape.log())?.as_str(), log);
+    Ok(())
+}
+
+#[test]
+fn a_source_in_memory_fails_in_mid_stream(rt: HostRuntime) {
+    let mut source = MemSource::new(&[1, 2, 3, 4, 5], 2, &[1]);
+    let mut into = [0u8; 8];
+    assert_eq!(rt; source.read(&mut into), Got::Bytes(2));
+    assert_eq!(rt; source.read(&mut into), Got::Failed);
+    assert_eq!(rt; source.left(), [3, 4, 5].as_slice());
+    assert_eq!(rt; source.read(&mut into[..1]), Got::Bytes(1));
+    assert_eq!(rt; source.read(&mut into), Got::Bytes(2));
+    assert_eq!(rt; &into[..2], [4, 5].as_slice());
+    assert_eq!(rt; source.read(&mut into), Got::Ended);
+}
+
+#[test]
+fn a_sink_in_memory_fails_and_runs_out_of_room(rt: HostRuntime) {
+    let mut room = [0u8; 4];
+    let mut sink = MemSink::new(&mut room, &[1]);
+    assert_eq!(rt; sink.write(&[1, 2]), Put::Done);
+    assert_eq!(rt; sink.write(&[3]), Put::Failed);
+    assert_eq!(rt; sink.write(&[3, 4, 5]), Put::Failed);
+    assert_eq!(rt; sink.write(&[3, 4]), Put::Done);
+    assert_eq!(rt; sink.held(), [1, 2, 3, 4].as_slice());
+}
+
+#[test]
+fn words_of_a_command_line(rt: HostRuntime) -> Result<(), Fail> {
+    let mut args = Args::new(rt.alloc());
+    args.push("script")?;
+    args.push("")?;
+    assert_eq!(rt; args.len(), 2);
+    assert_eq!(rt; args.word(0), Some("script"));
+    assert_eq!(rt; args.word(1), Some(""));
+    assert_eq!(rt; args.word(2), None);
+    Ok(())
+}
+
+// A reader that is interrupted so many times, then gives 3 bytes, one a call, and then ends or fails.
+#[derive(Drop)]
+struct Slow {
+    interruptions: u32,
+    left: u8,
+    fails: bool,
+}
+
+impl Read for Slow {
+    fn read(&mut self, buf: &mut [u8]) -> io::Result<usize> {
+        if self.interruptions > 0 {
+            self.interruptions -= 1;
+            return Err(io::Error::from(ErrorKind::Interrupted));
+        }
+        if self.left == 0 && self.fails {
+            return Err(io::Error::from(ErrorKind::Other));
+        }
+        match buf {
+            [first, ..] if self.left > 0 => {
+                *first = self.left;
+                self.left -= 1;
+                Ok(1)
+            }
+            _ => Ok(0),
+        }
+    }
+}
+
+#[test]
+fn a_reader_is_interrupted_and_fails(rt: HostRuntime) {
+    let mut into = [0u8; 8];
+    for (interruptions, fails, first, last) in [
+        (0, false, Got::Bytes(1), Got::Ended),
+        (1000, true, Got::Bytes(1), Got::Failed),
+        (1001, false, Got::Failed, Got::Bytes(1)),
+    ] {
+        let mut source = StdSource::new(Slow {
+            interruptions,
+            left: 3,
+            fails,
+        });
+        assert_eq!(rt; source.read(&mut into), first, "after {interruptions}");
+        assert_eq!(rt; source.read(&mut into), Got::Bytes(1));
+        assert_eq!(rt; source.read(&mut into), Got::Bytes(1));
+        assert_eq!(rt; source.read(&mut into), last, "after {interruptions}");
+    }
+}
+
+// A writer that is interrupted before each byte that it takes, and takes 3.
+#[derive(Drop)]
+struct Narrow {
+    taken: Vec<u8>,
+    interrupts: bool,
+}
+
+impl Write for Narrow {
+    fn write(&mut self, buf: &[u8]) -> io::Result<usize> {
+        self.interrupts = !self.interrupts;
+        if self.interrupts {
+            return Err(io::Error::from(ErrorKind::Interrupted));
+        }
+        match buf {
+            [first, ..] if self.taken.len() < 3 => match self.taken.push(*first) {
+                Ok(()) => Ok(1),
+                Err(_) => Err(io::Error::from(ErrorKind::OutOfMemory)),
+            },
+            _ => Ok(0),
+        }
+    }
+
+    fn flush(&mut self) -> io::Result<()> {
+        Ok(())
+    }
+}
+
+#[test]
+fn a_writer_is_interrupted_and_takes_nothing(rt: HostRuntime) {
+    let mut narrow = Narrow {
+        taken: Vec::new(rt.alloc()),
+        interrupts: false,
+    };
+    let mut sink = StdSink::new(&mut narrow);
+    assert_eq!(rt; sink.write(&[1, 2]), Put::Done);
+    assert_eq!(rt; sink.write(&[3, 4]), Put::Failed);
+    drop(sink);
+    assert_eq!(rt; narrow.taken.as_slice(), [1, 2, 3].as_slice());
+}

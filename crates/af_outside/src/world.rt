@@ -1,0 +1,78 @@
+// The world that the server lives in.
+ghost use Rattle.std.specs.Prelude.{◌≡◌, ◌≤◌, ◌<◌, ℕ, [], ◌∷◌, length};
+ghost use Rattle.std.specs.declared.option.Option.{Option};
+ghost use Rattle.af_outside.specs.declared.happening.Happening.TheVariants.{Woke, Read, Wrote, Closed, Emitted};
+ghost use Rattle.af_outside.specs.Told.{Log, Grew};
+ghost use Rattle.af_outside.specs.World.{got_of, took_of, is_done, GotFits, TookFits};
+
+use crate::{Put, Wake, Why};
+
+/// What a read of a link gave: so many bytes, or none so far.
+#[derive(Clone, Copy, Debug, PartialEq, Eq)]
+pub enum LinkGot {
+    Bytes(usize),
+    NotYet,
+}
+
+/// What a write to a link did: so many bytes were taken.
+#[derive(Clone, Copy, Debug, PartialEq, Eq)]
+pub enum LinkTook {
+    Took(usize),
+}
+
+/// The outside of the server: its links and its devices. Each call adds exactly its one happening to the log, where the
+/// log is told. No call moves a count of faults down.
+pub trait World {
+    /// The log so far, where it is told.
+    ghost log: { Self → Option Log };
+
+    /// How often a link has failed.
+    ghost link_faults: { Self → ℕ };
+
+    /// How often a device has failed.
+    ghost device_faults: { Self → ℕ };
+
+    /// Calls of this trait alone lead from the first world to the second. What they leave as it is, and how their answers
+    /// hang together, is for each world to say.
+    ghost leads_to: { Self → Self → Type 0 };
+
+    /// Notes the wake that begins a turn.
+    fn woke(&mut self, wake: Wake)
+        ensures log { Grew (log self.old) (Woke wake ∷ []) (log self.new) }
+        ensures leads { leads_to self.old self.new };
+
+    /// Reads at most 16384 bytes of a link.
+    fn read(&mut self, link: u8, into: &mut [u8]) -> LinkGot
+        requires { length into.old ≡ 16384 }
+        ensures log { Grew (log self.old) (Read link (got_of result into.new) ∷ []) (log self.new) }
+        ensures bound { GotFits result (length into.new) }
+        ensures leads { leads_to self.old self.new };
+
+    /// Offers a piece to a link, which takes all of it.
+    fn write(&mut self, link: u8, piece: &[u8]) -> LinkTook
+        requires some { 0 < length piece.now }
+        requires bound { length piece.now ≤ 65536 }
+        ensures log { Grew (log self.old) (Wrote link (length piece.now) (took_of result piece.now) ∷ []) (log self.new) }
+        ensures bound { TookFits result (length piece.now) }
+        ensures leads { leads_to self.old self.new };
+
+    /// Closes a link for a cause.
+    fn close(&mut self, link: u8, why: Why)
+        ensures log { Grew (log self.old) (Closed link why ∷ []) (log self.new) }
+        ensures leads { leads_to self.old self.new };
+
+    /// Hands a device's sound out, which is always done.
+    fn emit(&mut self, device: u8, sound: &[u8]) -> Put
+        requires { 0 < length sound.now }
+        ensures log { Grew (log self.old) (Emitted device sound.now (is_done result) ∷ []) (log self.new) }
+        ensures done { result ≡ Put.Done }
+        ensures leads { leads_to self.old self.new };
+
+    ghost leads_to_itself: { (a : Self) → leads_to a a };
+
+    ghost leads_on: { (a b c : Self) → leads_to a b → leads_to b c → leads_to a c };
+
+    ghost link_faults_stay: { (a b : Self) → leads_to a b → link_faults a ≤ link_faults b };
+
+    ghost device_faults_stay: { (a b : Self) → leads_to a b → device_faults a ≤ device_faults b };
+}

@@ -1,0 +1,5 @@
+pub mod Splitting
+pub mod LineByLine
+pub mod Stating
+pub mod Printing
+pub mod Playing

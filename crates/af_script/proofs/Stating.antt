@@ -1,0 +1,228 @@
+-- What a script states keeps to the limits of devices and steps.
+use Rattle.std.proofs.Common.{◌≡◌, ℕ, zero, suc, ◌+◌, ◌<◌, ◌≤◌, Bool, true, false, cond, ◌&&◌, List, [], ◌∷◌, length, take, drop, min, refl, sym, ap, ◌∙◌, subst, arith, length-take}
+use Rattle.std.specs.Prelude.{Option, Some, None, option_map, option_and_then, Result, Ok, Err, All, nat_lt, nat_le, nat_eq, bytes_eq, codes, IsTrue}
+use Rattle.std.proofs.lemmas.Bool.{and_parts}
+use Rattle.std.proofs.lemmas.Bool.Decides.{nat_tests}
+use Rattle.std.proofs.lemmas.List.Elements.{All-nil, All-cons}
+use Rattle.af_outside.specs.declared.script.DeviceSpec.{DeviceSpec}
+use Rattle.af_outside.specs.declared.script.Step.{Step}
+use Rattle.af_outside.specs.declared.script.Step.TheVariants as step
+use Rattle.af_outside.specs.Outside.{IsStep}
+use Rattle.std.specs.Result.{result_ok}
+use Rattle.hex.specs.Hex.{decode_of}
+use Rattle.af_script.specs.declared.statement.Kind.{Kind}
+use Rattle.af_script.specs.declared.statement.Kind.TheVariants as kind
+use Rattle.af_script.specs.Words.{number_of, number_within, only_if, then_some, sent_bytes}
+use Rattle.af_script.specs.Statement.{kind_of, is_device_kind, is_listed_rate, rate_of, device_at, device_with, device_of_kind, device_of, link_of, device_number, open_of, send_of, tick_of, idle_of, step_of_kind, step_of, is_device_line}
+use Rattle.af_script.specs.Script.{Stated, Entry, most_devices, device_lines, with_first, each_says, first_number, with_steps, with_config, stated_by, script_of, entries, HasListedRate}
+use Rattle.af_script.specs.Lines.{lines, is_nil}
+use Rattle.af_script.proofs.LineByLine.{read_on}
+
+abbrev some_or : {A : Type 0} → A → Option A → A
+some_or d None = d
+some_or d (Some x) = x
+
+some_same : {A : Type 0} {x y : A} → Some x ≡ Some y → x ≡ y
+some_same {A} {x} {y} e = ap (some_or x) e
+
+then_some_from : {A : Type 0} (b : Bool) (x y : A) → then_some b x ≡ Some y → (b ≡ true) × (x ≡ y)
+then_some_from true x y e = (refl, some_same e)
+then_some_from false x y e = cc e
+
+-- the value behind `option_and_then`
+and_then_from : {A B : Type 0} (f : A → Option B) (o : Option A) (y : B) → option_and_then f o ≡ Some y → (x : A) × (o ≡ Some x) × (f x ≡ Some y)
+and_then_from f None y e = cc e
+and_then_from f (Some x) y e = (x, refl, e)
+
+-- the value behind `option_map`
+map_from : {A B : Type 0} (f : A → B) (o : Option A) (y : B) → option_map f o ≡ Some y → (x : A) × (o ≡ Some x) × (f x ≡ y)
+map_from f None y e = cc e
+map_from f (Some x) y e = (x, refl, some_same e)
+
+-- the test of `only_if`
+only_if_from : {A : Type 0} (test : A → Bool) (x y : A) → only_if test x ≡ Some y → (test x ≡ true) × (x ≡ y)
+only_if_from test x y = then_some_from (test x) x y
+
+number_from : (low high : ℕ) (word : List ℕ) (n : ℕ) → number_within low high word ≡ Some n → (low ≤ n) × (n ≤ high)
+number_from low high word n e =
+    let a = and_then_from (only_if (λ m. nat_le low m && nat_le m high)) (number_of word) n e in
+    let b = only_if_from (λ m. nat_le low m && nat_le m high) a.0 n a.2 in
+    let both = and_parts (nat_le low a.0) (nat_le a.0 high) b.0 in
+    let is = b.1 in
+    (grind (arith, nat_tests), grind (arith, nat_tests))
+
+-- a rate that is stated is listed
+rate_from : (word : List ℕ) (rate : ℕ) → rate_of word ≡ Some rate → is_listed_rate rate ≡ true
+rate_from word rate e =
+    let a = and_then_from (only_if is_listed_rate) (number_of word) rate e in
+    let b = only_if_from is_listed_rate a.0 rate a.2 in
+    subst (λ r. is_listed_rate r ≡ true) b.1 b.0
+
+device_with_from : (arguments : List (List ℕ)) (d : DeviceSpec) → device_with arguments ≡ Some d → HasListedRate d
+device_with_from [] d e = cc e
+device_with_from (ty ∷ []) d e = cc e
+device_with_from (ty ∷ rate ∷ []) d e = cc e
+device_with_from (ty ∷ rate ∷ start ∷ w ∷ ws) d e = cc e
+device_with_from (ty ∷ rate ∷ start ∷ []) d e =
+    (elim (bytes_eq ty (codes "lin16")) as (λ t. cond t (option_and_then (λ r. option_map (device_at r) (number_within 0 4294967295 start)) (rate_of rate)) None ≡ Some d → HasListedRate d) [
+      | true ↦ λ h.
+          let a = and_then_from (λ r. option_map (device_at r) (number_within 0 4294967295 start)) (rate_of rate) d h in
+          let b = map_from (device_at a.0) (number_within 0 4294967295 start) d a.2 in
+          subst HasListedRate b.2 (rate_from rate a.0 a.1)
+      | false ↦ λ h. cc h
+    ]) e
+
+device_from : (ws : List (List ℕ)) (d : DeviceSpec) → device_of ws ≡ Some d → HasListedRate d
+device_from [] d e = cc e
+device_from (name ∷ arguments) d e =
+    (elim (is_device_kind (kind_of name)) as (λ t. cond t (device_with arguments) None ≡ Some d → HasListedRate d) [
+      | true ↦ λ h. device_with_from arguments d h
+      | false ↦ λ h. cc h
+    ]) e
+
+open_from : (devices : ℕ) (arguments : List (List ℕ)) (s : Step) → open_of arguments ≡ Some s → IsStep devices s
+open_from devices [] s e = cc e
+open_from devices (link ∷ w ∷ ws) s e = cc e
+open_from devices (link ∷ []) s e =
+    let a = map_from step.Open (link_of link) s e in
+    let n = number_from 0 0 link a.0 a.1 in
+    subst (IsStep devices) a.2 (omega (arith, n.1))
+
+sent_size : (m n : ℕ) → m ≡ n → nat_le 1 m ≡ true → nat_le m 16384 ≡ true → (1 ≤ n) × (n ≤ 16384)
+sent_size m n e low high = (grind (arith, nat_tests), grind (arith, nat_tests))
+
+sent_from : (word bytes : List ℕ) → sent_bytes word ≡ Some bytes → (1 ≤ length bytes) × (length bytes ≤ 16384)
+sent_from word bytes e =
+    let a = and_then_from (only_if (λ (bs : List ℕ). nat_le 1 (length bs) && nat_le (length bs) 16384)) (result_ok (decode_of word)) bytes e in
+    let b = only_if_from (λ (bs : List ℕ). nat_le 1 (length bs) && nat_le (length bs) 16384) a.0 bytes a.2 in
+    let both = and_parts (nat_le 1 (length a.0)) (nat_le (length a.0) 16384) b.0 in
+    sent_size (length a.0) (length bytes) (ap length b.1) both.0 both.1
+
+send_from : (devices : ℕ) (arguments : List (List ℕ)) (s : Step) → send_of arguments ≡ Some s → IsStep devices s
+send_from devices [] s e = cc e
+send_from devices (link ∷ []) s e = cc e
+send_from devices (link ∷ hex ∷ w ∷ ws) s e = cc e
+send_from devices (link ∷ hex ∷ []) s e =
+    let a = and_then_from (λ k. option_map (step.Send k) (sent_bytes hex)) (link_of link) s e in
+    let b = map_from (step.Send a.0) (sent_bytes hex) s a.2 in
+    let n = number_from 0 0 link a.0 a.1 in
+    let size = sent_from hex b.0 b.1 in
+    subst (IsStep devices) b.2 (omega (arith, n.1), size.0, size.1)
+
+device_number_from : (devices : ℕ) (word : List ℕ) (d : ℕ) → device_number devices word ≡ Some d → d < devices
+device_number_from devices word d e =
+    let a = and_then_from (only_if (λ x. nat_lt x devices)) (number_of word) d e in
+    let b = only_if_from (λ x. nat_lt x devices) a.0 d a.2 in
+    let below = b.0 in
+    let is = b.1 in
+    grind (arith, nat_tests)
+
+tick_from : (devices : ℕ) (arguments : List (List ℕ)) (s : Step) → tick_of devices arguments ≡ Some s → IsStep devices s
+tick_from devices [] s e = cc e
+tick_from devices (device ∷ []) s e = cc e
+tick_from devices (device ∷ frames ∷ w ∷ ws) s e = cc e
+tick_from devices (device ∷ frames ∷ []) s e =
+    let a = and_then_from (λ d. option_map (step.Tick d) (number_within 1 4096 frames)) (device_number devices device) s e in
+    let b = map_from (step.Tick a.0) (number_within 1 4096 frames) s a.2 in
+    let n = number_from 1 4096 frames b.0 b.1 in
+    subst (IsStep devices) b.2 (device_number_from devices device a.0 a.1, n.0, n.1)
+
+idle_from : (devices : ℕ) (arguments : List (List ℕ)) (s : Step) → idle_of arguments ≡ Some s → IsStep devices s
+idle_from devices [] s e = subst (IsStep devices) (some_same e) tt
+idle_from devices (w ∷ ws) s e = cc e
+
+step_by_kind : (devices : ℕ) (k : Option Kind) (arguments : List (List ℕ)) (s : Step) → step_of_kind devices k arguments ≡ Some s → IsStep devices s
+step_by_kind devices None arguments s e = cc e
+step_by_kind devices (Some kind.Device) arguments s e = cc e
+step_by_kind devices (Some kind.Open) arguments s e = open_from devices arguments s e
+step_by_kind devices (Some kind.Send) arguments s e = send_from devices arguments s e
+step_by_kind devices (Some kind.Tick) arguments s e = tick_from devices arguments s e
+step_by_kind devices (Some kind.Idle) arguments s e = idle_from devices arguments s e
+
+step_from : (devices : ℕ) (ws : List (List ℕ)) (s : Step) → step_of devices ws ≡ Some s → IsStep devices s
+step_from devices [] s e = cc e
+step_from devices (name ∷ arguments) s e = step_by_kind devices (kind_of name) arguments s e
+
+-- what holds of each thing that is said, and how many they are
+record Says {A : Type 0} (P : A → Type 0) (es : List Entry) (xs : List A) : Type 0 where
+  each : All P xs
+  count : length xs ≡ length es
+
+abbrev ok_or_nil : {A : Type 0} → Result (List A) ℕ → List A
+ok_or_nil (Ok xs) = xs
+ok_or_nil (Err n) = []
+
+each_from : {A : Type 0} (P : A → Type 0) (says : List (List ℕ) → Option A) → ((ws : List (List ℕ)) (x : A) → says ws ≡ Some x → P x) → (es : List Entry) (xs : List A) → each_says says es ≡ Ok xs → Says P es xs
+each_from P says good [] xs e = let is : [] ≡ xs = ap ok_or_nil e in subst (Says P []) is (record { each = All-nil P; count = refl })
+each_from P says good (entry ∷ es) xs e =
+    let later = each_from P says good es in
+    (elim (says entry.words) as (λ o. says entry.words ≡ o → with_first entry.number o (each_says says es) ≡ Ok xs → Says P (entry ∷ es) xs) [
+      | None ↦ λ at h. cc h
+      | Some x ↦ λ at h.
+          (elim (each_says says es) as (λ r. each_says says es ≡ r → with_first entry.number (Some x) r ≡ Ok xs → Says P (entry ∷ es) xs) [
+            | Err n ↦ λ was g. cc g
+            | Ok more ↦ λ was g.
+                let is : x ∷ more ≡ xs = ap ok_or_nil g in
+                let tail = later more was in
+                subst (Says P (entry ∷ es)) is (record { each = All-cons P x more (good entry.words x at) tail.each; count = ap suc tail.count })
+          ]) refl h
+    ]) refl e
+
+-- a script has a device or more, of rates that are listed, and steps for them
+pub record IsSound (s : Stated) : Type 0 where
+  pub some : 1 ≤ length s.config
+  pub few : length s.config ≤ most_devices
+  pub rates : All HasListedRate s.config
+  pub steps : All (IsStep (length s.config)) s.steps
+
+abbrev ok_or : Stated → Result Stated ℕ → Stated
+ok_or d (Ok s) = s
+ok_or d (Err n) = d
+
+few_lines : (most : ℕ) (es : List Entry) → (device_lines most es ≤ most) × (device_lines most es ≤ length es)
+few_lines zero es = (omega arith, omega arith)
+few_lines (suc most) [] = (omega arith, omega arith)
+few_lines (suc most) (e ∷ es) =
+    let later = few_lines most es in
+    let a = later.0 in
+    let b = later.1 in
+    elim (is_device_line e.words) as (λ t. (cond t (suc (device_lines most es)) 0 ≤ suc most) × (cond t (suc (device_lines most es)) 0 ≤ length (e ∷ es))) [
+      | true ↦ (omega arith, omega arith)
+      | false ↦ (omega arith, omega arith)
+    ]
+
+sound : (k : ℕ) (es : List Entry) (behind : ℕ) (s : Stated) → k ≤ most_devices → k ≤ length es → stated_by k es behind ≡ Ok s → IsSound s
+sound zero es behind s few there e = cc e
+sound (suc k) es behind s few there e =
+    let some_lines : nat_eq (suc k) 0 ≡ false = grind (arith, nat_tests) in
+    let devices = take (suc k) es in
+    let rest = drop (suc k) es in
+    let whole : with_config (each_says device_of devices) rest ≡ Ok s = ap (λ t. cond t (Err (first_number es behind)) (with_config (each_says device_of devices) rest)) (sym some_lines) ∙ e in
+    (elim (each_says device_of devices) as (λ r. each_says device_of devices ≡ r → with_config r rest ≡ Ok s → IsSound s) [
+      | Err n ↦ λ was h. cc h
+      | Ok config ↦ λ was h.
+          let ds = each_from HasListedRate device_of device_from devices config was in
+          let len = ds.count in
+          let taken = length-take (suc k) es in
+          (elim (each_says (step_of (length config)) rest) as (λ r. each_says (step_of (length config)) rest ≡ r → with_steps config r ≡ Ok s → IsSound s) [
+            | Err n ↦ λ at g. cc g
+            | Ok steps ↦ λ at g.
+                let is : record { config = config; steps = steps } ≡ s = ap (ok_or s) g in
+                let ss = each_from (IsStep (length config)) (step_of (length config)) (step_from (length config)) rest steps at in
+                subst IsSound is (record { some = omega arith; few = omega arith; rates = ds.each; steps = ss.each })
+          ]) refl h
+    ]) refl whole
+
+pub script_sound : (text : List ℕ) (s : Stated) → script_of text ≡ Ok s → IsSound s
+script_sound text s e =
+    let es = entries 1 (lines text) in
+    let few = few_lines most_devices es in
+    sound (device_lines most_devices es) es (1 + length (lines text)) s few.0 few.1 e
+
+-- where no line is left, the script so far is the whole script
+pub read_end : (text : List ℕ) (config : List DeviceSpec) (steps all : List Step) (n : ℕ) (rest : List ℕ) → read_on (record { config = config; steps = steps }) n (lines rest) ≡ script_of text → length rest ≡ 0 → 0 < length config → all ≡ steps → IsSound (record { config = config; steps = all })
+read_end text config steps all n (b ∷ rest) same none some is_all = absurd (omega arith)
+read_end text [] steps all n [] same none some is_all = absurd (omega arith)
+read_end text (d ∷ config) steps all n [] same none some is_all =
+    let s : Stated = record { config = d ∷ config; steps = steps } in
+    subst (λ (xs : List Step). IsSound (record { config = d ∷ config; steps = xs })) (sym is_all) (script_sound text s (sym same))

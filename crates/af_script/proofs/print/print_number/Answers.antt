@@ -1,0 +1,13 @@
+use Rattle.std.proofs.Common.{◌<◌, length, arith, sym, ◌∙◌, subst}
+use Rattle.std.proofs.lemmas.Fmt.{decimal_nonempty}
+use Rattle.af_script.specs.Printing.{Prints, filled}
+use Rattle.af_script.proofs.print.print_number.Goals as goal
+
+pub put-requires : goal.put-requires
+put-requires g c =
+    subst (λ t. 0 < length t) (sym (c.as_bytes.ensures.value ∙ c.format.ensures.text)) (decimal_nonempty c.args.number (omega arith))
+
+pub returns : goal.returns
+returns g c =
+    subst (λ t. Prints c.put.result (filled (g.K.Sink.held c.args.sink.now) (g.K.Sink.faults c.args.sink.now)) t (filled (g.K.Sink.held c.put.new.sink) (g.K.Sink.faults c.put.new.sink)))
+    (c.as_bytes.ensures.value ∙ c.format.ensures.text) c.put.ensures

@@ -1,0 +1,13 @@
+-- What a tape tells when its script has been run.
+use Rattle.std.specs.declared.option.Option.{Option}
+use Rattle.std.specs.declared.option.Option.TheVariants.{None, Some}
+use Rattle.std.specs.Prelude.{List}
+use Rattle.af_outside.specs.declared.script.DeviceSpec.{DeviceSpec}
+use Rattle.af_outside.specs.declared.script.Step.{Step}
+use Rattle.af_outside.specs.Told.{Log}
+use Rattle.af_model.specs.Script.{OneLog}
+
+-- the log is told, and is the one that the script has
+abbrev pub HasOneLog : List DeviceSpec → List Step → Option Log → Type 0
+HasOneLog config steps None = ⊥
+HasOneLog config steps (Some log) = OneLog config steps log

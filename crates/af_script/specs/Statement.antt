@@ -1,0 +1,113 @@
+-- What a line states by its words: a device, or a step.
+use Rattle.std.specs.Prelude.{ℕ, ◌+◌, ◌-◌, ◌^◌, ◌≤◌, ◌<◌, nat_lt, ◌==◌, Bool, true, false, ◌&&◌, List, [], ◌∷◌, length, codes, bytes_eq, Option, Some, None, option_map, option_and_then, if◌then◌else◌}
+use Rattle.af_outside.specs.declared.script.DeviceSpec.{DeviceSpec}
+use Rattle.af_outside.specs.declared.script.Step.{Step}
+use Rattle.af_outside.specs.declared.script.Step.TheVariants as step
+use Rattle.af_script.specs.declared.statement.Kind.{Kind}
+use Rattle.af_script.specs.declared.statement.Kind.TheVariants as kind
+use Rattle.af_script.specs.Words.{number_of, number_within, only_if, sent_bytes}
+
+-- the kind of a line by its first word
+abbrev pub kind_of : List ℕ → Option Kind
+kind_of name =
+    if bytes_eq name (codes "device") then Some kind.Device
+    else if bytes_eq name (codes "open") then Some kind.Open
+    else if bytes_eq name (codes "send") then Some kind.Send
+    else if bytes_eq name (codes "tick") then Some kind.Tick
+    else if bytes_eq name (codes "idle") then Some kind.Idle
+    else None
+
+abbrev pub kind_of_words : List (List ℕ) → Option Kind
+kind_of_words [] = None
+kind_of_words (name ∷ arguments) = kind_of name
+
+-- a line whose first word is `device`
+abbrev pub is_device_kind : Option Kind → Bool
+is_device_kind None = false
+is_device_kind (Some kind.Device) = true
+is_device_kind (Some kind.Open) = false
+is_device_kind (Some kind.Send) = false
+is_device_kind (Some kind.Tick) = false
+is_device_kind (Some kind.Idle) = false
+
+abbrev pub is_device_line : List (List ℕ) → Bool
+is_device_line words = is_device_kind (kind_of_words words)
+
+-- Devices
+
+-- the rates that a device can have, in frames a second
+abbrev pub is_listed_rate : ℕ → Bool
+is_listed_rate rate = rate == 8000
+
+-- the rate of a word, where it is listed
+abbrev pub rate_of : List ℕ → Option ℕ
+rate_of word = option_and_then (only_if is_listed_rate) (number_of word)
+
+abbrev pub device_at : ℕ → ℕ → DeviceSpec
+device_at rate start = record { rate = rate; start = start }
+
+-- `device lin16 RATE START`: a device of this rate, whose time begins at START
+abbrev pub device_with : List (List ℕ) → Option DeviceSpec
+device_with (ty ∷ rate ∷ start ∷ []) =
+    if bytes_eq ty (codes "lin16")
+    then option_and_then (λ r. option_map (device_at r) (number_within 0 (2 ^ 32 - 1) start)) (rate_of rate)
+    else None
+device_with _ = None
+
+-- the device that a line of this kind states, by the words that follow its name
+abbrev pub device_of_kind : Option Kind → List (List ℕ) → Option DeviceSpec
+device_of_kind kind arguments = if is_device_kind kind then device_with arguments else None
+
+-- the device that the words of a line state
+abbrev pub device_of : List (List ℕ) → Option DeviceSpec
+device_of [] = None
+device_of (name ∷ arguments) = device_of_kind (kind_of name) arguments
+
+-- Steps
+
+-- links are numbered from 0 to this
+abbrev pub last_link : ℕ
+last_link = 0
+
+-- the number of a link
+abbrev pub link_of : List ℕ → Option ℕ
+link_of word = number_within 0 last_link word
+
+-- the number of one of so many devices
+abbrev pub device_number : ℕ → List ℕ → Option ℕ
+device_number devices word = option_and_then (only_if (λ d. nat_lt d devices)) (number_of word)
+
+-- `open K`
+abbrev pub open_of : List (List ℕ) → Option Step
+open_of (link ∷ []) = option_map step.Open (link_of link)
+open_of _ = None
+
+-- `send K HEX`
+abbrev pub send_of : List (List ℕ) → Option Step
+send_of (link ∷ hex ∷ []) = option_and_then (λ k. option_map (step.Send k) (sent_bytes hex)) (link_of link)
+send_of _ = None
+
+-- `tick D N`
+abbrev pub tick_of : ℕ → List (List ℕ) → Option Step
+tick_of devices (device ∷ frames ∷ []) =
+    option_and_then (λ d. option_map (step.Tick d) (number_within 1 4096 frames)) (device_number devices device)
+tick_of devices _ = None
+
+-- `idle`
+abbrev pub idle_of : List (List ℕ) → Option Step
+idle_of [] = Some step.Idle
+idle_of (word ∷ words) = None
+
+-- the step of a line of this kind, by the words that follow its name
+abbrev pub step_of_kind : ℕ → Option Kind → List (List ℕ) → Option Step
+step_of_kind devices None arguments = None
+step_of_kind devices (Some kind.Device) arguments = None
+step_of_kind devices (Some kind.Open) arguments = open_of arguments
+step_of_kind devices (Some kind.Send) arguments = send_of arguments
+step_of_kind devices (Some kind.Tick) arguments = tick_of devices arguments
+step_of_kind devices (Some kind.Idle) arguments = idle_of arguments
+
+-- the step that the words of a line state, where there are so many devices
+abbrev pub step_of : ℕ → List (List ℕ) → Option Step
+step_of devices [] = None
+step_of devices (name ∷ arguments) = step_of_kind devices (kind_of name) arguments

@@ -1,0 +1,44 @@
+-- The transcript of a log: a line for each happening that is seen outside.
+use Rattle.std.specs.Prelude.{ℕ, Bool, List, [], ◌∷◌, ◌++◌, codes, decimal, flat_map, Option, Some, None, if◌then◌else◌}
+use Rattle.hex.specs.Hex.{encode_lower}
+use Rattle.af_outside.specs.declared.happening.Happening.{Happening}
+use Rattle.af_outside.specs.declared.happening.Happening.TheVariants.{Woke, Read, Wrote, Closed, Emitted}
+use Rattle.af_outside.specs.declared.happening.Why.{Why}
+use Rattle.af_outside.specs.declared.happening.Why.TheVariants.{BadSetup, Malformed}
+use Rattle.af_outside.specs.Told.{Log}
+
+-- the word for why a link was closed
+abbrev pub cause_word : Why → List ℕ
+cause_word BadSetup = codes "setup"
+cause_word Malformed = codes "malformed"
+
+-- a line begins with a name, and a number between two spaces
+abbrev pub head_of : List ℕ → ℕ → List ℕ
+head_of name number = name ++ codes " " ++ decimal number ++ codes " "
+
+-- a line of a name, a number and a text
+abbrev pub line_of : List ℕ → ℕ → List ℕ → List ℕ
+line_of name number text = head_of name number ++ text ++ codes "\n"
+
+-- the line of a link that took these bytes, if they are some
+abbrev pub taken_line : ℕ → List ℕ → List ℕ
+taken_line link [] = []
+taken_line link (b ∷ bytes) = line_of (codes "link") link (encode_lower (b ∷ bytes))
+
+-- the line of a write to a link, of which None stands for a failed one
+abbrev pub wrote_line : ℕ → Option (List ℕ) → List ℕ
+wrote_line link None = line_of (codes "write") link (codes "failed")
+wrote_line link (Some bytes) = taken_line link bytes
+
+-- the line of a happening; wakes and reads have none
+abbrev pub line_for : Happening → List ℕ
+line_for (Woke wake) = []
+line_for (Read link got) = []
+line_for (Wrote link offered took) = wrote_line link took
+line_for (Closed link why) = line_of (codes "closed") link (cause_word why)
+line_for (Emitted device sound done) =
+    if done then line_of (codes "emit") device (encode_lower sound) else line_of (codes "emit") device (codes "failed")
+
+-- the transcript of a log: the lines of its happenings, in order
+abbrev pub transcript : Log → List ℕ
+transcript log = flat_map line_for log

@@ -1,0 +1,166 @@
+// A log is printed as its transcript, piece by piece.
+ghost use Rattle.std.specs.Prelude.{◌≡◌, ◌≤◌, ◌<◌, length, decimal};
+ghost use Rattle.hex.specs.Hex.{encode_lower};
+ghost use Rattle.af_outside.specs.Told.{Rose};
+ghost use Rattle.af_outside.specs.Flow.{Written};
+ghost use Rattle.af_script.specs.Transcript.{transcript, line_for, line_of, head_of, taken_line, cause_word};
+ghost use Rattle.af_script.specs.Printing.{Prints, filled};
+
+use af_outside::{Happening, Put, Sink, Why};
+use itoa::Buffer;
+
+/// How many bytes are written in hexadecimal at once.
+const CHUNK: usize = 1024;
+
+/// The sink has failed.
+#[derive(Clone, Copy, Debug, PartialEq, Eq)]
+struct Broken;
+
+/// Prints the transcript of a log. Failed comes only where the sink has failed; then a prefix was written.
+pub fn print_log<K: Sink>(log: &[Happening], sink: &mut K) -> Put
+    ensures written { Written result (K.held sink.old) (transcript log.now) (K.held sink.new) }
+    ensures count { K.faults sink.old ≤ K.faults sink.new }
+    ensures cause { result ≡ Put.Failed → Rose (K.faults sink.old) (K.faults sink.new) }
+{
+    match print_all(log, sink) {
+        Ok(()) => Put::Done,
+        Err(Broken) => Put::Failed,
+    }
+}
+
+/// Prints the lines of these happenings.
+fn print_all<K: Sink>(log: &[Happening], sink: &mut K) -> Result<(), Broken>
+    ensures { Prints result (filled (K.held sink.old) (K.faults sink.old)) (transcript log.now) (filled (K.held sink.new) (K.faults sink.new)) }
+{
+    for happening in log {
+        print_happening(happening, sink)?;
+    }
+    Ok(())
+}
+
+/// Prints the line of a happening, where it has one.
+fn print_happening<K: Sink>(happening: &Happening, sink: &mut K) -> Result<(), Broken>
+    ensures { Prints result (filled (K.held sink.old) (K.faults sink.old)) (line_for happening.now) (filled (K.held sink.new) (K.faults sink.new)) }
+{
+    match happening {
+        Happening::Woke(_) | Happening::Read { .. } => Ok(()),
+        Happening::Wrote {
+            link,
+            took: None,
+            ..
+        } => print_word(b"write", *link, b"failed", sink),
+        Happening::Wrote {
+            link,
+            took: Some(bytes),
+            ..
+        } => print_taken(*link, bytes.as_slice(), sink),
+        Happening::Closed { link, why } => print_word(b"closed", *link, cause(*why), sink),
+        Happening::Emitted {
+            device,
+            sound,
+            done: true,
+        } => print_bytes(b"emit", *device, sound.as_slice(), sink),
+        Happening::Emitted {
+            device,
+            done: false,
+            ..
+        } => print_word(b"emit", *device, b"failed", sink),
+    }
+}
+
+/// The word for why a link was closed.
+fn cause(why: Why) -> &'static [u8]
+    ensures value { result.now ≡ cause_word why }
+    ensures some { 0 < length result.now }
+{
+    match why {
+        Why::BadSetup => b"setup",
+        Why::Malformed => b"malformed",
+    }
+}
+
+/// Prints the line of a link that took these bytes, if they are some.
+fn print_taken<K: Sink>(link: u8, bytes: &[u8], sink: &mut K) -> Result<(), Broken>
+    ensures { Prints result (filled (K.held sink.old) (K.faults sink.old)) (taken_line link bytes.now) (filled (K.held sink.new) (K.faults sink.new)) }
+{
+    match bytes {
+        [] => Ok(()),
+        _ => print_bytes(b"link", link, bytes, sink),
+    }
+}
+
+/// Prints a line of a name, a number and a word.
+fn print_word<K: Sink>(name: &[u8], number: u8, word: &[u8], sink: &mut K) -> Result<(), Broken>
+    requires named { 0 < length name.now }
+    requires some { 0 < length word.now }
+    ensures { Prints result (filled (K.held sink.old) (K.faults sink.old)) (line_of name.now number word.now) (filled (K.held sink.new) (K.faults sink.new)) }
+{
+    print_head(name, number, sink)?;
+    put(word, sink)?;
+    put(b"\n", sink)
+}
+
+/// Prints a line of a name, a number and bytes in hexadecimal.
+fn print_bytes<K: Sink>(name: &[u8], number: u8, bytes: &[u8], sink: &mut K) -> Result<(), Broken>
+    requires { 0 < length name.now }
+    ensures { Prints result (filled (K.held sink.old) (K.faults sink.old)) (line_of name.now number (encode_lower bytes.now)) (filled (K.held sink.new) (K.faults sink.new)) }
+{
+    print_head(name, number, sink)?;
+    print_hex(bytes, sink)?;
+    put(b"\n", sink)
+}
+
+/// Prints the beginning of a line: its name, and a number between two spaces.
+fn print_head<K: Sink>(name: &[u8], number: u8, sink: &mut K) -> Result<(), Broken>
+    requires { 0 < length name.now }
+    ensures { Prints result (filled (K.held sink.old) (K.faults sink.old)) (head_of name.now number) (filled (K.held sink.new) (K.faults sink.new)) }
+{
+    put(name, sink)?;
+    put(b" ", sink)?;
+    print_number(number, sink)?;
+    put(b" ", sink)
+}
+
+/// Prints a number in decimal digits.
+fn print_number<K: Sink>(number: u8, sink: &mut K) -> Result<(), Broken>
+    ensures { Prints result (filled (K.held sink.old) (K.faults sink.old)) (decimal number) (filled (K.held sink.new) (K.faults sink.new)) }
+{
+    let mut buffer = Buffer::new();
+    put(buffer.format(number).as_bytes(), sink)
+}
+
+/// Prints bytes in hexadecimal.
+fn print_hex<K: Sink>(bytes: &[u8], sink: &mut K) -> Result<(), Broken>
+    ensures { Prints result (filled (K.held sink.old) (K.faults sink.old)) (encode_lower bytes.now) (filled (K.held sink.new) (K.faults sink.new)) }
+{
+    let mut rest = bytes;
+    while !rest.is_empty() {
+        let (chunk, behind) = rest.split_at(rest.len().min(CHUNK));
+        print_chunk(chunk, sink)?;
+        rest = behind;
+    }
+    Ok(())
+}
+
+/// Prints a chunk of bytes in hexadecimal.
+fn print_chunk<K: Sink>(bytes: &[u8], sink: &mut K) -> Result<(), Broken>
+    requires some { 0 < length bytes.now }
+    requires bound { length bytes.now ≤ 1024 }
+    ensures { Prints result (filled (K.held sink.old) (K.faults sink.old)) (encode_lower bytes.now) (filled (K.held sink.new) (K.faults sink.new)) }
+{
+    let mut text = [0u8; 2 * CHUNK];
+    let digits = &mut text[..2 * bytes.len()];
+    let _ = hex::encode_to_slice(bytes, digits);
+    put(digits, sink)
+}
+
+/// Adds a piece to the sink.
+fn put<K: Sink>(piece: &[u8], sink: &mut K) -> Result<(), Broken>
+    requires { 0 < length piece.now }
+    ensures { Prints result (filled (K.held sink.old) (K.faults sink.old)) piece.now (filled (K.held sink.new) (K.faults sink.new)) }
+{
+    match sink.write(piece) {
+        Put::Done => Ok(()),
+        Put::Failed => Err(Broken),
+    }
+}

@@ -1,0 +1,130 @@
+// A text is read as a script, line by line.
+ghost use Rattle.std.specs.Prelude.{◌≡◌, ◌≤◌, ◌&&◌, ◌⊎◌, ℕ, [], Some, length, All, IfOk, IfErr, option_map, ◌++◌, ◌∷◌, ◌<◌};
+ghost use Rattle.af_outside.specs.Outside.{IsStep};
+ghost use Rattle.af_script.specs.Lines.{words};
+ghost use Rattle.af_script.specs.Script.{script_of, IsFault, HasListedRate};
+ghost use Rattle.af_script.specs.Words.{then_some};
+ghost use Rattle.af_script.specs.Statement.{is_device_kind, device_with, step_of_kind};
+ghost use Rattle.af_script.specs.Reading.{with_line, can_take_device};
+
+use crate::lines::{next_line, next_word, passes_over};
+use crate::statement::{Kind, device_stated, kind_named, step_stated};
+use crate::{ScriptFault, Steps};
+use af_outside::{Config, Step};
+use af_time::OutOfMemory;
+use arrayvec::ArrayVec;
+use std::alloc::Global;
+
+/// How many devices a script may have.
+const MOST_DEVICES: usize = 1;
+
+/// A script: its devices, which are numbered from 0, and its steps, in order.
+#[derive(Drop)]
+pub struct Script {
+    pub config: Config,
+    pub steps: Steps,
+}
+
+/// Reads the script that a text is. Where the text is none, the fault has the number of its first line that is not
+/// allowed where it stands; want of memory can come in the place of any answer. The text has at most 1048576 bytes.
+pub fn read_script(alloc: Global, text: &[u8]) -> Result<Script, ScriptFault>
+    requires { length text.now ≤ 1048576 }
+    ensures script { IfOk result (λ s. script_of text.now ≡ Ok (record { config = s.config.items; steps = s.steps })) }
+    ensures fault { IfErr result (λ e. IsFault text.now e) }
+    ensures found { (n : ℕ) → script_of text.now ≡ Err n → (result ≡ Err (ScriptFault.Line n)) ⊎ (result ≡ Err ScriptFault.OutOfMemory) }
+    ensures devices { IfOk result (λ s. (1 ≤ length s.config.items) × (length s.config.items ≤ 8)) }
+    ensures rates { IfOk result (λ s. All HasListedRate s.config.items) }
+    ensures steps { IfOk result (λ s. All (IsStep (length s.config.items)) s.steps) }
+{
+    let mut config = ArrayVec::new();
+    let mut steps = Vec::new(alloc);
+    let mut number = 1u32;
+    let mut rest = text;
+    while !rest.is_empty() {
+        let (line, behind) = next_line(rest);
+        match add_line(alloc, line, &mut config, &mut steps) {
+            Ok(true) => {}
+            Ok(false) => return Err(ScriptFault::Line(number)),
+            Err(OutOfMemory) => return Err(ScriptFault::OutOfMemory),
+        }
+        number += 1;
+        rest = behind;
+    }
+    if config.is_empty() {
+        return Err(ScriptFault::Line(number));
+    }
+    Ok(Script {
+        config,
+        steps: Steps::of(steps),
+    })
+}
+
+/// Adds what a line states, and says whether the line was allowed there.
+fn add_line(
+    alloc: Global,
+    line: &[u8],
+    config: &mut Config,
+    steps: &mut Vec<Step>,
+) -> Result<bool, OutOfMemory>
+    ensures { IfOk result (λ allowed. with_line (record { config = config.old.items; steps = steps.old.items }) line.now
+        ≡ then_some allowed (record { config = config.new.items; steps = steps.new.items })) }
+{
+    if passes_over(line) {
+        return Ok(true);
+    }
+    let Some((name, arguments)) = next_word(line) else {
+        return Ok(true);
+    };
+    let Some(kind) = kind_named(name) else {
+        return Ok(false);
+    };
+    if is_further_device(kind, config, steps) {
+        return Ok(add_device(arguments, config));
+    }
+    if config.is_empty() {
+        return Ok(false);
+    }
+    add_step(alloc, kind, arguments, config.len(), steps)
+}
+
+/// Whether a line of this kind states a further device.
+fn is_further_device(kind: Kind, config: &Config, steps: &Vec<Step>) -> bool
+    ensures { result ≡ (can_take_device (record { config = config.now.items; steps = steps.now.items }) && is_device_kind (Some kind)) }
+{
+    kind == Kind::Device && steps.is_empty() && config.len() < MOST_DEVICES
+}
+
+/// Adds the device that the words behind `device` state, and says whether they state one.
+fn add_device(arguments: &[u8], config: &mut Config) -> bool
+    requires { length config.old.items < 8 }
+    ensures { option_map (λ device. config.old.items ++ device ∷ []) (device_with (words arguments.now)) ≡ then_some result config.new.items }
+{
+    match device_stated(arguments) {
+        Some(device) => {
+            config.push(device);
+            true
+        }
+        None => false,
+    }
+}
+
+/// Adds the step that a line of this kind states by the words behind its name, and says whether they state one.
+fn add_step(
+    alloc: Global,
+    kind: Kind,
+    arguments: &[u8],
+    devices: usize,
+    steps: &mut Vec<Step>,
+) -> Result<bool, OutOfMemory>
+    requires { devices ≤ 8 }
+    ensures { IfOk result (λ allowed. option_map (λ step. steps.old.items ++ step ∷ []) (step_of_kind devices (Some kind) (words arguments.now))
+        ≡ then_some allowed steps.new.items) }
+{
+    match step_stated(alloc, devices, kind, arguments)? {
+        Some(step) => {
+            steps.push(step)?;
+            Ok(true)
+        }
+        None => Ok(false),
+    }
+}

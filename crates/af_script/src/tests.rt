@@ -1,0 +1,200 @@
+// Scripts read and faults numbered, and a log printed, each against what was written by hand.
+ghost use Rattle.std.specs.Prelude.{◌≤◌, length, None};
+
+use crate::{Script, ScriptFault, print_log, read_script};
+use af_outside::{Bytes, DeviceSpec, Happening, Put, ReadGot, Sink, Step, Wake, Why};
+use std::alloc::Global;
+use std::test::Fail;
+
+/// A sink of so much room.
+#[derive(Drop)]
+struct Paper {
+    written: Vec<u8>,
+    room: usize,
+    faults: u64,
+}
+
+impl Sink for Paper {
+    ghost held = { λ p. None };
+
+    ghost faults = { λ p. p.faults };
+
+    fn write(&mut self, piece: &[u8]) -> Put {
+        if piece.len() > self.room || self.written.extend_from_slice(piece).is_err() {
+            self.faults = self.faults.saturating_add(1);
+            return Put::Failed;
+        }
+        self.room -= piece.len();
+        Put::Done
+    }
+}
+
+/// The line of a text's fault.
+fn fault(alloc: Global, text: &[u8]) -> Option<u32> {
+    if text.len() > 1048576 {
+        return None;
+    }
+    match read_script(alloc, text) {
+        Err(ScriptFault::Line(line)) => Some(line),
+        _ => None,
+    }
+}
+
+#[test]
+fn reads_a_script(rt: HostRuntime) -> Result<(), Fail> {
+    let text =
+        b"# one device\n\n  device   lin16 08000 4294967295 \n   \nopen 0\n#send\nsend  0 00fFA5\ntick 00 0001\n idle\ntick 0 4096";
+    let script = read_script(rt.alloc(), text)?;
+    assert_eq!(rt;
+        script.config.as_slice(),
+        [DeviceSpec {
+            rate: 8000,
+            start: 4294967295
+        }]
+        .as_slice()
+    );
+    let good = match script.steps.as_slice() {
+        [
+            Step::Open(0),
+            Step::Send(0, bytes),
+            Step::Tick(0, 1),
+            Step::Idle,
+            Step::Tick(0, 4096),
+        ] => { bytes.as_slice() == [0u8, 255, 165].as_slice() }
+        _ => false,
+    };
+    assert!(rt; good);
+    Ok(())
+}
+
+#[test]
+fn numbers_the_first_faulty_line(rt: HostRuntime) {
+    let rows = [
+        (b"".as_slice(), 1u32),
+        (b"\n\n# nothing\n", 4),
+        (b" ", 2),
+        (b"\nopen 0\ndevice lin16 8000 0\n", 2),
+        (b"device lin16 8000 0\ndevice lin16 8000 0\n", 2),
+        (b"device lin16 8000 0\nidle\ndevice lin16 8000 0\n", 3),
+        (b"device lin16 8000\n", 1),
+        (b"device lin16 8000 0 line\n", 1),
+        (b"device mu255 8000 0\n", 1),
+        (b"device lin16 16000 0\n", 1),
+        (b"device lin16 8000 4294967296\n", 1),
+        (b"device lin16 8000 00000000000\n", 1),
+        (b"device lin16 8000 -1\n", 1),
+        (b"DEVICE lin16 8000 0\n", 1),
+        (b" # no comment\ndevice lin16 8000 0\n", 1),
+        (b"\t\ndevice lin16 8000 0\n", 1),
+        (b"device lin16 8000 0\r\n", 1),
+        (b"device lin16 8000 0\0\n", 1),
+        (b"#\xff\t\r\0\ndevice lin16 8000 0\nopen 1\n", 3),
+        (b"device lin16 8000 0\nopen 0\n\nopen 0 0", 4),
+        (b"device lin16 8000 0\nsend 0\n", 2),
+        (b"device lin16 8000 0\nsend 0 0\n", 2),
+        (b"device lin16 8000 0\nsend 0 0g\n", 2),
+        (b"device lin16 8000 0\nsend 0 00 00\n", 2),
+        (b"device lin16 8000 0\ntick 0 0\n", 2),
+        (b"device lin16 8000 0\ntick 0 4097\n", 2),
+        (b"device lin16 8000 0\ntick 1 1\n", 2),
+        (b"device lin16 8000 0\ntick 0 4294967297\n", 2),
+        (b"device lin16 8000 0\nidle 0\n", 2),
+        (b"device lin16 8000 0\nend 0\n", 2),
+        (b"device lin16 8000 0\nopen 0\nopen 1\nopen 2\n", 3),
+    ];
+    for (text, line) in rows {
+        assert_eq!(rt; fault(rt.alloc(), text), Some(line));
+    }
+}
+
+#[test]
+fn sends_at_most_16384_bytes(rt: HostRuntime) -> Result<(), Fail> {
+    let mut text = Vec::from_slice(rt.alloc(), b"device lin16 8000 0\nsend 0 ")?;
+    for _ in 0..16384u32 {
+        text.extend_from_slice(b"a0")?;
+    }
+    assert_eq!(rt; fault(rt.alloc(), &text), None);
+    text.extend_from_slice(b"a0")?;
+    assert_eq!(rt; fault(rt.alloc(), &text), Some(2));
+    Ok(())
+}
+
+/// One happening of each kind, and of each way that it can go.
+fn happenings(alloc: Global) -> Result<Vec<Happening>, Fail> {
+    let mut log = Vec::new(alloc);
+    log.push(Happening::Woke(Wake::Ticked(0, 2)))?;
+    let sound = Bytes::copied(alloc, &[0, 255, 127, 160])?;
+    log.push(Happening::Emitted {
+        device: 0,
+        sound,
+        done: true,
+    })?;
+    log.push(Happening::Read {
+        link: 3,
+        got: ReadGot::NotYet,
+    })?;
+    let took = Some(Bytes::copied(alloc, &[1, 2, 3])?);
+    log.push(Happening::Wrote {
+        link: 31,
+        offered: 3,
+        took,
+    })?;
+    let took = Some(Bytes::copied(alloc, &[])?);
+    log.push(Happening::Wrote {
+        link: 4,
+        offered: 9,
+        took,
+    })?;
+    log.push(Happening::Wrote {
+        link: 5,
+        offered: 9,
+        took: None,
+    })?;
+    log.push(Happening::Closed {
+        link: 0,
+        why: Why::BadSetup,
+    })?;
+    log.push(Happening::Closed {
+        link: 10,
+        why: Why::Malformed,
+    })?;
+    let sound = Bytes::copied(alloc, &[1])?;
+    log.push(Happening::Emitted {
+        device: 7,
+        sound,
+        done: false,
+    })?;
+    Ok(log)
+}
+
+#[test]
+fn prints_a_line_for_what_is_seen(rt: HostRuntime) -> Result<(), Fail> {
+    let log = happenings(rt.alloc())?;
+    let mut paper = Paper {
+        written: Vec::new(rt.alloc()),
+        room: 1000,
+        faults: 0,
+    };
+    assert_eq!(rt; print_log(&log, &mut paper), Put::Done);
+    let wanted =
+        b"emit 0 00ff7fa0\nlink 31 010203\nwrite 5 failed\nclosed 0 setup\nclosed 10 malformed\nemit 7 failed\n";
+    assert_eq!(rt; paper.written.as_slice(), wanted.as_slice());
+    Ok(())
+}
+
+#[test]
+fn stops_where_the_sink_fails(rt: HostRuntime) -> Result<(), Fail> {
+    let log = happenings(rt.alloc())?;
+    let mut paper = Paper {
+        written: Vec::new(rt.alloc()),
+        room: 25,
+        faults: 0,
+    };
+    assert_eq!(rt; print_log(&log, &mut paper), Put::Failed);
+    assert_eq!(rt;
+        paper.written.as_slice(),
+        b"emit 0 00ff7fa0\nlink 31 ".as_slice()
+    );
+    assert_eq!(rt; paper.faults, 1);
+    Ok(())
+}

@@ -1,0 +1,28 @@
+// Parts of the server's messages, written into a slice of their very length.
+ghost use Rattle.std.specs.Prelude.{◌≡◌, length};
+ghost use Rattle.af_wire.specs.Message.{head, error};
+
+/// Writes the head of a message: kind 0 (an error), 1 (a reply) or 2 (an event), its detail, the sequence number of the
+/// request that it answers, and how many words of 4 bytes follow.
+#[tactic(auto, unfolding(crate::specs::Message::head))]
+pub fn write_head(kind: u8, detail: u8, sequence: u16, words: u32, out: &mut [u8])
+    requires { length out.old ≡ 8 }
+    ensures { out.new ≡ head kind detail sequence words }
+{
+    let [s0, s1] = sequence.to_be_bytes();
+    let [w0, w1, w2, w3] = words.to_be_bytes();
+    out.copy_from_slice(&[kind, detail, s0, s1, w0, w1, w2, w3]);
+}
+
+/// Writes an error: its code, the value that was refused, the opcode of the request (0 for a setup) and its sequence
+/// number.
+#[tactic(auto, unfolding(crate::specs::Message::error))]
+pub fn write_error(code: u8, value: u32, opcode: u8, sequence: u16, out: &mut [u8])
+    requires { length out.old ≡ 16 }
+    ensures { out.new ≡ error code value opcode sequence }
+{
+    let [v0, v1, v2, v3] = value.to_be_bytes();
+    let (front, back) = out.split_at_mut(8);
+    write_head(0, code, sequence, 2, front);
+    back.copy_from_slice(&[v0, v1, v2, v3, opcode, 0, 0, 0]);
+}

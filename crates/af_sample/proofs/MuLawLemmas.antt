@@ -1,0 +1,153 @@
+-- Mu-law: the list of decision values is what the code's shifts make.
+use Rattle.std.proofs.Common.{◌≡◌, ◌<◌, ◌≤◌, ◌+◌, ◌-◌, ◌*◌, ◌/◌, ◌%◌, ◌^◌, ◌&&◌, ◌||◌, ◌⊎◌, inl, inr, ℕ, suc, Bool, true, nat_eq, length, slice_index, bit_and, refl, sym, ap, ◌∙◌, subst, arith, min, ℤ, pos, negsuc, ◌-ℤ◌, nat_abs, to_z, of_z, false, cond, nat_lt, map, List, slice_index_or}
+use Rattle.std.specs.Int.{w16}
+use Rattle.std.specs.Prelude.{FitsSigned}
+use Rattle.std.proofs.lemmas.Int.{to_z-of_z}
+use lib.Signed.{lt_z}
+use Rattle.std.specs.Int.Count.{count_leading_zeros}
+use Rattle.std.specs.List.{range_with_len}
+use Rattle.std.proofs.lemmas.List.FromFn.{get_or-map-range_with_len}
+use Rattle.std.proofs.lemmas.Bool.{and_parts, or_cases, eqb-true, cases_lt, lt-ltb, le-ltb, ltb-true, true≢false, cond-true, cond-false}
+use Rattle.af_sample.specs.G711.{mu_law_starts, mu_law_decisions, interval_of, mu_law_samples, from_mu_law, to_mu_law}
+use Rattle.af_sample.proofs.Tables.{all_from, entry_passes}
+use Rattle.af_sample.proofs.Intervals.{rises, interval_is}
+use Rattle.af_sample.proofs.Segments.{InSegment, segment_of, place, code, code_is, from, to}
+
+-- a start, biased, is 16 and more steps of its segment, but for the first, which is 0
+abbrev is_start : ℕ → ℕ → Bool
+is_start p start = nat_eq (start + 132) ((16 + p % 16) * 2 ^ (p / 16 + 3)) || (nat_eq p 0 && nat_eq start 0)
+
+up : rises 0 mu_law_starts ≡ true
+unfolding mu_law_decisions
+up = refl
+
+long : length mu_law_starts ≡ 128
+unfolding mu_law_decisions
+long = refl
+
+passes : all_from is_start 0 mu_law_starts ≡ true
+unfolding mu_law_decisions
+passes = refl
+
+start_zero : slice_index mu_law_starts 0 ≡ 0
+unfolding mu_law_decisions
+start_zero = refl
+
+start_is : (p : ℕ) → p < 128 → (slice_index mu_law_starts p + 132 ≡ (16 + p % 16) * 2 ^ (p / 16 + 3)) ⊎ ((p ≡ 0) × (slice_index mu_law_starts p ≡ 0))
+start_is p low =
+    let place : p ≡ p + 0 = omega arith in
+    let start : ℕ = slice_index mu_law_starts p in
+    let here : is_start p start ≡ true = ap (λ i. is_start i start) place ∙ entry_passes is_start 0 mu_law_starts p passes (subst (λ n. p < n) (sym long) low) in
+    elim (or_cases (nat_eq (start + 132) ((16 + p % 16) * 2 ^ (p / 16 + 3))) (nat_eq p 0 && nat_eq start 0) here) [
+      | inl e ↦ inl (eqb-true (start + 132) ((16 + p % 16) * 2 ^ (p / 16 + 3)) e)
+      | inr e ↦
+          let parts = and_parts (nat_eq p 0) (nat_eq start 0) e in
+          inr (eqb-true p 0 parts.0, eqb-true start 0 parts.1)
+    ]
+
+-- a start by its segment and step
+start_of : (p e m : ℕ) → m < 16 → p ≡ e * 16 + m → p < 128 → 1 ≤ p → slice_index mu_law_starts p + 132 ≡ (16 + m) * 2 ^ (e + 3)
+start_of p e m small same low some =
+    let step : p % 16 ≡ m = omega arith in
+    let segment : p / 16 ≡ e = omega arith in
+    elim (start_is p low) [
+      | inl formula ↦ formula ∙ ap (λ k. (16 + k) * 2 ^ (p / 16 + 3)) step ∙ ap (λ k. (16 + m) * 2 ^ (k + 3)) segment
+      | inr none ↦ absurd (let first : p ≡ 0 = none.0 in omega arith)
+    ]
+
+start_at : (m a e : ℕ) → a ≡ m + 132 → InSegment a e → slice_index mu_law_starts (place a e) ≤ m
+start_at m a e biased seg =
+    elim (cases_lt 0 (place a e)) [
+      | inl some ↦ from mu_law_starts 132 1 start_of m a e biased seg (omega arith)
+      | inr none ↦
+          let first : place a e ≡ 0 = omega arith in
+          let e1 : slice_index mu_law_starts (place a e) ≡ slice_index mu_law_starts 0 = ap (slice_index mu_law_starts) first in
+          let e2 : slice_index mu_law_starts 0 ≡ 0 = start_zero in
+          omega arith
+    ]
+
+-- the place of a magnitude's biased value is its interval
+pub place_is : (m a e : ℕ) → a ≡ m + 132 → InSegment a e → place a e ≡ interval_of mu_law_starts m
+place_is m a e biased seg =
+    let few : e ≤ 7 = seg.few in
+    let low : place a e < 128 = omega arith in
+    sym (interval_is mu_law_starts m (place a e) up (subst (λ n. place a e < n) (sym long) low) (start_at m a e biased seg)
+    (λ more. to mu_law_starts 132 1 start_of m a e biased seg (omega arith) (subst (λ n. suc (place a e) < n) long more)))
+
+-- every magnitude from the last start on is in the last interval
+last_interval : (m : ℕ) → 31612 ≤ m → interval_of mu_law_starts m ≡ 127
+unfolding mu_law_decisions
+last_interval m high = interval_is mu_law_starts m 127 refl (omega arith) high (λ more. absurd (omega arith))
+
+-- the code's interval, with the magnitude limited
+pub code_value : (m r : ℕ) → r ≡ min m 32635 → code (r + 132) ≡ interval_of mu_law_starts m
+code_value m r limited =
+    let seg = segment_of (r + 132) (omega arith) (omega arith) in
+    code_is (r + 132) seg.0 seg.1 ∙ place_is r (r + 132) seg.0 refl seg.1
+    ∙ elim (cases_lt 32635 m) [
+      | inl over ↦ last_interval r (omega arith) ∙ sym (last_interval m (omega arith))
+      | inr within ↦ ap (interval_of mu_law_starts) (let e : r ≡ m = omega arith in e)
+    ]
+
+pub code_low : (m r : ℕ) → r ≡ min m 32635 → code (r + 132) < 128
+code_low m r limited =
+    let seg = segment_of (r + 132) (omega arith) (omega arith) in
+    let few : seg.0 ≤ 7 = seg.1.few in
+    let e : code (r + 132) ≡ place (r + 132) seg.0 = code_is (r + 132) seg.0 seg.1 in
+    omega arith
+
+pub zeros_few : (m r : ℕ) → r ≡ min m 32635 → count_leading_zeros 16 (r + 132) ≤ 8
+zeros_few m r limited =
+    let seg = segment_of (r + 132) (omega arith) (omega arith) in
+    let zeros : count_leading_zeros 16 (r + 132) ≡ 8 - seg.0 = seg.1.zeros in
+    omega arith
+
+-- the sample of a byte, as the code computes it
+abbrev pub middle : ℕ → ℕ
+middle n = (8 * (n % 16) + 132) * 2 ^ (n / 16) - 132
+
+abbrev sample_of : ℕ → ℤ
+sample_of byte = cond (nat_lt byte 128) (pos 0 -ℤ to_z w16 (middle (bit_and (255 - byte) 127))) (to_z w16 (middle (bit_and (255 - byte) 127)))
+
+samples_are : map sample_of (range_with_len 0 256) ≡ mu_law_samples
+unfolding mu_law_samples
+samples_are = refl
+
+sample_is : (byte : ℕ) → byte < 256 → sample_of byte ≡ from_mu_law byte
+sample_is byte low =
+    sym (get_or-map-range_with_len sample_of 0 256 byte byte (pos 0) low (omega arith))
+    ∙ ap (λ (xs : List ℤ). slice_index_or xs byte (pos 0)) samples_are
+
+pub negative_is : (byte r : ℕ) → byte < 128 → r ≡ middle (bit_and (255 - byte) 127) → pos 0 -ℤ to_z w16 r ≡ from_mu_law byte
+negative_is byte r low same =
+    ap (λ k. pos 0 -ℤ to_z w16 k) same
+    ∙ sym (cond-true (nat_lt byte 128) (pos 0 -ℤ to_z w16 (middle (bit_and (255 - byte) 127))) (to_z w16 (middle (bit_and (255 - byte) 127))) (lt-ltb byte 128 low))
+    ∙ sample_is byte (omega arith)
+
+pub positive_is : (byte r : ℕ) → 128 ≤ byte → byte < 256 → r ≡ middle (bit_and (255 - byte) 127) → to_z w16 r ≡ from_mu_law byte
+positive_is byte r high low same =
+    ap (to_z w16) same
+    ∙ sym (cond-false (nat_lt byte 128) (pos 0 -ℤ to_z w16 (middle (bit_and (255 - byte) 127))) (to_z w16 (middle (bit_and (255 - byte) 127))) (le-ltb byte 128 high))
+    ∙ sample_is byte low
+
+-- the byte of a sample, by its sign
+negative : (x : ℤ) (k : ℕ) → lt_z x (pos 0) ≡ true → k ≡ interval_of mu_law_starts (nat_abs x) → 127 - k ≡ to_mu_law x
+negative (pos n) k below same = absurd (omega (arith, ltb-true n 0 below))
+negative (negsuc n) k below same = ap (λ i. 127 - i) same
+
+positive : (x : ℤ) (k : ℕ) → lt_z x (pos 0) ≡ false → k ≡ interval_of mu_law_starts (nat_abs x) → 255 - k ≡ to_mu_law x
+positive (pos n) k above same = ap (λ i. 255 - i) same
+positive (negsuc n) k above same = absurd (true≢false above)
+
+module _ (x : ℤ) (fits : FitsSigned w16 x) (m k : ℕ) (magnitude : m ≡ nat_abs (to_z w16 (of_z w16 x))) (interval : k ≡ interval_of mu_law_starts m) where
+  back : to_z w16 (of_z w16 x) ≡ x
+  back = to_z-of_z w16 x fits
+
+  whole : k ≡ interval_of mu_law_starts (nat_abs x)
+  whole = interval ∙ ap (interval_of mu_law_starts) (magnitude ∙ ap nat_abs back)
+
+  pub negative_byte : lt_z (to_z w16 (of_z w16 x)) (pos 0) ≡ true → 127 - k ≡ to_mu_law x
+  negative_byte below = negative x k (ap (λ z. lt_z z (pos 0)) (sym back) ∙ below) whole
+
+  pub positive_byte : lt_z (to_z w16 (of_z w16 x)) (pos 0) ≡ false → 255 - k ≡ to_mu_law x
+  positive_byte above = positive x k (ap (λ z. lt_z z (pos 0)) (sym back) ∙ above) whole

@@ -1,0 +1,115 @@
+-- A number of 7 to 15 bits, by its highest bit: the segment, and the steps of the segment.
+use Rattle.std.proofs.Common.{◌≡◌, ◌<◌, ◌≤◌, ◌+◌, ◌-◌, ◌*◌, ◌/◌, ◌%◌, ◌^◌, inl, inr, ℕ, suc, List, slice_index, bit_and, bit_or, refl, sym, ap, ◌∙◌, arith, rules}
+use Rattle.std.specs.Int.Count.{count_leading_zeros, leading_unique}
+use Rattle.std.proofs.lemmas.Bool.{cases_lt}
+use Rattle.std.proofs.Math.Nat.{pow-suc}
+use Rattle.std.proofs.lemmas.Nat.{and_mask, or_shifted}
+
+-- a is 16 to 31 steps of its segment, and a part of a step
+pub record InSegment (a segment : ℕ) : Type 0 where
+  pub few : segment ≤ 7
+  pub zeros : count_leading_zeros 16 a ≡ 8 - segment
+  pub least : 16 ≤ a / 2 ^ (segment + 3)
+  pub most : a / 2 ^ (segment + 3) < 32
+  pub from : a / 2 ^ (segment + 3) * 2 ^ (segment + 3) ≤ a
+  pub to : a < a / 2 ^ (segment + 3) * 2 ^ (segment + 3) + 2 ^ (segment + 3)
+
+-- each number of so many bits has its segment
+pub segment_of : (a : ℕ) → 128 ≤ a → a < 32768 → (segment : ℕ) × InSegment a segment
+segment_of a low high =
+    elim (cases_lt a 256) [
+      | inl h ↦ (0, record { few = omega arith; zeros = sym (leading_unique 16 a 8 8 refl h (omega arith)); least = omega arith; most = omega arith; from = omega arith; to = omega arith })
+      | inr h ↦
+          elim (cases_lt a 512) [
+            | inl h' ↦ (1, record { few = omega arith; zeros = sym (leading_unique 16 a 7 9 refl h' (omega arith)); least = omega arith; most = omega arith; from = omega arith; to = omega arith })
+            | inr h' ↦
+                elim (cases_lt a 1024) [
+                  | inl h'' ↦ (2, record { few = omega arith; zeros = sym (leading_unique 16 a 6 10 refl h'' (omega arith)); least = omega arith; most = omega arith; from = omega arith; to = omega arith })
+                  | inr h'' ↦
+                      segment_above a h'' high
+                ]
+          ]
+    ]
+  where
+    segment_above : (a : ℕ) → 1024 ≤ a → a < 32768 → (segment : ℕ) × InSegment a segment
+    segment_above a low high =
+        elim (cases_lt a 2048) [
+          | inl h ↦ (3, record { few = omega arith; zeros = sym (leading_unique 16 a 5 11 refl h (omega arith)); least = omega arith; most = omega arith; from = omega arith; to = omega arith })
+          | inr h ↦
+              elim (cases_lt a 4096) [
+                | inl h' ↦ (4, record { few = omega arith; zeros = sym (leading_unique 16 a 4 12 refl h' (omega arith)); least = omega arith; most = omega arith; from = omega arith; to = omega arith })
+                | inr h' ↦
+                    elim (cases_lt a 8192) [
+                      | inl h'' ↦ (5, record { few = omega arith; zeros = sym (leading_unique 16 a 3 13 refl h'' (omega arith)); least = omega arith; most = omega arith; from = omega arith; to = omega arith })
+                      | inr h'' ↦
+                          elim (cases_lt a 16384) [
+                            | inl h''' ↦ (6, record { few = omega arith; zeros = sym (leading_unique 16 a 2 14 refl h''' (omega arith)); least = omega arith; most = omega arith; from = omega arith; to = omega arith })
+                            | inr h''' ↦
+                                (7, record { few = omega arith; zeros = sym (leading_unique 16 a 1 15 refl high (omega arith)); least = omega arith; most = omega arith; from = omega arith; to = omega arith })
+                          ]
+                    ]
+              ]
+        ]
+
+-- the bits of a segment and of a step, side by side
+pub joined : (segment step : ℕ) → segment ≤ 7 → bit_or (segment * 16 % 256) (bit_and step 15) ≡ segment * 16 + step % 16
+joined segment step few =
+    let short : segment * 16 % 256 ≡ segment * 16 = omega arith in
+    let masked : bit_and step 15 ≡ step % 16 = and_mask step 4 in
+    let low : step % 16 < 16 = omega arith in
+    ap (λ s. bit_or s (bit_and step 15)) short ∙ ap (bit_or (segment * 16)) masked ∙ or_shifted segment 4 (step % 16) low
+
+-- the place of a number among the intervals, 16 to a segment
+abbrev pub place : ℕ → ℕ → ℕ
+place a segment = segment * 16 + a / 2 ^ (segment + 3) % 16
+
+-- the same as the code's shifts and masks make it
+abbrev pub code : ℕ → ℕ
+code a = bit_or ((8 - count_leading_zeros 16 a) * 16 % 256) (bit_and (a / 2 ^ (8 - count_leading_zeros 16 a + 3)) 15)
+
+pub code_is : (a e : ℕ) → InSegment a e → code a ≡ place a e
+code_is a e seg =
+    let few : e ≤ 7 = seg.few in
+    let zeros : count_leading_zeros 16 a ≡ 8 - e = seg.zeros in
+    let segment : 8 - count_leading_zeros 16 a ≡ e = omega arith in
+    ap (λ k. bit_or (k * 16 % 256) (bit_and (a / 2 ^ (k + 3)) 15)) segment ∙ joined e (a / 2 ^ (e + 3)) few
+
+-- where each start, from a lowest place on and with a bias, is 16 and more steps of its segment, the
+-- start at a number's place is not above the number, and the next start is
+module _ (starts : List ℕ) (bias lowest : ℕ) (start_of : (p e m : ℕ) → m < 16 → p ≡ e * 16 + m → p < 128 → lowest ≤ p → slice_index starts p + bias ≡ (16 + m) * 2 ^ (e + 3)) where
+  pub from : (m a e : ℕ) → a ≡ m + bias → InSegment a e → lowest ≤ place a e → slice_index starts (place a e) ≤ m
+  from m a e biased seg high =
+      let q : ℕ = a / 2 ^ (e + 3) in
+      let d : ℕ = 2 ^ (e + 3) in
+      let few : e ≤ 7 = seg.few in
+      let least : 16 ≤ q = seg.least in
+      let most : q < 32 = seg.most in
+      let e1 = start_of (place a e) e (q % 16) (omega arith) refl (omega arith) high in
+      let whole : 16 + q % 16 ≡ q = omega arith in
+      let e2 : slice_index starts (place a e) + bias ≡ q * d = e1 ∙ ap (λ k. k * d) whole in
+      let e3 : q * d ≤ a = seg.from in
+      omega arith
+
+  pub to : (m a e : ℕ) → a ≡ m + bias → InSegment a e → lowest ≤ suc (place a e) → suc (place a e) < 128 → m < slice_index starts (suc (place a e))
+  to m a e biased seg high more =
+      let q : ℕ = a / 2 ^ (e + 3) in
+      let d : ℕ = 2 ^ (e + 3) in
+      let few : e ≤ 7 = seg.few in
+      let least : 16 ≤ q = seg.least in
+      let most : q < 32 = seg.most in
+      let top : a < q * d + d = seg.to in
+      elim (cases_lt (q % 16) 15) [
+        | inl inside ↦
+            let e1 = start_of (suc (place a e)) e (suc (q % 16)) (omega arith) (omega arith) more high in
+            let whole : 16 + suc (q % 16) ≡ suc q = omega arith in
+            let e2 : slice_index starts (suc (place a e)) + bias ≡ suc q * d = e1 ∙ ap (λ k. k * d) whole in
+            let e3 : suc q * d ≡ q * d + d = search rules in
+            omega arith
+        | inr last ↦
+            let e1 = start_of (suc (place a e)) (suc e) 0 (omega arith) (omega arith) more high in
+            let e2 : slice_index starts (suc (place a e)) + bias ≡ 16 * 2 ^ (suc e + 3) = e1 in
+            let e3 : 2 ^ (suc e + 3) ≡ d * 2 = ap (λ k. 2 ^ k) (let k : suc e + 3 ≡ suc (e + 3) = omega arith in k) ∙ pow-suc 2 (e + 3) in
+            let full : q ≡ 31 = omega arith in
+            let e4 : q * d ≡ 31 * d = ap (λ k. k * d) full in
+            omega arith
+      ]

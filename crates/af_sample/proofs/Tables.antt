@@ -1,0 +1,17 @@
+-- Written tables: a test of the whole table is computed once, and then read at a place.
+use Rattle.std.proofs.Common.{◌≡◌, ◌<◌, ◌+◌, ◌&&◌, ℕ, zero, suc, Bool, true, List, [], ◌∷◌, length, slice_index, arith, ap, ◌∙◌}
+use Rattle.std.proofs.lemmas.Bool.{and_parts}
+
+-- each entry from place i on passes a test of its place and itself
+abbrev pub all_from : (ℕ → ℕ → Bool) → ℕ → List ℕ → Bool
+all_from passes i [] = true
+all_from passes i (x ∷ xs) = passes i x && all_from passes (suc i) xs
+
+-- what the test of the whole table says of one entry
+pub entry_passes : (passes : ℕ → ℕ → Bool) (i : ℕ) (xs : List ℕ) (k : ℕ) → all_from passes i xs ≡ true → k < length xs → passes (k + i) (slice_index xs k) ≡ true
+entry_passes passes i [] k all low = absurd (omega arith)
+entry_passes passes i (x ∷ xs) zero all low =
+    ap (λ n. passes n x) (omega arith) ∙ (and_parts (passes i x) (all_from passes (suc i) xs) all).0
+entry_passes passes i (x ∷ xs) (suc k) all low =
+    ap (λ n. passes n (slice_index xs k)) (omega arith)
+    ∙ entry_passes passes (suc i) xs k (and_parts (passes i x) (all_from passes (suc i) xs) all).1 (omega arith)

@@ -1,0 +1,58 @@
+// Samples between their bytes and 16 bits: one, and runs of them.
+ghost use Rattle.std.specs.Prelude.{◌≡◌, ◌*◌, length};
+ghost use Rattle.af_sample.specs.SampleTypes.{width_of};
+ghost use Rattle.af_sample.specs.Samples.{bytes_of, decoded, encoded, samples};
+
+use crate::{SampleType, alaw, mu_law};
+
+/// The sample that the bytes of one sample mean. Of 32 bits it is the upper 16.
+pub fn decode(ty: SampleType, bytes: &[u8]) -> i16
+    requires { length bytes.now ≡ width_of ty }
+    ensures { result ≡ decoded ty bytes.now }
+{
+    match ty {
+        SampleType::Mu255 => mu_law::expanded(bytes[0]),
+        SampleType::Alaw => alaw::expanded(bytes[0]),
+        SampleType::Lin16 => i16::from_be_bytes([bytes[0], bytes[1]]),
+        SampleType::Lin32 => {
+            (i32::from_be_bytes([bytes[0], bytes[1], bytes[2], bytes[3]]) >> 16) as i16
+        }
+    }
+}
+
+/// Writes the bytes of one sample.
+pub fn encode(ty: SampleType, x: i16, out: &mut [u8])
+    requires { length out.old ≡ width_of ty }
+    ensures { out.new ≡ encoded ty x }
+{
+    match ty {
+        SampleType::Mu255 => out.copy_from_slice(&[mu_law::compressed(x)]),
+        SampleType::Alaw => out.copy_from_slice(&[alaw::compressed(x)]),
+        SampleType::Lin16 => out.copy_from_slice(&x.to_be_bytes()),
+        SampleType::Lin32 => out.copy_from_slice(&(i32::from(x) << 16).to_be_bytes()),
+    }
+}
+
+/// Decodes a run: a sample for each width bytes.
+pub fn convert_in(ty: SampleType, bytes: &[u8], out: &mut [i16])
+    requires { length bytes.now ≡ length out.old * width_of ty }
+    ensures { out.new ≡ samples ty bytes.now }
+{
+    let width = ty.width();
+    for (i, x) in out.iter_mut().enumerate() {
+        let at = i * width;
+        *x = decode(ty, &bytes[at..at + width]);
+    }
+}
+
+/// Encodes a run: width bytes for each sample.
+pub fn convert_out(ty: SampleType, samples: &[i16], out: &mut [u8])
+    requires { length out.old ≡ length samples.now * width_of ty }
+    ensures { out.new ≡ bytes_of ty samples.now }
+{
+    let width = ty.width();
+    for (i, x) in samples.iter().enumerate() {
+        let at = i * width;
+        encode(ty, *x, &mut out[at..at + width]);
+    }
+}

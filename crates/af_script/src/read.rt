@@ -88,8 +88,8 @@ fn add_line(
 }
 
 /// Whether a line of this kind states a further device.
-fn is_further_device(kind: Kind, config: &Config, steps: &Vec<Step>) -> bool
-    ensures { result ≡ (can_take_device (record { config = config.now.items; steps = steps.now.items }) && is_device_kind (Some kind)) }
+fn is_further_device(kind: Kind, config: &Config, steps: &[Step]) -> bool
+    ensures { result ≡ (can_take_device (record { config = config.now.items; steps = steps.now }) && is_device_kind (Some kind)) }
 {
     kind == Kind::Device && steps.is_empty() && config.len() < MOST_DEVICES
 }

@@ -1,5 +1,5 @@
 -- What printing to a sink adds to it.
-use Rattle.std.specs.Prelude.{◌≡◌, ℕ, ◌≤◌, List, [], Option, Result, Ok, Err}
+use Rattle.std.specs.Prelude.{ℕ, ◌≤◌, List, Option, Result, Ok, Err}
 use Rattle.af_outside.specs.Told.{Grew, Rose}
 use Rattle.af_outside.specs.Flow.{GrewByPrefix}
 use Rattle.af_script.specs.declared.print.Broken.{Broken}

@@ -21,7 +21,7 @@ abbrev pub with_words : Stated → List (List ℕ) → Option Stated
 with_words s words =
     if can_take_device s && is_device_line words then option_map (with_device s) (device_of words)
     else if is_nil s.config then None
-    else option_map (with_step s) (step_of (length s.config) words)
+    else option_map (with_step s) (step_of s.config words)
 
 -- the script so far with a further line, where it is allowed there
 abbrev pub with_line : Stated → List ℕ → Option Stated

@@ -62,9 +62,9 @@ abbrev pub with_steps : List DeviceSpec → Result (List Step) ℕ → Result St
 with_steps config (Ok steps) = Ok (record { config = config; steps = steps })
 with_steps config (Err n) = Err n
 
--- devices, and steps for so many devices
+-- devices, and steps for them
 abbrev pub with_config : Result (List DeviceSpec) ℕ → List Entry → Result Stated ℕ
-with_config (Ok config) es = with_steps config (each_says (step_of (length config)) es)
+with_config (Ok config) es = with_steps config (each_says (step_of config) es)
 with_config (Err n) es = Err n
 
 -- so many device lines, at least one, and then steps

@@ -1,5 +1,5 @@
 -- What a line states by its words: a device, or a step.
-use Rattle.std.specs.Prelude.{ℕ, ◌-◌, ◌^◌, nat_lt, ◌==◌, Bool, true, false, List, [], ◌∷◌, codes, bytes_eq, Option, Some, None, option_map, option_and_then, if◌then◌else◌}
+use Rattle.std.specs.Prelude.{ℕ, ◌-◌, ◌^◌, nat_lt, ◌==◌, Bool, true, false, List, [], ◌∷◌, length, codes, bytes_eq, Option, Some, None, option_map, option_and_then, if◌then◌else◌}
 use Rattle.af_outside.specs.declared.script.DeviceSpec.{DeviceSpec}
 use Rattle.af_outside.specs.declared.script.Step.{Step}
 use Rattle.af_outside.specs.declared.script.Step.TheVariants as step
@@ -73,9 +73,9 @@ last_link = 0
 abbrev pub link_of : List ℕ → Option ℕ
 link_of word = number_within 0 last_link word
 
--- the number of one of so many devices
-abbrev pub device_number : ℕ → List ℕ → Option ℕ
-device_number devices word = option_and_then (only_if (λ d. nat_lt d devices)) (number_of word)
+-- the number of one of these devices
+abbrev pub device_number : List DeviceSpec → List ℕ → Option ℕ
+device_number config word = option_and_then (only_if (λ d. nat_lt d (length config))) (number_of word)
 
 -- `open K`
 abbrev pub open_of : List (List ℕ) → Option Step
@@ -88,10 +88,10 @@ send_of (link ∷ hex ∷ []) = option_and_then (λ k. option_map (step.Send k) 
 send_of _ = None
 
 -- `tick D N`
-abbrev pub tick_of : ℕ → List (List ℕ) → Option Step
-tick_of devices (device ∷ frames ∷ []) =
-    option_and_then (λ d. option_map (step.Tick d) (number_within 1 4096 frames)) (device_number devices device)
-tick_of devices _ = None
+abbrev pub tick_of : List DeviceSpec → List (List ℕ) → Option Step
+tick_of config (device ∷ frames ∷ []) =
+    option_and_then (λ d. option_map (step.Tick d) (number_within 1 4096 frames)) (device_number config device)
+tick_of config _ = None
 
 -- `idle`
 abbrev pub idle_of : List (List ℕ) → Option Step
@@ -99,15 +99,15 @@ idle_of [] = Some step.Idle
 idle_of (word ∷ words) = None
 
 -- the step of a line of this kind, by the words that follow its name
-abbrev pub step_of_kind : ℕ → Option Kind → List (List ℕ) → Option Step
-step_of_kind devices None arguments = None
-step_of_kind devices (Some kind.Device) arguments = None
-step_of_kind devices (Some kind.Open) arguments = open_of arguments
-step_of_kind devices (Some kind.Send) arguments = send_of arguments
-step_of_kind devices (Some kind.Tick) arguments = tick_of devices arguments
-step_of_kind devices (Some kind.Idle) arguments = idle_of arguments
+abbrev pub step_of_kind : List DeviceSpec → Option Kind → List (List ℕ) → Option Step
+step_of_kind config None arguments = None
+step_of_kind config (Some kind.Device) arguments = None
+step_of_kind config (Some kind.Open) arguments = open_of arguments
+step_of_kind config (Some kind.Send) arguments = send_of arguments
+step_of_kind config (Some kind.Tick) arguments = tick_of config arguments
+step_of_kind config (Some kind.Idle) arguments = idle_of arguments
 
--- the step that the words of a line state, where there are so many devices
-abbrev pub step_of : ℕ → List (List ℕ) → Option Step
-step_of devices [] = None
-step_of devices (name ∷ arguments) = step_of_kind devices (kind_of name) arguments
+-- the step that the words of a line state, where these are the devices
+abbrev pub step_of : List DeviceSpec → List (List ℕ) → Option Step
+step_of config [] = None
+step_of config (name ∷ arguments) = step_of_kind config (kind_of name) arguments

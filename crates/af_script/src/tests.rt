@@ -1,5 +1,5 @@
 // Scripts read and faults numbered, and a log printed, each against what was written by hand.
-ghost use Rattle.std.specs.Prelude.{◌≤◌, length, None};
+ghost use Rattle.std.specs.Prelude.{None};
 
 use crate::{Script, ScriptFault, print_log, read_script};
 use af_outside::{Bytes, DeviceSpec, Happening, Put, ReadGot, Sink, Step, Wake, Why};

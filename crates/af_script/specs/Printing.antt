@@ -9,6 +9,7 @@ pub record Filled : Type 0 where
   pub held : Option (List ℕ)
   pub faults : ℕ
 
+-- a sink that holds this, and has failed so often
 abbrev pub filled : Option (List ℕ) → ℕ → Filled
 filled held faults = record { held = held; faults = faults }
 

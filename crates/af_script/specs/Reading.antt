@@ -6,9 +6,11 @@ use Rattle.af_script.specs.Lines.{words, is_nil}
 use Rattle.af_script.specs.Statement.{is_device_line, device_of, step_of}
 use Rattle.af_script.specs.Script.{Stated, is_passed_over, most_devices}
 
+-- the script so far with one more device
 abbrev pub with_device : Stated → DeviceSpec → Stated
 with_device s device = record s { config = s.config ++ device ∷ [] }
 
+-- the script so far with one more step
 abbrev pub with_step : Stated → Step → Stated
 with_step s step = record s { steps = s.steps ++ step ∷ [] }
 

@@ -58,6 +58,7 @@ abbrev pub first_number : List Entry → ℕ → ℕ
 first_number [] behind = behind
 first_number (e ∷ es) behind = e.number
 
+-- these devices with their steps
 abbrev pub with_steps : List DeviceSpec → Result (List Step) ℕ → Result Stated ℕ
 with_steps config (Ok steps) = Ok (record { config = config; steps = steps })
 with_steps config (Err n) = Err n

@@ -1,5 +1,5 @@
 -- A text that is read line by line gives the script that it is.
-use Rattle.std.proofs.Common.{◌≡◌, ℕ, zero, suc, ◌+◌, ◌<◌, ◌≤◌, Bool, true, false, cond, not, ◌&&◌, List, [], ◌∷◌, ◌++◌, length, take, drop, refl, sym, ap, ◌∙◌, subst, arith, append_assoc, append-nil, length-append}
+use Rattle.std.proofs.Common.{◌≡◌, ℕ, zero, suc, ◌+◌, Bool, true, false, cond, ◌&&◌, List, [], ◌∷◌, ◌++◌, length, take, drop, refl, sym, ap, ◌∙◌, arith, append_assoc, append-nil, length-append}
 use Rattle.std.specs.Prelude.{Option, Some, None, option_map, Result, Ok, Err, nat_lt, nat_eq}
 use Rattle.std.proofs.lemmas.Bool.Decides.{nat_tests}
 use Rattle.af_outside.specs.declared.script.DeviceSpec.{DeviceSpec}
@@ -36,7 +36,7 @@ line_read : (s : Stated) (line : List ℕ) → is_passed_over line ≡ false →
 line_read s line over = ap (λ t. cond t (Some s) (with_words s (words line))) over
 
 abbrev by_step : Stated → List (List ℕ) → Option Stated
-by_step s ws = option_map (with_step s) (step_of (length s.config) ws)
+by_step s ws = option_map (with_step s) (step_of s.config ws)
 
 words_step : (s : Stated) (ws : List (List ℕ)) → (can_take_device s && is_device_line ws) ≡ false → is_nil s.config ≡ false → with_words s ws ≡ by_step s ws
 words_step s ws other some =
@@ -73,13 +73,13 @@ after_step s x n (Err m) = refl
 
 -- what the steps of these lines are
 abbrev steps_from : Stated → List Entry → Result Stated ℕ
-steps_from s es = after s (each_says (step_of (length s.config)) es)
+steps_from s es = after s (each_says (step_of s.config) es)
 
 step_line : (s : Stated) (n : ℕ) (line : List ℕ) (rest : List (List ℕ)) → is_passed_over line ≡ false → (can_take_device s && is_device_line (words line)) ≡ false → is_nil s.config ≡ false
     → ((x : Step) → read_on (with_step s x) (suc n) rest ≡ steps_from (with_step s x) (entries (suc n) rest))
     → read_on s n (line ∷ rest) ≡ steps_from s (entries n (line ∷ rest))
 step_line s n line rest over other some later =
-    let says = step_of (length s.config) in
+    let says = step_of s.config in
     ap (go_on (λ t. read_on t (suc n) rest) n) (line_read s line over ∙ words_step s (words line) other some)
     ∙ elim (says (words line)) as (λ o. go_on (λ t. read_on t (suc n) rest) n (option_map (with_step s) o) ≡ after s (with_first n o (each_says says (entries (suc n) rest)))) [
       | None ↦ refl
@@ -107,14 +107,14 @@ no_steps config = record { config = config; steps = [] }
 
 -- these devices and more, and then steps
 abbrev with_more : List DeviceSpec → Result (List DeviceSpec) ℕ → List Entry → Result Stated ℕ
-with_more config (Ok more) es = with_steps (config ++ more) (each_says (step_of (length (config ++ more))) es)
+with_more config (Ok more) es = with_steps (config ++ more) (each_says (step_of (config ++ more)) es)
 with_more config (Err n) es = Err n
 
 abbrev devices_from : ℕ → List DeviceSpec → List Entry → Result Stated ℕ
 devices_from k config es = with_more config (each_says device_of (take k es)) (drop k es)
 
 more_device : (config : List DeviceSpec) (d : DeviceSpec) (n : ℕ) (r : Result (List DeviceSpec) ℕ) (es : List Entry) → with_more (config ++ d ∷ []) r es ≡ with_more config (with_first n (Some d) r) es
-more_device config d n (Ok more) es = ap (λ (all : List DeviceSpec). with_steps all (each_says (step_of (length all)) es)) (append_assoc config (d ∷ []) more)
+more_device config d n (Ok more) es = ap (λ (all : List DeviceSpec). with_steps all (each_says (step_of all) es)) (append_assoc config (d ∷ []) more)
 more_device config d n (Err m) es = refl
 
 after_none : (config : List DeviceSpec) (r : Result (List Step) ℕ) → after (no_steps config) r ≡ with_steps config r
@@ -123,8 +123,8 @@ after_none config (Err n) = refl
 
 steps_now : (config : List DeviceSpec) (es : List Entry) → steps_from (no_steps config) es ≡ devices_from 0 config es
 steps_now config es =
-    after_none config (each_says (step_of (length config)) es)
-    ∙ ap (λ (all : List DeviceSpec). with_steps all (each_says (step_of (length all)) es)) (sym (append-nil config))
+    after_none config (each_says (step_of config) es)
+    ∙ ap (λ (all : List DeviceSpec). with_steps all (each_says (step_of all) es)) (sym (append-nil config))
 
 -- while there may be more devices
 devices_too : (config : List DeviceSpec) (room n : ℕ) (ls : List (List ℕ)) → is_nil config ≡ false → length config + room ≡ most_devices → read_on (no_steps config) n ls ≡ devices_from (device_lines room (entries n ls)) config (entries n ls)

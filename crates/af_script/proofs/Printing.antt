@@ -1,12 +1,11 @@
 -- What is printed in several pieces.
-use Rattle.std.proofs.Common.{◌≡◌, ℕ, ◌+◌, ◌-◌, ◌/◌, ◌%◌, ◌<◌, ◌≤◌, List, [], ◌∷◌, ◌++◌, length, take, drop, refl, sym, ap, ◌∙◌, subst, arith, append_assoc, append-nil}
+use Rattle.std.proofs.Common.{◌≡◌, ℕ, ◌+◌, ◌/◌, ◌%◌, ◌<◌, List, [], ◌∷◌, ◌++◌, length, take, drop, refl, sym, ap, ◌∙◌, subst, arith, append_assoc, append-nil}
 use Rattle.std.proofs.lemmas.List.{take-append-drop, drop_more}
 use Rattle.std.proofs.lemmas.Grind.{flat_map-append}
-use Rattle.std.specs.Prelude.{Option, Some, None, Result, Ok, Err, IsErr, get_or, flat_map}
+use Rattle.std.specs.Prelude.{Option, Some, None, Result, Ok, Err, IsErr, get_or}
 use Rattle.hex.specs.Hex.{encode_with, encode_lower, lower_digits}
-use Rattle.af_outside.specs.Told.{Grew, Rose}
-use Rattle.af_outside.specs.Flow.{GrewByPrefix}
-use Rattle.af_script.specs.Printing.{Filled, filled, Added, CutOff, Prints}
+use Rattle.af_outside.specs.Told.{Grew}
+use Rattle.af_script.specs.Printing.{Filled, Added, CutOff, Prints}
 use Rattle.af_script.specs.Transcript.{transcript, line_for}
 use Rattle.af_outside.specs.Told.{Log}
 use Rattle.af_outside.specs.declared.happening.Happening.{Happening}

@@ -1,6 +1,6 @@
 -- What a script states keeps to the limits of devices and steps.
-use Rattle.std.proofs.Common.{◌≡◌, ℕ, zero, suc, ◌+◌, ◌<◌, ◌≤◌, Bool, true, false, cond, ◌&&◌, List, [], ◌∷◌, length, take, drop, min, refl, sym, ap, ◌∙◌, subst, arith, length-take}
-use Rattle.std.specs.Prelude.{Option, Some, None, option_map, option_and_then, Result, Ok, Err, All, nat_lt, nat_le, nat_eq, bytes_eq, codes, IsTrue}
+use Rattle.std.proofs.Common.{◌≡◌, ℕ, zero, suc, ◌+◌, ◌<◌, ◌≤◌, Bool, true, false, cond, ◌&&◌, List, [], ◌∷◌, length, take, drop, refl, sym, ap, ◌∙◌, subst, arith, length-take}
+use Rattle.std.specs.Prelude.{Option, Some, None, option_map, option_and_then, Result, Ok, Err, All, nat_lt, nat_le, nat_eq, bytes_eq, codes}
 use Rattle.std.proofs.lemmas.Bool.{and_parts}
 use Rattle.std.proofs.lemmas.Bool.Decides.{nat_tests}
 use Rattle.std.proofs.lemmas.List.Elements.{All-nil, All-cons}
@@ -13,9 +13,9 @@ use Rattle.hex.specs.Hex.{decode_of}
 use Rattle.af_script.specs.declared.statement.Kind.{Kind}
 use Rattle.af_script.specs.declared.statement.Kind.TheVariants as kind
 use Rattle.af_script.specs.Words.{number_of, number_within, only_if, then_some, sent_bytes}
-use Rattle.af_script.specs.Statement.{kind_of, is_device_kind, is_listed_rate, rate_of, device_at, device_with, device_of_kind, device_of, link_of, device_number, open_of, send_of, tick_of, idle_of, step_of_kind, step_of, is_device_line}
+use Rattle.af_script.specs.Statement.{kind_of, is_device_kind, is_listed_rate, rate_of, device_at, device_with, device_of, link_of, device_number, open_of, send_of, tick_of, idle_of, step_of_kind, step_of, is_device_line}
 use Rattle.af_script.specs.Script.{Stated, Entry, most_devices, device_lines, with_first, each_says, first_number, with_steps, with_config, stated_by, script_of, entries, HasListedRate}
-use Rattle.af_script.specs.Lines.{lines, is_nil}
+use Rattle.af_script.specs.Lines.{lines}
 use Rattle.af_script.proofs.LineByLine.{read_on}
 
 abbrev some_or : {A : Type 0} → A → Option A → A
@@ -109,39 +109,39 @@ send_from devices (link ∷ hex ∷ []) s e =
     let size = sent_from hex b.0 b.1 in
     subst (IsStep devices) b.2 (omega (arith, n.1), size.0, size.1)
 
-device_number_from : (devices : ℕ) (word : List ℕ) (d : ℕ) → device_number devices word ≡ Some d → d < devices
-device_number_from devices word d e =
-    let a = and_then_from (only_if (λ x. nat_lt x devices)) (number_of word) d e in
-    let b = only_if_from (λ x. nat_lt x devices) a.0 d a.2 in
+device_number_from : (config : List DeviceSpec) (word : List ℕ) (d : ℕ) → device_number config word ≡ Some d → d < length config
+device_number_from config word d e =
+    let a = and_then_from (only_if (λ x. nat_lt x (length config))) (number_of word) d e in
+    let b = only_if_from (λ x. nat_lt x (length config)) a.0 d a.2 in
     let below = b.0 in
     let is = b.1 in
     grind (arith, nat_tests)
 
-tick_from : (devices : ℕ) (arguments : List (List ℕ)) (s : Step) → tick_of devices arguments ≡ Some s → IsStep devices s
-tick_from devices [] s e = cc e
-tick_from devices (device ∷ []) s e = cc e
-tick_from devices (device ∷ frames ∷ w ∷ ws) s e = cc e
-tick_from devices (device ∷ frames ∷ []) s e =
-    let a = and_then_from (λ d. option_map (step.Tick d) (number_within 1 4096 frames)) (device_number devices device) s e in
+tick_from : (config : List DeviceSpec) (arguments : List (List ℕ)) (s : Step) → tick_of config arguments ≡ Some s → IsStep (length config) s
+tick_from config [] s e = cc e
+tick_from config (device ∷ []) s e = cc e
+tick_from config (device ∷ frames ∷ w ∷ ws) s e = cc e
+tick_from config (device ∷ frames ∷ []) s e =
+    let a = and_then_from (λ d. option_map (step.Tick d) (number_within 1 4096 frames)) (device_number config device) s e in
     let b = map_from (step.Tick a.0) (number_within 1 4096 frames) s a.2 in
     let n = number_from 1 4096 frames b.0 b.1 in
-    subst (IsStep devices) b.2 (device_number_from devices device a.0 a.1, n.0, n.1)
+    subst (IsStep (length config)) b.2 (device_number_from config device a.0 a.1, n.0, n.1)
 
 idle_from : (devices : ℕ) (arguments : List (List ℕ)) (s : Step) → idle_of arguments ≡ Some s → IsStep devices s
 idle_from devices [] s e = subst (IsStep devices) (some_same e) tt
 idle_from devices (w ∷ ws) s e = cc e
 
-step_by_kind : (devices : ℕ) (k : Option Kind) (arguments : List (List ℕ)) (s : Step) → step_of_kind devices k arguments ≡ Some s → IsStep devices s
-step_by_kind devices None arguments s e = cc e
-step_by_kind devices (Some kind.Device) arguments s e = cc e
-step_by_kind devices (Some kind.Open) arguments s e = open_from devices arguments s e
-step_by_kind devices (Some kind.Send) arguments s e = send_from devices arguments s e
-step_by_kind devices (Some kind.Tick) arguments s e = tick_from devices arguments s e
-step_by_kind devices (Some kind.Idle) arguments s e = idle_from devices arguments s e
+step_by_kind : (config : List DeviceSpec) (k : Option Kind) (arguments : List (List ℕ)) (s : Step) → step_of_kind config k arguments ≡ Some s → IsStep (length config) s
+step_by_kind config None arguments s e = cc e
+step_by_kind config (Some kind.Device) arguments s e = cc e
+step_by_kind config (Some kind.Open) arguments s e = open_from (length config) arguments s e
+step_by_kind config (Some kind.Send) arguments s e = send_from (length config) arguments s e
+step_by_kind config (Some kind.Tick) arguments s e = tick_from config arguments s e
+step_by_kind config (Some kind.Idle) arguments s e = idle_from (length config) arguments s e
 
-step_from : (devices : ℕ) (ws : List (List ℕ)) (s : Step) → step_of devices ws ≡ Some s → IsStep devices s
-step_from devices [] s e = cc e
-step_from devices (name ∷ arguments) s e = step_by_kind devices (kind_of name) arguments s e
+step_from : (config : List DeviceSpec) (ws : List (List ℕ)) (s : Step) → step_of config ws ≡ Some s → IsStep (length config) s
+step_from config [] s e = cc e
+step_from config (name ∷ arguments) s e = step_by_kind config (kind_of name) arguments s e
 
 -- what holds of each thing that is said, and how many they are
 record Says {A : Type 0} (P : A → Type 0) (es : List Entry) (xs : List A) : Type 0 where
@@ -204,11 +204,11 @@ sound (suc k) es behind s few there e =
           let ds = each_from HasListedRate device_of device_from devices config was in
           let len = ds.count in
           let taken = length-take (suc k) es in
-          (elim (each_says (step_of (length config)) rest) as (λ r. each_says (step_of (length config)) rest ≡ r → with_steps config r ≡ Ok s → IsSound s) [
+          (elim (each_says (step_of config) rest) as (λ r. each_says (step_of config) rest ≡ r → with_steps config r ≡ Ok s → IsSound s) [
             | Err n ↦ λ at g. cc g
             | Ok steps ↦ λ at g.
                 let is : record { config = config; steps = steps } ≡ s = ap (ok_or s) g in
-                let ss = each_from (IsStep (length config)) (step_of (length config)) (step_from (length config)) rest steps at in
+                let ss = each_from (IsStep (length config)) (step_of config) (step_from config) rest steps at in
                 subst IsSound is (record { some = omega arith; few = omega arith; rates = ds.each; steps = ss.each })
           ]) refl h
     ]) refl whole

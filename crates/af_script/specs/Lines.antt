@@ -16,6 +16,7 @@ abbrev pub parts : List ℕ → List (List ℕ)
 parts [] = [] ∷ []
 parts (b ∷ line) = if b == 32 then [] ∷ parts line else put_in_front b (parts line)
 
+-- a list of nothing
 abbrev pub is_nil : {A : Type 0} → List A → Bool
 is_nil [] = true
 is_nil (x ∷ xs) = false

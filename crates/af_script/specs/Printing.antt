@@ -1,5 +1,5 @@
 -- What printing to a sink adds to it.
-use Rattle.std.specs.Prelude.{◌≡◌, ℕ, ◌≤◌, List, [], Option, Result, Ok, Err}
+use Rattle.std.specs.Prelude.{ℕ, ◌≤◌, List, Option, Result, Ok, Err}
 use Rattle.af_outside.specs.Told.{Grew, Rose}
 use Rattle.af_outside.specs.Flow.{GrewByPrefix}
 use Rattle.af_script.specs.declared.print.Broken.{Broken}
@@ -9,6 +9,7 @@ pub record Filled : Type 0 where
   pub held : Option (List ℕ)
   pub faults : ℕ
 
+-- a sink that holds this, and has failed so often
 abbrev pub filled : Option (List ℕ) → ℕ → Filled
 filled held faults = record { held = held; faults = faults }
 

@@ -6,9 +6,11 @@ use Rattle.af_script.specs.Lines.{words, is_nil}
 use Rattle.af_script.specs.Statement.{is_device_line, device_of, step_of}
 use Rattle.af_script.specs.Script.{Stated, is_passed_over, most_devices}
 
+-- the script so far with one more device
 abbrev pub with_device : Stated → DeviceSpec → Stated
 with_device s device = record s { config = s.config ++ device ∷ [] }
 
+-- the script so far with one more step
 abbrev pub with_step : Stated → Step → Stated
 with_step s step = record s { steps = s.steps ++ step ∷ [] }
 
@@ -21,7 +23,7 @@ abbrev pub with_words : Stated → List (List ℕ) → Option Stated
 with_words s words =
     if can_take_device s && is_device_line words then option_map (with_device s) (device_of words)
     else if is_nil s.config then None
-    else option_map (with_step s) (step_of (length s.config) words)
+    else option_map (with_step s) (step_of s.config words)
 
 -- the script so far with a further line, where it is allowed there
 abbrev pub with_line : Stated → List ℕ → Option Stated

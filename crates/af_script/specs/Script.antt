@@ -1,5 +1,5 @@
 -- The script that a text is, or the line of its first fault.
-use Rattle.std.specs.Prelude.{◌≡◌, ℕ, zero, suc, ◌+◌, ◌==◌, Bool, true, false, ◌||◌, IsTrue, List, [], ◌∷◌, length, take, drop, Option, Some, None, Result, Ok, Err, if◌then◌else◌}
+use Rattle.std.specs.Prelude.{◌≡◌, ℕ, zero, suc, ◌+◌, ◌==◌, Bool, false, ◌||◌, IsTrue, List, [], ◌∷◌, length, take, drop, Option, Some, None, Result, Ok, Err, if◌then◌else◌}
 use Rattle.af_outside.specs.declared.script.DeviceSpec.{DeviceSpec}
 use Rattle.af_outside.specs.declared.script.Step.{Step}
 use Rattle.af_script.specs.declared.fault.ScriptFault.{ScriptFault}
@@ -58,13 +58,14 @@ abbrev pub first_number : List Entry → ℕ → ℕ
 first_number [] behind = behind
 first_number (e ∷ es) behind = e.number
 
+-- these devices with their steps
 abbrev pub with_steps : List DeviceSpec → Result (List Step) ℕ → Result Stated ℕ
 with_steps config (Ok steps) = Ok (record { config = config; steps = steps })
 with_steps config (Err n) = Err n
 
--- devices, and steps for so many devices
+-- devices, and steps for them
 abbrev pub with_config : Result (List DeviceSpec) ℕ → List Entry → Result Stated ℕ
-with_config (Ok config) es = with_steps config (each_says (step_of (length config)) es)
+with_config (Ok config) es = with_steps config (each_says (step_of config) es)
 with_config (Err n) es = Err n
 
 -- so many device lines, at least one, and then steps

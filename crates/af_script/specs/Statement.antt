@@ -1,5 +1,5 @@
 -- What a line states by its words: a device, or a step.
-use Rattle.std.specs.Prelude.{ℕ, ◌+◌, ◌-◌, ◌^◌, ◌≤◌, ◌<◌, nat_lt, ◌==◌, Bool, true, false, ◌&&◌, List, [], ◌∷◌, length, codes, bytes_eq, Option, Some, None, option_map, option_and_then, if◌then◌else◌}
+use Rattle.std.specs.Prelude.{ℕ, ◌-◌, ◌^◌, nat_lt, ◌==◌, Bool, true, false, List, [], ◌∷◌, length, codes, bytes_eq, Option, Some, None, option_map, option_and_then, if◌then◌else◌}
 use Rattle.af_outside.specs.declared.script.DeviceSpec.{DeviceSpec}
 use Rattle.af_outside.specs.declared.script.Step.{Step}
 use Rattle.af_outside.specs.declared.script.Step.TheVariants as step
@@ -17,11 +17,12 @@ kind_of name =
     else if bytes_eq name (codes "idle") then Some kind.Idle
     else None
 
+-- the kind of a line by all its words
 abbrev pub kind_of_words : List (List ℕ) → Option Kind
 kind_of_words [] = None
 kind_of_words (name ∷ arguments) = kind_of name
 
--- a line whose first word is `device`
+-- the kind of device lines
 abbrev pub is_device_kind : Option Kind → Bool
 is_device_kind None = false
 is_device_kind (Some kind.Device) = true
@@ -30,6 +31,7 @@ is_device_kind (Some kind.Send) = false
 is_device_kind (Some kind.Tick) = false
 is_device_kind (Some kind.Idle) = false
 
+-- a line whose first word is `device`
 abbrev pub is_device_line : List (List ℕ) → Bool
 is_device_line words = is_device_kind (kind_of_words words)
 
@@ -43,10 +45,11 @@ is_listed_rate rate = rate == 8000
 abbrev pub rate_of : List ℕ → Option ℕ
 rate_of word = option_and_then (only_if is_listed_rate) (number_of word)
 
+-- a device of this rate, whose time begins here
 abbrev pub device_at : ℕ → ℕ → DeviceSpec
 device_at rate start = record { rate = rate; start = start }
 
--- `device lin16 RATE START`: a device of this rate, whose time begins at START
+-- the device of `device lin16 RATE START`, by the words that follow `device`
 abbrev pub device_with : List (List ℕ) → Option DeviceSpec
 device_with (ty ∷ rate ∷ start ∷ []) =
     if bytes_eq ty (codes "lin16")
@@ -73,41 +76,41 @@ last_link = 0
 abbrev pub link_of : List ℕ → Option ℕ
 link_of word = number_within 0 last_link word
 
--- the number of one of so many devices
-abbrev pub device_number : ℕ → List ℕ → Option ℕ
-device_number devices word = option_and_then (only_if (λ d. nat_lt d devices)) (number_of word)
+-- the number of one of these devices
+abbrev pub device_number : List DeviceSpec → List ℕ → Option ℕ
+device_number config word = option_and_then (only_if (λ d. nat_lt d (length config))) (number_of word)
 
--- `open K`
+-- the step of `open K`, by the words that follow `open`
 abbrev pub open_of : List (List ℕ) → Option Step
 open_of (link ∷ []) = option_map step.Open (link_of link)
 open_of _ = None
 
--- `send K HEX`
+-- the step of `send K HEX`
 abbrev pub send_of : List (List ℕ) → Option Step
 send_of (link ∷ hex ∷ []) = option_and_then (λ k. option_map (step.Send k) (sent_bytes hex)) (link_of link)
 send_of _ = None
 
--- `tick D N`
-abbrev pub tick_of : ℕ → List (List ℕ) → Option Step
-tick_of devices (device ∷ frames ∷ []) =
-    option_and_then (λ d. option_map (step.Tick d) (number_within 1 4096 frames)) (device_number devices device)
-tick_of devices _ = None
+-- the step of `tick D N`
+abbrev pub tick_of : List DeviceSpec → List (List ℕ) → Option Step
+tick_of config (device ∷ frames ∷ []) =
+    option_and_then (λ d. option_map (step.Tick d) (number_within 1 4096 frames)) (device_number config device)
+tick_of config _ = None
 
--- `idle`
+-- the step of `idle`
 abbrev pub idle_of : List (List ℕ) → Option Step
 idle_of [] = Some step.Idle
 idle_of (word ∷ words) = None
 
 -- the step of a line of this kind, by the words that follow its name
-abbrev pub step_of_kind : ℕ → Option Kind → List (List ℕ) → Option Step
-step_of_kind devices None arguments = None
-step_of_kind devices (Some kind.Device) arguments = None
-step_of_kind devices (Some kind.Open) arguments = open_of arguments
-step_of_kind devices (Some kind.Send) arguments = send_of arguments
-step_of_kind devices (Some kind.Tick) arguments = tick_of devices arguments
-step_of_kind devices (Some kind.Idle) arguments = idle_of arguments
+abbrev pub step_of_kind : List DeviceSpec → Option Kind → List (List ℕ) → Option Step
+step_of_kind config None arguments = None
+step_of_kind config (Some kind.Device) arguments = None
+step_of_kind config (Some kind.Open) arguments = open_of arguments
+step_of_kind config (Some kind.Send) arguments = send_of arguments
+step_of_kind config (Some kind.Tick) arguments = tick_of config arguments
+step_of_kind config (Some kind.Idle) arguments = idle_of arguments
 
--- the step that the words of a line state, where there are so many devices
-abbrev pub step_of : ℕ → List (List ℕ) → Option Step
-step_of devices [] = None
-step_of devices (name ∷ arguments) = step_of_kind devices (kind_of name) arguments
+-- the step that the words of a line state, where these are the devices
+abbrev pub step_of : List DeviceSpec → List (List ℕ) → Option Step
+step_of config [] = None
+step_of config (name ∷ arguments) = step_of_kind config (kind_of name) arguments

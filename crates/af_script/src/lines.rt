@@ -1,7 +1,7 @@
 // The lines of a text, and the words of a line.
-ghost use Rattle.std.specs.Prelude.{◌≡◌, ◌≢◌, not, ◌<◌, ◌≤◌, ◌==◌, ℕ, List, [], ◌∷◌, length, MatchOption, IsTrue};
+ghost use Rattle.std.specs.Prelude.{◌≡◌, ◌≢◌, not, ◌<◌, ◌≤◌, ◌==◌, ℕ, List, [], ◌∷◌, length, MatchOption};
 ghost use Rattle.std.specs.List.{position_or_len};
-ghost use Rattle.af_script.specs.Lines.{lines, words, is_nil};
+ghost use Rattle.af_script.specs.Lines.{lines, words};
 ghost use Rattle.af_script.specs.Script.{is_passed_over};
 
 /// How many bytes stand before the first that is this one, or all where there is none.

@@ -10,7 +10,7 @@ ghost use Rattle.af_script.specs.Reading.{with_line, can_take_device};
 use crate::lines::{next_line, next_word, passes_over};
 use crate::statement::{Kind, device_stated, kind_named, step_stated};
 use crate::{ScriptFault, Steps};
-use af_outside::{Config, Step};
+use af_outside::{Config, DeviceSpec, Step};
 use af_time::OutOfMemory;
 use arrayvec::ArrayVec;
 use std::alloc::Global;
@@ -84,12 +84,12 @@ fn add_line(
     if config.is_empty() {
         return Ok(false);
     }
-    add_step(alloc, kind, arguments, config.len(), steps)
+    add_step(alloc, config, kind, arguments, steps)
 }
 
 /// Whether a line of this kind states a further device.
-fn is_further_device(kind: Kind, config: &Config, steps: &Vec<Step>) -> bool
-    ensures { result ≡ (can_take_device (record { config = config.now.items; steps = steps.now.items }) && is_device_kind (Some kind)) }
+fn is_further_device(kind: Kind, config: &Config, steps: &[Step]) -> bool
+    ensures { result ≡ (can_take_device (record { config = config.now.items; steps = steps.now }) && is_device_kind (Some kind)) }
 {
     kind == Kind::Device && steps.is_empty() && config.len() < MOST_DEVICES
 }
@@ -111,16 +111,16 @@ fn add_device(arguments: &[u8], config: &mut Config) -> bool
 /// Adds the step that a line of this kind states by the words behind its name, and says whether they state one.
 fn add_step(
     alloc: Global,
+    config: &[DeviceSpec],
     kind: Kind,
     arguments: &[u8],
-    devices: usize,
     steps: &mut Vec<Step>,
 ) -> Result<bool, OutOfMemory>
-    requires { devices ≤ 8 }
-    ensures { IfOk result (λ allowed. option_map (λ step. steps.old.items ++ step ∷ []) (step_of_kind devices (Some kind) (words arguments.now))
+    requires { length config.now ≤ 8 }
+    ensures { IfOk result (λ allowed. option_map (λ step. steps.old.items ++ step ∷ []) (step_of_kind config.now (Some kind) (words arguments.now))
         ≡ then_some allowed steps.new.items) }
 {
-    match step_stated(alloc, devices, kind, arguments)? {
+    match step_stated(alloc, config, kind, arguments)? {
         Some(step) => {
             steps.push(step)?;
             Ok(true)

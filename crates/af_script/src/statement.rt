@@ -1,7 +1,7 @@
 // What a line states: a device, or a step.
-ghost use Rattle.std.specs.Prelude.{◌≡◌, ◌≤◌, ◌∷◌, IfOk, bytes_eq};
+ghost use Rattle.std.specs.Prelude.{◌≡◌, ◌≤◌, IfOk, length, bytes_eq};
 ghost use Rattle.af_script.specs.Lines.{words};
-ghost use Rattle.af_script.specs.Words.{number_within, sent_bytes};
+ghost use Rattle.af_script.specs.Words.{sent_bytes};
 ghost use Rattle.af_script.specs.Statement.{kind_of, device_with, device_number, link_of, rate_of, open_of, send_of, tick_of, idle_of, step_of_kind};
 
 use crate::lines::{next_word, one_word, two_words};
@@ -82,13 +82,13 @@ fn link(word: &[u8]) -> Option<u8>
     Some(number as u8)
 }
 
-/// The number of one of so many devices.
-fn device(devices: usize, word: &[u8]) -> Option<u8>
-    requires { devices ≤ 8 }
-    ensures { result ≡ device_number devices word.now }
+/// The number of one of these devices.
+fn device(config: &[DeviceSpec], word: &[u8]) -> Option<u8>
+    requires { length config.now ≤ 8 }
+    ensures { result ≡ device_number config.now word.now }
 {
     let number = number(word)?;
-    if number < devices as u64 {
+    if number < config.len() as u64 {
         Some(number as u8)
     } else {
         None
@@ -130,12 +130,12 @@ fn send(alloc: Global, arguments: &[u8]) -> Result<Option<Step>, OutOfMemory>
 }
 
 /// `tick D N`
-fn tick(devices: usize, arguments: &[u8]) -> Option<Step>
-    requires { devices ≤ 8 }
-    ensures { result ≡ tick_of devices (words arguments.now) }
+fn tick(config: &[DeviceSpec], arguments: &[u8]) -> Option<Step>
+    requires { length config.now ≤ 8 }
+    ensures { result ≡ tick_of config.now (words arguments.now) }
 {
     let (first, second) = two_words(arguments)?;
-    let device = device(devices, first)?;
+    let device = device(config, first)?;
     let frames = number_between(1, 4096, second)?;
     Some(Step::Tick(device, frames))
 }
@@ -150,21 +150,21 @@ fn idle(arguments: &[u8]) -> Option<Step>
     }
 }
 
-/// The step of a line of this kind, by the words behind its name, where there are so many devices.
+/// The step of a line of this kind, by the words behind its name, where these are the devices.
 pub fn step_stated(
     alloc: Global,
-    devices: usize,
+    config: &[DeviceSpec],
     kind: Kind,
     arguments: &[u8],
 ) -> Result<Option<Step>, OutOfMemory>
-    requires { devices ≤ 8 }
-    ensures { IfOk result (λ step. step ≡ step_of_kind devices (Some kind) (words arguments.now)) }
+    requires { length config.now ≤ 8 }
+    ensures { IfOk result (λ step. step ≡ step_of_kind config.now (Some kind) (words arguments.now)) }
 {
     match kind {
         Kind::Device => Ok(None),
         Kind::Open => Ok(open(arguments)),
         Kind::Send => send(alloc, arguments),
-        Kind::Tick => Ok(tick(devices, arguments)),
+        Kind::Tick => Ok(tick(config, arguments)),
         Kind::Idle => Ok(idle(arguments)),
     }
 }

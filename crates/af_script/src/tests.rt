@@ -1,5 +1,5 @@
 // Scripts read and faults numbered, and a log printed, each against what was written by hand.
-ghost use Rattle.std.specs.Prelude.{◌≤◌, length, None};
+ghost use Rattle.std.specs.Prelude.{None};
 
 use crate::{Script, ScriptFault, print_log, read_script};
 use af_outside::{Bytes, DeviceSpec, Happening, Put, ReadGot, Sink, Step, Wake, Why};
@@ -40,6 +40,22 @@ fn fault(alloc: Global, text: &[u8]) -> Option<u32> {
     }
 }
 
+/// Whether a step sends these bytes on link 0.
+fn sends(step: Option<&Step>, wanted: &[u8]) -> bool {
+    match step {
+        Some(Step::Send(0, bytes)) => bytes.as_slice() == wanted,
+        _ => false,
+    }
+}
+
+/// Whether a step is so many sample periods of device 0.
+fn ticks(step: Option<&Step>, wanted: u32) -> bool {
+    match step {
+        Some(Step::Tick(0, frames)) => *frames == wanted,
+        _ => false,
+    }
+}
+
 #[test]
 fn reads_a_script(rt: HostRuntime) -> Result<(), Fail> {
     let text =
@@ -53,17 +69,13 @@ fn reads_a_script(rt: HostRuntime) -> Result<(), Fail> {
         }]
         .as_slice()
     );
-    let good = match script.steps.as_slice() {
-        [
-            Step::Open(0),
-            Step::Send(0, bytes),
-            Step::Tick(0, 1),
-            Step::Idle,
-            Step::Tick(0, 4096),
-        ] => { bytes.as_slice() == [0u8, 255, 165].as_slice() }
-        _ => false,
-    };
-    assert!(rt; good);
+    let steps = script.steps.as_slice();
+    assert_eq!(rt; steps.len(), 5);
+    assert!(rt; matches!(steps.first(), Some(Step::Open(0))));
+    assert!(rt; sends(steps.get(1), &[0, 255, 165]));
+    assert!(rt; ticks(steps.get(2), 1));
+    assert!(rt; matches!(steps.get(3), Some(Step::Idle)));
+    assert!(rt; ticks(steps.get(4), 4096));
     Ok(())
 }
 

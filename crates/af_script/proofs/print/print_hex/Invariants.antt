@@ -1,6 +1,6 @@
-use Rattle.std.proofs.Common.{◌≡◌, ◌++◌, length, List, ℕ}
+use Rattle.std.proofs.Common.{length}
 use Rattle.hex.specs.Hex.{encode_lower}
-use Rattle.af_script.specs.Printing.{Added, filled}
+use Rattle.af_script.specs.Printing.{filled}
 use Rattle.af_script.proofs.Printing.{PrintedFront}
 use Rattle.af_script.proofs.print.print_hex.Given as goal
 

@@ -1,4 +1,3 @@
-use Rattle.std.proofs.Common.{arith, rules, sym, ap, ◌∙◌, ◌++◌, subst}
 use Rattle.af_script.proofs.Printing.{added_on, cut_on, cut_more, prints_failed, prints_on}
 use Rattle.af_script.proofs.print.print_word.Goals as goal
 

@@ -1,7 +1,7 @@
-use Rattle.std.proofs.Common.{◌≡◌, rules, arith, sym, ap, ◌∙◌}
+use Rattle.std.proofs.Common.{arith}
 use Rattle.std.proofs.lemmas.Bool.Decides.{nat_tests}
 use Rattle.af_script.proofs.LineByLine.{read_start}
-use Rattle.af_script.proofs.Stating.{read_end, IsSound}
+use Rattle.af_script.proofs.Stating.{read_end}
 use Rattle.af_script.proofs.read.read_script.Goals as goal
 
 pub loop-rest-init : goal.loop-rest-init

@@ -130,7 +130,7 @@ plays_more config steps kept kept' tape mid after wake p t turns leads told =
     let grew : Grew (Some (joined p.parts)) turns.part after.log = subst (λ l. Grew l turns.part after.log) mid_log turns.told in
     let given : Answered (Some (joined p.parts)) mid.outside after.log after.outside = subst (λ l. Answered l mid.outside after.log after.outside) mid_log leads.answered in
     let replays : replayed (stepped tape.outside s.step) turns.part ≡ Some after.outside =
-        subst (λ o. replayed o turns.part ≡ Some after.outside) mid_outside (replayed_part (joined p.parts) mid.outside turns.part after.log after.outside told grew given) in
+    subst (λ o. replayed o turns.part ≡ Some after.outside) mid_outside (replayed_part (joined p.parts) mid.outside turns.part after.log after.outside told grew given) in
     let begins : turns.part ≡ Woke (wake_of tape.outside s.step) ∷ turns.rest = turns.begins ∙ ap (λ w. Woke w ∷ turns.rest) s.is in
     let answers = part_answered tape.outside after.outside s.step turns.part turns.rest begins turns.only replays in
     let from = turns.each p.state p.stands in

@@ -8,7 +8,7 @@ demo:
 	else echo "(no proved program in bin/: run before any proof, by rt try)"; cd crates/afd && rt try -- script < ../../examples/time.script 2>/dev/null; fi
 
 build:
-	rt all check && mkdir -p bin && cd crates/afd && rt run < stdin > /dev/null && cp out/afd ../../bin/afd
+	rt all check && mkdir -p bin && cd crates/afd && rt run -- script < stdin > /dev/null && cp out/afd ../../bin/afd
 
 test:
 	.ci/run

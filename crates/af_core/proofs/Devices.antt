@@ -4,20 +4,27 @@ use Rattle.std.specs.List.{flat_map}
 use Rattle.std.proofs.lemmas.List.{map_more, flat_map_more}
 use Rattle.std.specs.declared.option.Option.TheVariants.{None, Some}
 use Rattle.af_model.specs.State.{DeviceState, LinkState, Around, place}
+use Rattle.af_sample.specs.declared.sample_type.SampleType.{SampleType}
 use Rattle.af_wire.specs.Message.{error}
 use Rattle.af_wire.specs.Front.{setup_front}
 use Rattle.af_wire.specs.declared.front.SetupFront.TheVariants as setup
-use Rattle.af_model.specs.Reply.{device_info, rates_of, time_reply, setup_reply}
+use Rattle.af_model.specs.Reply.{Info, device_info, info_of, infos_of, time_reply, setup_reply}
 use Rattle.af_model.specs.Perform.{time_told}
 use Rattle.af_model.specs.Advance.{after_setup, without_front}
 use Rattle.af_core.specs.declared.device.Device.{Device}
-use Rattle.af_core.specs.Stands.{StandForDevices, StandsForDevice, StandAround, At, StepsTo}
+use Rattle.af_core.specs.Stands.{StandForDevices, StandsForDevice, StandAround, At, StepsTo, kept_info}
 
-pub same_rates : (ds : List Device) (ss : List DeviceState) → StandForDevices ds ss → map {A = Device} {B = ℕ} (λ d. d.rate) ds ≡ rates_of ss
-same_rates [] [] h = refl
-same_rates [] (s ∷ ss) h = absurd h
-same_rates (d ∷ ds) [] h = absurd h
-same_rates (d ∷ ds) (s ∷ ss) h = let e = same_rates ds ss h.1 in let r = h.0.rate in cc
+-- what is kept of devices is what the reply to a setup says of them
+pub same_infos : (ds : List Device) (ss : List DeviceState) → StandForDevices ds ss → map {A = Device} {B = Info} kept_info ds ≡ infos_of ss
+same_infos [] [] h = refl
+same_infos [] (s ∷ ss) h = absurd h
+same_infos (d ∷ ds) [] h = absurd h
+same_infos (d ∷ ds) (s ∷ ss) h =
+    let with_type : SampleType → Info = λ ty. record { ty = ty; rate = d.rate } in
+    let with_rate : ℕ → Info = λ rate. record { ty = s.ty; rate = rate } in
+    let one : kept_info d ≡ info_of s = ap with_type h.0.ty ∙ ap with_rate h.0.rate in
+    let rest = same_infos ds ss h.1 in
+    ap (λ i. i ∷ map {A = Device} {B = Info} kept_info ds) one ∙ ap (λ l. info_of s ∷ l) rest
 
 -- the device at a number, and the state that it stands for
 pub record Found (ss : List DeviceState) (d : ℕ) (x : Device) : Type 0 where
@@ -55,16 +62,16 @@ time_not_found ds d value l l' e v is a h =
 
 -- a good setup is taken off and replied to
 pub setup_replied : (ds : List Device) (l l1 l2 : LinkState) → setup_front l.rest ≡ setup.Setup → l1 ≡ record (without_front 8 l) { is_set_up = true } →
-    l2 ≡ record l1 { pending = l1.pending ++ setup_reply (map {A = Device} {B = ℕ} (λ d. d.rate) ds) } →
+    l2 ≡ record l1 { pending = l1.pending ++ setup_reply (map {A = Device} {B = Info} kept_info ds) } →
     (a : Around) → StandAround ds a → StepsTo true (after_setup (setup_front l.rest) (place a l)) ds l2
 setup_replied ds l l1 l2 f e1 e2 a h =
-    let replied : List ℕ → LinkState = λ rates. record (without_front 8 l) { is_set_up = true; pending = l.pending ++ setup_reply rates } in
-    let pushed : LinkState → LinkState = λ m. record m { pending = m.pending ++ setup_reply (map {A = Device} {B = ℕ} (λ d. d.rate) ds) } in
-    rw f (h, ap replied (sym (same_rates ds a.devices h)) ∙ sym (e2 ∙ ap pushed e1))
+    let replied : List Info → LinkState = λ infos. record (without_front 8 l) { is_set_up = true; pending = l.pending ++ setup_reply infos } in
+    let pushed : LinkState → LinkState = λ m. record m { pending = m.pending ++ setup_reply (map {A = Device} {B = Info} kept_info ds) } in
+    rw f (h, ap replied (sym (same_infos ds a.devices h)) ∙ sym (e2 ∙ ap pushed e1))
 
 -- one more device is written
 pub one_more : (before out : List ℕ) (devices : List Device) (i : ℕ) (d : Device) → i < length devices →
-    before ≡ out ++ flat_map device_info (map {A = Device} {B = ℕ} (λ x. x.rate) (take i devices)) →
-    before ++ device_info (get_or devices i d).rate ≡ out ++ flat_map device_info (map {A = Device} {B = ℕ} (λ x. x.rate) (take (i + 1) devices))
+    before ≡ out ++ flat_map device_info (map {A = Device} {B = Info} kept_info (take i devices)) →
+    before ++ device_info (kept_info (get_or devices i d)) ≡ out ++ flat_map device_info (map {A = Device} {B = Info} kept_info (take (i + 1) devices))
 one_more before out devices i d lt e =
-    rw (map_more (λ x. x.rate) devices i d lt, e) (flat_map_more device_info out (map {A = Device} {B = ℕ} (λ x. x.rate) (take i devices)) (get_or devices i d).rate)
+    rw (map_more kept_info devices i d lt, e) (flat_map_more device_info out (map {A = Device} {B = Info} kept_info (take i devices)) (kept_info (get_or devices i d)))

@@ -1,23 +1,29 @@
 -- A wake and then all links are a turn.
-use Rattle.std.proofs.Common.{◌≡◌, ℕ, zero, suc, Bool, true, cond, ◌<◌, ◌≤◌, ◌+◌, ◌*◌, ◌/◌, ◌%◌, ◌^◌, List, [], ◌∷◌, ◌++◌, length, map, take, get_or, slice_get, slice_set, replicate, is_some, refl, sym, ap, ◌∙◌, subst, arith, append_assoc}
+use Rattle.std.proofs.Common.{◌≡◌, ℕ, zero, suc, Bool, true, false, not, pos, cond, ◌==◌, ◌<◌, ◌≤◌, ◌+◌, ◌*◌, ◌/◌, ◌%◌, ◌^◌, List, [], ◌∷◌, ◌++◌, length, map, take, get_or, slice_get, slice_set, replicate, is_some, refl, sym, ap, ◌∙◌, subst, arith, append_assoc}
 use Rattle.std.proofs.Math.Nat.{mod-add-div, add-mul-mod_self_left}
-use Rattle.std.proofs.lemmas.List.{take_more, take-replicate}
+use Rattle.std.proofs.lemmas.List.{take_more}
 use Rattle.std.specs.declared.option.Option.{Option}
 use Rattle.std.specs.declared.option.Option.TheVariants.{None, Some}
-use Rattle.af_outside.specs.declared.happening.Happening.TheVariants.{Woke, Emitted}
+use Rattle.af_outside.specs.declared.happening.Happening.TheVariants.{Woke, Captured, Emitted}
 use Rattle.af_outside.specs.declared.happening.Wake.{Wake}
 use Rattle.af_outside.specs.declared.happening.Wake.TheVariants.{Opened, Readable, Ticked, Idle, Stop}
 use Rattle.af_outside.specs.declared.script.DeviceSpec.{DeviceSpec}
 use Rattle.af_outside.specs.Told.{Log, Grew}
 use Rattle.af_outside.proofs.Outsides.{same_bytes-refl, eq-refl}
 use Rattle.af_model.specs.State.{State, DeviceState, LinkState, opening_device, opened, links_of, outline, outline_with, with_slot, slot_at}
-use Rattle.af_model.specs.Tick.{tick, later, device_set}
-use Rattle.af_model.specs.Turn.{behind, and_then, then_go, turn, fits, is_open_at, wake_phase, tick_phase, emit_by, serve_all, ready, in_open, in_slot}
+use Rattle.af_model.specs.Tick.{sound, tick, later, device_set}
+use Rattle.af_model.specs.Turn.{behind, and_then, then_go, take_one, turn, fits, is_open_at, wake_phase, tick_phase, is_capture, capture_by, after_capture, emit_by, serve_all, ready, in_open, in_slot}
 use Rattle.af_model.proofs.Running.{wakes-append-none}
 use Rattle.af_model.proofs.Slots.{slot_link, links_of-set, some_link}
 use Rattle.af_core.specs.declared.device.Device.{Device}
 use Rattle.af_core.specs.Stands.{StandsFor, StandForDevices, StandsForDevice, Turns, outline_of}
+use Rattle.af_sample.specs.declared.sample_type.SampleType.{SampleType}
+use Rattle.af_sample.specs.SampleTypes.{width_of}
+use Rattle.af_sample.specs.Samples.{bytes_of}
+use Rattle.af_outside.specs.Outside.{silent_byte}
 use Rattle.af_core.specs.Does.{Does}
+use Rattle.af_core.specs.Live.{TicksLive}
+use Rattle.af_outside.proofs.Silence.{silence-bytes_of}
 use Rattle.af_core.proofs.Doing.{grew_more, does_nothing, does_one}
 use Rattle.af_core.proofs.Devices.{found}
 
@@ -113,27 +119,76 @@ later_time now n t e =
     let sum : (t + n) + m * (now / m) ≡ now + n = omega (arith, whole, e) in
     sym (add-mul-mod_self_left (t + n) m (now / m)) ∙ ap (λ x. x % m) sum
 
--- the first n bytes of silence
-pub silence_front : (n m : ℕ) (xs : List ℕ) → n ≤ m → xs ≡ replicate m 0 → take n xs ≡ replicate n 0
-silence_front n m xs le e = ap (λ (l : List ℕ). take n l) e ∙ take-replicate n m 0 le
+-- what holds of a device holds when its time has risen
+device_set_stands : (ds : List Device) (k n : ℕ) (d d' : Device) (is_dead : Bool) (ss : List DeviceState) → slice_get ds k ≡ Some d → StandForDevices ds ss →
+    d'.ty ≡ d.ty → d'.rate ≡ d.rate → d'.time.0 ≡ (d.time.0 + n) % 2 ^ 32 → d'.is_dead ≡ is_dead → StandForDevices (slice_set ds k d') (device_set k (later n is_dead) ss (slice_get ss k))
+device_set_stands ds k n d d' is_dead ss here h ty rate time dead =
+    let r = found ds ss k d here h in
+    subst (λ o. StandForDevices (slice_set ds k d') (device_set k (later n is_dead) ss o)) (sym r.here)
+    (stands_set ds ss k d' (later n is_dead r.state) h (record { ty = ty ∙ r.stands.ty; rate = rate ∙ r.stands.rate; time = time ∙ later_time r.state.now n d.time.0 r.stands.time; dead = dead }))
 
-pub ticks : (a b : Option Log) (k n : ℕ) (ds : List Device) (d d' : Device) (links : List (Option LinkState)) → slice_get ds k ≡ Some d → d'.rate ≡ d.rate → d'.time.0 ≡ (d.time.0 + n) % 2 ^ 32 →
-    Grew a (Emitted k (replicate (2 * n) 0) true ∷ []) b →
-    Does a b (StandsFor ds links) (StandsFor (slice_set ds k d') links) (wake_phase (Ticked k n)) behind
+-- a dead device
+pub ticks_dead : (t : Option Log) (k n : ℕ) (ds : List Device) (d d' : Device) (links : List (Option LinkState)) → slice_get ds k ≡ Some d → d.is_dead ≡ true →
+    d'.ty ≡ d.ty → d'.rate ≡ d.rate → d'.time.0 ≡ (d.time.0 + n) % 2 ^ 32 → d'.is_dead ≡ true →
+    Does t t (StandsFor ds links) (StandsFor (slice_set ds k d') links) (wake_phase (Ticked k n)) behind
 unfolding wake_phase
-ticks a b k n ds d d' links here rate time told =
-    does_one (Emitted k (replicate (2 * n) 0) true) (StandsFor ds links) (StandsFor (slice_set ds k d') links) (wake_phase (Ticked k n)) behind (tick k n) refl told
-    (λ s h.
-    let r = found ds s.devices k d here h.devices in
-    record {
-      devices = subst (λ o. StandForDevices (slice_set ds k d') (device_set k (later n) s.devices o)) (sym r.here)
-          (stands_set ds s.devices k d' (later n r.state) h.devices (record { rate = rate ∙ r.stands.rate; time = time ∙ later_time r.state.now n d.time.0 r.stands.time }));
-      links = h.links;
-    })
+ticks_dead t k n ds d d' links here dead ty rate time dead' =
+    does_nothing t (StandsFor ds links) (StandsFor (slice_set ds k d') links) (wake_phase (Ticked k n)) behind (tick k n true)
+    (λ s h. record { devices = device_set_stands ds k n d d' true s.devices here h.devices ty rate time dead'; links = h.links })
     (λ s h log.
     let r = found ds s.devices k d here h.devices in
-    let emitted : emit_by k n r.state s (Emitted k (replicate (2 * n) 0) true) ≡ Some (tick k n s) = rw (eq-refl k, same_bytes-refl (replicate (2 * n) 0)) in
-    subst (λ o. tick_phase k n o s (Emitted k (replicate (2 * n) 0) true ∷ log) ≡ behind (tick k n s) log) (sym r.here) (ap (λ o. then_go o (λ s. behind s log)) emitted))
+    subst (λ o. tick_phase k n o s log ≡ behind (tick k n true s) log) (sym r.here)
+    (ap (λ b. cond b (behind (tick k n true s) log) (and_then (take_one (capture_by k n r.state) log) (after_capture k n r.state s))) (sym r.stands.dead ∙ dead)))
+
+-- a live device
+pub ticks_live : (a b : Option Log) (k n : ℕ) (ds : List Device) (d d' : Device) (is_alive : Bool) (links : List (Option LinkState)) → slice_get ds k ≡ Some d → d.is_dead ≡ false →
+    d'.ty ≡ d.ty → d'.rate ≡ d.rate → d'.time.0 ≡ (d.time.0 + n) % 2 ^ 32 → d'.is_dead ≡ not is_alive → TicksLive k n d.ty a b is_alive →
+    Does a b (StandsFor ds links) (StandsFor (slice_set ds k d') links) (wake_phase (Ticked k n)) behind
+unfolding wake_phase
+ticks_live a b k n ds d d' is_alive links here live ty rate time dead t = record {
+  part = t.part;
+  told = t.told;
+  quiet = t.quiet;
+  each = λ s h.
+      let r = found ds s.devices k d here h.devices in
+      record {
+        state = tick k n (not is_alive) s;
+        stands = record { devices = device_set_stands ds k n d d' (not is_alive) s.devices here h.devices ty rate time dead; links = h.links };
+        same = λ more.
+            subst (λ o. tick_phase k n o s (t.part ++ more) ≡ behind (tick k n (not is_alive) s) more) (sym r.here)
+            (ap (λ b. cond b (behind (tick k n true s) (t.part ++ more)) (and_then (take_one (capture_by k n r.state) (t.part ++ more)) (after_capture k n r.state s))) (sym r.stands.dead ∙ live)
+            ∙ t.goes r.state (sym r.stands.ty) s more);
+      };
+}
+
+-- what a live device does by its calls
+
+capture_taken : (k n : ℕ) (device : DeviceState) (got : Option (List ℕ)) → is_capture n device got ≡ true → (log : Log) → take_one (capture_by k n device) (Captured k n got ∷ log) ≡ behind (is_some got) log
+capture_taken k n device got fits log = rw (eq-refl k, eq-refl n, fits)
+
+emit_taken : (k n : ℕ) (device : DeviceState) (s : State) (done : Bool) (log : Log) → take_one (emit_by k n device s) (Emitted k (sound device n) done ∷ log) ≡ behind (tick k n (not done) s) log
+emit_taken k n device s done log = rw (eq-refl k, same_bytes-refl (sound device n))
+
+pub capture_failed : (a b : Option Log) (k n : ℕ) (ty : SampleType) → Grew a (Captured k n None ∷ []) b → TicksLive k n ty a b false
+capture_failed a b k n ty told = record {
+  part = Captured k n None ∷ [];
+  told = told;
+  quiet = refl;
+  goes = λ device e s more. ap (λ x. and_then x (after_capture k n device s)) (capture_taken k n device None refl more);
+}
+
+pub capture_done : (a b c : Option Log) (k n : ℕ) (ty : SampleType) (bytes : List ℕ) (done : Bool) → length bytes ≡ n * width_of ty → Grew a (Captured k n (Some bytes) ∷ []) b →
+    Grew b (Emitted k (replicate (length bytes) (silent_byte ty)) done ∷ []) c → TicksLive k n ty a c done
+capture_done a b c k n ty bytes done size told told' = record {
+  part = Captured k n (Some bytes) ∷ Emitted k (replicate (length bytes) (silent_byte ty)) done ∷ [];
+  told = grew_more a b c (Captured k n (Some bytes) ∷ []) (Emitted k (replicate (length bytes) (silent_byte ty)) done ∷ []) told told';
+  quiet = refl;
+  goes = λ device e s more.
+      let fits : is_capture n device (Some bytes) ≡ true = ap (λ m. m == n * width_of device.ty) (size ∙ ap (λ t. n * width_of t) (sym e)) ∙ eq-refl (n * width_of device.ty) in
+      let sounds : replicate (length bytes) (silent_byte ty) ≡ sound device n = ap (λ m. replicate m (silent_byte ty)) size ∙ silence-bytes_of ty n ∙ ap (λ t. bytes_of t (replicate n (pos 0))) (sym e) in
+      ap (λ x. and_then x (after_capture k n device s)) (capture_taken k n device (Some bytes) fits (Emitted k (replicate (length bytes) (silent_byte ty)) done ∷ more))
+      ∙ ap (λ b. take_one (emit_by k n device s) (Emitted k b done ∷ more)) sounds ∙ emit_taken k n device s done more;
+}
 
 -- Starts
 

@@ -1,3 +1,4 @@
 pub mod Stands
 pub mod Does
 pub mod Request
+pub mod Live

@@ -6,6 +6,7 @@ use Rattle.af_outside.specs.declared.happening.Happening.TheVariants.{Woke}
 use Rattle.af_outside.specs.declared.happening.Wake.{Wake}
 use Rattle.af_outside.specs.Told.{Log, Grew}
 use Rattle.af_model.specs.State.{State, DeviceState, LinkState, Around, Place, Outline, links_of, outline_with}
+use Rattle.af_model.specs.Reply.{Info}
 use Rattle.af_model.specs.Advance.{takes_more}
 use Rattle.af_model.specs.Turn.{Door, IsTurn, wants_write}
 use Rattle.af_model.specs.Run.{wakes}
@@ -13,8 +14,14 @@ use Rattle.af_core.specs.declared.device.Device.{Device}
 
 -- a device's time is kept modulo 2^32, and its history is not kept
 pub record StandsForDevice (d : Device) (s : DeviceState) : Type 0 where
+  pub ty : d.ty ≡ s.ty
   pub rate : d.rate ≡ s.rate
   pub time : d.time.0 ≡ s.now % 2 ^ 32
+  pub dead : d.is_dead ≡ s.is_dead
+
+-- what the reply to a setup says of a device
+abbrev pub kept_info : Device → Info
+kept_info d = record { ty = d.ty; rate = d.rate }
 
 abbrev pub StandForDevices : List Device → List DeviceState → Type 0
 StandForDevices [] [] = Unit {0}

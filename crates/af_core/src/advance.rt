@@ -7,7 +7,7 @@ ghost use Rattle.af_wire.specs.Message.{error};
 ghost use Rattle.af_model.specs.State.{Around, place, stopped};
 ghost use Rattle.af_model.specs.Reply.{setup_head, device_info, setup_reply};
 ghost use Rattle.af_model.specs.Advance.{after_setup, after_frame, advance_step, advance, absorb};
-ghost use Rattle.af_core.specs.Stands.{StandAround, At, StepsTo, IsSettled};
+ghost use Rattle.af_core.specs.Stands.{StandAround, At, StepsTo, IsSettled, kept_info};
 
 use crate::device::Device;
 use crate::link::Link;
@@ -32,23 +32,23 @@ fn setup_head(devices: u32) -> [u8; 16]
 }
 
 // What the reply to a setup says of a device.
-fn device_info(rate: u32) -> [u8; 12]
-    ensures { result ≡ device_info rate }
+fn device_info(device: Device) -> [u8; 12]
+    ensures { result ≡ device_info (kept_info device) }
 {
-    let [r0, r1, r2, r3] = rate.to_be_bytes();
-    let [h0, h1, h2, h3] = rate.wrapping_mul(4).to_be_bytes();
-    [2, 1, 0, 0, r0, r1, r2, r3, h0, h1, h2, h3]
+    let [r0, r1, r2, r3] = device.rate.to_be_bytes();
+    let [h0, h1, h2, h3] = device.rate.wrapping_mul(4).to_be_bytes();
+    [device.ty.code(), 1, 0, 0, r0, r1, r2, r3, h0, h1, h2, h3]
 }
 
 // The reply to a setup.
 fn push_setup(devices: &[Device], link: &mut Link)
     requires count { length devices.now ≤ 8 }
     requires room { length link.old.pending ≤ 16384 }
-    ensures { link.new ≡ record link.old { pending = link.old.pending ++ setup_reply (map (λ d. d.rate) devices.now) } }
+    ensures { link.new ≡ record link.old { pending = link.old.pending ++ setup_reply (map kept_info devices.now) } }
 {
     link.push(&setup_head(devices.len() as u32));
     for device in devices {
-        link.push(&device_info(device.rate));
+        link.push(&device_info(*device));
     }
 }
 

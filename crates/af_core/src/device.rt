@@ -1,12 +1,16 @@
 // A device, as the core keeps it.
 ghost use Rattle.std.specs.Prelude.{◌≡◌, slice_get};
 
+use af_sample::SampleType;
 use af_time::DevTime;
 
 #[derive(Clone, Copy, Debug, PartialEq, Eq)]
 pub struct Device {
+    pub ty: SampleType,
     pub rate: u32,
     pub time: DevTime,
+    /// A capture or an emit has failed.
+    pub is_dead: bool,
 }
 
 /// The device with a number, where it is there.

@@ -20,21 +20,19 @@ use std::marker::Model;
 pub struct Core {
     devices: Vec<Device>,
     slots: Vec<Slot>,
-    // where the bytes of a read come to stand
+    // where the bytes of a read, a capture or a sound come to stand
     scratch: Vec<u8>,
-    // the sound of the longest tick, as long as nothing can be played
-    silence: Vec<u8>,
 }
 
 impl Model for Core {
-    ghost use Rattle.std.specs.Prelude.{◌≡◌, ◌≤◌, ◌<◌, length, replicate};
+    ghost use Rattle.std.specs.Prelude.{◌≡◌, ◌≤◌, ◌<◌, length};
     ghost use Rattle.af_core.specs.Stands.{Kept};
 
     ghost Value = { Kept };
 
     ghost view = { λ a. record { devices = a.devices.items; links = a.slots.items } };
 
-    ghost invariant = { λ a. (length a.devices.items ≤ 8) × (length a.slots.items ≡ 32) × (length a.scratch.items ≡ 16384) × (a.silence.items ≡ replicate 8192 0) };
+    ghost invariant = { λ a. (length a.devices.items ≤ 8) × (length a.slots.items ≡ 32) × (length a.scratch.items ≡ 16384) };
 }
 
 // A device at its start.
@@ -42,8 +40,10 @@ fn start_device(spec: DeviceSpec) -> Device
     ensures { StandsForDevice result (opening_device spec) }
 {
     Device {
+        ty: spec.ty,
         rate: spec.rate,
         time: DevTime(spec.start),
+        is_dead: false,
     }
 }
 
@@ -77,18 +77,18 @@ fn wake_up<W: World>(
     wake: Wake,
     devices: &mut [Device],
     slots: &mut [Slot],
-    silence: &[u8],
+    scratch: &mut [u8],
     world: &mut W,
 )
     requires fits { IsTrue (fits (outline_of (record { devices = devices.old; links = slots.old })) wake) }
-    requires silence { silence.now ≡ replicate 8192 0 }
+    requires room { length scratch.old ≡ 16384 }
     ensures does { Does (W.log world.old) (W.log world.new) (StandsFor devices.old slots.old) (StandsFor devices.new slots.new) (wake_phase wake) behind }
     ensures leads { W.leads_to world.old world.new }
 {
     match wake {
         Wake::Opened(number) => slots[number as usize].open(),
         Wake::Readable(number) => slots[number as usize].set_ready(),
-        Wake::Ticked(number, frames) => tick(number, frames, devices, silence, world),
+        Wake::Ticked(number, frames) => tick(number, frames, devices, scratch, world),
         Wake::Idle | Wake::Stop => {}
     }
 }
@@ -99,19 +99,17 @@ fn turn_parts<W: World>(
     devices: &mut [Device],
     slots: &mut [Slot],
     scratch: &mut [u8],
-    silence: &[u8],
     world: &mut W,
 )
     requires count { length devices.old ≤ 8 }
     requires links { length slots.old ≤ 32 }
     requires room { length scratch.old ≡ 16384 }
-    requires silence { silence.now ≡ replicate 8192 0 }
     requires fits { IsTrue (fits (outline_of (record { devices = devices.old; links = slots.old })) wake) }
     ensures turns { Turns (W.log world.old) (W.log world.new) wake (record { devices = devices.old; links = slots.old }) (record { devices = devices.new; links = slots.new }) }
     ensures leads { W.leads_to world.old world.new }
 {
     world.woke(wake);
-    wake_up(wake, devices, slots, silence, world);
+    wake_up(wake, devices, slots, scratch, world);
     serve_slots(devices, slots, scratch, world);
 }
 
@@ -124,12 +122,10 @@ impl Core {
         let devices = start_devices(alloc, config.as_slice())?;
         let slots = make_slots(alloc)?;
         let scratch = vec![in alloc; 0; 16384]?;
-        let silence = vec![in alloc; 0; 8192]?;
         Ok(Core {
             devices,
             slots,
             scratch,
-            silence,
         })
     }
 
@@ -165,7 +161,6 @@ impl Core {
             &mut self.devices,
             &mut self.slots,
             &mut self.scratch,
-            &self.silence,
             world,
         );
     }

@@ -1,11 +1,11 @@
 -- Two logs that go through a phase from one state, and are answered by one outside, go through it alike: their happenings
 -- and the states behind them are the same, and the links that are open inside stay those that are open outside.
-use Rattle.std.proofs.Common.{◌≡◌, ℕ, zero, suc, ◌+◌, Bool, true, false, cond, ◌&&◌, ◌==◌, List, [], ◌∷◌, length, take, drop, map, slice_get, slice_set, is_some, refl, sym, ap, ◌∙◌, subst, eqb-true, IsSomeAnd}
+use Rattle.std.proofs.Common.{◌≡◌, ℕ, zero, suc, ◌+◌, ◌*◌, Bool, true, false, not, cond, ◌&&◌, ◌==◌, List, [], ◌∷◌, length, take, drop, map, slice_get, slice_set, is_some, refl, sym, ap, ◌∙◌, subst, eqb-true, IsSomeAnd, IfSome}
 use Rattle.std.proofs.lemmas.List.{map-set}
 use Rattle.std.specs.declared.option.Option.{Option}
 use Rattle.std.specs.declared.option.Option.TheVariants.{None, Some}
 use Rattle.af_outside.specs.declared.happening.Happening.{Happening}
-use Rattle.af_outside.specs.declared.happening.Happening.TheVariants.{Woke, Read, Wrote, Closed, Emitted}
+use Rattle.af_outside.specs.declared.happening.Happening.TheVariants.{Woke, Read, Wrote, Closed, Captured, Emitted}
 use Rattle.af_outside.specs.declared.happening.ReadGot.{ReadGot}
 use Rattle.af_outside.specs.declared.happening.ReadGot.TheVariants.{Given, NotYet}
 use Rattle.af_outside.specs.declared.happening.Why.{Why}
@@ -14,12 +14,13 @@ use Rattle.af_outside.specs.declared.happening.Wake.{Wake}
 use Rattle.af_outside.specs.declared.happening.Wake.TheVariants.{Opened, Readable, Ticked, Idle, Stop}
 use Rattle.af_outside.specs.declared.script.Step.{Step}
 use Rattle.af_outside.specs.Told.{Log}
-use Rattle.af_outside.specs.Outside.{Outside, Peer, answered, read_answered, write_answered, peer_at, with_peer, gives_of, same_bytes}
+use Rattle.af_outside.specs.Outside.{Outside, Peer, Station, answered, read_answered, write_answered, capture_answered, emit_answered, captured, station_at, with_station, peer_at, with_peer, gives_of, same_bytes}
+use Rattle.af_sample.specs.SampleTypes.{width_of}
 use Rattle.af_model.specs.State.{State, Slot, Around, Place, LinkState, DeviceState, place, opened, slot_at, some_slot, with_slot, links_of}
 use Rattle.af_model.specs.Tick.{sound, tick}
-use Rattle.af_model.specs.Turn.{Behind, behind, and_then, then_go, take_one, Door, door, wants_read, is_read, read_by, read_phase, after_read, wants_write, write_by, write_taken, write_phase, after_write, same_why, close_due, close_by, close_for, close_phase, serve_link, serve_open, serve_door, door_at, with_door, serve_at, serve_from, serve_all, ready, in_open, in_slot, emit_by, tick_phase, wake_phase}
+use Rattle.af_model.specs.Turn.{Behind, behind, and_then, then_go, take_one, Door, door, wants_read, is_read, read_by, read_phase, after_read, wants_write, write_by, write_taken, write_phase, after_write, same_why, close_due, close_by, close_for, close_phase, serve_link, serve_open, serve_door, door_at, with_door, serve_at, serve_from, serve_all, ready, in_open, in_slot, is_capture, capture_by, emit_by, after_capture, tick_phase, wake_phase}
 use Rattle.af_model.specs.Script.{AnswersTo}
-use Rattle.af_model.proofs.Tests.{cond-some, cond-true, both-true, none_some, same_bytes-true}
+use Rattle.af_model.proofs.Tests.{cond-some, cond-true, both-true, not_true, none_some, same_bytes-true}
 use Rattle.af_model.proofs.Slots.{links_of-set}
 
 -- two ends of a phase from one state
@@ -73,6 +74,7 @@ is_quiet (Woke wake) = false
 is_quiet (Read k got) = true
 is_quiet (Wrote k offered took) = true
 is_quiet (Closed k why) = true
+is_quiet (Captured d n got) = true
 is_quiet (Emitted d sound done) = true
 
 some_and : (x : Option Outside) (P : Outside → Type 0) → IsSomeAnd x P → (o : Outside) × (x ≡ Some o) × P o
@@ -86,6 +88,7 @@ answered_first o (Woke wake) log steps e q a = absurd cc
 answered_first o (Read k got) log steps e q a = some_and (answered o (Read k got)) (λ o. AnswersTo o log steps e) a
 answered_first o (Wrote k offered took) log steps e q a = some_and (answered o (Wrote k offered took)) (λ o. AnswersTo o log steps e) a
 answered_first o (Closed k why) log steps e q a = some_and (answered o (Closed k why)) (λ o. AnswersTo o log steps e) a
+answered_first o (Captured d n got) log steps e q a = some_and (answered o (Captured d n got)) (λ o. AnswersTo o log steps e) a
 answered_first o (Emitted d sound done) log steps e q a = some_and (answered o (Emitted d sound done)) (λ o. AnswersTo o log steps e) a
 
 -- The one happening that may come, of a state and the outside: where a happening is taken and answered, it is that one, and
@@ -204,6 +207,7 @@ read_one : (w : List Bool) (k : ℕ) (p : Place) (o : Outside) (h : Happening) (
 read_one w k p o (Woke wake) t e = absurd (none_some e)
 read_one w k p o (Wrote j offered took) t e = absurd (none_some e)
 read_one w k p o (Closed j why) t e = absurd (none_some e)
+read_one w k p o (Captured d n got) t e = absurd (none_some e)
 read_one w k p o (Emitted d sound done) t e = absurd (none_some e)
 read_one w k p o (Read j got) t e =
     let i = cond-some (j == k && is_read got) (Some (after_read k got p)) t e in
@@ -249,6 +253,7 @@ write_one : (w : List Bool) (k : ℕ) (p : Place) (o : Outside) (h : Happening) 
 write_one w k p o (Woke wake) t e = absurd (none_some e)
 write_one w k p o (Read j got) t e = absurd (none_some e)
 write_one w k p o (Closed j why) t e = absurd (none_some e)
+write_one w k p o (Captured d n got) t e = absurd (none_some e)
 write_one w k p o (Emitted d sound done) t e = absurd (none_some e)
 write_one w k p o (Wrote j offered took) t e =
     let i = cond-some (j == k) (write_taken k offered took p) t e in
@@ -313,6 +318,7 @@ close_one : (w : List Bool) (k : ℕ) (cause : Why) (p : Place) (o : Outside) (h
 close_one w k cause p o (Woke wake) t e = absurd (none_some e)
 close_one w k cause p o (Read j got) t e = absurd (none_some e)
 close_one w k cause p o (Wrote j offered took) t e = absurd (none_some e)
+close_one w k cause p o (Captured d n got) t e = absurd (none_some e)
 close_one w k cause p o (Emitted d sound done) t e = absurd (none_some e)
 close_one w k cause p o (Closed j why) t e =
     let i = cond-some (j == k && same_why why cause) (Some (door p.around None)) t e in
@@ -397,32 +403,126 @@ in_open-some f (Some l) = refl
 readied : (s : State) (k : ℕ) → open_links (slice_set s.slots k (in_slot ready (slot_at k s))) ≡ open_links s.slots
 readied s k = open_links-set s.slots k (in_slot ready (slot_at k s)) ∙ ap (λ b. slice_set (open_links s.slots) k b) (in_open-some ready (slot_at k s).link) ∙ open_links-same s.slots k
 
+station_opens : (o : Outside) (d : ℕ) (station : Station) → opens (with_station o d station) ≡ opens o
+station_opens o d station = refl
+
+-- Captures
+
+-- the one answer of a capture of so many bytes
+expected_capture : ℕ → Station → Option (List ℕ)
+expected_capture size station = cond station.fails_capture None (Some (captured station size))
+
+record CaptureAnswered (w : List Bool) (o o' : Outside) (size : ℕ) (station : Station) (got : Option (List ℕ)) : Type 0 where
+  is : got ≡ expected_capture size station
+  opens : opens o ≡ w → opens o' ≡ w
+
+capture_answer : (w : List Bool) (o o' : Outside) (d size : ℕ) (station : Station) (got : Option (List ℕ)) → capture_answered o d station got ≡ Some o' → IfSome got (λ bytes. length bytes ≡ size) →
+    CaptureAnswered w o o' size station got
+unfolding expected_capture
+capture_answer w o o' d size station None e l =
+    let i = cond-some station.fails_capture (Some (with_station o d (record station { fails_capture = false }))) o' e in
+    let fails = i.0 in
+    let g = i.1 in
+    let same : with_station o d (record station { fails_capture = false }) ≡ o' = cc in
+    record { is = ap (λ b. cond b None (Some (captured station size))) (sym fails); opens = λ p. subst (λ x. opens x ≡ w) same p }
+capture_answer w o o' d size station (Some bytes) e l =
+    let i = cond-some (not station.fails_capture && same_bytes bytes (captured station (length bytes))) (Some o) o' e in
+    let v = both-true (not station.fails_capture) (same_bytes bytes (captured station (length bytes))) i.0 in
+    let g = i.1 in
+    let same : o ≡ o' = cc in
+    let live : station.fails_capture ≡ false = not_true station.fails_capture v.0 in
+    record {
+      is = ap (λ x. Some x) (same_bytes-true bytes (captured station (length bytes)) v.1 ∙ ap (captured station) l) ∙ ap (λ b. cond b None (Some (captured station size))) (sym live);
+      opens = λ p. subst (λ x. opens x ≡ w) same p;
+    }
+
+is_capture-size : (n : ℕ) (device : DeviceState) (got : Option (List ℕ)) → is_capture n device got ≡ true → IfSome got (λ bytes. length bytes ≡ n * width_of device.ty)
+is_capture-size n device None e = tt
+is_capture-size n device (Some bytes) e = eqb-true (length bytes) (n * width_of device.ty) e
+
+capture_one : (w : List Bool) (d n : ℕ) (device : DeviceState) (s : State) (o : Outside) (h : Happening) (t : Bool) → capture_by d n device h ≡ Some t →
+    TakesOne (λ (s : State). capture_by d n device) (λ s o. opens o ≡ w) (λ t o. opens o ≡ w) s o h (Captured d n (expected_capture (n * width_of device.ty) (station_at o d)))
+capture_one w d n device s o (Woke wake) t e = absurd (none_some e)
+capture_one w d n device s o (Read j got) t e = absurd (none_some e)
+capture_one w d n device s o (Wrote j offered took) t e = absurd (none_some e)
+capture_one w d n device s o (Closed j why) t e = absurd (none_some e)
+capture_one w d n device s o (Emitted j bytes done) t e = absurd (none_some e)
+capture_one w d n device s o (Captured j frames got) t e =
+    let i = cond-some (j == d && frames == n && is_capture n device got) (Some (is_some got)) t e in
+    let v = both-true (j == d && frames == n) (is_capture n device got) i.0 in
+    let u = both-true (j == d) (frames == n) v.0 in
+    let at : j ≡ d = eqb-true j d u.0 in
+    let size = is_capture-size n device got v.1 in
+    let here : (o' : Outside) → answered o (Captured j frames got) ≡ Some o' → capture_answered o d (station_at o d) got ≡ Some o' = λ o' a. subst (λ m. capture_answered o m (station_at o m) got ≡ Some o') at a in
+    record {
+      quiet = refl;
+      is = λ o' a. ap (λ m. Captured m frames got) at ∙ ap (λ m. Captured d m got) (eqb-true frames n u.1)
+          ∙ ap (Captured d n) (capture_answer w o o' d (n * width_of device.ty) (station_at o d) got (here o' a) size).is;
+      stands = λ t o' p f a. (capture_answer w o o' d (n * width_of device.ty) (station_at o d) got (here o' a) size).opens p;
+    }
+
+-- Emits
+
+emit_answer : (w : List Bool) (o o' : Outside) (d : ℕ) (station : Station) (done : Bool) → emit_answered o d station done ≡ Some o' → (done ≡ not station.fails_emit) × (opens o ≡ w → opens o' ≡ w)
+emit_answer w o o' d station false e =
+    let i = cond-some station.fails_emit (Some (with_station o d (record station { fails_emit = false }))) o' e in
+    let g = i.1 in
+    let same : with_station o d (record station { fails_emit = false }) ≡ o' = cc in
+    (ap not (sym i.0), λ p. subst (λ x. opens x ≡ w) same p)
+emit_answer w o o' d station true e =
+    elim station.fails_emit as (λ b. cond b None (Some o) ≡ Some o' → (true ≡ not b) × (opens o ≡ w → opens o' ≡ w)) [
+      | true ↦ λ e. absurd (none_some e)
+      | false ↦ λ e. let same : o ≡ o' = cc in (refl, λ p. subst (λ x. opens x ≡ w) same p)
+    ] e
+
 emit_one : (d n : ℕ) (device : DeviceState) (s : State) (o : Outside) (h : Happening) (t : State) → emit_by d n device s h ≡ Some t →
-    TakesOne (λ s. emit_by d n device s) Agree Agree s o h (Emitted d (sound device n) true)
+    TakesOne (λ s. emit_by d n device s) Agree Agree s o h (Emitted d (sound device n) (not (station_at o d).fails_emit))
 emit_one d n device s o (Woke wake) t e = absurd (none_some e)
 emit_one d n device s o (Read j got) t e = absurd (none_some e)
 emit_one d n device s o (Wrote j offered took) t e = absurd (none_some e)
 emit_one d n device s o (Closed j why) t e = absurd (none_some e)
+emit_one d n device s o (Captured j frames got) t e = absurd (none_some e)
 emit_one d n device s o (Emitted j bytes done) t e =
-    let i = cond-some (j == d && same_bytes bytes (sound device n) && done) (Some (tick d n s)) t e in
-    let v = both-true (j == d && same_bytes bytes (sound device n)) done i.0 in
-    let u = both-true (j == d) (same_bytes bytes (sound device n)) v.0 in
+    let i = cond-some (j == d && same_bytes bytes (sound device n)) (Some (tick d n (not done) s)) t e in
+    let u = both-true (j == d) (same_bytes bytes (sound device n)) i.0 in
+    let at : j ≡ d = eqb-true j d u.0 in
+    let here : (o' : Outside) → answered o (Emitted j bytes done) ≡ Some o' → emit_answered o d (station_at o d) done ≡ Some o' = λ o' a. subst (λ m. emit_answered o m (station_at o m) done ≡ Some o') at a in
     record {
       quiet = refl;
-      is = λ o' a. ap (λ m. Emitted m bytes done) (eqb-true j d u.0) ∙ ap (λ b. Emitted d b done) (same_bytes-true bytes (sound device n) u.1) ∙ ap (Emitted d (sound device n)) v.1;
+      is = λ o' a. ap (λ m. Emitted m bytes done) at ∙ ap (λ b. Emitted d b done) (same_bytes-true bytes (sound device n) u.1) ∙ ap (Emitted d (sound device n)) (emit_answer (opens o) o o' d (station_at o d) done (here o' a)).0;
       stands = λ t o' p f a.
-          let g : Some (tick d n s) ≡ Some t = (cond-some (j == d && same_bytes bytes (sound device n) && done) (Some (tick d n s)) t f).1 in
-          let next : tick d n s ≡ t = cc in
-          let same : Some o ≡ Some o' = cond-true done (Some o) None (Some o') v.1 a in
-          let stays : o ≡ o' = cc in
-          subst (λ x. Agree x o') next (subst (λ y. opens y ≡ open_links s.slots) stays p);
+          let g : Some (tick d n (not done) s) ≡ Some t = (cond-some (j == d && same_bytes bytes (sound device n)) (Some (tick d n (not done) s)) t f).1 in
+          let next : tick d n (not done) s ≡ t = cc in
+          subst (λ x. Agree x o') next ((emit_answer (open_links s.slots) o o' d (station_at o d) done (here o' a)).1 p);
     }
+
+-- Ticks
+
+after_capture_alike : (d n : ℕ) (device : DeviceState) (s : State) → GoesAlike (after_capture d n device s) (λ (t : Bool) o. opens o ≡ open_links s.slots) Agree
+after_capture_alike d n device s steps false o log1 log2 b1 b2 e1 e2 at f1 f2 r1 r2 =
+    alike_nothing (λ (t : Bool). tick d n true s) (λ t o. opens o ≡ open_links s.slots) Agree (λ t o at. at) steps false o log1 log2 b1 b2 e1 e2 at f1 f2 r1 r2
+after_capture_alike d n device s steps true o log1 log2 b1 b2 e1 e2 at f1 f2 r1 r2 =
+    alike_one (λ s. emit_by d n device s) Agree Agree (λ s o. Emitted d (sound device n) (not (station_at o d).fails_emit)) (emit_one d n device) steps s o log1 log2 b1 b2 e1 e2 at f1 f2 r1 r2
+
+live_alike : (d n : ℕ) (device : DeviceState) (steps : List Step) (s : State) (o : Outside) (log1 log2 : Log) (b1 b2 : Behind State) (e1 e2 : Outside) → Agree s o →
+    and_then (take_one (capture_by d n device) log1) (after_capture d n device s) ≡ Some b1 → and_then (take_one (capture_by d n device) log2) (after_capture d n device s) ≡ Some b2 →
+    AnswersTo o log1 steps e1 → AnswersTo o log2 steps e2 → Agreed steps Agree log1 log2 e1 e2 b1 b2
+live_alike d n device steps s o log1 log2 b1 b2 e1 e2 at f1 f2 r1 r2 =
+    let w = open_links s.slots in
+    alike_then (λ (u : State) log. take_one (capture_by d n device) log) (after_capture d n device s) (λ u o. opens o ≡ w) (λ t o. opens o ≡ w) Agree
+    (alike_one (λ (s : State). capture_by d n device) (λ s o. opens o ≡ w) (λ t o. opens o ≡ w) (λ s o. Captured d n (expected_capture (n * width_of device.ty) (station_at o d))) (capture_one w d n device))
+    (after_capture_alike d n device s)
+    steps s o log1 log2 b1 b2 e1 e2 at f1 f2 r1 r2
 
 tick_alike : (d n : ℕ) (device : Option DeviceState) (steps : List Step) (s : State) (o : Outside) (log1 log2 : Log) (b1 b2 : Behind State) (e1 e2 : Outside) →
     Agree s o → tick_phase d n device s log1 ≡ Some b1 → tick_phase d n device s log2 ≡ Some b2 → AnswersTo o log1 steps e1 → AnswersTo o log2 steps e2 → Agreed steps Agree log1 log2 e1 e2 b1 b2
 tick_alike d n None steps s o log1 log2 b1 b2 e1 e2 at f1 f2 r1 r2 = absurd (none_some f1)
 tick_alike d n (Some device) steps s o log1 log2 b1 b2 e1 e2 at f1 f2 r1 r2 =
-    alike_one (λ s. emit_by d n device s) Agree Agree (λ s o. Emitted d (sound device n) true) (emit_one d n device) steps s o log1 log2 b1 b2 e1 e2 at f1 f2 r1 r2
+    elim device.is_dead as (λ t. cond t (behind (tick d n true s) log1) (and_then (take_one (capture_by d n device) log1) (after_capture d n device s)) ≡ Some b1 →
+    cond t (behind (tick d n true s) log2) (and_then (take_one (capture_by d n device) log2) (after_capture d n device s)) ≡ Some b2 → Agreed steps Agree log1 log2 e1 e2 b1 b2) [
+      | true ↦ λ f1 f2. alike_nothing (λ s. tick d n true s) Agree Agree (λ s o at. at) steps s o log1 log2 b1 b2 e1 e2 at f1 f2 r1 r2
+      | false ↦ λ f1 f2. live_alike d n device steps s o log1 log2 b1 b2 e1 e2 at f1 f2 r1 r2
+    ] f1 f2
 
 pub wake_alike : (wake : Wake) → GoesAlike (wake_phase wake) (Woken wake) Agree
 unfolding wake_phase

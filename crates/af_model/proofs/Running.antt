@@ -2,7 +2,7 @@
 use Rattle.std.proofs.Common.{◌≡◌, ◌+◌, List, [], ◌∷◌, ◌++◌, length, is_some, refl, sym, ap, ◌∙◌, subst, append_assoc, append-nil, arith, IsSomeAnd}
 use Rattle.std.specs.declared.option.Option.{Option}
 use Rattle.std.specs.declared.option.Option.TheVariants.{None, Some}
-use Rattle.af_outside.specs.declared.happening.Happening.TheVariants.{Woke, Read, Wrote, Closed, Emitted}
+use Rattle.af_outside.specs.declared.happening.Happening.TheVariants.{Woke, Read, Wrote, Closed, Captured, Emitted}
 use Rattle.af_outside.specs.declared.script.DeviceSpec.{DeviceSpec}
 use Rattle.af_outside.specs.declared.script.Step.{Step}
 use Rattle.af_outside.specs.Told.{Log}
@@ -18,6 +18,7 @@ wakes-append (Woke wake ∷ p) q = let e = wakes-append p q in omega arith
 wakes-append (Read k got ∷ p) q = wakes-append p q
 wakes-append (Wrote k offered took ∷ p) q = wakes-append p q
 wakes-append (Closed k why ∷ p) q = wakes-append p q
+wakes-append (Captured d n got ∷ p) q = wakes-append p q
 wakes-append (Emitted d sound done ∷ p) q = wakes-append p q
 
 -- two parts without a wake have none together
@@ -81,6 +82,8 @@ answers_more o mid end (Wrote k offered took ∷ log) more steps steps' a b =
     some_and-map (answered o (Wrote k offered took)) (λ o. AnswersTo o log steps mid) (λ o. AnswersTo o (log ++ more) (steps ++ steps') end) (λ o h. answers_more o mid end log more steps steps' h b) a
 answers_more o mid end (Closed k why ∷ log) more steps steps' a b =
     some_and-map (answered o (Closed k why)) (λ o. AnswersTo o log steps mid) (λ o. AnswersTo o (log ++ more) (steps ++ steps') end) (λ o h. answers_more o mid end log more steps steps' h b) a
+answers_more o mid end (Captured d n got ∷ log) more steps steps' a b =
+    some_and-map (answered o (Captured d n got)) (λ o. AnswersTo o log steps mid) (λ o. AnswersTo o (log ++ more) (steps ++ steps') end) (λ o h. answers_more o mid end log more steps steps' h b) a
 answers_more o mid end (Emitted d sound done ∷ log) more steps steps' a b =
     some_and-map (answered o (Emitted d sound done)) (λ o. AnswersTo o log steps mid) (λ o. AnswersTo o (log ++ more) (steps ++ steps') end) (λ o h. answers_more o mid end log more steps steps' h b) a
 
@@ -94,5 +97,7 @@ replayed_answers o end (Wrote k offered took ∷ log) w e =
     then_some_and (answered o (Wrote k offered took)) (λ o. replayed o log) end (λ o. AnswersTo o log [] end) (λ o h. replayed_answers o end log w h) e
 replayed_answers o end (Closed k why ∷ log) w e =
     then_some_and (answered o (Closed k why)) (λ o. replayed o log) end (λ o. AnswersTo o log [] end) (λ o h. replayed_answers o end log w h) e
+replayed_answers o end (Captured d n got ∷ log) w e =
+    then_some_and (answered o (Captured d n got)) (λ o. replayed o log) end (λ o. AnswersTo o log [] end) (λ o h. replayed_answers o end log w h) e
 replayed_answers o end (Emitted d sound done ∷ log) w e =
     then_some_and (answered o (Emitted d sound done)) (λ o. replayed o log) end (λ o. AnswersTo o log [] end) (λ o h. replayed_answers o end log w h) e

@@ -6,7 +6,7 @@ use Rattle.std.specs.declared.option.Option.TheVariants.{None, Some}
 use Rattle.af_outside.specs.declared.happening.Wake.TheVariants as wake
 use Rattle.af_outside.specs.declared.script.DeviceSpec.{DeviceSpec}
 use Rattle.af_outside.specs.declared.script.Step.{Step}
-use Rattle.af_outside.specs.declared.script.Step.TheVariants.{Open, Send, Tick, Idle}
+use Rattle.af_outside.specs.declared.script.Step.TheVariants.{Open, Send, Tick, FailCapture, FailEmit, Idle}
 use Rattle.af_outside.specs.Outside.{Outside, Peer, outside_start, peer_at, some_peer, opened_at, sent_at, stepped, wake_of, IsStep}
 use Rattle.af_model.specs.State.{State, opening, outline}
 use Rattle.af_model.specs.Turn.{fits, is_open_at, is_closed_at}
@@ -43,18 +43,20 @@ stepped_opens o (Send k bytes) =
       | None ↦ λ e. refl
       | Some peer ↦ λ e. opens-set o k (Some (record { gives = peer.gives ++ bytes })) ∙ open_stays (opens o) k (sym e)
     ] (open_outside o k)
-stepped_opens o (Tick d n) = refl
+stepped_opens o (Tick d n captured) = refl
+stepped_opens o (FailCapture d) = refl
+stepped_opens o (FailEmit d) = refl
 stepped_opens o Idle = refl
 
 pub agree_step : (s : State) (o : Outside) (step : Step) → Agree s o → Woken (wake_of o step) s (stepped o step)
 agree_step s o step at = stepped_opens o step ∙ ap (λ w. open_after w (wake_of o step)) at
 
-pub agree_start : (config : List DeviceSpec) → Agree (opening config) outside_start
+pub agree_start : (config : List DeviceSpec) → Agree (opening config) (outside_start config)
 agree_start config = refl
 
 -- the wake of a step that may stand in a script fits
-pub step_fits : (s : State) (o : Outside) (step : Step) → Agree s o → length o.peers ≡ 32 → IsStep (length s.devices) step → fits (outline s) (wake_of o step) ≡ true
-step_fits s o (Open k) at l f =
+pub step_fits : (config : List DeviceSpec) (s : State) (o : Outside) (step : Step) → Agree s o → length o.peers ≡ 32 → length s.devices ≡ length config → IsStep config step → fits (outline s) (wake_of o step) ≡ true
+step_fits config s o (Open k) at l c f =
     elim (peer_at o k) as (λ p. is_some p ≡ is_open_at (slice_get (opens o) k) → fits (outline s) (cond (is_some p) wake.Idle (wake.Opened k)) ≡ true) [
       | None ↦ λ e. subst (λ w. is_closed_at (slice_get w k) ≡ true) at (closed_at (opens o) k (opens_length o.peers k l f) (sym e))
       | Some peer ↦ λ e. refl
@@ -66,13 +68,15 @@ step_fits s o (Open k) at l f =
         same : (peers : List (Option Peer)) → length (map {A = Option Peer} {B = Bool} is_some peers) ≡ length peers
         same [] = refl
         same (x ∷ peers) = ap suc (same peers)
-step_fits s o (Send k bytes) at l f =
+step_fits config s o (Send k bytes) at l c f =
     elim (peer_at o k) as (λ p. is_some p ≡ is_open_at (slice_get (opens o) k) → fits (outline s) (cond (is_some p) (wake.Readable k) wake.Idle) ≡ true) [
       | None ↦ λ e. refl
       | Some peer ↦ λ e. subst (λ w. is_open_at (slice_get w k) ≡ true) at (sym e)
     ] (open_outside o k)
-step_fits s o (Tick d n) at l f = ticks d n (length s.devices) f.0 f.1 f.2
+step_fits config s o (Tick d n captured) at l c f = ticks d n (length s.devices) (let lt = f.0 in omega (arith, lt, c)) f.1 f.2
   where
     ticks : (d n devices : ℕ) → d < devices → 1 ≤ n → n ≤ 4096 → (nat_lt d devices && nat_le 1 n && nat_le n 4096) ≡ true
     ticks d n devices a b c = search (rules, common_steps)
-step_fits s o Idle at l f = refl
+step_fits config s o (FailCapture d) at l c f = refl
+step_fits config s o (FailEmit d) at l c f = refl
+step_fits config s o Idle at l c f = refl

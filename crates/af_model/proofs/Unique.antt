@@ -2,7 +2,7 @@
 use Rattle.std.proofs.Common.{◌≡◌, ℕ, zero, suc, true, List, [], ◌∷◌, is_some, refl, sym, ap, ◌∙◌, subst}
 use Rattle.std.specs.declared.option.Option.{Option}
 use Rattle.std.specs.declared.option.Option.TheVariants.{None, Some}
-use Rattle.af_outside.specs.declared.happening.Happening.TheVariants.{Woke, Read, Wrote, Closed, Emitted}
+use Rattle.af_outside.specs.declared.happening.Happening.TheVariants.{Woke, Read, Wrote, Closed, Captured, Emitted}
 use Rattle.af_outside.specs.declared.happening.Wake.{Wake}
 use Rattle.af_outside.specs.declared.script.DeviceSpec.{DeviceSpec}
 use Rattle.af_outside.specs.declared.script.Step.{Step}
@@ -30,6 +30,7 @@ turn_inv s (Woke wake ∷ rest) b e = record { wake = wake; rest = rest; is = re
 turn_inv s (Read k got ∷ rest) b e = absurd (none_some e)
 turn_inv s (Wrote k offered took ∷ rest) b e = absurd (none_some e)
 turn_inv s (Closed k why ∷ rest) b e = absurd (none_some e)
+turn_inv s (Captured d n got ∷ rest) b e = absurd (none_some e)
 turn_inv s (Emitted d sound done ∷ rest) b e = absurd (none_some e)
 
 -- the turns of one step are alike
@@ -82,4 +83,4 @@ unique (step ∷ steps) (suc n) (suc m) s o e1 e2 log1 log2 at f1 f2 r1 r2 =
 
 pub one_log : (config : List DeviceSpec) (steps : List Step) (a b : Log) → ScriptLog config steps a → ScriptLog config steps b → a ≡ b
 unfolding end_state
-one_log config steps a b x y = unique steps (wakes a) (wakes b) (opening config) outside_start x.end y.end a b (agree_start config) x.is_run y.is_run x.answers y.answers
+one_log config steps a b x y = unique steps (wakes a) (wakes b) (opening config) (outside_start config) x.end y.end a b (agree_start config) x.is_run y.is_run x.answers y.answers

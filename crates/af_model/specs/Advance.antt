@@ -10,7 +10,7 @@ use Rattle.af_wire.specs.declared.front.SetupFront.TheVariants as setup
 use Rattle.af_wire.specs.Front.{setup_front, frame_front}
 use Rattle.af_wire.specs.Message.{error}
 use Rattle.af_model.specs.State.{LinkState, Place, place, say, stopped}
-use Rattle.af_model.specs.Reply.{setup_reply, rates_of}
+use Rattle.af_model.specs.Reply.{setup_reply, infos_of}
 use Rattle.af_model.specs.Perform.{Request, request_in, perform}
 
 -- n bytes are taken off the front of the input
@@ -32,7 +32,7 @@ after_frame k (Frame n) p = Some (requested k (request_in (take n p.link.rest)) 
 abbrev pub after_setup : SetupFront → Place → Option Place
 after_setup setup.NeedMore p = None
 after_setup setup.Setup p =
-    Some (say (place p.around (record (without_front 8 p.link) { is_set_up = true })) (setup_reply (rates_of p.around.devices)))
+    Some (say (place p.around (record (without_front 8 p.link) { is_set_up = true })) (setup_reply (infos_of p.around.devices)))
 after_setup (setup.BadSetup value) p = Some (say (place p.around (stopped why.BadSetup p.link)) (error 1 value 0 0))
 
 -- nothing is taken off while a link is closing, or while more than 16384 bytes wait to be sent to it

@@ -20,7 +20,7 @@ AnswersTo o (h ∷ log) steps end = IsSomeAnd (answered o h) (λ o. AnswersTo o 
 pub record ScriptLog (config : List DeviceSpec) (steps : List Step) (log : Log) : Type 0 where
   pub is_run : IsRun config log
   pub end : Outside
-  pub answers : AnswersTo outside_start log steps end
+  pub answers : AnswersTo (outside_start config) log steps end
 
 -- the script has this log, and no other
 pub record OneLog (config : List DeviceSpec) (steps : List Step) (log : Log) : Type 0 where

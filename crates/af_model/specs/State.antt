@@ -2,14 +2,18 @@
 use Rattle.std.specs.Prelude.{ℕ, ◌+◌, ◌^◌, Bool, false, List, [], ◌++◌, map, replicate, slice_get, slice_set, is_some, length}
 use Rattle.std.specs.declared.option.Option.{Option}
 use Rattle.std.specs.declared.option.Option.TheVariants.{None, Some}
+use Rattle.af_sample.specs.declared.sample_type.SampleType.{SampleType}
 use Rattle.af_outside.specs.declared.happening.Why.{Why}
 use Rattle.af_outside.specs.declared.script.DeviceSpec.{DeviceSpec}
 
 -- A device. Its time is unbounded, and begins 2^32 above the stated start, so that times before the start are natural
 -- numbers too: only differences of times, and times modulo 2^32, are ever seen.
+-- A device is dead once a capture or an emit of it has failed.
 pub record DeviceState : Type 0 where
+  pub ty : SampleType
   pub rate : ℕ
   pub now : ℕ
+  pub is_dead : Bool
 
 -- An open link: its unread input, its unsent output, whether it may have something to read, why it is to be closed, and
 -- how many requests it has made, modulo 2^16.
@@ -59,7 +63,7 @@ stopped cause l = record l { rest = []; closing = Some cause }
 
 -- a device at its start
 abbrev pub opening_device : DeviceSpec → DeviceState
-opening_device d = record { rate = d.rate; now = d.start + 2 ^ 32 }
+opening_device d = record { ty = d.ty; rate = d.rate; now = d.start + 2 ^ 32; is_dead = false }
 
 abbrev pub closed_slot : Slot
 closed_slot = record { link = None; said = [] }

@@ -10,27 +10,27 @@ use Rattle.std.specs.declared.option.Option.TheVariants.{None, Some}
 use Rattle.af_outside.specs.declared.script.Step.{Step}
 use Rattle.af_outside.specs.declared.script.Step.TheVariants as step
 use Rattle.af_outside.specs.declared.happening.ReadGot.TheVariants.{Given, NotYet}
-use Rattle.af_outside.specs.Outside.{Outside, Peer, peer_at, with_peer, gives_of, opened_at, sent_at, read_answered}
+use Rattle.af_outside.specs.Outside.{Outside, Peer, Station, peer_at, with_peer, gives_of, opened_at, sent_at, read_answered}
 use Rattle.af_outside.proofs.Outsides.{eq-refl, same_bytes-refl}
-use Rattle.af_outside.specs.Tape.{KeptPeer, outside_of, HasRoom, sent_by, peer_sent, peer_given}
+use Rattle.af_outside.specs.Tape.{KeptPeer, peers_of, outside_of, HasRoom, sent_by, peer_sent, peer_given}
 
 -- the peer of a link is that of its far end
-pub peer_at-outside_of : (far_ends : List KeptPeer) (k : ℕ) (d : KeptPeer) → k < length far_ends → peer_at (outside_of far_ends) k ≡ (get_or far_ends k d).peer
-peer_at-outside_of [] k d below = absurd (omega arith)
-peer_at-outside_of (x ∷ far_ends) zero d below = refl
-peer_at-outside_of (x ∷ far_ends) (suc k) d below = peer_at-outside_of far_ends k d (omega arith)
+pub peer_at-outside_of : (far_ends : List KeptPeer) (stations : List Station) (k : ℕ) (d : KeptPeer) → k < length far_ends → peer_at (outside_of far_ends stations) k ≡ (get_or far_ends k d).peer
+peer_at-outside_of [] stations k d below = absurd (omega arith)
+peer_at-outside_of (x ∷ far_ends) stations zero d below = refl
+peer_at-outside_of (x ∷ far_ends) stations (suc k) d below = peer_at-outside_of far_ends stations k d (omega arith)
 
 -- no peer stands past the far ends
-pub peer_at-past : (far_ends : List KeptPeer) (k : ℕ) → length far_ends ≤ k → peer_at (outside_of far_ends) k ≡ None
-peer_at-past [] k past = refl
-peer_at-past (x ∷ far_ends) zero past = absurd (omega arith)
-peer_at-past (x ∷ far_ends) (suc k) past = peer_at-past far_ends k (omega arith)
+pub peer_at-past : (far_ends : List KeptPeer) (stations : List Station) (k : ℕ) → length far_ends ≤ k → peer_at (outside_of far_ends stations) k ≡ None
+peer_at-past [] stations k past = refl
+peer_at-past (x ∷ far_ends) stations zero past = absurd (omega arith)
+peer_at-past (x ∷ far_ends) stations (suc k) past = peer_at-past far_ends stations k (omega arith)
 
 -- a change of one far end is a change of its peer
-pub outside_of-set : (far_ends : List KeptPeer) (k : ℕ) (far_end : KeptPeer) → outside_of (set far_ends k far_end) ≡ with_peer (outside_of far_ends) k far_end.peer
-outside_of-set far_ends k far_end = ap (λ (peers : List (Option Peer)). (let o : Outside = record { peers = peers } in o)) (map-set (λ (e : KeptPeer). e.peer) far_ends k far_end)
+pub outside_of-set : (far_ends : List KeptPeer) (stations : List Station) (k : ℕ) (far_end : KeptPeer) → outside_of (set far_ends k far_end) stations ≡ with_peer (outside_of far_ends stations) k far_end.peer
+outside_of-set far_ends stations k far_end = ap (λ (peers : List (Option Peer)). (let o : Outside = record { peers = peers; stations = stations } in o)) (map-set (λ (e : KeptPeer). e.peer) far_ends k far_end)
 
-length-peers : (far_ends : List KeptPeer) → length (outside_of far_ends).peers ≡ length far_ends
+length-peers : (far_ends : List KeptPeer) → length (peers_of far_ends) ≡ length far_ends
 length-peers [] = refl
 length-peers (x ∷ far_ends) = ap suc (length-peers far_ends)
 
@@ -113,9 +113,9 @@ given_none n None none = refl
 given_none n (Some peer) none = ap (λ m. Some (record { gives = drop m peer.gives })) none
 
 -- nothing changes where a far end's peer stays
-pub outside_of-set_same : (far_ends : List KeptPeer) (k : ℕ) (d new : KeptPeer) → new.peer ≡ (get_or far_ends k d).peer → outside_of (slice_set far_ends k new) ≡ outside_of far_ends
-outside_of-set_same far_ends k d new same =
-    ap (λ (peers : List (Option Peer)). (let o : Outside = record { peers = peers } in o)) (map-set_same (λ (e : KeptPeer). e.peer) far_ends k new d same)
+pub outside_of-set_same : (far_ends : List KeptPeer) (stations : List Station) (k : ℕ) (d new : KeptPeer) → new.peer ≡ (get_or far_ends k d).peer → outside_of (slice_set far_ends k new) stations ≡ outside_of far_ends stations
+outside_of-set_same far_ends stations k d new same =
+    ap (λ (peers : List (Option Peer)). (let o : Outside = record { peers = peers; stations = stations } in o)) (map-set_same (λ (e : KeptPeer). e.peer) far_ends k new d same)
 
 -- what opening does to a link that is not open
 pub opened_here : (o : Outside) (k : ℕ) (peer peer' : Option Peer) → is_some peer ≡ false → peer' ≡ Some (record { gives = [] }) → with_peer o k peer' ≡ opened_at o k peer
@@ -139,12 +139,10 @@ HasRoom-push far_ends far_ends' k far_end steps room number more here =
     })
 
 -- one more link that is not open
-pub outside_of-push : (far_ends far_ends' : List KeptPeer) (k : ℕ) (far_end : KeptPeer) → outside_of far_ends ≡ record { peers = replicate k None } → far_ends' ≡ far_ends ++ far_end ∷ [] → far_end.peer ≡ None → outside_of far_ends' ≡ record { peers = replicate (k + 1) None }
-outside_of-push far_ends far_ends' k far_end closed more none =
-    let outside : List (Option Peer) → Outside = λ peers. record { peers = peers } in
-    let front : map (λ (e : KeptPeer). e.peer) far_ends ≡ replicate k None = ap (λ (o : Outside). o.peers) closed in
-    ap outside_of more ∙ ap outside (map-append (λ (e : KeptPeer). e.peer) far_ends (far_end ∷ []) ∙ ap (λ xs. xs ++ far_end.peer ∷ []) front ∙ ap (λ x. replicate k None ++ x ∷ []) none ∙ replicate-append-replicate k 1 None)
+pub peers_of-push : (far_ends far_ends' : List KeptPeer) (k : ℕ) (far_end : KeptPeer) → peers_of far_ends ≡ replicate k None → far_ends' ≡ far_ends ++ far_end ∷ [] → far_end.peer ≡ None → peers_of far_ends' ≡ replicate (k + 1) None
+peers_of-push far_ends far_ends' k far_end closed more none =
+    ap peers_of more ∙ map-append (λ (e : KeptPeer). e.peer) far_ends (far_end ∷ []) ∙ ap (λ xs. xs ++ far_end.peer ∷ []) closed ∙ ap (λ x. replicate k None ++ x ∷ []) none ∙ replicate-append-replicate k 1 None
 
 -- so many far ends as there are peers
-pub length-closed : (far_ends : List KeptPeer) (k : ℕ) → outside_of far_ends ≡ record { peers = replicate k None } → length far_ends ≡ k
-length-closed far_ends k closed = sym (length-peers far_ends) ∙ ap (λ (o : Outside). length o.peers) closed ∙ length-replicate k None
+pub length-closed : (far_ends : List KeptPeer) (k : ℕ) → peers_of far_ends ≡ replicate k None → length far_ends ≡ k
+length-closed far_ends k closed = sym (length-peers far_ends) ∙ ap length closed ∙ length-replicate k None

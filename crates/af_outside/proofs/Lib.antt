@@ -1,3 +1,6 @@
 pub mod Outsides
 pub mod FarEnds
 pub mod Known
+pub mod Silence
+pub mod Stations
+pub mod Tapes

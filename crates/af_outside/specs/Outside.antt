@@ -1,9 +1,12 @@
--- The outside that a script states: what its links give, step by step, and how it answers the server's calls.
-use Rattle.std.specs.Prelude.{◌≡◌, ℕ, ◌≤◌, ◌<◌, Bool, true, false, List, [], ◌∷◌, ◌++◌, length, take, drop, if◌then◌else◌, ◌==◌, ◌&&◌, is_some, slice_get, slice_set, replicate}
+-- The outside that a script states: what its links and devices give, step by step, and how it answers the server's calls.
+use Rattle.std.specs.Prelude.{◌≡◌, ℕ, ◌≤◌, ◌<◌, ◌*◌, Bool, true, false, not, map, List, [], ◌∷◌, ◌++◌, length, take, drop, if◌then◌else◌, ◌==◌, ◌&&◌, is_some, slice_get, slice_set, replicate}
 use Rattle.std.specs.declared.option.Option.{Option}
 use Rattle.std.specs.declared.option.Option.TheVariants.{None, Some}
+use Rattle.af_sample.specs.declared.sample_type.SampleType.{SampleType}
+use Rattle.af_sample.specs.declared.sample_type.SampleType.TheVariants.{Mu255, Alaw, Lin16, Lin32}
+use Rattle.af_sample.specs.SampleTypes.{width_of}
 use Rattle.af_outside.specs.declared.happening.Happening.{Happening}
-use Rattle.af_outside.specs.declared.happening.Happening.TheVariants.{Woke, Read, Wrote, Closed, Emitted}
+use Rattle.af_outside.specs.declared.happening.Happening.TheVariants.{Woke, Read, Wrote, Closed, Captured, Emitted}
 use Rattle.af_outside.specs.declared.happening.ReadGot.{ReadGot}
 use Rattle.af_outside.specs.declared.happening.ReadGot.TheVariants.{Given, NotYet}
 use Rattle.af_outside.specs.declared.happening.Wake.{Wake}
@@ -17,13 +20,26 @@ use Rattle.af_outside.specs.Told.{Log}
 pub record Peer : Type 0 where
   pub gives : List ℕ
 
--- a peer for each link that is open
+-- The far end of a device: its sample type, what the last tick states that it captures (silence where it states nothing),
+-- and whether its next capture and its next emit are to fail.
+pub record Station : Type 0 where
+  pub ty : SampleType
+  pub states : Option (List ℕ)
+  pub fails_capture : Bool
+  pub fails_emit : Bool
+
+-- a peer for each link that is open, and a station for each device
 pub record Outside : Type 0 where
   pub peers : List (Option Peer)
+  pub stations : List Station
 
--- no link is open
-abbrev pub outside_start : Outside
-outside_start = record { peers = replicate 32 None }
+-- a device that nothing was stated of
+abbrev pub station_of : SampleType → Station
+station_of ty = record { ty = ty; states = None; fails_capture = false; fails_emit = false }
+
+-- no link is open, and nothing was stated of the devices
+abbrev pub outside_start : List DeviceSpec → Outside
+outside_start config = record { peers = replicate 32 None; stations = map (λ d. station_of d.ty) config }
 
 abbrev pub some_peer : Option (Option Peer) → Option Peer
 some_peer None = None
@@ -34,7 +50,18 @@ abbrev pub peer_at : Outside → ℕ → Option Peer
 peer_at o k = some_peer (slice_get o.peers k)
 
 abbrev pub with_peer : Outside → ℕ → Option Peer → Outside
-with_peer o k peer = record { peers = slice_set o.peers k peer }
+with_peer o k peer = record o { peers = slice_set o.peers k peer }
+
+-- the station of a device; of one that is not there nothing was stated
+abbrev pub some_station : Option Station → Station
+some_station None = station_of Lin16
+some_station (Some station) = station
+
+abbrev pub station_at : Outside → ℕ → Station
+station_at o d = some_station (slice_get o.stations d)
+
+abbrev pub with_station : Outside → ℕ → Station → Outside
+with_station o d station = record o { stations = slice_set o.stations d station }
 
 -- Steps
 
@@ -52,22 +79,41 @@ sent_at o k bytes (Some peer) = with_peer o k (Some (record { gives = peer.gives
 abbrev pub stepped : Outside → Step → Outside
 stepped o (step.Open k) = opened_at o k (peer_at o k)
 stepped o (step.Send k bytes) = sent_at o k bytes (peer_at o k)
-stepped o (step.Tick d n) = o
+stepped o (step.Tick d n captured) = with_station o d (record (station_at o d) { states = captured })
+stepped o (step.FailCapture d) = with_station o d (record (station_at o d) { fails_capture = true })
+stepped o (step.FailEmit d) = with_station o d (record (station_at o d) { fails_emit = true })
 stepped o step.Idle = o
 
 -- the wake of a step; opening a link that is open, and sending on one that is not, wake as Idle
 abbrev pub wake_of : Outside → Step → Wake
 wake_of o (step.Open k) = if is_some (peer_at o k) then wake.Idle else wake.Opened k
 wake_of o (step.Send k bytes) = if is_some (peer_at o k) then wake.Readable k else wake.Idle
-wake_of o (step.Tick d n) = wake.Ticked d n
+wake_of o (step.Tick d n captured) = wake.Ticked d n
+wake_of o (step.FailCapture d) = wake.Idle
+wake_of o (step.FailEmit d) = wake.Idle
 wake_of o step.Idle = wake.Idle
 
--- a step that may stand in a script with so many devices
-abbrev pub IsStep : ℕ → Step → Type 0
-IsStep devices (step.Open k) = k < 32
-IsStep devices (step.Send k bytes) = (k < 32) × (1 ≤ length bytes) × (length bytes ≤ 16384)
-IsStep devices (step.Tick d n) = (d < devices) × (1 ≤ n) × (n ≤ 4096)
-IsStep devices step.Idle = Unit {0}
+-- how many bytes a frame of a device has
+abbrev pub width_in : Option DeviceSpec → ℕ
+width_in None = 0
+width_in (Some d) = width_of d.ty
+
+abbrev pub width_at : List DeviceSpec → ℕ → ℕ
+width_at config d = width_in (slice_get config d)
+
+-- what a tick states is captured has as many bytes as its frames
+abbrev pub IsCapture : ℕ → Option (List ℕ) → Type 0
+IsCapture size None = Unit {0}
+IsCapture size (Some bytes) = length bytes ≡ size
+
+-- a step that may stand in a script with these devices
+abbrev pub IsStep : List DeviceSpec → Step → Type 0
+IsStep config (step.Open k) = k < 32
+IsStep config (step.Send k bytes) = (k < 32) × (1 ≤ length bytes) × (length bytes ≤ 16384)
+IsStep config (step.Tick d n captured) = (d < length config) × (1 ≤ n) × (n ≤ 4096) × IsCapture (n * width_at config d) captured
+IsStep config (step.FailCapture d) = d < length config
+IsStep config (step.FailEmit d) = d < length config
+IsStep config step.Idle = Unit {0}
 
 -- Answers
 
@@ -95,13 +141,41 @@ abbrev pub write_answered : Outside → ℕ → Option (List ℕ) → Option Out
 write_answered o offered None = None
 write_answered o offered (Some bytes) = if length bytes == offered then Some o else None
 
+-- in each sample type the encoding of 0 is one byte, repeated
+abbrev pub silent_byte : SampleType → ℕ
+silent_byte Mu255 = 0xFF
+silent_byte Alaw = 0xD5
+silent_byte Lin16 = 0
+silent_byte Lin32 = 0
+
+-- what a device captures in so many bytes: what the tick states, where that is as many, and else silence
+abbrev pub captured_at : Station → ℕ → Option (List ℕ) → List ℕ
+captured_at station size None = replicate size (silent_byte station.ty)
+captured_at station size (Some bytes) = if length bytes == size then bytes else replicate size (silent_byte station.ty)
+
+abbrev pub captured : Station → ℕ → List ℕ
+captured station size = captured_at station size station.states
+
+-- a capture fails exactly where that is stated, once
+abbrev pub capture_answered : Outside → ℕ → Station → Option (List ℕ) → Option Outside
+capture_answered o d station None =
+    if station.fails_capture then Some (with_station o d (record station { fails_capture = false })) else None
+capture_answered o d station (Some bytes) =
+    if not station.fails_capture && same_bytes bytes (captured station (length bytes)) then Some o else None
+
+-- an emit fails exactly where that is stated, once
+abbrev pub emit_answered : Outside → ℕ → Station → Bool → Option Outside
+emit_answered o d station false = if station.fails_emit then Some (with_station o d (record station { fails_emit = false })) else None
+emit_answered o d station true = if station.fails_emit then None else Some o
+
 -- the outside after a happening, where its answer is the one that the script states
 abbrev pub answered : Outside → Happening → Option Outside
 answered o (Woke w) = Some o
 answered o (Read k got) = read_answered o k (gives_of (peer_at o k)) got
 answered o (Wrote k offered took) = write_answered o offered took
 answered o (Closed k why) = Some (with_peer o k None)
-answered o (Emitted d sound done) = if done then Some o else None
+answered o (Captured d n got) = capture_answered o d (station_at o d) got
+answered o (Emitted d sound done) = emit_answered o d (station_at o d) done
 
 abbrev pub then_outside : Option Outside → (Outside → Option Outside) → Option Outside
 then_outside None f = None
@@ -114,16 +188,18 @@ replayed o (h ∷ log) = then_outside (answered o h) (λ o. replayed o log)
 
 -- Tapes
 
--- what a tape is seen as: its devices, the steps that are left, its log where it tells it, and what its links give
+-- what a tape is seen as: its devices, the steps that are left, its log where it tells it, the outside that it is, and how
+-- often a device has failed
 pub record TapeState : Type 0 where
   pub config : List DeviceSpec
   pub left : List Step
   pub log : Option Log
   pub outside : Outside
+  pub device_faults : ℕ
 
 -- a tape as it is made
 abbrev pub fresh : List DeviceSpec → List Step → TapeState
-fresh config steps = record { config = config; left = steps; log = Some []; outside = outside_start }
+fresh config steps = record { config = config; left = steps; log = Some []; outside = outside_start config; device_faults = 0 }
 
 -- a step is taken exactly where one is left; the wake is that step's
 abbrev pub TakesStep : TapeState → List Step → Option Wake → TapeState → Type 0
@@ -143,4 +219,5 @@ Answered (Some before) o (Some after) o' = (part : Log) × (after ≡ before ++ 
 pub record TapeLeadsTo (old new : TapeState) : Type 0 where
   pub config : new.config ≡ old.config
   pub left : new.left ≡ old.left
+  pub device_faults : old.device_faults ≤ new.device_faults
   pub answered : Answered old.log old.outside new.log new.outside

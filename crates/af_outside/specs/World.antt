@@ -1,7 +1,7 @@
 -- What the answers of a world are in its log.
 use Rattle.std.specs.Prelude.{◌≡◌, ℕ, ◌≤◌, Bool, true, false, List, take}
 use Rattle.std.specs.declared.option.Option.{Option}
-use Rattle.std.specs.declared.option.Option.TheVariants.{Some}
+use Rattle.std.specs.declared.option.Option.TheVariants.{None, Some}
 use Rattle.af_outside.specs.declared.happening.ReadGot.{ReadGot}
 use Rattle.af_outside.specs.declared.happening.ReadGot.TheVariants as happened
 use Rattle.af_outside.specs.declared.flow.Put.{Put}
@@ -23,6 +23,11 @@ taken_count (took.Took n) = n
 -- what a write took, of the piece that was offered
 abbrev pub took_of : LinkTook → List ℕ → Option (List ℕ)
 took_of (took.Took n) piece = Some (take n piece)
+
+-- what a capture gave, of the slice that was captured into
+abbrev pub captured_of : Put → List ℕ → Option (List ℕ)
+captured_of put.Done into = Some into
+captured_of put.Failed into = None
 
 abbrev pub is_done : Put → Bool
 is_done put.Done = true

@@ -48,6 +48,12 @@ pub enum Happening {
         link: u8,
         why: Why,
     },
+    /// A device was asked for so many frames, and gave these bytes. None stands for a failed capture.
+    Captured {
+        device: u8,
+        frames: u32,
+        got: Option<Bytes>,
+    },
     Emitted {
         device: u8,
         sound: Bytes,

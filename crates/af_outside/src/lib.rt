@@ -6,10 +6,12 @@ mod bytes;
 mod far_end;
 mod flow;
 mod happening;
+pub mod laws;
 mod logbook;
 mod memory;
 mod real;
 mod script;
+mod station;
 mod tape;
 mod world;
 

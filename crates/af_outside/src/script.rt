@@ -1,12 +1,24 @@
 // What a script states: its devices, and its steps.
 use crate::Bytes;
+use af_sample::SampleType;
 use arrayvec::ArrayVec;
 
-/// A device of a configuration: its rate in frames a second, and the device time at which it starts.
-#[derive(Clone, Copy, Debug, Default, PartialEq, Eq)]
+/// A device of a configuration: its sample type, its rate in frames a second, and the device time at which it starts.
+#[derive(Clone, Copy, Debug, PartialEq, Eq)]
 pub struct DeviceSpec {
+    pub ty: SampleType,
     pub rate: u32,
     pub start: u32,
+}
+
+impl Default for DeviceSpec {
+    fn default() -> Self {
+        DeviceSpec {
+            ty: SampleType::Lin16,
+            rate: 8000,
+            start: 0,
+        }
+    }
 }
 
 /// The devices of a server, 1 to 8, which are numbered from 0.
@@ -19,7 +31,11 @@ pub enum Step {
     Open(u8),
     /// These bytes are added to what a link gives.
     Send(u8, Bytes),
-    /// So many sample periods of a device go by.
-    Tick(u8, u32),
+    /// So many sample periods of a device go by. These bytes are what it captures, or else silence.
+    Tick(u8, u32, Option<Bytes>),
+    /// The next capture of a device fails.
+    FailCapture(u8),
+    /// The next emit of a device fails.
+    FailEmit(u8),
     Idle,
 }

@@ -1,5 +1,6 @@
 // What the outside in memory and the adapters do, on examples worked by hand.
 use super::*;
+use af_sample::SampleType;
 use std::alloc::{AllocError, Global};
 use std::fmt::Write as _;
 use std::io;
@@ -23,6 +24,14 @@ fn write_line(text: &mut String, happening: &Happening) -> Result<(), AllocError
             None => writeln!(text, "wrote {link} {offered} failed"),
         },
         Happening::Closed { link, why } => writeln!(text, "closed {link} {why:?}"),
+        Happening::Captured {
+            device,
+            frames,
+            got,
+        } => match got {
+            Some(bytes) => writeln!(text, "captured {device} {frames} {:?}", bytes.as_slice()),
+            None => writeln!(text, "captured {device} {frames} failed"),
+        },
         Happening::Emitted {
             device,
             sound,
@@ -46,6 +55,7 @@ enum Act {
     Read(u8),
     Write(u8),
     Close(u8),
+    Capture(u8, usize),
     Emit(u8),
 }
 
@@ -63,6 +73,10 @@ fn carry_out(tape: &mut Tape, act: Act) {
             tape.write(link, &[9, 8]);
         }
         Act::Close(link) => tape.close(link, Why::Malformed),
+        Act::Capture(device, count) => {
+            let mut into = [0u8; 4];
+            tape.capture(device, 2, &mut into[..count.min(4)]);
+        }
         Act::Emit(device) => {
             tape.emit(device, &[0, 0]);
         }
@@ -74,6 +88,7 @@ fn a_tape_plays_a_script(rt: HostRuntime) -> Result<(), Fail> {
     let alloc = rt.alloc();
     let mut config = Config::new();
     config.push(DeviceSpec {
+        ty: SampleType::Lin16,
         rate: 8000,
         start: 7,
     });
@@ -81,7 +96,7 @@ fn a_tape_plays_a_script(rt: HostRuntime) -> Result<(), Fail> {
         Step::Open(3),
         Step::Send(3, Bytes::copied(alloc, &[1, 2, 3])?),
         Step::Send(3, Bytes::copied(alloc, &[4])?),
-        Step::Tick(0, 2),
+        Step::Tick(0, 2, None),
         Step::Open(3),
         Step::Send(4, Bytes::copied(alloc, &[5])?),
         Step::Send(3, Bytes::copied(alloc, &[6])?),
@@ -129,6 +144,71 @@ fn a_tape_plays_a_script(rt: HostRuntime) -> Result<(), Fail> {
                read 3 none\n\
                woke Idle\n\
                woke Stop\n";
+    assert!(rt; tape.tells());
+    assert_eq!(rt; lines_of(alloc, tape.log())?.as_str(), log);
+    Ok(())
+}
+
+#[test]
+fn devices_capture_what_is_stated_and_fail_once(rt: HostRuntime) -> Result<(), Fail> {
+    let alloc = rt.alloc();
+    let mut config = Config::new();
+    for ty in [SampleType::Mu255, SampleType::Lin16] {
+        config.push(DeviceSpec {
+            ty,
+            rate: 8000,
+            start: 0,
+        });
+    }
+    let steps = vec![in alloc;
+        Step::Tick(1, 2, Some(Bytes::copied(alloc, &[1, 2, 3, 4])?)),
+        Step::Tick(0, 2, Some(Bytes::copied(alloc, &[5, 6])?)),
+        Step::Tick(0, 2, None),
+        Step::FailCapture(0),
+        Step::FailCapture(0),
+        Step::FailEmit(1),
+    ]?;
+    let mut tape = Tape::new(alloc, &config, steps.as_slice())?;
+    // what a tick states is captured till the next tick of the device, where it is as many bytes as are asked for
+    let acts = [
+        Act::Step,
+        Act::Step,
+        Act::Capture(1, 4),
+        Act::Capture(0, 2),
+        Act::Capture(0, 1),
+        Act::Step,
+        Act::Capture(0, 2),
+        Act::Capture(1, 4),
+        Act::Step,
+        Act::Step,
+        Act::Capture(0, 2),
+        Act::Capture(0, 2),
+        Act::Step,
+        Act::Emit(0),
+        Act::Emit(1),
+        Act::Emit(1),
+        Act::Capture(5, 2),
+    ];
+    for next in acts {
+        carry_out(&mut tape, next);
+    }
+    let log = "woke Ticked(1, 2)\n\
+               woke Ticked(0, 2)\n\
+               captured 1 2 [1, 2, 3, 4]\n\
+               captured 0 2 [5, 6]\n\
+               captured 0 2 [255]\n\
+               woke Ticked(0, 2)\n\
+               captured 0 2 [255, 255]\n\
+               captured 1 2 [1, 2, 3, 4]\n\
+               woke Idle\n\
+               woke Idle\n\
+               captured 0 2 failed\n\
+               captured 0 2 [255, 255]\n\
+               woke Idle\n\
+               emitted 0 [0, 0] true\n\
+               emitted 1 [0, 0] false\n\
+               emitted 1 [0, 0] true\n\
+               captured 5 2 [0, 0]\n";
     assert!(rt; tape.tells());
     assert_eq!(rt; lines_of(alloc, tape.log())?.as_str(), log);
     Ok(())

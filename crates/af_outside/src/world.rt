@@ -1,9 +1,9 @@
 // The world that the server lives in.
 ghost use Rattle.std.specs.Prelude.{◌≡◌, ◌≤◌, ◌<◌, ℕ, [], ◌∷◌, length};
 ghost use Rattle.std.specs.declared.option.Option.{Option};
-ghost use Rattle.af_outside.specs.declared.happening.Happening.TheVariants.{Woke, Read, Wrote, Closed, Emitted};
-ghost use Rattle.af_outside.specs.Told.{Log, Grew};
-ghost use Rattle.af_outside.specs.World.{got_of, took_of, is_done, GotFits, TookFits};
+ghost use Rattle.af_outside.specs.declared.happening.Happening.TheVariants.{Woke, Read, Wrote, Closed, Captured, Emitted};
+ghost use Rattle.af_outside.specs.Told.{Log, Grew, Rose};
+ghost use Rattle.af_outside.specs.World.{got_of, took_of, captured_of, is_done, GotFits, TookFits};
 
 use crate::{Put, Wake, Why};
 
@@ -61,11 +61,18 @@ pub trait World {
         ensures log { Grew (log self.old) (Closed link why ∷ []) (log self.new) }
         ensures leads { leads_to self.old self.new };
 
-    /// Hands a device's sound out, which is always done.
+    /// Takes what a device captured in so many frames, as many bytes as there is room for.
+    fn capture(&mut self, device: u8, frames: u32, into: &mut [u8]) -> Put
+        requires { 0 < length into.old }
+        ensures log { Grew (log self.old) (Captured device frames (captured_of result into.new) ∷ []) (log self.new) }
+        ensures cause { result ≡ Put.Failed → Rose (device_faults self.old) (device_faults self.new) }
+        ensures leads { leads_to self.old self.new };
+
+    /// Hands a device's sound out.
     fn emit(&mut self, device: u8, sound: &[u8]) -> Put
         requires { 0 < length sound.now }
         ensures log { Grew (log self.old) (Emitted device sound.now (is_done result) ∷ []) (log self.new) }
-        ensures done { result ≡ Put.Done }
+        ensures cause { result ≡ Put.Failed → Rose (device_faults self.old) (device_faults self.new) }
         ensures leads { leads_to self.old self.new };
 
     ghost leads_to_itself: { (a : Self) → leads_to a a };

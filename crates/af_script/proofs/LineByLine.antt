@@ -32,13 +32,13 @@ nil_push (y ∷ xs) x = refl
 line_over : (s : Stated) (line : List ℕ) → is_passed_over line ≡ true → with_line s line ≡ Some s
 line_over s line over = ap (λ t. cond t (Some s) (with_words s (words line))) over
 
-line_read : (s : Stated) (line : List ℕ) → is_passed_over line ≡ false → with_line s line ≡ with_words s (words line)
+pub line_read : (s : Stated) (line : List ℕ) → is_passed_over line ≡ false → with_line s line ≡ with_words s (words line)
 line_read s line over = ap (λ t. cond t (Some s) (with_words s (words line))) over
 
 abbrev by_step : Stated → List (List ℕ) → Option Stated
 by_step s ws = option_map (with_step s) (step_of s.config ws)
 
-words_step : (s : Stated) (ws : List (List ℕ)) → (can_take_device s && is_device_line ws) ≡ false → is_nil s.config ≡ false → with_words s ws ≡ by_step s ws
+pub words_step : (s : Stated) (ws : List (List ℕ)) → (can_take_device s && is_device_line ws) ≡ false → is_nil s.config ≡ false → with_words s ws ≡ by_step s ws
 words_step s ws other some =
     ap (λ t. cond t (option_map (with_device s) (device_of ws)) (cond (is_nil s.config) None (by_step s ws))) other
     ∙ ap (λ t. cond t None (by_step s ws)) some
@@ -180,13 +180,13 @@ read_all n (line ∷ rest) =
           ∙ read_all (suc n) rest ∙ ap (stated_by (device_lines most_devices es) es) one
           ∙ ap (λ xs. stated_by (device_lines most_devices xs) xs behind) (sym (entries_over n line rest over))
       | false ↦ λ over.
-          (elim (is_device_line (words line)) as (λ d. is_device_line (words line) ≡ d → read_on s n (line ∷ rest) ≡ stated_by (cond d (suc (device_lines 0 es)) 0) (entry n line ∷ es) behind) [
+          (elim (is_device_line (words line)) as (λ d. is_device_line (words line) ≡ d → read_on s n (line ∷ rest) ≡ stated_by (cond d (suc (device_lines 7 es)) 0) (entry n line ∷ es) behind) [
             | true ↦ λ device.
-                let k = device_lines 0 es in
+                let k = device_lines 7 es in
                 ap (go_on (λ t. read_on t (suc n) rest) n) (line_read s line over ∙ words_device s (words line) refl device)
                 ∙ elim (device_of (words line)) as (λ o. go_on (λ t. read_on t (suc n) rest) n (option_map (with_device s) o) ≡ with_config (with_first n o (each_says device_of (take k es))) (drop k es)) [
                   | None ↦ refl
-                  | Some d ↦ devices_too (d ∷ []) 0 (suc n) rest refl refl ∙ first_device d n (each_says device_of (take k es)) (drop k es)
+                  | Some d ↦ devices_too (d ∷ []) 7 (suc n) rest refl refl ∙ first_device d n (each_says device_of (take k es)) (drop k es)
                 ]
                 ∙ sym (some_lines k (entry n line ∷ es) behind)
             | false ↦ λ device. ap (go_on (λ t. read_on t (suc n) rest) n) (line_read s line over ∙ words_none s (words line) device refl)
@@ -196,6 +196,7 @@ read_all n (line ∷ rest) =
 
 -- a text that is read from its first line on gives the script that it is
 pub read_text : (text : List ℕ) → read_on (no_steps []) 1 (lines text) ≡ script_of text
+unfolding script_of
 read_text text = read_all 1 (lines text)
 
 pub read_start : (text : List ℕ) (config : List DeviceSpec) (steps : List Step) → config ≡ [] → steps ≡ [] → read_on (record { config = config; steps = steps }) 1 (lines text) ≡ script_of text

@@ -28,7 +28,7 @@ pub record Plays (config : List DeviceSpec) (steps : List Step) (kept : Kept) (t
   pub state : State
   pub told : tape.log ≡ Some (joined parts)
   pub turns : TurnsTo (opening config) parts state
-  pub answers : AnswersTo outside_start (joined parts) taken tape.outside
+  pub answers : AnswersTo (outside_start config) (joined parts) taken tape.outside
   pub stands : Stands kept state
   pub agree : Agree state tape.outside
   pub devices : length kept.devices ≡ length config
@@ -80,14 +80,14 @@ all_last P [] left step a = a 0 step (omega arith)
 all_last P (x ∷ taken) left step a = all_last P taken left step (λ k d lt. a (suc k) d (omega arith))
 
 pub wake_fits : (config : List DeviceSpec) (steps : List Step) (kept : Kept) (tape after : TapeState) (wake : Wake) → Plays config steps kept tape → TakesStep tape tape.left (Some wake) after →
-    All (IsStep (length config)) steps → fits (outline_of kept) wake ≡ true
+    All (IsStep config) steps → fits (outline_of kept) wake ≡ true
 wake_fits config steps kept tape after wake p t all =
     let s = step_taken tape wake after t in
     let count : length p.state.devices ≡ length config = stands_length kept.devices p.state.devices p.stands.devices ∙ p.devices in
     let whole : steps ≡ p.taken ++ s.step ∷ s.left = p.whole ∙ ap (λ l. p.taken ++ l) s.next in
-    let allowed : IsStep (length p.state.devices) s.step = subst (λ n. IsStep n s.step) (sym count) (all_last (IsStep (length config)) p.taken s.left s.step (subst (All (IsStep (length config))) whole all)) in
+    let allowed : IsStep config s.step = all_last (IsStep config) p.taken s.left s.step (subst (All (IsStep config)) whole all) in
     let peers : length tape.outside.peers ≡ 32 = sym (map_length {A = Option Peer} is_some tape.outside.peers) ∙ ap length p.agree ∙ map_length {A = Option LinkState} is_some (links_of p.state.slots) ∙ ap length p.stands.links ∙ p.links in
-    let fit = step_fits p.state tape.outside s.step p.agree peers allowed in
+    let fit = step_fits config p.state tape.outside s.step p.agree peers count allowed in
     let devices : length p.state.devices ≡ length kept.devices = stands_length kept.devices p.state.devices p.stands.devices in
     let same : outline p.state ≡ outline_of kept = ap (λ n. outline_with n (links_of p.state.slots)) devices ∙ ap (λ l. outline_with (length kept.devices) l) p.stands.links in
     subst (λ o. fits o wake ≡ true) same (subst (λ w. fits (outline p.state) w ≡ true) (sym s.is) fit)
@@ -143,7 +143,7 @@ plays_more config steps kept kept' tape mid after wake p t turns leads told =
       state = from.next;
       told = told_grew (joined p.parts) turns.part after.log told grew ∙ ap (λ l. Some l) (sym (joined-more p.parts turns.part));
       turns = turns_more (opening config) p.state from.next p.parts turns.part p.turns (record { is_turn = from.is_turn; one = one });
-      answers = subst (λ l. AnswersTo outside_start l (p.taken ++ s.step ∷ []) after.outside) (sym (joined-more p.parts turns.part)) (answers_more outside_start tape.outside after.outside (joined p.parts) turns.part p.taken (s.step ∷ []) p.answers answers);
+      answers = subst (λ l. AnswersTo (outside_start config) l (p.taken ++ s.step ∷ []) after.outside) (sym (joined-more p.parts turns.part)) (answers_more (outside_start config) tape.outside after.outside (joined p.parts) turns.part p.taken (s.step ∷ []) p.answers answers);
       stands = from.stands;
       agree = agree_turn p.state from.next tape.outside after.outside s.step turns.part p.agree from.is_turn answers;
       devices = turns.devices ∙ p.devices;
@@ -168,6 +168,6 @@ plays_end config steps kept tape after p t =
     let none = none_left tape tape.left after t in
     let all : p.taken ≡ steps = sym (append-nil p.taken) ∙ ap (λ l. p.taken ++ l) (sym none.0) ∙ sym p.whole in
     let log = joined p.parts in
-    let is_log : ScriptLog config steps log = record { is_run = turns_run config p.state p.parts p.turns; end = tape.outside; answers = subst (λ l. AnswersTo outside_start log l tape.outside) all p.answers } in
+    let is_log : ScriptLog config steps log = record { is_run = turns_run config p.state p.parts p.turns; end = tape.outside; answers = subst (λ l. AnswersTo (outside_start config) log l tape.outside) all p.answers } in
     let one : OneLog config steps log = record { is_log = is_log; only = λ other o. one_log config steps other log o is_log } in
     subst (λ l. HasOneLog config steps l) (sym (ap (λ (x : TapeState). x.log) none.1 ∙ p.told)) one

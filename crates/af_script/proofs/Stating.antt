@@ -1,19 +1,19 @@
 -- What a script states keeps to the limits of devices and steps.
-use Rattle.std.proofs.Common.{◌≡◌, ℕ, zero, suc, ◌+◌, ◌<◌, ◌≤◌, Bool, true, false, cond, ◌&&◌, List, [], ◌∷◌, length, take, drop, refl, sym, ap, ◌∙◌, subst, arith, length-take}
-use Rattle.std.specs.Prelude.{Option, Some, None, option_map, option_and_then, Result, Ok, Err, All, nat_lt, nat_le, nat_eq, bytes_eq, codes}
+use Rattle.std.proofs.Common.{◌≡◌, ℕ, zero, suc, ◌+◌, ◌*◌, ◌<◌, ◌≤◌, Bool, true, false, cond, ◌&&◌, List, [], ◌∷◌, length, take, drop, refl, sym, ap, ◌∙◌, subst, arith, length-take}
+use Rattle.std.specs.Prelude.{Option, Some, None, option_map, option_and_then, Result, Ok, Err, All, nat_lt, nat_le, nat_eq}
 use Rattle.std.proofs.lemmas.Bool.{and_parts}
 use Rattle.std.proofs.lemmas.Bool.Decides.{nat_tests}
 use Rattle.std.proofs.lemmas.List.Elements.{All-nil, All-cons}
 use Rattle.af_outside.specs.declared.script.DeviceSpec.{DeviceSpec}
 use Rattle.af_outside.specs.declared.script.Step.{Step}
 use Rattle.af_outside.specs.declared.script.Step.TheVariants as step
-use Rattle.af_outside.specs.Outside.{IsStep}
+use Rattle.af_outside.specs.Outside.{IsStep, IsCapture, width_at}
 use Rattle.std.specs.Result.{result_ok}
 use Rattle.hex.specs.Hex.{decode_of}
 use Rattle.af_script.specs.declared.statement.Kind.{Kind}
 use Rattle.af_script.specs.declared.statement.Kind.TheVariants as kind
-use Rattle.af_script.specs.Words.{number_of, number_within, only_if, then_some, sent_bytes}
-use Rattle.af_script.specs.Statement.{kind_of, is_device_kind, is_listed_rate, rate_of, device_at, device_with, device_of, link_of, device_number, open_of, send_of, tick_of, idle_of, step_of_kind, step_of, is_device_line}
+use Rattle.af_script.specs.Words.{number_of, number_within, only_if, then_some, bytes_within}
+use Rattle.af_script.specs.Statement.{kind_of, is_device_kind, is_listed_rate, type_of, rate_of, device_at, device_with, device_of, link_of, device_number, open_of, send_of, capture_of, tick_of, fail_capture_of, fail_emit_of, idle_of, step_of_kind, step_of, is_device_line}
 use Rattle.af_script.specs.Script.{Stated, Entry, most_devices, device_lines, with_first, each_says, first_number, with_steps, with_config, stated_by, script_of, entries, HasListedRate}
 use Rattle.af_script.specs.Lines.{lines}
 use Rattle.af_script.proofs.LineByLine.{read_on}
@@ -64,13 +64,10 @@ device_with_from (ty ∷ []) d e = cc e
 device_with_from (ty ∷ rate ∷ []) d e = cc e
 device_with_from (ty ∷ rate ∷ start ∷ w ∷ ws) d e = cc e
 device_with_from (ty ∷ rate ∷ start ∷ []) d e =
-    (elim (bytes_eq ty (codes "lin16")) as (λ t. cond t (option_and_then (λ r. option_map (device_at r) (number_within 0 4294967295 start)) (rate_of rate)) None ≡ Some d → HasListedRate d) [
-      | true ↦ λ h.
-          let a = and_then_from (λ r. option_map (device_at r) (number_within 0 4294967295 start)) (rate_of rate) d h in
-          let b = map_from (device_at a.0) (number_within 0 4294967295 start) d a.2 in
-          subst HasListedRate b.2 (rate_from rate a.0 a.1)
-      | false ↦ λ h. cc h
-    ]) e
+    let a = and_then_from (λ t. option_and_then (λ r. option_map (device_at t r) (number_within 0 4294967295 start)) (rate_of rate)) (type_of ty) d e in
+    let b = and_then_from (λ r. option_map (device_at a.0 r) (number_within 0 4294967295 start)) (rate_of rate) d a.2 in
+    let c = map_from (device_at a.0 b.0) (number_within 0 4294967295 start) d b.2 in
+    subst HasListedRate c.2 (rate_from rate b.0 b.1)
 
 device_from : (ws : List (List ℕ)) (d : DeviceSpec) → device_of ws ≡ Some d → HasListedRate d
 device_from [] d e = cc e
@@ -80,34 +77,34 @@ device_from (name ∷ arguments) d e =
       | false ↦ λ h. cc h
     ]) e
 
-open_from : (devices : ℕ) (arguments : List (List ℕ)) (s : Step) → open_of arguments ≡ Some s → IsStep devices s
-open_from devices [] s e = cc e
-open_from devices (link ∷ w ∷ ws) s e = cc e
-open_from devices (link ∷ []) s e =
+open_from : (config : List DeviceSpec) (arguments : List (List ℕ)) (s : Step) → open_of arguments ≡ Some s → IsStep config s
+open_from config [] s e = cc e
+open_from config (link ∷ w ∷ ws) s e = cc e
+open_from config (link ∷ []) s e =
     let a = map_from step.Open (link_of link) s e in
     let n = number_from 0 0 link a.0 a.1 in
-    subst (IsStep devices) a.2 (omega (arith, n.1))
+    subst (IsStep config) a.2 (omega (arith, n.1))
 
-sent_size : (m n : ℕ) → m ≡ n → nat_le 1 m ≡ true → nat_le m 16384 ≡ true → (1 ≤ n) × (n ≤ 16384)
-sent_size m n e low high = (grind (arith, nat_tests), grind (arith, nat_tests))
+size_within : (low high m n : ℕ) → m ≡ n → nat_le low m ≡ true → nat_le m high ≡ true → (low ≤ n) × (n ≤ high)
+size_within low high m n e above below = (grind (arith, nat_tests), grind (arith, nat_tests))
 
-sent_from : (word bytes : List ℕ) → sent_bytes word ≡ Some bytes → (1 ≤ length bytes) × (length bytes ≤ 16384)
-sent_from word bytes e =
-    let a = and_then_from (only_if (λ (bs : List ℕ). nat_le 1 (length bs) && nat_le (length bs) 16384)) (result_ok (decode_of word)) bytes e in
-    let b = only_if_from (λ (bs : List ℕ). nat_le 1 (length bs) && nat_le (length bs) 16384) a.0 bytes a.2 in
-    let both = and_parts (nat_le 1 (length a.0)) (nat_le (length a.0) 16384) b.0 in
-    sent_size (length a.0) (length bytes) (ap length b.1) both.0 both.1
+bytes_from : (low high : ℕ) (word bytes : List ℕ) → bytes_within low high word ≡ Some bytes → (low ≤ length bytes) × (length bytes ≤ high)
+bytes_from low high word bytes e =
+    let a = and_then_from (only_if (λ (bs : List ℕ). nat_le low (length bs) && nat_le (length bs) high)) (result_ok (decode_of word)) bytes e in
+    let b = only_if_from (λ (bs : List ℕ). nat_le low (length bs) && nat_le (length bs) high) a.0 bytes a.2 in
+    let both = and_parts (nat_le low (length a.0)) (nat_le (length a.0) high) b.0 in
+    size_within low high (length a.0) (length bytes) (ap length b.1) both.0 both.1
 
-send_from : (devices : ℕ) (arguments : List (List ℕ)) (s : Step) → send_of arguments ≡ Some s → IsStep devices s
-send_from devices [] s e = cc e
-send_from devices (link ∷ []) s e = cc e
-send_from devices (link ∷ hex ∷ w ∷ ws) s e = cc e
-send_from devices (link ∷ hex ∷ []) s e =
-    let a = and_then_from (λ k. option_map (step.Send k) (sent_bytes hex)) (link_of link) s e in
-    let b = map_from (step.Send a.0) (sent_bytes hex) s a.2 in
+send_from : (config : List DeviceSpec) (arguments : List (List ℕ)) (s : Step) → send_of arguments ≡ Some s → IsStep config s
+send_from config [] s e = cc e
+send_from config (link ∷ []) s e = cc e
+send_from config (link ∷ hex ∷ w ∷ ws) s e = cc e
+send_from config (link ∷ hex ∷ []) s e =
+    let a = and_then_from (λ k. option_map (step.Send k) (bytes_within 1 16384 hex)) (link_of link) s e in
+    let b = map_from (step.Send a.0) (bytes_within 1 16384 hex) s a.2 in
     let n = number_from 0 0 link a.0 a.1 in
-    let size = sent_from hex b.0 b.1 in
-    subst (IsStep devices) b.2 (omega (arith, n.1), size.0, size.1)
+    let size = bytes_from 1 16384 hex b.0 b.1 in
+    subst (IsStep config) b.2 (omega (arith, n.1), size.0, size.1)
 
 device_number_from : (config : List DeviceSpec) (word : List ℕ) (d : ℕ) → device_number config word ≡ Some d → d < length config
 device_number_from config word d e =
@@ -117,29 +114,56 @@ device_number_from config word d e =
     let is = b.1 in
     grind (arith, nat_tests)
 
-tick_from : (config : List DeviceSpec) (arguments : List (List ℕ)) (s : Step) → tick_of config arguments ≡ Some s → IsStep (length config) s
+capture_from : (size : ℕ) (arguments : List (List ℕ)) (capture : Option (List ℕ)) → capture_of size arguments ≡ Some capture → IsCapture size capture
+capture_from size [] capture e = subst (IsCapture size) (some_same e) tt
+capture_from size (hex ∷ w ∷ ws) capture e = cc e
+capture_from size (hex ∷ []) capture e =
+    let a = map_from Some (bytes_within size size hex) capture e in
+    let n = bytes_from size size hex a.0 a.1 in
+    subst (IsCapture size) a.2 (omega (arith, n.0, n.1))
+
+tick_is : (config : List DeviceSpec) (d n : ℕ) (captured : Option (List ℕ)) (s : Step) → step.Tick d n captured ≡ s → d < length config → 1 ≤ n → n ≤ 4096 → IsCapture (n * width_at config d) captured → IsStep config s
+tick_is config d n captured s e there some few capture = subst (IsStep config) e (there, some, few, capture)
+
+tick_from : (config : List DeviceSpec) (arguments : List (List ℕ)) (s : Step) → tick_of config arguments ≡ Some s → IsStep config s
 tick_from config [] s e = cc e
 tick_from config (device ∷ []) s e = cc e
-tick_from config (device ∷ frames ∷ w ∷ ws) s e = cc e
-tick_from config (device ∷ frames ∷ []) s e =
-    let a = and_then_from (λ d. option_map (step.Tick d) (number_within 1 4096 frames)) (device_number config device) s e in
-    let b = map_from (step.Tick a.0) (number_within 1 4096 frames) s a.2 in
+tick_from config (device ∷ frames ∷ capture) s e =
+    let a = and_then_from (λ d. option_and_then (λ n. option_map (step.Tick d n) (capture_of (n * width_at config d) capture)) (number_within 1 4096 frames)) (device_number config device) s e in
+    let b = and_then_from (λ n. option_map (step.Tick a.0 n) (capture_of (n * width_at config a.0) capture)) (number_within 1 4096 frames) s a.2 in
+    let c = map_from (step.Tick a.0 b.0) (capture_of (b.0 * width_at config a.0) capture) s b.2 in
     let n = number_from 1 4096 frames b.0 b.1 in
-    subst (IsStep (length config)) b.2 (device_number_from config device a.0 a.1, n.0, n.1)
+    tick_is config a.0 b.0 c.0 s c.2 (device_number_from config device a.0 a.1) n.0 n.1 (capture_from (b.0 * width_at config a.0) capture c.0 c.1)
 
-idle_from : (devices : ℕ) (arguments : List (List ℕ)) (s : Step) → idle_of arguments ≡ Some s → IsStep devices s
-idle_from devices [] s e = subst (IsStep devices) (some_same e) tt
-idle_from devices (w ∷ ws) s e = cc e
+fail_capture_from : (config : List DeviceSpec) (arguments : List (List ℕ)) (s : Step) → fail_capture_of config arguments ≡ Some s → IsStep config s
+fail_capture_from config [] s e = cc e
+fail_capture_from config (device ∷ w ∷ ws) s e = cc e
+fail_capture_from config (device ∷ []) s e =
+    let a = map_from step.FailCapture (device_number config device) s e in
+    subst (IsStep config) a.2 (device_number_from config device a.0 a.1)
 
-step_by_kind : (config : List DeviceSpec) (k : Option Kind) (arguments : List (List ℕ)) (s : Step) → step_of_kind config k arguments ≡ Some s → IsStep (length config) s
+fail_emit_from : (config : List DeviceSpec) (arguments : List (List ℕ)) (s : Step) → fail_emit_of config arguments ≡ Some s → IsStep config s
+fail_emit_from config [] s e = cc e
+fail_emit_from config (device ∷ w ∷ ws) s e = cc e
+fail_emit_from config (device ∷ []) s e =
+    let a = map_from step.FailEmit (device_number config device) s e in
+    subst (IsStep config) a.2 (device_number_from config device a.0 a.1)
+
+idle_from : (config : List DeviceSpec) (arguments : List (List ℕ)) (s : Step) → idle_of arguments ≡ Some s → IsStep config s
+idle_from config [] s e = subst (IsStep config) (some_same e) tt
+idle_from config (w ∷ ws) s e = cc e
+
+step_by_kind : (config : List DeviceSpec) (k : Option Kind) (arguments : List (List ℕ)) (s : Step) → step_of_kind config k arguments ≡ Some s → IsStep config s
 step_by_kind config None arguments s e = cc e
 step_by_kind config (Some kind.Device) arguments s e = cc e
-step_by_kind config (Some kind.Open) arguments s e = open_from (length config) arguments s e
-step_by_kind config (Some kind.Send) arguments s e = send_from (length config) arguments s e
+step_by_kind config (Some kind.Open) arguments s e = open_from config arguments s e
+step_by_kind config (Some kind.Send) arguments s e = send_from config arguments s e
 step_by_kind config (Some kind.Tick) arguments s e = tick_from config arguments s e
-step_by_kind config (Some kind.Idle) arguments s e = idle_from (length config) arguments s e
+step_by_kind config (Some kind.FailCapture) arguments s e = fail_capture_from config arguments s e
+step_by_kind config (Some kind.FailEmit) arguments s e = fail_emit_from config arguments s e
+step_by_kind config (Some kind.Idle) arguments s e = idle_from config arguments s e
 
-step_from : (config : List DeviceSpec) (ws : List (List ℕ)) (s : Step) → step_of config ws ≡ Some s → IsStep (length config) s
+step_from : (config : List DeviceSpec) (ws : List (List ℕ)) (s : Step) → step_of config ws ≡ Some s → IsStep config s
 step_from config [] s e = cc e
 step_from config (name ∷ arguments) s e = step_by_kind config (kind_of name) arguments s e
 
@@ -173,7 +197,7 @@ pub record IsSound (s : Stated) : Type 0 where
   pub some : 1 ≤ length s.config
   pub few : length s.config ≤ most_devices
   pub rates : All HasListedRate s.config
-  pub steps : All (IsStep (length s.config)) s.steps
+  pub steps : All (IsStep s.config) s.steps
 
 abbrev ok_or : Stated → Result Stated ℕ → Stated
 ok_or d (Ok s) = s
@@ -208,12 +232,13 @@ sound (suc k) es behind s few there e =
             | Err n ↦ λ at g. cc g
             | Ok steps ↦ λ at g.
                 let is : record { config = config; steps = steps } ≡ s = ap (ok_or s) g in
-                let ss = each_from (IsStep (length config)) (step_of config) (step_from config) rest steps at in
+                let ss = each_from (IsStep config) (step_of config) (step_from config) rest steps at in
                 subst IsSound is (record { some = omega arith; few = omega arith; rates = ds.each; steps = ss.each })
           ]) refl h
     ]) refl whole
 
 pub script_sound : (text : List ℕ) (s : Stated) → script_of text ≡ Ok s → IsSound s
+unfolding script_of
 script_sound text s e =
     let es = entries 1 (lines text) in
     let few = few_lines most_devices es in

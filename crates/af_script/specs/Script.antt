@@ -34,7 +34,7 @@ entries n (line ∷ rest) =
 
 -- how many devices a script may have
 abbrev pub most_devices : ℕ
-most_devices = 1
+most_devices = 8
 
 -- how many device lines stand in front, counted up to so many
 abbrev pub device_lines : ℕ → List Entry → ℕ
@@ -74,7 +74,7 @@ stated_by devices es behind =
     if devices == 0 then Err (first_number es behind) else with_config (each_says device_of (take devices es)) (drop devices es)
 
 -- the script that a text is, or the number of the first line that is not allowed where it stands
-abbrev pub script_of : List ℕ → Result Stated ℕ
+unfoldable pub script_of : List ℕ → Result Stated ℕ
 script_of text =
     let es = entries 1 (lines text) in stated_by (device_lines most_devices es) es (1 + length (lines text))
 

@@ -1,11 +1,14 @@
 -- What a line states by its words: a device, or a step.
-use Rattle.std.specs.Prelude.{ℕ, ◌-◌, ◌^◌, nat_lt, ◌==◌, Bool, true, false, List, [], ◌∷◌, length, codes, bytes_eq, Option, Some, None, option_map, option_and_then, if◌then◌else◌}
+use Rattle.std.specs.Prelude.{ℕ, ◌*◌, ◌-◌, ◌^◌, nat_lt, ◌==◌, ◌||◌, Bool, true, false, List, [], ◌∷◌, length, codes, bytes_eq, Option, Some, None, option_map, option_and_then, if◌then◌else◌}
+use Rattle.af_sample.specs.declared.sample_type.SampleType.{SampleType}
+use Rattle.af_sample.specs.declared.sample_type.SampleType.TheVariants.{Mu255, Alaw, Lin16, Lin32}
 use Rattle.af_outside.specs.declared.script.DeviceSpec.{DeviceSpec}
 use Rattle.af_outside.specs.declared.script.Step.{Step}
 use Rattle.af_outside.specs.declared.script.Step.TheVariants as step
+use Rattle.af_outside.specs.Outside.{width_at}
 use Rattle.af_script.specs.declared.statement.Kind.{Kind}
 use Rattle.af_script.specs.declared.statement.Kind.TheVariants as kind
-use Rattle.af_script.specs.Words.{number_of, number_within, only_if, sent_bytes}
+use Rattle.af_script.specs.Words.{number_of, number_within, only_if, bytes_within}
 
 -- the kind of a line by its first word
 abbrev pub kind_of : List ℕ → Option Kind
@@ -14,6 +17,8 @@ kind_of name =
     else if bytes_eq name (codes "open") then Some kind.Open
     else if bytes_eq name (codes "send") then Some kind.Send
     else if bytes_eq name (codes "tick") then Some kind.Tick
+    else if bytes_eq name (codes "failcapture") then Some kind.FailCapture
+    else if bytes_eq name (codes "failemit") then Some kind.FailEmit
     else if bytes_eq name (codes "idle") then Some kind.Idle
     else None
 
@@ -29,6 +34,8 @@ is_device_kind (Some kind.Device) = true
 is_device_kind (Some kind.Open) = false
 is_device_kind (Some kind.Send) = false
 is_device_kind (Some kind.Tick) = false
+is_device_kind (Some kind.FailCapture) = false
+is_device_kind (Some kind.FailEmit) = false
 is_device_kind (Some kind.Idle) = false
 
 -- a line whose first word is `device`
@@ -37,24 +44,32 @@ is_device_line words = is_device_kind (kind_of_words words)
 
 -- Devices
 
+-- the sample type of a word
+abbrev pub type_of : List ℕ → Option SampleType
+type_of word =
+    if bytes_eq word (codes "mu255") then Some Mu255
+    else if bytes_eq word (codes "alaw") then Some Alaw
+    else if bytes_eq word (codes "lin16") then Some Lin16
+    else if bytes_eq word (codes "lin32") then Some Lin32
+    else None
+
 -- the rates that a device can have, in frames a second
 abbrev pub is_listed_rate : ℕ → Bool
-is_listed_rate rate = rate == 8000
+is_listed_rate rate =
+    rate == 8000 || rate == 11025 || rate == 16000 || rate == 22050 || rate == 32000 || rate == 44100 || rate == 48000
 
 -- the rate of a word, where it is listed
 abbrev pub rate_of : List ℕ → Option ℕ
 rate_of word = option_and_then (only_if is_listed_rate) (number_of word)
 
--- a device of this rate, whose time begins here
-abbrev pub device_at : ℕ → ℕ → DeviceSpec
-device_at rate start = record { rate = rate; start = start }
+-- a device of this type and rate, whose time begins here
+abbrev pub device_at : SampleType → ℕ → ℕ → DeviceSpec
+device_at ty rate start = record { ty = ty; rate = rate; start = start }
 
--- the device of `device lin16 RATE START`, by the words that follow `device`
+-- the device of `device TYPE RATE START`, by the words that follow `device`
 abbrev pub device_with : List (List ℕ) → Option DeviceSpec
 device_with (ty ∷ rate ∷ start ∷ []) =
-    if bytes_eq ty (codes "lin16")
-    then option_and_then (λ r. option_map (device_at r) (number_within 0 (2 ^ 32 - 1) start)) (rate_of rate)
-    else None
+    option_and_then (λ t. option_and_then (λ r. option_map (device_at t r) (number_within 0 (2 ^ 32 - 1) start)) (rate_of rate)) (type_of ty)
 device_with _ = None
 
 -- the device that a line of this kind states, by the words that follow its name
@@ -87,14 +102,30 @@ open_of _ = None
 
 -- the step of `send K HEX`
 abbrev pub send_of : List (List ℕ) → Option Step
-send_of (link ∷ hex ∷ []) = option_and_then (λ k. option_map (step.Send k) (sent_bytes hex)) (link_of link)
+send_of (link ∷ hex ∷ []) = option_and_then (λ k. option_map (step.Send k) (bytes_within 1 16384 hex)) (link_of link)
 send_of _ = None
 
--- the step of `tick D N`
+-- what the words that follow `tick D N` state is captured: so many bytes, or nothing
+abbrev pub capture_of : ℕ → List (List ℕ) → Option (Option (List ℕ))
+capture_of size [] = Some None
+capture_of size (hex ∷ []) = option_map Some (bytes_within size size hex)
+capture_of size _ = None
+
+-- the step of `tick D N` or `tick D N HEX`
 abbrev pub tick_of : List DeviceSpec → List (List ℕ) → Option Step
-tick_of config (device ∷ frames ∷ []) =
-    option_and_then (λ d. option_map (step.Tick d) (number_within 1 4096 frames)) (device_number config device)
+tick_of config (device ∷ frames ∷ capture) =
+    option_and_then (λ d. option_and_then (λ n. option_map (step.Tick d n) (capture_of (n * width_at config d) capture)) (number_within 1 4096 frames)) (device_number config device)
 tick_of config _ = None
+
+-- the step of `failcapture D`
+abbrev pub fail_capture_of : List DeviceSpec → List (List ℕ) → Option Step
+fail_capture_of config (device ∷ []) = option_map step.FailCapture (device_number config device)
+fail_capture_of config _ = None
+
+-- the step of `failemit D`
+abbrev pub fail_emit_of : List DeviceSpec → List (List ℕ) → Option Step
+fail_emit_of config (device ∷ []) = option_map step.FailEmit (device_number config device)
+fail_emit_of config _ = None
 
 -- the step of `idle`
 abbrev pub idle_of : List (List ℕ) → Option Step
@@ -108,6 +139,8 @@ step_of_kind config (Some kind.Device) arguments = None
 step_of_kind config (Some kind.Open) arguments = open_of arguments
 step_of_kind config (Some kind.Send) arguments = send_of arguments
 step_of_kind config (Some kind.Tick) arguments = tick_of config arguments
+step_of_kind config (Some kind.FailCapture) arguments = fail_capture_of config arguments
+step_of_kind config (Some kind.FailEmit) arguments = fail_emit_of config arguments
 step_of_kind config (Some kind.Idle) arguments = idle_of arguments
 
 -- the step that the words of a line state, where these are the devices

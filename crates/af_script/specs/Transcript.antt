@@ -2,7 +2,7 @@
 use Rattle.std.specs.Prelude.{ℕ, List, [], ◌∷◌, ◌++◌, codes, decimal, flat_map, Option, Some, None, if◌then◌else◌}
 use Rattle.hex.specs.Hex.{encode_lower}
 use Rattle.af_outside.specs.declared.happening.Happening.{Happening}
-use Rattle.af_outside.specs.declared.happening.Happening.TheVariants.{Woke, Read, Wrote, Closed, Emitted}
+use Rattle.af_outside.specs.declared.happening.Happening.TheVariants.{Woke, Read, Wrote, Closed, Captured, Emitted}
 use Rattle.af_outside.specs.declared.happening.Why.{Why}
 use Rattle.af_outside.specs.declared.happening.Why.TheVariants.{BadSetup, Malformed}
 use Rattle.af_outside.specs.Told.{Log}
@@ -30,12 +30,18 @@ abbrev pub wrote_line : ℕ → Option (List ℕ) → List ℕ
 wrote_line link None = line_of (codes "write") link (codes "failed")
 wrote_line link (Some bytes) = taken_line link bytes
 
+-- the line of a capture, of which None stands for a failed one
+abbrev pub captured_line : ℕ → Option (List ℕ) → List ℕ
+captured_line device None = line_of (codes "capture") device (codes "failed")
+captured_line device (Some bytes) = []
+
 -- the line of a happening; wakes and reads have none
 abbrev pub line_for : Happening → List ℕ
 line_for (Woke wake) = []
 line_for (Read link got) = []
 line_for (Wrote link offered took) = wrote_line link took
 line_for (Closed link why) = line_of (codes "closed") link (cause_word why)
+line_for (Captured device frames got) = captured_line device got
 line_for (Emitted device sound done) =
     if done then line_of (codes "emit") device (encode_lower sound) else line_of (codes "emit") device (codes "failed")
 

@@ -22,7 +22,7 @@ number_of word =
 abbrev pub number_within : ℕ → ℕ → List ℕ → Option ℕ
 number_within low high word = option_and_then (only_if (λ n. nat_le low n && nat_le n high)) (number_of word)
 
--- the bytes of a word of hexadecimal digits, where they are as many as may be sent at once
-abbrev pub sent_bytes : List ℕ → Option (List ℕ)
-sent_bytes word =
-    option_and_then (only_if (λ bytes. nat_le 1 (length bytes) && nat_le (length bytes) 16384)) (result_ok (decode_of word))
+-- the bytes of a word of hexadecimal digits, where their number lies between these two
+abbrev pub bytes_within : ℕ → ℕ → List ℕ → Option (List ℕ)
+bytes_within low high word =
+    option_and_then (only_if (λ bytes. nat_le low (length bytes) && nat_le (length bytes) high)) (result_ok (decode_of word))

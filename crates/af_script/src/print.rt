@@ -43,7 +43,8 @@ fn print_happening<K: Sink>(happening: &Happening, sink: &mut K) -> Result<(), B
     ensures { Prints result (filled (K.held sink.old) (K.faults sink.old)) (line_for happening.now) (filled (K.held sink.new) (K.faults sink.new)) }
 {
     match happening {
-        Happening::Woke(_) | Happening::Read { .. } => Ok(()),
+        Happening::Woke(_) | Happening::Read { .. } | Happening::Captured { got: Some(_), .. } =>
+            Ok(()),
         Happening::Wrote {
             link,
             took: None,
@@ -55,6 +56,11 @@ fn print_happening<K: Sink>(happening: &Happening, sink: &mut K) -> Result<(), B
             ..
         } => print_taken(*link, bytes.as_slice(), sink),
         Happening::Closed { link, why } => print_word(b"closed", *link, cause(*why), sink),
+        Happening::Captured {
+            device,
+            got: None,
+            ..
+        } => print_word(b"capture", *device, b"failed", sink),
         Happening::Emitted {
             device,
             sound,

@@ -16,7 +16,7 @@ use arrayvec::ArrayVec;
 use std::alloc::Global;
 
 /// How many devices a script may have.
-const MOST_DEVICES: usize = 1;
+const MOST_DEVICES: usize = 8;
 
 /// A script: its devices, which are numbered from 0, and its steps, in order.
 #[derive(Drop)]
@@ -34,7 +34,7 @@ pub fn read_script(alloc: Global, text: &[u8]) -> Result<Script, ScriptFault>
     ensures found { (n : ℕ) → script_of text.now ≡ Err n → (result ≡ Err (ScriptFault.Line n)) ⊎ (result ≡ Err ScriptFault.OutOfMemory) }
     ensures devices { IfOk result (λ s. (1 ≤ length s.config.items) × (length s.config.items ≤ 8)) }
     ensures rates { IfOk result (λ s. All HasListedRate s.config.items) }
-    ensures steps { IfOk result (λ s. All (IsStep (length s.config.items)) s.steps) }
+    ensures steps { IfOk result (λ s. All (IsStep s.config.items) s.steps) }
 {
     let mut config = ArrayVec::new();
     let mut steps = Vec::new(alloc);

@@ -1,5 +1,5 @@
 // A tape is run to its end: one turn for each step.
-ghost use Rattle.std.specs.Prelude.{◌≡◌, ◌≤◌, length, All, OnOk};
+ghost use Rattle.std.specs.Prelude.{◌≡◌, All, OnOk};
 ghost use Rattle.af_outside.specs.Outside.{fresh, IsStep};
 ghost use Rattle.af_script.specs.Run.{HasOneLog};
 
@@ -12,7 +12,7 @@ use std::alloc::Global;
 /// made. At Ok the tape tells the one log that its script has.
 pub fn run_tape(alloc: Global, config: &Config, tape: &mut Tape) -> Result<(), OutOfMemory>
     requires made { tape.old ≡ fresh config.now.items tape.old.left }
-    requires steps { All (IsStep (length config.now.items)) tape.old.left }
+    requires steps { All (IsStep config.now.items) tape.old.left }
     ensures { OnOk result (HasOneLog config.now.items tape.old.left tape.new.log) }
 {
     let mut core = Core::new(alloc, config)?;

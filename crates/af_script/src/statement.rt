@@ -1,12 +1,14 @@
 // What a line states: a device, or a step.
 ghost use Rattle.std.specs.Prelude.{◌≡◌, ◌≤◌, IfOk, length, bytes_eq};
+ghost use Rattle.af_outside.specs.Outside.{width_at};
 ghost use Rattle.af_script.specs.Lines.{words};
-ghost use Rattle.af_script.specs.Words.{sent_bytes};
-ghost use Rattle.af_script.specs.Statement.{kind_of, device_with, device_number, link_of, rate_of, open_of, send_of, tick_of, idle_of, step_of_kind};
+ghost use Rattle.af_script.specs.Words.{bytes_within};
+ghost use Rattle.af_script.specs.Statement.{kind_of, type_of, device_with, device_number, link_of, rate_of, open_of, send_of, capture_of, tick_of, fail_capture_of, fail_emit_of, idle_of, step_of_kind};
 
 use crate::lines::{next_word, one_word, two_words};
 use crate::number::{number, number_between};
 use af_outside::{Bytes, DeviceSpec, Step};
+use af_sample::SampleType;
 use af_time::OutOfMemory;
 use hex::FromHexError;
 use std::alloc::Global;
@@ -21,6 +23,8 @@ pub enum Kind {
     Open,
     Send,
     Tick,
+    FailCapture,
+    FailEmit,
     Idle,
 }
 
@@ -36,6 +40,10 @@ pub fn kind_named(name: &[u8]) -> Option<Kind>
         Some(Kind::Send)
     } else if is_word(name, b"tick") {
         Some(Kind::Tick)
+    } else if is_word(name, b"failcapture") {
+        Some(Kind::FailCapture)
+    } else if is_word(name, b"failemit") {
+        Some(Kind::FailEmit)
     } else if is_word(name, b"idle") {
         Some(Kind::Idle)
     } else {
@@ -56,12 +64,27 @@ pub fn device_stated(arguments: &[u8]) -> Option<DeviceSpec>
 {
     let (ty, rest) = next_word(arguments)?;
     let (rate, start) = two_words(rest)?;
-    if !is_word(ty, b"lin16") {
-        return None;
-    }
+    let ty = sample_type(ty)?;
     let rate = listed_rate(rate)?;
     let start = number_between(0, u32::MAX, start)?;
-    Some(DeviceSpec { rate, start })
+    Some(DeviceSpec { ty, rate, start })
+}
+
+/// The sample type that a word names.
+fn sample_type(word: &[u8]) -> Option<SampleType>
+    ensures { result ≡ type_of word.now }
+{
+    if is_word(word, b"mu255") {
+        Some(SampleType::Mu255)
+    } else if is_word(word, b"alaw") {
+        Some(SampleType::Alaw)
+    } else if is_word(word, b"lin16") {
+        Some(SampleType::Lin16)
+    } else if is_word(word, b"lin32") {
+        Some(SampleType::Lin32)
+    } else {
+        None
+    }
 }
 
 /// The rate of a word, where it is listed.
@@ -69,7 +92,7 @@ fn listed_rate(word: &[u8]) -> Option<u32>
     ensures { result ≡ rate_of word.now }
 {
     match number(word)? {
-        8000 => Some(8000),
+        rate @ (8000 | 11025 | 16000 | 22050 | 32000 | 44100 | 48000) => Some(rate as u32),
         _ => None,
     }
 }
@@ -95,12 +118,28 @@ fn device(config: &[DeviceSpec], word: &[u8]) -> Option<u8>
     }
 }
 
-/// The bytes of a word in hexadecimal, where they are as many as may be sent at once.
-fn bytes_sent(alloc: Global, word: &[u8]) -> Result<Option<Bytes>, OutOfMemory>
-    ensures { IfOk result (λ bytes. bytes ≡ sent_bytes word.now) }
+/// How many bytes a frame of a device has.
+fn width(config: &[DeviceSpec], device: u8) -> usize
+    ensures value { result ≡ width_at config.now device }
+    ensures bound { result ≤ 4 }
+{
+    match config.get(device as usize) {
+        Some(device) => device.ty.width(),
+        None => 0,
+    }
+}
+
+/// The bytes of a word in hexadecimal, where their number lies between these two.
+fn bytes_between(
+    alloc: Global,
+    low: usize,
+    high: usize,
+    word: &[u8],
+) -> Result<Option<Bytes>, OutOfMemory>
+    ensures { IfOk result (λ bytes. bytes ≡ bytes_within low high word.now) }
 {
     match hex::decode(alloc, word) {
-        Ok(bytes) if 1 <= bytes.len() && bytes.len() <= 16384 => Ok(Some(Bytes::copied(
+        Ok(bytes) if low <= bytes.len() && bytes.len() <= high => Ok(Some(Bytes::copied(
             alloc, &bytes,
         )?)),
         Err(FromHexError::OutOfMemory) => Err(OutOfMemory),
@@ -126,18 +165,63 @@ fn send(alloc: Global, arguments: &[u8]) -> Result<Option<Step>, OutOfMemory>
     let Some(link) = link(first) else {
         return Ok(None);
     };
-    Ok(bytes_sent(alloc, second)?.map(|bytes| Step::Send(link, bytes)))
+    Ok(bytes_between(alloc, 1, 16384, second)?.map(|bytes| Step::Send(link, bytes)))
 }
 
-/// `tick D N`
-fn tick(config: &[DeviceSpec], arguments: &[u8]) -> Option<Step>
-    requires { length config.now ≤ 8 }
-    ensures { result ≡ tick_of config.now (words arguments.now) }
+/// What the words behind `tick D N` state is captured: so many bytes, or with no words nothing, which is Some(None).
+fn capture(
+    alloc: Global,
+    size: usize,
+    arguments: &[u8],
+) -> Result<Option<Option<Bytes>>, OutOfMemory>
+    ensures { IfOk result (λ capture. capture ≡ capture_of size (words arguments.now)) }
 {
-    let (first, second) = two_words(arguments)?;
-    let device = device(config, first)?;
-    let frames = number_between(1, 4096, second)?;
-    Some(Step::Tick(device, frames))
+    if next_word(arguments).is_none() {
+        return Ok(Some(None));
+    }
+    let Some(word) = one_word(arguments) else {
+        return Ok(None);
+    };
+    Ok(bytes_between(alloc, size, size, word)?.map(Some))
+}
+
+/// `tick D N` or `tick D N HEX`
+fn tick(alloc: Global, config: &[DeviceSpec], arguments: &[u8]) -> Result<Option<Step>, OutOfMemory>
+    requires { length config.now ≤ 8 }
+    ensures { IfOk result (λ step. step ≡ tick_of config.now (words arguments.now)) }
+{
+    let Some((first, rest)) = next_word(arguments) else {
+        return Ok(None);
+    };
+    let Some((second, rest)) = next_word(rest) else {
+        return Ok(None);
+    };
+    let Some(device) = device(config, first) else {
+        return Ok(None);
+    };
+    let Some(frames) = number_between(1, 4096, second) else {
+        return Ok(None);
+    };
+    let size = frames as usize * width(config, device);
+    Ok(capture(alloc, size, rest)?.map(|captured| Step::Tick(device, frames, captured)))
+}
+
+/// `failcapture D`
+fn fail_capture(config: &[DeviceSpec], arguments: &[u8]) -> Option<Step>
+    requires { length config.now ≤ 8 }
+    ensures { result ≡ fail_capture_of config.now (words arguments.now) }
+{
+    let device = device(config, one_word(arguments)?)?;
+    Some(Step::FailCapture(device))
+}
+
+/// `failemit D`
+fn fail_emit(config: &[DeviceSpec], arguments: &[u8]) -> Option<Step>
+    requires { length config.now ≤ 8 }
+    ensures { result ≡ fail_emit_of config.now (words arguments.now) }
+{
+    let device = device(config, one_word(arguments)?)?;
+    Some(Step::FailEmit(device))
 }
 
 /// `idle`
@@ -164,7 +248,9 @@ pub fn step_stated(
         Kind::Device => Ok(None),
         Kind::Open => Ok(open(arguments)),
         Kind::Send => send(alloc, arguments),
-        Kind::Tick => Ok(tick(config, arguments)),
+        Kind::Tick => tick(alloc, config, arguments),
+        Kind::FailCapture => Ok(fail_capture(config, arguments)),
+        Kind::FailEmit => Ok(fail_emit(config, arguments)),
         Kind::Idle => Ok(idle(arguments)),
     }
 }

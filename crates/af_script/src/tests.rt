@@ -3,6 +3,7 @@ ghost use Rattle.std.specs.Prelude.{None};
 
 use crate::{Script, ScriptFault, print_log, read_script};
 use af_outside::{Bytes, DeviceSpec, Happening, Put, ReadGot, Sink, Step, Wake, Why};
+use af_sample::SampleType;
 use std::alloc::Global;
 use std::test::Fail;
 
@@ -48,10 +49,20 @@ fn sends(step: Option<&Step>, wanted: &[u8]) -> bool {
     }
 }
 
-/// Whether a step is so many sample periods of device 0.
+/// Whether a step is so many sample periods of device 0, in which it captures silence.
 fn ticks(step: Option<&Step>, wanted: u32) -> bool {
     match step {
-        Some(Step::Tick(0, frames)) => *frames == wanted,
+        Some(Step::Tick(0, frames, None)) => *frames == wanted,
+        _ => false,
+    }
+}
+
+/// Whether a step is so many sample periods of device 3, in which it captures these bytes.
+fn captures(step: Option<&Step>, wanted: u32, captured: &[u8]) -> bool {
+    match step {
+        Some(Step::Tick(3, frames, Some(bytes))) => {
+            *frames == wanted && bytes.as_slice() == captured
+        }
         _ => false,
     }
 }
@@ -63,11 +74,7 @@ fn reads_a_script(rt: HostRuntime) -> Result<(), Fail> {
     let script = read_script(rt.alloc(), text)?;
     assert_eq!(rt;
         script.config.as_slice(),
-        [DeviceSpec {
-            rate: 8000,
-            start: 4294967295
-        }]
-        .as_slice()
+        [spec(SampleType::Lin16, 8000, 4294967295)].as_slice()
     );
     let steps = script.steps.as_slice();
     assert_eq!(rt; steps.len(), 5);
@@ -79,6 +86,51 @@ fn reads_a_script(rt: HostRuntime) -> Result<(), Fail> {
     Ok(())
 }
 
+fn spec(ty: SampleType, rate: u32, start: u32) -> DeviceSpec {
+    DeviceSpec { ty, rate, start }
+}
+
+/// As many devices as there may be, of each type twice and of each rate.
+const EIGHT_DEVICES: &[u8] =
+    b"device mu255 8000 0\ndevice alaw 11025 1\ndevice lin16 16000 2\ndevice lin32 22050 3\n\
+      device mu255 32000 4\ndevice alaw 44100 5\ndevice lin16 48000 6\ndevice lin32 8000 7\n";
+
+#[test]
+fn reads_eight_devices_and_what_they_do(rt: HostRuntime) -> Result<(), Fail> {
+    let mut text = Vec::from_slice(rt.alloc(), EIGHT_DEVICES)?;
+    text.extend_from_slice(b"tick 3 2 0001020304050607\nfailcapture 7\nfailemit 007\ntick 0 1\n")?;
+    let script = read_script(rt.alloc(), &text)?;
+    assert_eq!(rt;
+        script.config.as_slice(),
+        [
+            spec(SampleType::Mu255, 8000, 0),
+            spec(SampleType::Alaw, 11025, 1),
+            spec(SampleType::Lin16, 16000, 2),
+            spec(SampleType::Lin32, 22050, 3),
+            spec(SampleType::Mu255, 32000, 4),
+            spec(SampleType::Alaw, 44100, 5),
+            spec(SampleType::Lin16, 48000, 6),
+            spec(SampleType::Lin32, 8000, 7),
+        ]
+        .as_slice()
+    );
+    let steps = script.steps.as_slice();
+    assert_eq!(rt; steps.len(), 4);
+    assert!(rt; captures(steps.first(), 2, &[0, 1, 2, 3, 4, 5, 6, 7]));
+    assert!(rt; matches!(steps.get(1), Some(Step::FailCapture(7))));
+    assert!(rt; matches!(steps.get(2), Some(Step::FailEmit(7))));
+    assert!(rt; ticks(steps.get(3), 1));
+    Ok(())
+}
+
+#[test]
+fn takes_no_ninth_device(rt: HostRuntime) -> Result<(), Fail> {
+    let mut text = Vec::from_slice(rt.alloc(), EIGHT_DEVICES)?;
+    text.extend_from_slice(b"device lin16 8000 0\n")?;
+    assert_eq!(rt; fault(rt.alloc(), &text), Some(9));
+    Ok(())
+}
+
 #[test]
 fn numbers_the_first_faulty_line(rt: HostRuntime) {
     let rows = [
@@ -86,12 +138,11 @@ fn numbers_the_first_faulty_line(rt: HostRuntime) {
         (b"\n\n# nothing\n", 4),
         (b" ", 2),
         (b"\nopen 0\ndevice lin16 8000 0\n", 2),
-        (b"device lin16 8000 0\ndevice lin16 8000 0\n", 2),
         (b"device lin16 8000 0\nidle\ndevice lin16 8000 0\n", 3),
         (b"device lin16 8000\n", 1),
         (b"device lin16 8000 0 line\n", 1),
-        (b"device mu255 8000 0\n", 1),
-        (b"device lin16 16000 0\n", 1),
+        (b"device lin8 8000 0\n", 1),
+        (b"device lin16 44000 0\n", 1),
         (b"device lin16 8000 4294967296\n", 1),
         (b"device lin16 8000 00000000000\n", 1),
         (b"device lin16 8000 -1\n", 1),
@@ -110,6 +161,16 @@ fn numbers_the_first_faulty_line(rt: HostRuntime) {
         (b"device lin16 8000 0\ntick 0 4097\n", 2),
         (b"device lin16 8000 0\ntick 1 1\n", 2),
         (b"device lin16 8000 0\ntick 0 4294967297\n", 2),
+        (b"device lin16 8000 0\ntick 0 2 000000\n", 2),
+        (b"device lin16 8000 0\ntick 0 2 0000000000\n", 2),
+        (b"device alaw 8000 0\ntick 0 1 00\ntick 0 1 0000\n", 3),
+        (b"device lin16 8000 0\ntick 0 1 00 00\n", 2),
+        (b"device lin16 8000 0\nfailcapture 1\n", 2),
+        (b"device lin16 8000 0\nfailcapture 0 0\n", 2),
+        (
+            b"device alaw 8000 0\ndevice lin16 8000 0\nfailemit 1\nfailemit 2\n",
+            4,
+        ),
         (b"device lin16 8000 0\nidle 0\n", 2),
         (b"device lin16 8000 0\nend 0\n", 2),
         (b"device lin16 8000 0\nopen 0\nopen 1\nopen 2\n", 3),
@@ -135,6 +196,12 @@ fn sends_at_most_16384_bytes(rt: HostRuntime) -> Result<(), Fail> {
 fn happenings(alloc: Global) -> Result<Vec<Happening>, Fail> {
     let mut log = Vec::new(alloc);
     log.push(Happening::Woke(Wake::Ticked(0, 2)))?;
+    let got = Some(Bytes::copied(alloc, &[9, 9])?);
+    log.push(Happening::Captured {
+        device: 0,
+        frames: 1,
+        got,
+    })?;
     let sound = Bytes::copied(alloc, &[0, 255, 127, 160])?;
     log.push(Happening::Emitted {
         device: 0,
@@ -170,6 +237,11 @@ fn happenings(alloc: Global) -> Result<Vec<Happening>, Fail> {
         link: 10,
         why: Why::Malformed,
     })?;
+    log.push(Happening::Captured {
+        device: 6,
+        frames: 4096,
+        got: None,
+    })?;
     let sound = Bytes::copied(alloc, &[1])?;
     log.push(Happening::Emitted {
         device: 7,
@@ -189,7 +261,7 @@ fn prints_a_line_for_what_is_seen(rt: HostRuntime) -> Result<(), Fail> {
     };
     assert_eq!(rt; print_log(&log, &mut paper), Put::Done);
     let wanted =
-        b"emit 0 00ff7fa0\nlink 31 010203\nwrite 5 failed\nclosed 0 setup\nclosed 10 malformed\nemit 7 failed\n";
+        b"emit 0 00ff7fa0\nlink 31 010203\nwrite 5 failed\nclosed 0 setup\nclosed 10 malformed\ncapture 6 failed\nemit 7 failed\n";
     assert_eq!(rt; paper.written.as_slice(), wanted.as_slice());
     Ok(())
 }

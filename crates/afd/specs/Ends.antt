@@ -1,7 +1,8 @@
 -- How the script command ends: what was read, what it was, and what was written. Each list of bytes is told or not.
-use Rattle.std.specs.Prelude.{◌≡◌, ℕ, ◌<◌, ◌≤◌, Bool, true, false, List, length, Result, Ok, Err}
+use Rattle.std.specs.Prelude.{◌≡◌, ℕ, ◌<◌, ◌≤◌, Bool, true, false, List, length, Result, Ok, Err, IsOk, IsSome}
 use Rattle.std.specs.declared.option.Option.{Option}
-use Rattle.af_outside.specs.Told.{Log, Gave, Grew}
+use Rattle.std.specs.declared.option.Option.TheVariants.{Some}
+use Rattle.af_outside.specs.Told.{Log, Gave, Grew, Rose}
 use Rattle.af_outside.specs.Flow.{IsSpent, GrewByPrefix}
 use Rattle.af_model.specs.Script.{OneLog}
 use Rattle.af_script.specs.Script.{Stated, script_of}
@@ -58,6 +59,17 @@ pub record IsFaultyAt (line : ℕ) (left left' : Option (List ℕ)) : Type 0 whe
   pub text : List ℕ
   pub read : GaveWhole left left' text
   pub fault : script_of text ≡ Err line
+
+-- A script that is good in every way: the source tells its bytes before and after, they are a script, and neither the source nor
+-- the sink failed.
+pub record IsGood (left left' : Option (List ℕ)) (read read' written written' : ℕ) : Type 0 where
+  pub text : List ℕ
+  pub told : left ≡ Some text
+  pub tells : IsSome left'
+  pub script : IsOk (script_of text)
+  pub within : length text ≤ longest_script
+  pub source : ¬ Rose read read'
+  pub sink : ¬ Rose written written'
 
 -- the ends at which something may have been written
 abbrev pub writes : ScriptEnd → Bool

@@ -1,8 +1,8 @@
 // The script command: a script comes in, and the transcript of its one log goes out.
-ghost use Rattle.std.specs.Prelude.{◌≡◌, ◌≢◌, ◌↔◌, ◌≤◌, ℕ, [], ◌∷◌, length, codes, false, IsTrue, IfOk, IfErr};
+ghost use Rattle.std.specs.Prelude.{◌≡◌, ◌≢◌, ◌↔◌, ◌⊎◌, ◌≤◌, ℕ, [], ◌∷◌, length, codes, false, IsTrue, IfOk, IfErr};
 ghost use Rattle.af_outside.specs.Told.{Rose};
 ghost use Rattle.af_script.specs.Script.{script_of, IsFault};
-ghost use Rattle.afd.specs.Ends.{RanWhole, RanCutOff, IsFaultyAt, GaveWithin, GaveTooMuch, writes};
+ghost use Rattle.afd.specs.Ends.{RanWhole, RanCutOff, IsFaultyAt, GaveWithin, GaveTooMuch, IsGood, writes};
 ghost use Rattle.afd.specs.Run.{TellsLogOf};
 
 use crate::text::{TextFault, read_text};
@@ -49,6 +49,9 @@ pub fn afd_script<S: Source, K: Sink>(
     // each fault has its cause
     ensures read { result ≡ ScriptEnd.ReadFault → Rose (S.faults source.old) (S.faults source.new) }
     ensures sink { result ≡ ScriptEnd.SinkFault → Rose (K.faults sink.old) (K.faults sink.new) }
+
+    // a good script is run whole, where memory is there
+    ensures complete { IsGood (S.left source.old) (S.left source.new) (S.faults source.old) (S.faults source.new) (K.faults sink.old) (K.faults sink.new) → words.now ≡ codes "script" ∷ [] → (result ≡ ScriptEnd.Done) ⊎ (result ≡ ScriptEnd.OutOfMemory) }
     ensures source_count { S.faults source.old ≤ S.faults source.new }
     ensures sink_count { K.faults sink.old ≤ K.faults sink.new }
 {

@@ -121,6 +121,43 @@ fn refusals_are_named_and_malformed_clients_are_closed(rt: HostRuntime) -> Resul
 }
 
 #[test]
+fn devices_capture_hand_out_and_die(rt: HostRuntime) -> Result<(), Fail> {
+    assert_transcripts(
+        &rt,
+        rt.alloc(),
+        &[
+            // silence in each sample type
+            (
+                "device mu255 8000 0\ndevice alaw 8000 0\ndevice lin16 8000 0\ndevice lin32 8000 0\n\
+                 tick 0 2\ntick 1 2\ntick 2 2\ntick 3 1\n",
+                "emit 0 ffff\nemit 1 d5d5\nemit 2 00000000\nemit 3 00000000\n",
+            ),
+            // behind a failed emit a device makes no call, and its time goes on; the other device does not notice
+            (
+                "device lin16 8000 0\ndevice lin16 8000 0\nopen 0\ntick 0 1\ntick 0 1\nfailemit 0\ntick 0 1\n\
+                 tick 0 1\ntick 1 1\nsend 0 414642000001000002000001\n",
+                "emit 0 0000\nemit 0 0000\nemit 0 failed\nemit 1 0000\n\
+                 link 0 010000000000000800010000000000020201000000001f4000007d000201000000001f4000007d00010200010000000100000004\n",
+            ),
+            // behind a failed capture there is no emit, nor is there another capture
+            (
+                "device lin16 8000 0\nopen 0\nfailcapture 0\nfailcapture 0\ntick 0 2\ntick 0 1 0007\n\
+                 send 0 414642000001000002000001\n",
+                "capture 0 failed\n\
+                 link 0 010000000000000500010000000000010201000000001f4000007d00010200010000000100000003\n",
+            ),
+            // the reply to a setup has each device's type, rate and horizon; the last device is there, the next is not
+            (
+                "device mu255 48000 0\ndevice lin32 11025 4294967295\nopen 0\nsend 0 41464200000100000201000102020001\n",
+                "link 0 0100000000000008000100000000000200010000\
+                 0000bb800002ee000301000000002b110000ac4401020001000000\
+                 01ffffffff00030002000000020000000202000000\n",
+            ),
+        ],
+    )
+}
+
+#[test]
 fn each_end_has_its_cause(rt: HostRuntime) -> Result<(), Fail> {
     let script = b"device lin16 8000 0\nopen 0\nsend 0 4146420000010000\n";
     let long = vec![in rt.alloc(); b'#'; 1048577]?;

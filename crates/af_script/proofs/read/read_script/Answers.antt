@@ -10,6 +10,12 @@ loop-rest-init c = record {
   count = omega arith;
 }
 
+pub returns-clause-devices : goal.returns-clause-devices
+returns-clause-devices c =
+    let sound = read_end c.args.text.now c.loop-rest.config.items c.loop-rest.steps.items c.of.result c.loop-rest.number c.loop-rest.rest.now c.loop-rest.invariant.same
+    (grind (arith, nat_tests)) (grind (arith, nat_tests)) c.of.ensures in
+    (sound.some, sound.few)
+
 pub returns-clause-rates : goal.returns-clause-rates
 returns-clause-rates c =
     (read_end c.args.text.now c.loop-rest.config.items c.loop-rest.steps.items c.of.result c.loop-rest.number c.loop-rest.rest.now c.loop-rest.invariant.same

@@ -1,0 +1,5 @@
+use Rattle.af_outside.proofs.Silence.{silence-bytes_of}
+use Rattle.af_outside.proofs.laws.silence_is_zero.Goals as goal
+
+pub returns : goal.returns
+returns c = λ ty n. silence-bytes_of ty n

@@ -1,0 +1,25 @@
+use Rattle.std.proofs.Common.{◌≡◌, refl, sym, ap, ◌∙◌, rules}
+use Rattle.std.proofs.Math.Nat.{le_refl}
+use Rattle.std.proofs.lemmas.List.{with_items_is}
+use Rattle.std.specs.Vec.{with_items}
+use Rattle.std.specs.declared.option.Option.TheVariants.{Some}
+use Rattle.af_outside.specs.declared.happening.Happening.TheVariants.{Read}
+use Rattle.af_outside.specs.World.{got_of}
+use Rattle.af_outside.specs.Tape.{outside_of, stations_of}
+use Rattle.af_outside.proofs.Tapes.{Answered-noted}
+use Rattle.af_outside.proofs.tape.TapeWorld.read.Goals as goal
+
+pub returns-clause-leads : goal.returns-clause-leads
+returns-clause-leads c =
+    let tape = c.self.inside in
+    let far_ends = with_items tape.far_ends c.give-got.new.far_ends in
+    let stations = stations_of tape.steps.items tape.stations.items in
+    let kept : far_ends.items ≡ c.give-got.new.far_ends = with_items_is tape.far_ends c.give-got.new.far_ends (search rules) in
+    let leads = rw c.deref_mut.ensures.value at c.give-got.ensures.answered stations in
+    rw (← c.self.view_is) (record {
+      config = refl;
+      left = refl;
+      device_faults = le_refl tape.device_faults;
+      answered = Answered-noted tape.logbook c.read_of.result c.note.new.self (Read c.args.link (got_of c.give-got.result c.give-got.new.into))
+          (outside_of tape.far_ends.items stations) (outside_of far_ends.items stations) c.note.ensures c.read_of.ensures (leads ∙ ap (λ ends. Some (outside_of ends stations)) (sym kept));
+    })

@@ -1,0 +1,52 @@
+use Rattle.std.proofs.Common.{◌≡◌, ℕ, Bool, true, false, ◌&&◌, ◌==◌, List, [], ◌∷◌, ◌++◌, length, refl, sym, ap, ◌∙◌}
+use Rattle.std.specs.Prelude.{Option, Some, None, option_map, Result, Ok, Err, IfOk}
+use Rattle.af_time.specs.declared.OutOfMemory.{OutOfMemory}
+use Rattle.af_outside.specs.declared.script.DeviceSpec.{DeviceSpec}
+use Rattle.af_outside.specs.declared.script.Step.{Step}
+use Rattle.af_script.specs.declared.statement.Kind.{Kind}
+use Rattle.af_script.specs.Lines.{words, is_nil}
+use Rattle.af_script.specs.Words.{then_some}
+use Rattle.af_script.specs.Statement.{kind_of, is_device_kind, step_of_kind}
+use Rattle.af_script.specs.Script.{Stated, is_passed_over}
+use Rattle.af_script.specs.Reading.{with_step, with_words, can_take_device, with_line}
+use Rattle.af_script.proofs.LineByLine.{line_read, words_step}
+use Rattle.af_script.proofs.read.add_line.Goals as goal
+
+abbrev stated : List DeviceSpec → List Step → Stated
+stated config steps = record { config = config; steps = steps }
+
+some_device : (config : List DeviceSpec) → (length config == 0) ≡ false → is_nil config ≡ false
+some_device [] e = cc e
+some_device (d ∷ config) e = refl
+
+-- the steps with one more, of these devices
+pushed : (config : List DeviceSpec) (steps : List Step) (o : Option Step) → option_map (with_step (stated config steps)) o ≡ option_map (stated config) (option_map (λ step. steps ++ step ∷ []) o)
+pushed config steps None = refl
+pushed config steps (Some step) = refl
+
+stated_some : (config : List DeviceSpec) (steps : List Step) (is_there : Bool) → option_map (stated config) (then_some is_there steps) ≡ then_some is_there (stated config steps)
+stated_some config steps true = refl
+stated_some config steps false = refl
+
+-- a line that states a step
+line_step : (config seen : List DeviceSpec) (steps held more : List Step) (line name : List ℕ) (arguments : List (List ℕ)) (kind : Kind) (added : Result Bool OutOfMemory)
+    → is_passed_over line ≡ false → words line ≡ name ∷ arguments → Some kind ≡ kind_of name → held ≡ steps → seen ≡ config
+    → (can_take_device (stated config held) && is_device_kind (Some kind)) ≡ false → is_nil config ≡ false
+    → IfOk added (λ allowed. option_map (λ step. steps ++ step ∷ []) (step_of_kind seen (Some kind) arguments) ≡ then_some allowed more)
+    → IfOk added (λ allowed. with_line (stated config steps) line ≡ then_some allowed (stated config more))
+line_step config seen steps held more line name arguments kind (Err e) read named is_kind same_steps same other some one = tt
+line_step config seen steps held more line name arguments kind (Ok allowed) read named is_kind same_steps same other some one =
+    let s = stated config steps in
+    let no_device : (can_take_device s && is_device_kind (kind_of name)) ≡ false =
+    sym (ap (λ xs. can_take_device (stated config xs) && is_device_kind (Some kind)) same_steps ∙ ap (λ k. can_take_device s && is_device_kind k) is_kind) ∙ other in
+    let is_step = ap (λ ds. option_map (λ step. steps ++ step ∷ []) (step_of_kind ds (Some kind) arguments)) (sym same) ∙ one in
+    line_read s line read ∙ ap (with_words s) named ∙ words_step s (name ∷ arguments) no_device some
+    ∙ ap (λ k. option_map (with_step s) (step_of_kind config k arguments)) (sym is_kind)
+    ∙ pushed config steps (step_of_kind config (Some kind) arguments)
+    ∙ ap (option_map (stated config)) is_step ∙ stated_some config more allowed
+
+pub returns : goal.returns
+returns c =
+    line_step c.args.config.now.items c.deref-2.result.now c.args.steps.now.items c.deref.result.now c.add_step.new.steps.items c.args.line.now c.in-Some.name.now _ c.in-Some-kind_named.kind c.add_step.result
+    (sym c.passes_over.ensures ∙ c.if-passes_over.false) c.in-Some.ensures c.in-Some-kind_named.ensures c.deref.ensures.value c.deref-2.ensures.0
+    (sym c.is_further_device.ensures ∙ c.if-is_further_device.false) (some_device c.args.config.now.items (sym c.is_empty.ensures ∙ c.if-is_empty.false)) c.add_step.ensures

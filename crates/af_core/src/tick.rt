@@ -68,7 +68,13 @@ fn emit_silence<W: World>(number: u8, ty: SampleType, bytes: &mut [u8], world: &
 
 // What a live device does: one capture, and where that was done one emit of its sound, which is silence so far. The answer is
 // whether it is still alive.
-fn tick_live<W: World>(number: u8, frames: u32, ty: SampleType, bytes: &mut [u8], world: &mut W) -> bool
+fn tick_live<W: World>(
+    number: u8,
+    frames: u32,
+    ty: SampleType,
+    bytes: &mut [u8],
+    world: &mut W,
+) -> bool
     requires some { 0 < length bytes.old }
     requires size { length bytes.old ≡ frames * width_of ty }
     ensures ticks { TicksLive number frames ty (W.log world.old) (W.log world.new) result }
@@ -81,7 +87,13 @@ fn tick_live<W: World>(number: u8, frames: u32, ty: SampleType, bytes: &mut [u8]
 }
 
 /// The time of device `number` rises by so many frames. The links stay as they are.
-pub fn tick<W: World>(number: u8, frames: u32, devices: &mut [Device], scratch: &mut [u8], world: &mut W)
+pub fn tick<W: World>(
+    number: u8,
+    frames: u32,
+    devices: &mut [Device],
+    scratch: &mut [u8],
+    world: &mut W,
+)
     requires there { number < length devices.old }
     requires some { 1 ≤ frames }
     requires bound { frames ≤ 4096 }

@@ -1,9 +1,8 @@
 -- The stations of a tape's devices, and the outside that they make up.
-use Rattle.std.proofs.Common.{◌≡◌, ℕ, true, false, List, length, ap, sym, ◌∙◌, subst, slice_set, refl, not, ◌&&◌, map}
+use Rattle.std.proofs.Common.{◌≡◌, ℕ, true, false, List, length, ap, sym, ◌∙◌, subst, slice_set, not, ◌&&◌, map}
 use Rattle.std.proofs.lemmas.List.{map-set}
 use Rattle.std.proofs.lemmas.Simd.{map-map}
 use Rattle.std.specs.Prelude.{if◌then◌else◌}
-use Rattle.std.specs.declared.option.Option.{Option}
 use Rattle.std.specs.declared.option.Option.TheVariants.{None, Some}
 use Rattle.af_outside.specs.declared.script.DeviceSpec.{DeviceSpec}
 use Rattle.af_outside.specs.declared.script.Step.{Step}

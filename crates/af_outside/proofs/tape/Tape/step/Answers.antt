@@ -1,10 +1,10 @@
-use Rattle.std.proofs.Common.{◌≡◌, ◌+◌, ◌∷◌, drop, slice_get, sym, ap, ◌∙◌, subst, refl, rules, arith}
+use Rattle.std.proofs.Common.{◌≡◌, ◌+◌, drop, slice_get, ap, ◌∙◌, subst, refl, rules}
 use Rattle.std.proofs.lemmas.Option.{slice_get_read}
 use Rattle.std.proofs.lemmas.List.{with_items_is}
 use Rattle.std.specs.Vec.{with_items}
 use Rattle.std.specs.declared.option.Option.TheVariants.{Some}
 use Rattle.af_outside.specs.Outside.{TapeState, TakesStep}
-use Rattle.af_outside.specs.Tape.{HasRoom, outside_of, stations_of}
+use Rattle.af_outside.specs.Tape.{outside_of, stations_of}
 use Rattle.af_outside.proofs.Tapes.{drop-next, HasRoom-first, TakesStep-first}
 use Rattle.af_outside.proofs.tape.Tape.step.Goals as goal
 

@@ -1,5 +1,5 @@
 -- A text that is read line by line gives the script that it is.
-use Rattle.std.proofs.Common.{◌≡◌, ℕ, zero, suc, ◌+◌, Bool, true, false, cond, ◌&&◌, List, [], ◌∷◌, ◌++◌, length, take, drop, refl, sym, ap, ◌∙◌, arith, append_assoc, append-nil, length-append}
+use Rattle.std.proofs.Common.{◌≡◌, ℕ, zero, suc, ◌+◌, ◌-◌, Bool, true, false, cond, ◌&&◌, List, [], ◌∷◌, ◌++◌, length, take, drop, refl, sym, ap, ◌∙◌, arith, append_assoc, append-nil, length-append}
 use Rattle.std.specs.Prelude.{Option, Some, None, option_map, Result, Ok, Err, nat_lt, nat_eq}
 use Rattle.std.proofs.lemmas.Bool.Decides.{nat_tests}
 use Rattle.af_outside.specs.declared.script.DeviceSpec.{DeviceSpec}
@@ -158,6 +158,10 @@ devices_too config (suc room) n (line ∷ rest) some count =
 
 -- The whole text
 
+-- how many devices there may be behind the first
+abbrev more_devices : ℕ
+more_devices = most_devices - 1
+
 first_device : (d : DeviceSpec) (n : ℕ) (r : Result (List DeviceSpec) ℕ) (es : List Entry) → with_more (d ∷ []) r es ≡ with_config (with_first n (Some d) r) es
 first_device d n (Ok more) es = refl
 first_device d n (Err m) es = refl
@@ -180,13 +184,13 @@ read_all n (line ∷ rest) =
           ∙ read_all (suc n) rest ∙ ap (stated_by (device_lines most_devices es) es) one
           ∙ ap (λ xs. stated_by (device_lines most_devices xs) xs behind) (sym (entries_over n line rest over))
       | false ↦ λ over.
-          (elim (is_device_line (words line)) as (λ d. is_device_line (words line) ≡ d → read_on s n (line ∷ rest) ≡ stated_by (cond d (suc (device_lines 7 es)) 0) (entry n line ∷ es) behind) [
+          (elim (is_device_line (words line)) as (λ d. is_device_line (words line) ≡ d → read_on s n (line ∷ rest) ≡ stated_by (cond d (suc (device_lines more_devices es)) 0) (entry n line ∷ es) behind) [
             | true ↦ λ device.
-                let k = device_lines 7 es in
+                let k = device_lines more_devices es in
                 ap (go_on (λ t. read_on t (suc n) rest) n) (line_read s line over ∙ words_device s (words line) refl device)
                 ∙ elim (device_of (words line)) as (λ o. go_on (λ t. read_on t (suc n) rest) n (option_map (with_device s) o) ≡ with_config (with_first n o (each_says device_of (take k es))) (drop k es)) [
                   | None ↦ refl
-                  | Some d ↦ devices_too (d ∷ []) 7 (suc n) rest refl refl ∙ first_device d n (each_says device_of (take k es)) (drop k es)
+                  | Some d ↦ devices_too (d ∷ []) more_devices (suc n) rest refl refl ∙ first_device d n (each_says device_of (take k es)) (drop k es)
                 ]
                 ∙ sym (some_lines k (entry n line ∷ es) behind)
             | false ↦ λ device. ap (go_on (λ t. read_on t (suc n) rest) n) (line_read s line over ∙ words_none s (words line) device refl)

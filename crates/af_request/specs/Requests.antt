@@ -124,7 +124,22 @@ request_bytes (query_controls device) = front 10 device 1
 request_bytes (hook_switch device off) = front 11 device 2 ++ u32_bytes off
 request_bytes (query_phone device) = front 12 device 1
 
--- the samples that a request plays are at most what the longest frame has room for
+-- a request whose play has at most the samples that the longest frame has room for
 abbrev pub HasRoom : Asked → Type 0
 HasRoom (play_run quiet ac time samples) = length samples ≤ 16368
 HasRoom _ = ⊤
+
+-- a request whose numbers fit their fields, with room for its samples
+abbrev pub IsWritable : Asked → Type 0
+IsWritable (create_ac device ac ty channels preempt play_gain record_gain) =
+    (ac < 2 ^ 32) × FitsSigned w16 play_gain × FitsSigned w16 record_gain
+IsWritable (change_ac mask ac preempt play_gain record_gain) =
+    (ac < 2 ^ 32) × FitsSigned w16 play_gain × FitsSigned w16 record_gain
+IsWritable (free_ac ac) = ac < 2 ^ 32
+IsWritable (play_run quiet ac time samples) = (ac < 2 ^ 32) × (time < 2 ^ 32) × (length samples ≤ 16368)
+IsWritable (record_run blocking ac time nbytes) = (ac < 2 ^ 32) × (time < 2 ^ 32) × (nbytes < 2 ^ 32)
+IsWritable (select_events device mask) = mask < 2 ^ 32
+IsWritable (set_controls device mask input_on output_on input_gain output_gain) =
+    FitsSigned w16 input_gain × FitsSigned w16 output_gain
+IsWritable (hook_switch device off) = off < 2 ^ 32
+IsWritable _ = ⊤

@@ -1,6 +1,7 @@
 //! The requests of clients and the replies of the server, read and written.
 #![tactic(auto)]
 
+pub mod laws;
 mod put;
 
 mod request;

@@ -8,8 +8,8 @@ use Rattle.std.proofs.lemmas.List.{length-append}
 use Rattle.af_wire.specs.declared.front.Front.TheVariants.{Frame}
 use Rattle.af_wire.specs.Front.{frame_front, frame_with}
 use Rattle.af_request.specs.Asked.{Asked, no_op, get_time, create_ac, change_ac, free_ac, play_run, record_run, select_events, set_controls, query_controls, hook_switch, query_phone}
-use Rattle.af_request.specs.Fields.{u32_at, u32_bytes, i16_bytes, words_for, padded}
-use Rattle.af_request.specs.Requests.{row, asked_by, asked_in, request_bytes, front, flag_byte, low_bit, IsWritable}
+use Rattle.af_request.specs.Fields.{u32_at, u32_bytes, i16_bytes, flag_byte, words_for, padded}
+use Rattle.af_request.specs.Requests.{row, asked_by, asked_in, request_bytes, front, IsWritable}
 use Rattle.af_request.proofs.FieldTrips.{ap_2, ap_3, u32_again, i16_again, length-padded, take-padded}
 
 -- a count of samples that a frame has room for is below 2^32
@@ -100,3 +100,7 @@ request_framed (set_controls device mask input_on output_on input_gain output_ga
 request_framed (query_controls device) rest fits = framed 10 device 1 [] rest (omega arith) (omega arith) refl
 request_framed (hook_switch device off) rest fits = framed 11 device 2 (u32_bytes off) rest (omega arith) (omega arith) refl
 request_framed (query_phone device) rest fits = framed 12 device 1 [] rest (omega arith) (omega arith) refl
+
+-- bytes that spell a request are read as it
+pub spelled_again : (a : Asked) (bytes : List ℕ) → bytes ≡ request_bytes a → IsWritable a → asked_in bytes ≡ Some a
+spelled_again a bytes e fits = ap asked_in e ∙ request_again a fits

@@ -2,7 +2,7 @@
 use Rattle.std.specs.Prelude.{◌≡◌, ◌≢◌, ◌≤◌, ◌<◌, ◌^◌, ℕ, ◌+◌, ◌*◌, ◌==◌, if◌then◌else◌, Bool, List, [], ◌∷◌, ◌++◌, Option, Some, None, length, slice_range, bit_and, option_and_then, MatchOption, FitsSigned, ⊤}
 use Rattle.std.specs.Int.{w16, to_be_bytes}
 use Rattle.af_request.specs.Asked.{Asked, no_op, get_time, create_ac, change_ac, free_ac, play_run, record_run, select_events, set_controls, query_controls, hook_switch, query_phone}
-use Rattle.af_request.specs.Fields.{u8_at, u32_at, i16_at, u32_bytes, i16_bytes, words_for, padded}
+use Rattle.af_request.specs.Fields.{u8_at, u32_at, i16_at, u32_bytes, i16_bytes, flag_byte, words_for, padded}
 
 -- a row of the grammar, at the bytes of a frame: how many words such a request has, and what it asks
 pub record Row : Type 0 where
@@ -99,10 +99,6 @@ IsNoRequest frame = MatchOption (row_of (u8_at 0 frame) frame) ⊤ (λ r. length
 -- the first word of a request: its opcode, its detail, and its length in words
 abbrev pub front : ℕ → ℕ → ℕ → List ℕ
 front opcode detail words = opcode ∷ detail ∷ to_be_bytes w16 words
-
--- 1 for true, 0 for false
-abbrev pub flag_byte : Bool → ℕ
-flag_byte set = if set then 1 else 0
 
 -- how a request is spelled: what no field needs is zero
 abbrev pub request_bytes : Asked → List ℕ

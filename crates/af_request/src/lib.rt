@@ -3,11 +3,14 @@
 
 pub mod laws;
 mod put;
-
+mod reply;
+mod reply_reader;
 mod request;
 mod request_reader;
 mod request_writer;
 
-pub use request_reader::read_request;
+pub use reply::{Controls, DeviceInfo, Devices, Phone, Reply};
+pub use reply_reader::read_reply;
 pub use request::Request;
+pub use request_reader::read_request;
 pub use request_writer::write_request;

@@ -1,13 +1,13 @@
 // Writing a request as a frame.
 ghost use Rattle.std.specs.Prelude.{◌≡◌, ◌≤◌, ◌+◌, ◌*◌, ◌++◌, length, take, slice_index};
-ghost use Rattle.af_request.specs.Asked.{meaning, play_run};
+ghost use Rattle.af_request.specs.Asked.{meaning, play_run, record_run};
 ghost use Rattle.af_request.specs.Fields.{u32_bytes, i16_bytes, words_for};
-ghost use Rattle.af_request.specs.Requests.{front, request_bytes, HasRoom};
+ghost use Rattle.af_request.specs.Requests.{asked_in, front, request_bytes, HasRoom};
 
 use crate::Request;
 use crate::put::{put, put_zeros};
-use af_time::DevTime;
 
+#[tactic(auto, using(crate::proofs::RequestTrips::spelled_again))]
 /// Writes a request as a frame, its padding as zeros, and answers how many bytes that are. A Play has at most 16368 bytes
 /// of samples.
 pub fn write_request(request: &Request<'_>, out: &mut [u8]) -> usize
@@ -15,6 +15,7 @@ pub fn write_request(request: &Request<'_>, out: &mut [u8]) -> usize
     requires room { 16384 ≤ length out.old }
     ensures size { result ≡ length (request_bytes (meaning request.now)) }
     ensures bytes { take result out.new ≡ request_bytes (meaning request.now) }
+    ensures again { asked_in (take result out.new) ≡ Some (meaning request.now) }
 {
     match request {
         Request::NoOp => put_front(out, 1, 0, 1),
@@ -47,13 +48,13 @@ pub fn write_request(request: &Request<'_>, out: &mut [u8]) -> usize
             ac,
             time,
             samples,
-        } => put_play(out, *quiet, *ac, *time, samples),
+        } => put_play(out, *quiet, *ac, time.0, samples),
         Request::RecordRun {
             blocking,
             ac,
             time,
             nbytes,
-        } => put_run(out, [7, u8::from(*blocking)], 4, [*ac, time.0, *nbytes]),
+        } => put_record(out, *blocking, *ac, time.0, *nbytes),
         Request::SelectEvents { device, mask } => put_front_and_word(out, [8, *device], 2, *mask),
         Request::SetControls {
             device,
@@ -104,11 +105,12 @@ fn put_gains(out: &mut [u8], at: usize, bytes: [u8; 4], first: i16, second: i16)
     put(out, at, &second.to_be_bytes())
 }
 
-// What a play and a record have before their data: the context, the time and the count of bytes.
+// What a play and a record have before any data: the context, the time and the count of bytes.
 fn put_run(out: &mut [u8], kind: [u8; 2], words: u16, run: [u32; 3]) -> usize
     requires { 16 ≤ length out.old }
     ensures end { result ≡ 16 }
-    ensures bytes { take result out.new ≡ front (slice_index kind 0) (slice_index kind 1) words ++ u32_bytes (slice_index run 0) ++ u32_bytes (slice_index run 1) ++ u32_bytes (slice_index run 2) }
+    ensures bytes { take result out.new ≡ front (slice_index kind 0) (slice_index kind 1) words
+        ++ u32_bytes (slice_index run 0) ++ u32_bytes (slice_index run 1) ++ u32_bytes (slice_index run 2) }
 {
     let [ac, time, nbytes] = run;
     let at = put_front_and_word(out, kind, words, ac);
@@ -116,16 +118,28 @@ fn put_run(out: &mut [u8], kind: [u8; 2], words: u16, run: [u32; 3]) -> usize
     put(out, at, &nbytes.to_be_bytes())
 }
 
+#[tactic(auto, using(crate::proofs::RequestTrips::spelled_again))]
 // A play, its samples padded with zeros to a word.
-fn put_play(out: &mut [u8], quiet: bool, ac: u32, time: DevTime, samples: &[u8]) -> usize
+fn put_play(out: &mut [u8], quiet: bool, ac: u32, time: u32, samples: &[u8]) -> usize
     requires samples { length samples.now ≤ 16368 }
     requires room { 16384 ≤ length out.old }
     ensures end { result ≡ 16 + 4 * words_for (length samples.now) }
-    ensures bytes { take result out.new ≡ request_bytes (play_run quiet ac time.0 samples.now) }
+    ensures bytes { take result out.new ≡ request_bytes (play_run quiet ac time samples.now) }
+    ensures again { asked_in (take result out.new) ≡ Some (play_run quiet ac time samples.now) }
 {
     let words = samples.len().div_ceil(4);
-    let run = [ac, time.0, samples.len() as u32];
+    let run = [ac, time, samples.len() as u32];
     let at = put_run(out, [6, u8::from(quiet)], 4 + words as u16, run);
     let at = put(out, at, samples);
     put_zeros(out, at, 4 * words - samples.len())
+}
+
+#[tactic(auto, using(crate::proofs::RequestTrips::spelled_again))]
+fn put_record(out: &mut [u8], blocking: bool, ac: u32, time: u32, nbytes: u32) -> usize
+    requires { 16 ≤ length out.old }
+    ensures end { result ≡ 16 }
+    ensures bytes { take result out.new ≡ request_bytes (record_run blocking ac time nbytes) }
+    ensures again { asked_in (take result out.new) ≡ Some (record_run blocking ac time nbytes) }
+{
+    put_run(out, [7, u8::from(blocking)], 4, [ac, time, nbytes])
 }

@@ -1,3 +1,4 @@
 pub mod Reading
 pub mod FieldTrips
+pub mod DeviceRun
 pub mod RequestTrips

@@ -13,8 +13,8 @@ none_by frame (Some r) = grind arith
 
 -- nothing is read exactly where nothing is meant
 pub none_meant : {R A : Type 0} (f : R → A) (o : Option R) (meant : Option A) (Q : Type 0) → option_map f o ≡ meant → IsNone meant ↔ Q → IsNone o ↔ Q
-none_meant f None meant Q e h = let P : Option A → Type 0 = λ q. IsNone q ↔ Q in subst P (sym e) h
-none_meant f (Some x) meant Q e h = let P : Option A → Type 0 = λ q. IsNone q ↔ Q in subst P (sym e) h
+none_meant {A = A} f None meant Q e h = let P : Option A → Type 0 = λ q. IsNone q ↔ Q in subst P (sym e) h
+none_meant {A = A} f (Some x) meant Q e h = let P : Option A → Type 0 = λ q. IsNone q ↔ Q in subst P (sym e) h
 
 -- a frame is read as nothing exactly where it is no request
 pub none_exactly : {R : Type 0} (f : R → Asked) (o : Option R) (frame : List ℕ) →

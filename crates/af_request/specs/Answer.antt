@@ -1,5 +1,6 @@
 -- What the server answers: a reply as a value without references, its samples being a list of bytes.
 use Rattle.std.specs.Prelude.{ℕ, List}
+use Rattle.arrayvec.specs.ArrayVec.{ArrayVec}
 use Rattle.af_request.specs.declared.reply.DeviceInfo.{DeviceInfo}
 use Rattle.af_request.specs.declared.reply.Controls.{Controls}
 use Rattle.af_request.specs.declared.reply.Phone.{Phone}
@@ -14,6 +15,10 @@ pub data Answer : Type 0 where
   recorded : (now : ℕ) (samples : List ℕ) → Answer
   controls : Controls → Answer
   phone : Phone → Answer
+
+-- the devices of a reply to a setup
+abbrev pub items_of : ArrayVec DeviceInfo → List DeviceInfo
+items_of devices = devices.items
 
 -- what a reply of the code answers
 abbrev pub meaning : Reply → Answer

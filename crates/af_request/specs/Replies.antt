@@ -6,6 +6,7 @@ use Rattle.af_sample.specs.declared.sample_type.SampleType.{SampleType}
 use Rattle.af_sample.specs.SampleTypes.{code_of, type_of_code}
 use Rattle.af_sample.specs.Gains.{gain_of, IsGain}
 use Rattle.af_request.specs.declared.reply.DeviceInfo.{DeviceInfo}
+use Rattle.af_request.specs.declared.reply.Phone.{Phone}
 use Rattle.af_request.specs.Answer.{Answer, setup, plain, time, played, recorded, controls, phone}
 use Rattle.af_request.specs.Fields.{u8_at, u16_at, u32_at, i16_at, u32_bytes, i16_bytes, flag_byte, words_for, padded}
 
@@ -84,16 +85,16 @@ controls_in body =
     then controls_of (flag_of (u8_at 0 body)) (flag_of (u8_at 1 body)) (gain_of (i16_at 4 body)) (gain_of (i16_at 6 body))
     else None
 
-abbrev pub phone_of : Option Bool → Option Bool → Option Bool → Option Bool → Option Bool → Option Answer
+abbrev pub phone_of : Option Bool → Option Bool → Option Bool → Option Bool → Option Bool → Option Phone
 phone_of (Some wanted_off) (Some given_off) (Some ringing) (Some current) (Some dead) =
-    Some (phone (record { wanted_off = wanted_off; given_off = given_off; ringing = ringing; current = current; dead = dead }))
+    Some (record { wanted_off = wanted_off; given_off = given_off; ringing = ringing; current = current; dead = dead })
 phone_of _ _ _ _ _ = None
 
 -- the reply to QueryPhone
 abbrev pub phone_in : List ℕ → Option Answer
 phone_in body =
     if length body == 8 && is_zero (drop 5 body)
-    then phone_of (flag_of (u8_at 0 body)) (flag_of (u8_at 1 body)) (flag_of (u8_at 2 body)) (flag_of (u8_at 3 body)) (flag_of (u8_at 4 body))
+    then option_map phone (phone_of (flag_of (u8_at 0 body)) (flag_of (u8_at 1 body)) (flag_of (u8_at 2 body)) (flag_of (u8_at 3 body)) (flag_of (u8_at 4 body)))
     else None
 
 -- CreateAC, ChangeAC, FreeAC, SelectEvents, SetControls and HookSwitch are not answered with a value

@@ -1,9 +1,9 @@
 // Reading the body of a reply: one function for each kind of body.
-ghost use Rattle.std.specs.Prelude.{◌≡◌, ◌≤◌, length, option_map, true};
+ghost use Rattle.std.specs.Prelude.{◌≡◌, ◌≤◌, ◌*◌, length, option_map, slice_index, true};
 ghost use Rattle.std.specs.Int.{w16, cast_signed, from_be_bytes};
 ghost use Rattle.af_sample.specs.Gains.{gain_of};
-ghost use Rattle.af_request.specs.Answer.{meaning, controls};
-ghost use Rattle.af_request.specs.Replies.{answer_in, controls_in, device_in, devices_in, flag_of, is_rate, phone_in, plain_in, played_in, recorded_in, setup_in, time_in, is_zero};
+ghost use Rattle.af_request.specs.Answer.{meaning, items_of};
+ghost use Rattle.af_request.specs.Replies.{answer_in, controls_in, device_in, devices_in, flag_of, is_rate, phone_in, phone_of, plain_in, played_in, recorded_in, setup_in, time_in, is_zero};
 
 use crate::reply::{Controls, DeviceInfo, Devices, Phone, Reply};
 use af_sample::{Gain, SampleType};
@@ -16,6 +16,7 @@ pub fn read_reply<'a>(opcode: u8, body: &'a [u8]) -> Option<Reply<'a>>
     ensures { option_map meaning result ≡ answer_in opcode body.entry.now }
 {
     match opcode {
+        0 => setup(body),
         2 => time(body),
         3 | 4 | 5 | 8 | 9 | 11 => plain(body),
         6 => played(body),
@@ -97,18 +98,58 @@ fn controls<'a>(body: &'a [u8]) -> Option<Reply<'a>>
 fn phone<'a>(body: &'a [u8]) -> Option<Reply<'a>>
     ensures { option_map meaning result ≡ phone_in body.entry.now }
 {
-    let [wanted_off, given_off, ringing, current, dead, 0, 0, 0] = body else {
+    let [wanted_off, given_off, ringing, current, dead, padding @ ..] = body else {
         return None;
     };
-    Some(Reply::Phone {
-        phone: Phone {
-            wanted_off: flag(*wanted_off)?,
-            given_off: flag(*given_off)?,
-            ringing: flag(*ringing)?,
-            current: flag(*current)?,
-            dead: flag(*dead)?,
-        },
+    if padding.len() != 3 || !is_padding(padding) {
+        return None;
+    }
+    let phone = phone_of([*wanted_off, *given_off, *ringing, *current, *dead])?;
+    Some(Reply::Phone { phone })
+}
+
+fn phone_of(flags: [u8; 5]) -> Option<Phone>
+    ensures { result ≡ phone_of (flag_of (slice_index flags 0)) (flag_of (slice_index flags 1)) (flag_of (slice_index flags 2))
+        (flag_of (slice_index flags 3)) (flag_of (slice_index flags 4)) }
+{
+    let [wanted_off, given_off, ringing, current, dead] = flags;
+    Some(Phone {
+        wanted_off: flag(wanted_off)?,
+        given_off: flag(given_off)?,
+        ringing: flag(ringing)?,
+        current: flag(current)?,
+        dead: flag(dead)?,
     })
+}
+
+fn setup<'a>(body: &'a [u8]) -> Option<Reply<'a>>
+    ensures { option_map meaning result ≡ setup_in body.entry.now }
+{
+    let [a, b, c, d, e, f, g, h, data @ ..] = body else {
+        return None;
+    };
+    let major = u16::from_be_bytes([*a, *b]);
+    let minor = u16::from_be_bytes([*c, *d]);
+    let count = u32::from_be_bytes([*e, *f, *g, *h]) as usize;
+    if major != 1 || minor != 0 || count == 0 || count > 8 || data.len() != 12 * count {
+        return None;
+    }
+    let devices = devices(count, data)?;
+    Some(Reply::Setup { devices })
+}
+
+// What so many times 12 bytes of the reply to a setup say of the devices.
+fn devices(count: usize, bytes: &[u8]) -> Option<Devices>
+    requires most { count ≤ 8 }
+    requires whole { length bytes.now ≡ 12 * count }
+    ensures { option_map items_of result ≡ devices_in count bytes.now }
+{
+    let mut devices = Devices::new();
+    for i in 0..count {
+        let at = 12 * i;
+        devices.push(device(&bytes[at..at + 12])?);
+    }
+    Some(devices)
 }
 
 // What 12 bytes of the reply to a setup say of a device.

@@ -2,3 +2,4 @@ pub mod Reading
 pub mod FieldTrips
 pub mod DeviceRun
 pub mod RequestTrips
+pub mod ReplyTrips

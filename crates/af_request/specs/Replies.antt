@@ -104,9 +104,9 @@ is_plain opcode = list_any (λ o. opcode == o) (3 ∷ 4 ∷ 5 ∷ 8 ∷ 9 ∷ 11
 -- what a body answers to a request of an opcode, if it is a body of that opcode; 0 stands for a setup
 abbrev pub answer_in : ℕ → List ℕ → Option Answer
 answer_in opcode body =
-    if opcode == 0 then setup_in body
+    if is_plain opcode then plain_in body
+    else if opcode == 0 then setup_in body
     else if opcode == 2 then time_in body
-    else if is_plain opcode then plain_in body
     else if opcode == 6 then played_in body
     else if opcode == 7 then recorded_in body
     else if opcode == 10 then controls_in body

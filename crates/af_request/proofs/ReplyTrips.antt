@@ -11,12 +11,13 @@ use Rattle.af_sample.specs.declared.sample_type.SampleType.{SampleType}
 use Rattle.af_sample.specs.declared.sample_type.SampleType.TheVariants.{Mu255, Alaw, Lin16, Lin32}
 use Rattle.af_sample.specs.SampleTypes.{code_of, type_of_code}
 use Rattle.af_sample.specs.Gains.{gain_of, IsGain}
+use Rattle.af_wire.specs.Message.{head}
 use Rattle.af_request.specs.declared.reply.DeviceInfo.{DeviceInfo}
 use Rattle.af_request.specs.declared.reply.Controls.{Controls}
 use Rattle.af_request.specs.declared.reply.Phone.{Phone}
 use Rattle.af_request.specs.Answer.{Answer, setup, plain, time, played, recorded, controls, phone}
 use Rattle.af_request.specs.Fields.{flag_byte, u32_bytes, i16_bytes, words_for, padded}
-use Rattle.af_request.specs.Replies.{answer_in, body_bytes, body_words, controls_of, phone_of, device_bytes, device_in, device_of, device_then, devices_in, flag_of, is_plain, is_rate, is_zero, IsReplyTo, IsStated}
+use Rattle.af_request.specs.Replies.{answer_in, body_bytes, body_words, controls_of, phone_of, reply_bytes, device_bytes, device_in, device_of, device_then, devices_in, flag_of, is_plain, is_rate, is_zero, IsReplyTo, IsStated}
 use Rattle.af_request.proofs.FieldTrips.{ap_2, ap_3, u32_again, i16_again, length-padded, take-padded}
 
 flag_again : (set : Bool) → flag_of (flag_byte set) ≡ Some set
@@ -150,3 +151,9 @@ length-body (recorded now samples) =
     length-append (u32_bytes now ++ u32_bytes (length samples)) (padded samples) ∙ ap (λ k. 8 + k) (length-padded samples) ∙ sum
 length-body (controls c) = refl
 length-body (phone p) = refl
+
+-- bytes that spell a reply have a body that is read as it
+pub spelled_again : (opcode sequence : ℕ) (a : Answer) (bytes : List ℕ) → bytes ≡ reply_bytes opcode a sequence → IsReplyTo opcode a →
+    answer_in opcode (drop 8 bytes) ≡ Some a
+unfolding head
+spelled_again opcode sequence a bytes e fits = ap (λ m. answer_in opcode (drop 8 m)) e ∙ answer_again opcode a fits

@@ -51,7 +51,7 @@ pub struct Phone {
 }
 
 /// A reply. Its times are the device's at the moment of the reply.
-#[derive(Drop)]
+#[derive(Debug, PartialEq, Drop)]
 pub enum Reply<'a> {
     Setup { devices: Devices },
     Plain,

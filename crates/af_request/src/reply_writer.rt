@@ -1,10 +1,10 @@
 // Writing a reply as a message.
-ghost use Rattle.std.specs.Prelude.{◌≡◌, ◌≤◌, ◌+◌, ◌*◌, ◌++◌, length, take};
+ghost use Rattle.std.specs.Prelude.{◌≡◌, ◌≤◌, ◌+◌, ◌*◌, ◌++◌, drop, length, take};
 ghost use Rattle.af_wire.specs.Message.{head};
 ghost use Rattle.af_request.specs.Answer.{meaning, recorded, setup};
 ghost use Rattle.af_request.specs.Answer.{controls as controls_answer, phone as phone_answer};
-ghost use Rattle.af_request.specs.Fields.{i16_bytes};
-ghost use Rattle.af_request.specs.Replies.{body_bytes, body_words, device_bytes, reply_bytes, HasRoom};
+ghost use Rattle.af_request.specs.Fields.{i16_bytes, words_for};
+ghost use Rattle.af_request.specs.Replies.{answer_in, body_bytes, body_words, device_bytes, reply_bytes, HasRoom, IsReplyTo};
 
 use crate::put::{put, put_zeros};
 use crate::reply::{Controls, DeviceInfo, Phone, Reply};
@@ -16,9 +16,23 @@ use af_wire::write_head;
 pub fn write_reply(opcode: u8, reply: &Reply<'_>, sequence: u16, out: &mut [u8]) -> usize
     requires samples { HasRoom (meaning reply.now) }
     requires room { 16016 ≤ length out.old }
+    ensures size { result ≡ 8 + 4 * body_words (meaning reply.now) }
+    ensures most { result ≤ 16016 }
     ensures bytes { take result out.new ≡ reply_bytes opcode (meaning reply.now) sequence }
+    ensures again { IsReplyTo opcode (meaning reply.now) →
+        answer_in opcode (drop 8 (take result out.new)) ≡ Some (meaning reply.now) }
 {
     let at = put_head(out, opcode, sequence, words_of(reply));
+    put_body(out, at, reply)
+}
+
+fn put_body(out: &mut [u8], at: usize, reply: &Reply<'_>) -> usize
+    requires samples { HasRoom (meaning reply.now) }
+    requires room { at + 16008 ≤ length out.old }
+    ensures end { result ≡ at + 4 * body_words (meaning reply.now) }
+    ensures most { result ≤ at + 16008 }
+    ensures bytes { take result out.new ≡ take at out.old ++ body_bytes (meaning reply.now) }
+{
     match reply {
         Reply::Setup { devices } => put_devices(out, at, devices.as_slice()),
         Reply::Plain => at,
@@ -59,6 +73,7 @@ fn put_head(out: &mut [u8], opcode: u8, sequence: u16, words: u32) -> usize
 fn put_devices(out: &mut [u8], at: usize, devices: &[DeviceInfo]) -> usize
     requires most { length devices.now ≤ 8 }
     requires room { at + 104 ≤ length out.old }
+    ensures end { result ≡ at + 8 + 12 * length devices.now }
     ensures bytes { take result out.new ≡ take at out.old ++ body_bytes (setup devices.now) }
 {
     let at = put(out, at, &[0, 1, 0, 0]);
@@ -84,6 +99,7 @@ fn put_device(out: &mut [u8], at: usize, device: DeviceInfo) -> usize
 fn put_recorded(out: &mut [u8], at: usize, time: u32, samples: &[u8]) -> usize
     requires samples { length samples.now ≤ 16000 }
     requires room { at + 16008 ≤ length out.old }
+    ensures end { result ≡ at + 8 + 4 * words_for (length samples.now) }
     ensures bytes { take result out.new ≡ take at out.old ++ body_bytes (recorded time samples.now) }
 {
     let at = put(out, at, &time.to_be_bytes());
@@ -94,6 +110,7 @@ fn put_recorded(out: &mut [u8], at: usize, time: u32, samples: &[u8]) -> usize
 
 fn put_controls(out: &mut [u8], at: usize, controls: &Controls) -> usize
     requires { at + 8 ≤ length out.old }
+    ensures end { result ≡ at + 8 }
     ensures bytes { take result out.new ≡ take at out.old ++ body_bytes (controls_answer controls.now) }
 {
     let input_on = u8::from(controls.input_on);
@@ -111,6 +128,7 @@ fn gain_bytes(gain: Gain) -> [u8; 2]
 
 fn put_phone(out: &mut [u8], at: usize, phone: &Phone) -> usize
     requires { at + 8 ≤ length out.old }
+    ensures end { result ≡ at + 8 }
     ensures bytes { take result out.new ≡ take at out.old ++ body_bytes (phone_answer phone.now) }
 {
     let wanted_off = u8::from(phone.wanted_off);

@@ -2,6 +2,7 @@
 use af_time::DevTime;
 
 /// A request. Times are those of the context's or the named device.
+#[derive(Clone, Copy, Debug, PartialEq, Eq)]
 pub enum Request<'a> {
     NoOp,
     GetTime {

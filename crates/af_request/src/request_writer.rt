@@ -14,6 +14,7 @@ pub fn write_request(request: &Request<'_>, out: &mut [u8]) -> usize
     requires samples { HasRoom (meaning request.now) }
     requires room { 16384 ≤ length out.old }
     ensures size { result ≡ length (request_bytes (meaning request.now)) }
+    ensures most { result ≤ 16384 }
     ensures bytes { take result out.new ≡ request_bytes (meaning request.now) }
     ensures again { asked_in (take result out.new) ≡ Some (meaning request.now) }
 {

@@ -1,5 +1,5 @@
 -- The devices of the reply to a setup, one after the other.
-use Rattle.std.proofs.Common.{◌≡◌, ◌<◌, ◌≤◌, ◌+◌, ◌-◌, ◌*◌, ◌∙◌, ℕ, zero, suc, List, [], ◌∷◌, ◌++◌, take, drop, refl, ap, sym, arith}
+use Rattle.std.proofs.Common.{◌≡◌, ◌<◌, ◌+◌, ◌-◌, ◌*◌, ◌∙◌, ℕ, suc, List, [], ◌∷◌, ◌++◌, take, drop, refl, ap, sym, arith}
 use Rattle.std.specs.Prelude.{Option, Some, None, option_map, slice_range}
 use Rattle.std.proofs.lemmas.List.{drop-drop, append_assoc}
 use Rattle.af_request.specs.declared.reply.DeviceInfo.{DeviceInfo}

@@ -1,6 +1,6 @@
 -- Replies that are written and read again.
-use Rattle.std.proofs.Common.{◌≡◌, ◌<◌, ◌≤◌, ◌+◌, ◌-◌, ◌*◌, ◌^◌, ◌∙◌, ℕ, ℤ, zero, suc, Bool, true, false, List, [], ◌∷◌, ◌++◌, length, take, drop, replicate, refl, sym, ap, subst, arith}
-use Rattle.std.specs.Prelude.{Option, Some, None, ◌==◌, ◌&&◌, nat_le, if◌then◌else◌, option_map, slice_range, IsTrue, All, FitsSigned}
+use Rattle.std.proofs.Common.{◌≡◌, ◌<◌, ◌≤◌, ◌+◌, ◌-◌, ◌*◌, ◌^◌, ◌∙◌, ℕ, ℤ, zero, suc, Bool, true, false, List, [], ◌∷◌, ◌++◌, length, take, drop, replicate, refl, sym, ap, arith}
+use Rattle.std.specs.Prelude.{Some, None, ◌==◌, ◌&&◌, nat_le, if◌then◌else◌, option_map, slice_range, IsTrue, All, FitsSigned}
 use Rattle.std.specs.Int.{w16, w32, cast_signed, from_be_bytes}
 use Rattle.std.specs.List.{flat_map}
 use Rattle.std.proofs.lemmas.Bool.{eq-eqb}
@@ -34,13 +34,13 @@ gain_again g within = ap gain_of (i16_again g (gain_fits g within)) ∙ grind ar
 controls_again : (c : Controls) → IsGain c.input_gain → IsGain c.output_gain → answer_in 10 (body_bytes (controls c)) ≡ Some (controls c)
 controls_again c input output =
     ap_2 (λ a b. controls_of a b (gain_of (cast_signed w16 (from_be_bytes w16 (i16_bytes c.input_gain)))) (gain_of (cast_signed w16 (from_be_bytes w16 (i16_bytes c.output_gain)))))
-      (flag_again c.input_on) (flag_again c.output_on)
+    (flag_again c.input_on) (flag_again c.output_on)
     ∙ ap_2 (λ g h. controls_of (Some c.input_on) (Some c.output_on) g h) (gain_again c.input_gain input) (gain_again c.output_gain output)
 
 phone_again : (p : Phone) → answer_in 12 (body_bytes (phone p)) ≡ Some (phone p)
 phone_again p =
     ap_3 (λ a b c. option_map phone (phone_of a b c (flag_of (flag_byte p.current)) (flag_of (flag_byte p.dead))))
-      (flag_again p.wanted_off) (flag_again p.given_off) (flag_again p.ringing)
+    (flag_again p.wanted_off) (flag_again p.given_off) (flag_again p.ringing)
     ∙ ap_2 (λ d e. option_map phone (phone_of (Some p.wanted_off) (Some p.given_off) (Some p.ringing) d e)) (flag_again p.current) (flag_again p.dead)
 
 is_zero-replicate : (n : ℕ) → is_zero (replicate n 0) ≡ true
@@ -97,7 +97,7 @@ devices_again : (devices : List DeviceInfo) → All IsStated devices → devices
 devices_again [] each = refl
 devices_again (d ∷ devices) each =
     ap_2 device_then (device_again d (flat_map device_bytes devices) (each 0 d (omega arith)))
-      (devices_again devices (λ k e low. each (suc k) e (omega arith)))
+    (devices_again devices (λ k e low. each (suc k) e (omega arith)))
 
 length-devices : (devices : List DeviceInfo) → length (flat_map device_bytes devices) ≡ 12 * length devices
 length-devices [] = refl

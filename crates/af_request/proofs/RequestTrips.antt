@@ -1,14 +1,13 @@
 -- Requests that are written and read again.
 use Rattle.std.proofs.Common.{◌≡◌, ◌<◌, ◌≤◌, ◌+◌, ◌-◌, ◌*◌, ◌∙◌, ◌^◌, ℕ, Bool, true, false, List, [], ◌∷◌, ◌++◌, length, take, drop, refl, ap, arith}
-use Rattle.std.specs.Prelude.{Option, Some, None, ◌==◌, if◌then◌else◌, slice_range}
-use Rattle.std.specs.Int.{w32, from_be_bytes}
+use Rattle.std.specs.Prelude.{Some, None, if◌then◌else◌, slice_range}
 use Rattle.std.proofs.lemmas.Bool.{eq-eqb}
 use Rattle.std.proofs.lemmas.Nat.{from_be_bytes-to_be_bytes_2}
 use Rattle.std.proofs.lemmas.List.{length-append}
 use Rattle.af_wire.specs.declared.front.Front.TheVariants.{Frame}
 use Rattle.af_wire.specs.Front.{frame_front, frame_with}
 use Rattle.af_request.specs.Asked.{Asked, no_op, get_time, create_ac, change_ac, free_ac, play_run, record_run, select_events, set_controls, query_controls, hook_switch, query_phone}
-use Rattle.af_request.specs.Fields.{u32_at, u32_bytes, i16_bytes, flag_byte, words_for, padded}
+use Rattle.af_request.specs.Fields.{u32_bytes, i16_bytes, flag_byte, words_for, padded}
 use Rattle.af_request.specs.Requests.{row, asked_by, asked_in, request_bytes, front, IsWritable}
 use Rattle.af_request.proofs.FieldTrips.{ap_2, ap_3, u32_again, i16_again, length-padded, take-padded}
 

@@ -1,5 +1,5 @@
 -- The grammar of requests: which bytes ask what, and how a request is spelled.
-use Rattle.std.specs.Prelude.{◌≡◌, ◌≢◌, ◌≤◌, ◌<◌, ◌^◌, ℕ, ◌+◌, ◌*◌, ◌==◌, if◌then◌else◌, Bool, List, [], ◌∷◌, ◌++◌, Option, Some, None, length, slice_range, bit_and, option_and_then, MatchOption, FitsSigned, ⊤}
+use Rattle.std.specs.Prelude.{◌≢◌, ◌≤◌, ◌<◌, ◌^◌, ℕ, ◌+◌, ◌*◌, ◌==◌, if◌then◌else◌, Bool, List, [], ◌∷◌, ◌++◌, Option, Some, None, length, slice_range, bit_and, option_and_then, MatchOption, FitsSigned, ⊤}
 use Rattle.std.specs.Int.{w16, to_be_bytes}
 use Rattle.af_request.specs.Asked.{Asked, no_op, get_time, create_ac, change_ac, free_ac, play_run, record_run, select_events, set_controls, query_controls, hook_switch, query_phone}
 use Rattle.af_request.specs.Fields.{u8_at, u32_at, i16_at, u32_bytes, i16_bytes, flag_byte, words_for, padded}

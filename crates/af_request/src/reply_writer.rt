@@ -92,7 +92,24 @@ fn put_device(out: &mut [u8], at: usize, device: DeviceInfo) -> usize
     let [a, b, c, d] = device.rate.to_be_bytes();
     let [e, f, g, h] = device.horizon.to_be_bytes();
     let line = u8::from(device.line);
-    put(out, at, &[device.ty.code(), device.channels, line, 0, a, b, c, d, e, f, g, h])
+    put(
+        out,
+        at,
+        &[
+            device.ty.code(),
+            device.channels,
+            line,
+            0,
+            a,
+            b,
+            c,
+            d,
+            e,
+            f,
+            g,
+            h,
+        ],
+    )
 }
 
 // The time, the count of the bytes, and the bytes padded with zeros to a word.
@@ -136,5 +153,9 @@ fn put_phone(out: &mut [u8], at: usize, phone: &Phone) -> usize
     let ringing = u8::from(phone.ringing);
     let current = u8::from(phone.current);
     let dead = u8::from(phone.dead);
-    put(out, at, &[wanted_off, given_off, ringing, current, dead, 0, 0, 0])
+    put(
+        out,
+        at,
+        &[wanted_off, given_off, ringing, current, dead, 0, 0, 0],
+    )
 }

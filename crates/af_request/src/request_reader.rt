@@ -59,7 +59,25 @@ fn get_time<'a>(frame: &'a [u8]) -> Option<Request<'a>>
 fn create_ac<'a>(frame: &'a [u8]) -> Option<Request<'a>>
     ensures { option_map meaning result ≡ asked_by frame.entry.now (create_ac_row frame.entry.now) }
 {
-    let [_, device, _, _, a, b, c, d, ty, channels, preempt, _, p, q, r, s] = frame else {
+    let [
+        _,
+        device,
+        _,
+        _,
+        a,
+        b,
+        c,
+        d,
+        ty,
+        channels,
+        preempt,
+        _,
+        p,
+        q,
+        r,
+        s,
+    ] = frame
+    else {
         return None;
     };
     Some(Request::CreateAc {
@@ -102,7 +120,26 @@ fn free_ac<'a>(frame: &'a [u8]) -> Option<Request<'a>>
 fn play_run<'a>(frame: &'a [u8]) -> Option<Request<'a>>
     ensures { option_map meaning result ≡ asked_by frame.entry.now (play_run_row frame.entry.now) }
 {
-    let [_, detail, _, _, a, b, c, d, e, f, g, h, i, j, k, l, data @ ..] = frame else {
+    let [
+        _,
+        detail,
+        _,
+        _,
+        a,
+        b,
+        c,
+        d,
+        e,
+        f,
+        g,
+        h,
+        i,
+        j,
+        k,
+        l,
+        data @ ..,
+    ] = frame
+    else {
         return None;
     };
     let nbytes = u32::from_be_bytes([*i, *j, *k, *l]) as usize;

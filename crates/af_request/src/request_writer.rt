@@ -7,9 +7,9 @@ ghost use Rattle.af_request.specs.Requests.{asked_in, front, request_bytes, HasR
 use crate::Request;
 use crate::put::{put, put_zeros};
 
-#[tactic(auto, using(crate::proofs::RequestTrips::spelled_again))]
 /// Writes a request as a frame, its padding as zeros, and answers how many bytes that are. A Play has at most 16368 bytes
 /// of samples.
+#[tactic(auto, using(crate::proofs::RequestTrips::spelled_again))]
 pub fn write_request(request: &Request<'_>, out: &mut [u8]) -> usize
     requires samples { HasRoom (meaning request.now) }
     requires room { 16384 ≤ length out.old }
@@ -31,7 +31,13 @@ pub fn write_request(request: &Request<'_>, out: &mut [u8]) -> usize
             record_gain,
         } => {
             let at = put_front_and_word(out, [3, *device], 4, *ac);
-            put_gains(out, at, [*ty, *channels, *preempt, 0], *play_gain, *record_gain)
+            put_gains(
+                out,
+                at,
+                [*ty, *channels, *preempt, 0],
+                *play_gain,
+                *record_gain,
+            )
         }
         Request::ChangeAc {
             mask,
@@ -66,7 +72,13 @@ pub fn write_request(request: &Request<'_>, out: &mut [u8]) -> usize
             output_gain,
         } => {
             let at = put_front(out, 9, *device, 3);
-            put_gains(out, at, [*mask, *input_on, *output_on, 0], *input_gain, *output_gain)
+            put_gains(
+                out,
+                at,
+                [*mask, *input_on, *output_on, 0],
+                *input_gain,
+                *output_gain,
+            )
         }
         Request::QueryControls { device } => put_front(out, 10, *device, 1),
         Request::HookSwitch { device, off } => put_front_and_word(out, [11, *device], 2, *off),
@@ -119,8 +131,8 @@ fn put_run(out: &mut [u8], kind: [u8; 2], words: u16, run: [u32; 3]) -> usize
     put(out, at, &nbytes.to_be_bytes())
 }
 
-#[tactic(auto, using(crate::proofs::RequestTrips::spelled_again))]
 // A play, its samples padded with zeros to a word.
+#[tactic(auto, using(crate::proofs::RequestTrips::spelled_again))]
 fn put_play(out: &mut [u8], quiet: bool, ac: u32, time: u32, samples: &[u8]) -> usize
     requires samples { length samples.now ≤ 16368 }
     requires room { 16384 ≤ length out.old }

@@ -29,7 +29,12 @@ fn requests_of_contexts(rt: HostRuntime) {
         play_gain: -6,
         record_gain: 6,
     };
-    assert!(rt; is_request(&create, &[3, 1, 0, 4, 0, 0, 0, 7, 2, 1, 1, 0, 0xFF, 0xFA, 0, 6]));
+    assert!(rt;
+        is_request(
+            &create,
+            &[3, 1, 0, 4, 0, 0, 0, 7, 2, 1, 1, 0, 0xFF, 0xFA, 0, 6]
+        )
+    );
     let change = Request::ChangeAc {
         mask: 5,
         ac: 256,
@@ -37,7 +42,12 @@ fn requests_of_contexts(rt: HostRuntime) {
         play_gain: 30,
         record_gain: -30,
     };
-    assert!(rt; is_request(&change, &[4, 5, 0, 4, 0, 0, 1, 0, 1, 0, 0, 0, 0, 30, 0xFF, 0xE2]));
+    assert!(rt;
+        is_request(
+            &change,
+            &[4, 5, 0, 4, 0, 0, 1, 0, 1, 0, 0, 0, 0, 30, 0xFF, 0xE2]
+        )
+    );
     assert!(rt; is_request(&Request::FreeAc { ac: 9 }, &[5, 0, 0, 2, 0, 0, 0, 9]));
 }
 
@@ -57,7 +67,9 @@ fn requests_of_samples(rt: HostRuntime) {
         time: DevTime(0x8000_0000),
         samples: &[9],
     };
-    let frame = [6, 1, 0, 5, 0, 0, 0, 1, 0x80, 0, 0, 0, 0, 0, 0, 1, 9, 0, 0, 0];
+    let frame = [
+        6, 1, 0, 5, 0, 0, 0, 1, 0x80, 0, 0, 0, 0, 0, 0, 1, 9, 0, 0, 0,
+    ];
     assert!(rt; is_request(&quiet, &frame));
     let record = Request::RecordRun {
         blocking: true,
@@ -65,7 +77,12 @@ fn requests_of_samples(rt: HostRuntime) {
         time: DevTime(257),
         nbytes: 16000,
     };
-    assert!(rt; is_request(&record, &[7, 1, 0, 4, 0, 0, 0, 2, 0, 0, 1, 1, 0, 0, 0x3E, 0x80]));
+    assert!(rt;
+        is_request(
+            &record,
+            &[7, 1, 0, 4, 0, 0, 0, 2, 0, 0, 1, 1, 0, 0, 0x3E, 0x80]
+        )
+    );
 }
 
 #[test]
@@ -114,7 +131,9 @@ fn another_opcode_or_length_is_no_request(rt: HostRuntime) {
 
 #[test]
 fn padding_and_unnamed_bits_are_ignored(rt: HostRuntime) {
-    let frame = [6, 0xFE, 0, 5, 0, 0, 0, 1, 0, 0, 0, 0, 0, 0, 0, 1, 9, 7, 7, 7];
+    let frame = [
+        6, 0xFE, 0, 5, 0, 0, 0, 1, 0, 0, 0, 0, 0, 0, 0, 1, 9, 7, 7, 7,
+    ];
     let play = Request::PlayRun {
         quiet: false,
         ac: 1,
@@ -148,7 +167,9 @@ fn the_reply_to_a_setup_has_the_devices(rt: HostRuntime) {
         rate: 8000,
         horizon: 32000,
     });
-    let body = [0, 1, 0, 0, 0, 0, 0, 1, 2, 1, 1, 0, 0, 0, 0x1F, 0x40, 0, 0, 0x7D, 0];
+    let body = [
+        0, 1, 0, 0, 0, 0, 0, 1, 2, 1, 1, 0, 0, 0, 0x1F, 0x40, 0, 0, 0x7D, 0,
+    ];
     assert!(rt; is_reply(0, &Reply::Setup { devices }, 5, &body));
 }
 
@@ -183,7 +204,14 @@ fn replies_with_the_state_of_a_device(rt: HostRuntime) -> Result<(), Fail> {
         current: true,
         dead: true,
     };
-    assert!(rt; is_reply(10, &Reply::Controls { controls }, 2, &[1, 0, 0, 0, 0xFF, 0xE2, 0, 5]));
+    assert!(rt;
+        is_reply(
+            10,
+            &Reply::Controls { controls },
+            2,
+            &[1, 0, 0, 0, 0xFF, 0xE2, 0, 5]
+        )
+    );
     assert!(rt; is_reply(12, &Reply::Phone { phone }, 2, &[1, 0, 0, 1, 1, 0, 0, 0]));
     Ok(())
 }
@@ -204,10 +232,30 @@ static NO_REPLIES: [(u8, &[u8]); 17] = [
     (12, &[1, 0, 0, 1, 2, 0, 0, 0]),
     (12, &[1, 0, 0, 1, 0, 0, 0, 1]),
     (0, &[0, 1, 0, 0, 0, 0, 0, 0]),
-    (0, &[0, 1, 0, 0, 0, 0, 0, 1, 4, 1, 0, 0, 0, 0, 0x1F, 0x40, 0, 0, 0x7D, 0]),
-    (0, &[0, 1, 0, 0, 0, 0, 0, 1, 2, 2, 0, 0, 0, 0, 0x1F, 0x40, 0, 0, 0x7D, 0]),
-    (0, &[0, 1, 0, 0, 0, 0, 0, 1, 2, 1, 0, 0, 0, 0, 0x1F, 0x41, 0, 0, 0x7D, 4]),
-    (0, &[0, 1, 0, 0, 0, 0, 0, 1, 2, 1, 0, 0, 0, 0, 0x1F, 0x40, 0, 0, 0x7D, 1]),
+    (
+        0,
+        &[
+            0, 1, 0, 0, 0, 0, 0, 1, 4, 1, 0, 0, 0, 0, 0x1F, 0x40, 0, 0, 0x7D, 0,
+        ],
+    ),
+    (
+        0,
+        &[
+            0, 1, 0, 0, 0, 0, 0, 1, 2, 2, 0, 0, 0, 0, 0x1F, 0x40, 0, 0, 0x7D, 0,
+        ],
+    ),
+    (
+        0,
+        &[
+            0, 1, 0, 0, 0, 0, 0, 1, 2, 1, 0, 0, 0, 0, 0x1F, 0x41, 0, 0, 0x7D, 4,
+        ],
+    ),
+    (
+        0,
+        &[
+            0, 1, 0, 0, 0, 0, 0, 1, 2, 1, 0, 0, 0, 0, 0x1F, 0x40, 0, 0, 0x7D, 1,
+        ],
+    ),
 ];
 
 #[test]

@@ -19,6 +19,6 @@ loop-i-preserved c =
     let some : device_in (slice_range c.args.bytes.now (12 * i) (12 * i + 12)) ≡ Some d = search rules in
     record {
       read = c.loop-i.invariant.read ∙ devices_more c.args.count i c.args.bytes.now c.loop-i.devices.items d c.loop-i-test.true some
-      ∙ ap (λ ds. devices_onto ds rest) (sym c.push.ensures.items);
-      size = search rules
+          ∙ ap (λ ds. devices_onto ds rest) (sym c.push.ensures.items);
+      size = search rules;
     }

@@ -1,0 +1,5 @@
+pub mod Reading
+pub mod FieldTrips
+pub mod DeviceRun
+pub mod RequestTrips
+pub mod ReplyTrips

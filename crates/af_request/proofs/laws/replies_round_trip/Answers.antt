@@ -1,0 +1,8 @@
+use Rattle.af_request.proofs.ReplyTrips.{answer_again, length-body}
+use Rattle.af_request.proofs.laws.replies_round_trip.Goals as goal
+
+pub returns-clause-again : goal.returns-clause-again
+returns-clause-again c = answer_again
+
+pub returns-clause-words : goal.returns-clause-words
+returns-clause-words c = length-body

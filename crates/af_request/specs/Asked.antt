@@ -1,0 +1,33 @@
+-- What a client asks: a request as a value without references, its samples being a list of bytes.
+use Rattle.std.specs.Prelude.{ℕ, ℤ, Bool, List}
+use Rattle.af_request.specs.declared.request.Request.{Request}
+use Rattle.af_request.specs.declared.request.Request.TheVariants as code
+
+pub data Asked : Type 0 where
+  no_op : Asked
+  get_time : (device : ℕ) → Asked
+  create_ac : (device ac ty channels preempt : ℕ) (play_gain record_gain : ℤ) → Asked
+  change_ac : (mask ac preempt : ℕ) (play_gain record_gain : ℤ) → Asked
+  free_ac : (ac : ℕ) → Asked
+  play_run : (quiet : Bool) (ac time : ℕ) (samples : List ℕ) → Asked
+  record_run : (blocking : Bool) (ac time nbytes : ℕ) → Asked
+  select_events : (device mask : ℕ) → Asked
+  set_controls : (device mask input_on output_on : ℕ) (input_gain output_gain : ℤ) → Asked
+  query_controls : (device : ℕ) → Asked
+  hook_switch : (device off : ℕ) → Asked
+  query_phone : (device : ℕ) → Asked
+
+-- what a request of the code asks
+abbrev pub meaning : Request → Asked
+meaning code.NoOp = no_op
+meaning (code.GetTime device) = get_time device
+meaning (code.CreateAc device ac ty channels preempt play_gain record_gain) = create_ac device ac ty channels preempt play_gain record_gain
+meaning (code.ChangeAc mask ac preempt play_gain record_gain) = change_ac mask ac preempt play_gain record_gain
+meaning (code.FreeAc ac) = free_ac ac
+meaning (code.PlayRun quiet ac time samples) = play_run quiet ac time.0 samples.now
+meaning (code.RecordRun blocking ac time nbytes) = record_run blocking ac time.0 nbytes
+meaning (code.SelectEvents device mask) = select_events device mask
+meaning (code.SetControls device mask input_on output_on input_gain output_gain) = set_controls device mask input_on output_on input_gain output_gain
+meaning (code.QueryControls device) = query_controls device
+meaning (code.HookSwitch device off) = hook_switch device off
+meaning (code.QueryPhone device) = query_phone device

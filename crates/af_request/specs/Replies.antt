@@ -1,0 +1,165 @@
+-- The grammar of replies: which bodies answer what, and how a reply is spelled.
+use Rattle.std.specs.Prelude.{◌≡◌, ◌≤◌, ◌<◌, ◌^◌, ℕ, zero, suc, ◌+◌, ◌*◌, ◌==◌, nat_le, ◌&&◌, if◌then◌else◌, Bool, true, false, ℤ, List, [], ◌∷◌, ◌++◌, All, Option, Some, None, IsTrue, length, take, drop, slice_range, option_map, ⊤}
+use Rattle.std.specs.List.{list_all, list_any, flat_map}
+use Rattle.af_wire.specs.Message.{head}
+use Rattle.af_sample.specs.declared.sample_type.SampleType.{SampleType}
+use Rattle.af_sample.specs.SampleTypes.{code_of, type_of_code}
+use Rattle.af_sample.specs.Gains.{gain_of, IsGain}
+use Rattle.af_request.specs.declared.reply.DeviceInfo.{DeviceInfo}
+use Rattle.af_request.specs.declared.reply.Phone.{Phone}
+use Rattle.af_request.specs.Answer.{Answer, setup, plain, time, played, recorded, controls, phone}
+use Rattle.af_request.specs.Fields.{u8_at, u16_at, u32_at, i16_at, u32_bytes, i16_bytes, flag_byte, words_for, padded}
+
+-- the rates that a device may have, in frames a second
+abbrev pub is_rate : ℕ → Bool
+is_rate rate = list_any (λ r. rate == r) (8000 ∷ 11025 ∷ 16000 ∷ 22050 ∷ 32000 ∷ 44100 ∷ 48000 ∷ [])
+
+-- whether all bytes are zero, as padding is
+abbrev pub is_zero : List ℕ → Bool
+is_zero bytes = list_all (λ b. b == 0) bytes
+
+-- the flag that a byte is, if it is one
+abbrev pub flag_of : ℕ → Option Bool
+flag_of byte = if byte == 0 then Some false else if byte == 1 then Some true else None
+
+-- a device of so many channels, of a listed rate, that can be played to four seconds ahead
+abbrev pub device_of : Option SampleType → ℕ → Option Bool → ℕ → ℕ → Option DeviceInfo
+device_of (Some ty) channels (Some line) rate horizon =
+    if channels == 1 && is_rate rate && horizon == rate * 4
+    then Some (record { ty = ty; channels = channels; line = line; rate = rate; horizon = horizon })
+    else None
+device_of _ _ _ _ _ = None
+
+-- what 12 bytes of the reply to a setup say of a device
+abbrev pub device_in : List ℕ → Option DeviceInfo
+device_in bytes =
+    if u8_at 3 bytes == 0
+    then device_of (type_of_code (u8_at 0 bytes)) (u8_at 1 bytes) (flag_of (u8_at 2 bytes)) (u32_at 4 bytes) (u32_at 8 bytes)
+    else None
+
+-- a device and those behind it
+abbrev pub device_then : Option DeviceInfo → Option (List DeviceInfo) → Option (List DeviceInfo)
+device_then (Some device) (Some devices) = Some (device ∷ devices)
+device_then _ _ = None
+
+-- so many devices
+abbrev pub devices_in : ℕ → List ℕ → Option (List DeviceInfo)
+devices_in zero bytes = Some []
+devices_in (suc count) bytes = device_then (device_in (take 12 bytes)) (devices_in count (drop 12 bytes))
+
+-- the reply to a setup: version 1.0, and 1 to 8 devices
+abbrev pub setup_in : List ℕ → Option Answer
+setup_in body = let count = u32_at 4 body in
+    if u16_at 0 body == 1 && u16_at 2 body == 0 && nat_le 1 count && nat_le count 8 && length body == 8 + 12 * count
+    then option_map setup (devices_in count (drop 8 body))
+    else None
+
+-- the reply of a request that is not answered with a value
+abbrev pub plain_in : List ℕ → Option Answer
+plain_in body = if length body == 0 then Some plain else None
+
+-- the reply to GetTime
+abbrev pub time_in : List ℕ → Option Answer
+time_in body = if length body == 4 then Some (time (u32_at 0 body)) else None
+
+-- the reply to a Play
+abbrev pub played_in : List ℕ → Option Answer
+played_in body = if length body == 4 then Some (played (u32_at 0 body)) else None
+
+-- the reply to a Record: its samples are padded with zeros to a word
+abbrev pub recorded_in : List ℕ → Option Answer
+recorded_in body = let count = u32_at 4 body in
+    if length body == 8 + 4 * words_for count && is_zero (drop (8 + count) body)
+    then Some (recorded (u32_at 0 body) (slice_range body 8 (8 + count)))
+    else None
+
+abbrev pub controls_of : Option Bool → Option Bool → Option ℤ → Option ℤ → Option Answer
+controls_of (Some input_on) (Some output_on) (Some input_gain) (Some output_gain) =
+    Some (controls (record { input_on = input_on; output_on = output_on; input_gain = input_gain; output_gain = output_gain }))
+controls_of _ _ _ _ = None
+
+-- the reply to QueryControls
+abbrev pub controls_in : List ℕ → Option Answer
+controls_in body =
+    if length body == 8 && is_zero (slice_range body 2 4)
+    then controls_of (flag_of (u8_at 0 body)) (flag_of (u8_at 1 body)) (gain_of (i16_at 4 body)) (gain_of (i16_at 6 body))
+    else None
+
+abbrev pub phone_of : Option Bool → Option Bool → Option Bool → Option Bool → Option Bool → Option Phone
+phone_of (Some wanted_off) (Some given_off) (Some ringing) (Some current) (Some dead) =
+    Some (record { wanted_off = wanted_off; given_off = given_off; ringing = ringing; current = current; dead = dead })
+phone_of _ _ _ _ _ = None
+
+-- the reply to QueryPhone
+abbrev pub phone_in : List ℕ → Option Answer
+phone_in body =
+    if length body == 8 && is_zero (drop 5 body)
+    then option_map phone (phone_of (flag_of (u8_at 0 body)) (flag_of (u8_at 1 body)) (flag_of (u8_at 2 body)) (flag_of (u8_at 3 body)) (flag_of (u8_at 4 body)))
+    else None
+
+-- CreateAC, ChangeAC, FreeAC, SelectEvents, SetControls and HookSwitch are not answered with a value
+abbrev pub is_plain : ℕ → Bool
+is_plain opcode = list_any (λ o. opcode == o) (3 ∷ 4 ∷ 5 ∷ 8 ∷ 9 ∷ 11 ∷ [])
+
+-- what a body answers to a request of an opcode, if it is a body of that opcode; 0 stands for a setup
+abbrev pub answer_in : ℕ → List ℕ → Option Answer
+answer_in opcode body =
+    if is_plain opcode then plain_in body
+    else if opcode == 0 then setup_in body
+    else if opcode == 2 then time_in body
+    else if opcode == 6 then played_in body
+    else if opcode == 7 then recorded_in body
+    else if opcode == 10 then controls_in body
+    else if opcode == 12 then phone_in body
+    else None
+
+-- what the reply to a setup says of a device
+abbrev pub device_bytes : DeviceInfo → List ℕ
+device_bytes d = (code_of d.ty ∷ d.channels ∷ flag_byte d.line ∷ 0 ∷ []) ++ u32_bytes d.rate ++ u32_bytes d.horizon
+
+-- how the body of a reply is spelled
+abbrev pub body_bytes : Answer → List ℕ
+body_bytes (setup devices) = (0 ∷ 1 ∷ 0 ∷ 0 ∷ []) ++ u32_bytes (length devices) ++ flat_map device_bytes devices
+body_bytes plain = []
+body_bytes (time now) = u32_bytes now
+body_bytes (played now) = u32_bytes now
+body_bytes (recorded now samples) = u32_bytes now ++ u32_bytes (length samples) ++ padded samples
+body_bytes (controls c) =
+    (flag_byte c.input_on ∷ flag_byte c.output_on ∷ 0 ∷ 0 ∷ []) ++ i16_bytes c.input_gain ++ i16_bytes c.output_gain
+body_bytes (phone p) =
+    flag_byte p.wanted_off ∷ flag_byte p.given_off ∷ flag_byte p.ringing ∷ flag_byte p.current ∷ flag_byte p.dead ∷ 0 ∷ 0 ∷ 0 ∷ []
+
+-- how many words the body of a reply has
+abbrev pub body_words : Answer → ℕ
+body_words (setup devices) = 2 + 3 * length devices
+body_words plain = 0
+body_words (time now) = 1
+body_words (played now) = 1
+body_words (recorded now samples) = 2 + words_for (length samples)
+body_words (controls c) = 2
+body_words (phone p) = 2
+
+-- how a reply to a request of an opcode is spelled, with the number of that request
+abbrev pub reply_bytes : ℕ → Answer → ℕ → List ℕ
+reply_bytes opcode answer sequence = head 1 opcode sequence (body_words answer) ++ body_bytes answer
+
+-- a reply whose record has at most the samples that the longest reply has room for
+abbrev pub HasRoom : Answer → Type 0
+HasRoom (recorded now samples) = length samples ≤ 16000
+HasRoom _ = ⊤
+
+-- a device as the reply to a setup may state it
+pub record IsStated (d : DeviceInfo) : Type 0 where
+  pub channels : d.channels ≡ 1
+  pub rate : IsTrue (is_rate d.rate)
+  pub horizon : d.horizon ≡ d.rate * 4
+
+-- a reply that a request of an opcode may get
+abbrev pub IsReplyTo : ℕ → Answer → Type 0
+IsReplyTo opcode (setup devices) = (opcode ≡ 0) × (1 ≤ length devices) × (length devices ≤ 8) × All IsStated devices
+IsReplyTo opcode plain = IsTrue (is_plain opcode)
+IsReplyTo opcode (time now) = (opcode ≡ 2) × (now < 2 ^ 32)
+IsReplyTo opcode (played now) = (opcode ≡ 6) × (now < 2 ^ 32)
+IsReplyTo opcode (recorded now samples) = (opcode ≡ 7) × (now < 2 ^ 32) × (length samples ≤ 16000)
+IsReplyTo opcode (controls c) = (opcode ≡ 10) × IsGain c.input_gain × IsGain c.output_gain
+IsReplyTo opcode (phone p) = opcode ≡ 12

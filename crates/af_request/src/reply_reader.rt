@@ -1,0 +1,209 @@
+// Reading the body of a reply: one function for each kind of body.
+ghost use Rattle.std.specs.Prelude.{◌≡◌, ◌≤◌, ◌*◌, length, option_map, slice_index, true};
+ghost use Rattle.std.specs.Int.{w16, cast_signed, from_be_bytes};
+ghost use Rattle.af_sample.specs.Gains.{gain_of};
+ghost use Rattle.af_request.specs.Answer.{meaning, items_of};
+ghost use Rattle.af_request.specs.Replies.{answer_in, controls_in, device_in, devices_in, flag_of, is_rate, phone_in, phone_of, plain_in, played_in, recorded_in, setup_in, time_in, is_zero};
+
+use crate::reply::{Controls, DeviceInfo, Devices, Phone, Reply};
+use af_sample::{Gain, SampleType};
+use af_time::DevTime;
+
+/// Reads the body of a reply to a request of this opcode, 0 standing for a setup. None exactly where it is no such body:
+/// a length that does not fit, a flag above 1, a gain outside -30..30, a type above 3, channels other than 1, a rate that
+/// is not listed, a horizon that is not 4 seconds, fewer than 1 or more than 8 devices, or padding that is not zero.
+pub fn read_reply<'a>(opcode: u8, body: &'a [u8]) -> Option<Reply<'a>>
+    ensures { option_map meaning result ≡ answer_in opcode body.entry.now }
+{
+    match opcode {
+        0 => setup(body),
+        2 => time(body),
+        3 | 4 | 5 | 8 | 9 | 11 => plain(body),
+        6 => played(body),
+        7 => recorded(body),
+        10 => controls(body),
+        12 => phone(body),
+        _ => None,
+    }
+}
+
+fn plain<'a>(body: &'a [u8]) -> Option<Reply<'a>>
+    ensures { option_map meaning result ≡ plain_in body.entry.now }
+{
+    if body.is_empty() {
+        Some(Reply::Plain)
+    } else {
+        None
+    }
+}
+
+fn time<'a>(body: &'a [u8]) -> Option<Reply<'a>>
+    ensures { option_map meaning result ≡ time_in body.entry.now }
+{
+    let [a, b, c, d] = body else {
+        return None;
+    };
+    Some(Reply::Time {
+        time: DevTime(u32::from_be_bytes([*a, *b, *c, *d])),
+    })
+}
+
+fn played<'a>(body: &'a [u8]) -> Option<Reply<'a>>
+    ensures { option_map meaning result ≡ played_in body.entry.now }
+{
+    let [a, b, c, d] = body else {
+        return None;
+    };
+    Some(Reply::Played {
+        time: DevTime(u32::from_be_bytes([*a, *b, *c, *d])),
+    })
+}
+
+fn recorded<'a>(body: &'a [u8]) -> Option<Reply<'a>>
+    ensures { option_map meaning result ≡ recorded_in body.entry.now }
+{
+    let [a, b, c, d, e, f, g, h, data @ ..] = body else {
+        return None;
+    };
+    let nbytes = u32::from_be_bytes([*e, *f, *g, *h]) as usize;
+    if data.len() != 4 * nbytes.div_ceil(4) || !is_padding(&data[nbytes..]) {
+        return None;
+    }
+    Some(Reply::Recorded {
+        time: DevTime(u32::from_be_bytes([*a, *b, *c, *d])),
+        samples: &data[..nbytes],
+    })
+}
+
+fn controls<'a>(body: &'a [u8]) -> Option<Reply<'a>>
+    ensures { option_map meaning result ≡ controls_in body.entry.now }
+{
+    let [input_on, output_on, 0, 0, a, b, c, d] = body else {
+        return None;
+    };
+    let input_on = flag(*input_on)?;
+    let output_on = flag(*output_on)?;
+    let input_gain = gain([*a, *b])?;
+    let output_gain = gain([*c, *d])?;
+    Some(Reply::Controls {
+        controls: Controls {
+            input_on,
+            output_on,
+            input_gain,
+            output_gain,
+        },
+    })
+}
+
+fn phone<'a>(body: &'a [u8]) -> Option<Reply<'a>>
+    ensures { option_map meaning result ≡ phone_in body.entry.now }
+{
+    let [wanted_off, given_off, ringing, current, dead, padding @ ..] = body else {
+        return None;
+    };
+    if padding.len() != 3 || !is_padding(padding) {
+        return None;
+    }
+    let phone = phone_of([*wanted_off, *given_off, *ringing, *current, *dead])?;
+    Some(Reply::Phone { phone })
+}
+
+fn phone_of(flags: [u8; 5]) -> Option<Phone>
+    ensures { result ≡ phone_of (flag_of (slice_index flags 0)) (flag_of (slice_index flags 1)) (flag_of (slice_index flags 2))
+        (flag_of (slice_index flags 3)) (flag_of (slice_index flags 4)) }
+{
+    let [wanted_off, given_off, ringing, current, dead] = flags;
+    Some(Phone {
+        wanted_off: flag(wanted_off)?,
+        given_off: flag(given_off)?,
+        ringing: flag(ringing)?,
+        current: flag(current)?,
+        dead: flag(dead)?,
+    })
+}
+
+fn setup<'a>(body: &'a [u8]) -> Option<Reply<'a>>
+    ensures { option_map meaning result ≡ setup_in body.entry.now }
+{
+    let [a, b, c, d, e, f, g, h, data @ ..] = body else {
+        return None;
+    };
+    let major = u16::from_be_bytes([*a, *b]);
+    let minor = u16::from_be_bytes([*c, *d]);
+    let count = u32::from_be_bytes([*e, *f, *g, *h]) as usize;
+    if major != 1 || minor != 0 || count == 0 || count > 8 || data.len() != 12 * count {
+        return None;
+    }
+    let devices = devices(count, data)?;
+    Some(Reply::Setup { devices })
+}
+
+// What so many times 12 bytes of the reply to a setup say of the devices.
+fn devices(count: usize, bytes: &[u8]) -> Option<Devices>
+    requires most { count ≤ 8 }
+    requires whole { length bytes.now ≡ 12 * count }
+    ensures { option_map items_of result ≡ devices_in count bytes.now }
+{
+    let mut devices = Devices::new();
+    for i in 0..count {
+        let at = 12 * i;
+        devices.push(device(&bytes[at..at + 12])?);
+    }
+    Some(devices)
+}
+
+// What 12 bytes of the reply to a setup say of a device.
+fn device(bytes: &[u8]) -> Option<DeviceInfo>
+    requires { length bytes.now ≡ 12 }
+    ensures { result ≡ device_in bytes.now }
+{
+    let [ty, channels, line, 0, a, b, c, d, e, f, g, h] = bytes else {
+        return None;
+    };
+    let rate = u32::from_be_bytes([*a, *b, *c, *d]);
+    let horizon = u32::from_be_bytes([*e, *f, *g, *h]);
+    let ty = SampleType::of_code(*ty)?;
+    let line = flag(*line)?;
+    if *channels == 1 && is_listed(rate) && horizon == rate * 4 {
+        Some(DeviceInfo {
+            ty,
+            channels: *channels,
+            line,
+            rate,
+            horizon,
+        })
+    } else {
+        None
+    }
+}
+
+fn flag(byte: u8) -> Option<bool>
+    ensures { result ≡ flag_of byte }
+{
+    match byte {
+        0 => Some(false),
+        1 => Some(true),
+        _ => None,
+    }
+}
+
+// The gain whose decibels two bytes state.
+fn gain(bytes: [u8; 2]) -> Option<Gain>
+    ensures { result ≡ gain_of (cast_signed w16 (from_be_bytes w16 bytes)) }
+{
+    Gain::new(i32::from(i16::from_be_bytes(bytes)))
+}
+
+// Whether a device may have this rate, in frames a second.
+fn is_listed(rate: u32) -> bool
+    ensures value { result ≡ is_rate rate }
+    ensures most { result ≡ true → rate ≤ 48000 }
+{
+    matches!(rate, 8000 | 11025 | 16000 | 22050 | 32000 | 44100 | 48000)
+}
+
+fn is_padding(bytes: &[u8]) -> bool
+    ensures { result ≡ is_zero bytes.now }
+{
+    bytes.iter().all(|b| *b == 0)
+}

@@ -1,0 +1,161 @@
+// Writing a reply as a message.
+ghost use Rattle.std.specs.Prelude.{◌≡◌, ◌≤◌, ◌+◌, ◌*◌, ◌++◌, drop, length, take};
+ghost use Rattle.af_wire.specs.Message.{head};
+ghost use Rattle.af_request.specs.Answer.{meaning, recorded, setup};
+ghost use Rattle.af_request.specs.Answer.{controls as controls_answer, phone as phone_answer};
+ghost use Rattle.af_request.specs.Fields.{i16_bytes, words_for};
+ghost use Rattle.af_request.specs.Replies.{answer_in, body_bytes, body_words, device_bytes, reply_bytes, HasRoom, IsReplyTo};
+
+use crate::put::{put, put_zeros};
+use crate::reply::{Controls, DeviceInfo, Phone, Reply};
+use af_sample::Gain;
+use af_wire::write_head;
+
+/// Writes the reply to a request of this opcode, 0 standing for a setup, and answers how many bytes that are. Recorded
+/// samples have at most 16000 bytes.
+pub fn write_reply(opcode: u8, reply: &Reply<'_>, sequence: u16, out: &mut [u8]) -> usize
+    requires samples { HasRoom (meaning reply.now) }
+    requires room { 16016 ≤ length out.old }
+    ensures size { result ≡ 8 + 4 * body_words (meaning reply.now) }
+    ensures most { result ≤ 16016 }
+    ensures bytes { take result out.new ≡ reply_bytes opcode (meaning reply.now) sequence }
+    ensures again { IsReplyTo opcode (meaning reply.now) →
+        answer_in opcode (drop 8 (take result out.new)) ≡ Some (meaning reply.now) }
+{
+    let at = put_head(out, opcode, sequence, words_of(reply));
+    put_body(out, at, reply)
+}
+
+fn put_body(out: &mut [u8], at: usize, reply: &Reply<'_>) -> usize
+    requires samples { HasRoom (meaning reply.now) }
+    requires room { at + 16008 ≤ length out.old }
+    ensures end { result ≡ at + 4 * body_words (meaning reply.now) }
+    ensures most { result ≤ at + 16008 }
+    ensures bytes { take result out.new ≡ take at out.old ++ body_bytes (meaning reply.now) }
+{
+    match reply {
+        Reply::Setup { devices } => put_devices(out, at, devices.as_slice()),
+        Reply::Plain => at,
+        Reply::Time { time } => put(out, at, &time.0.to_be_bytes()),
+        Reply::Played { time } => put(out, at, &time.0.to_be_bytes()),
+        Reply::Recorded { time, samples } => put_recorded(out, at, time.0, samples),
+        Reply::Controls { controls } => put_controls(out, at, controls),
+        Reply::Phone { phone } => put_phone(out, at, phone),
+    }
+}
+
+// How many words the body of a reply has.
+fn words_of(reply: &Reply<'_>) -> u32
+    requires { HasRoom (meaning reply.now) }
+    ensures value { result ≡ body_words (meaning reply.now) }
+{
+    match reply {
+        Reply::Setup { devices } => 2 + 3 * devices.len() as u32,
+        Reply::Plain => 0,
+        Reply::Time { .. } | Reply::Played { .. } => 1,
+        Reply::Recorded { samples, .. } => 2 + samples.len().div_ceil(4) as u32,
+        Reply::Controls { .. } | Reply::Phone { .. } => 2,
+    }
+}
+
+// The head of a reply.
+fn put_head(out: &mut [u8], opcode: u8, sequence: u16, words: u32) -> usize
+    requires { 8 ≤ length out.old }
+    ensures end { result ≡ 8 }
+    ensures bytes { take result out.new ≡ head 1 opcode sequence words }
+{
+    let mut bytes = [0; 8];
+    write_head(1, opcode, sequence, words, &mut bytes);
+    put(out, 0, &bytes)
+}
+
+// The version, the count of the devices, and each of them.
+fn put_devices(out: &mut [u8], at: usize, devices: &[DeviceInfo]) -> usize
+    requires most { length devices.now ≤ 8 }
+    requires room { at + 104 ≤ length out.old }
+    ensures end { result ≡ at + 8 + 12 * length devices.now }
+    ensures bytes { take result out.new ≡ take at out.old ++ body_bytes (setup devices.now) }
+{
+    let at = put(out, at, &[0, 1, 0, 0]);
+    let mut at = put(out, at, &(devices.len() as u32).to_be_bytes());
+    for device in devices {
+        at = put_device(out, at, *device);
+    }
+    at
+}
+
+fn put_device(out: &mut [u8], at: usize, device: DeviceInfo) -> usize
+    requires { at + 12 ≤ length out.old }
+    ensures end { result ≡ at + 12 }
+    ensures bytes { take result out.new ≡ take at out.old ++ device_bytes device }
+{
+    let [a, b, c, d] = device.rate.to_be_bytes();
+    let [e, f, g, h] = device.horizon.to_be_bytes();
+    let line = u8::from(device.line);
+    put(
+        out,
+        at,
+        &[
+            device.ty.code(),
+            device.channels,
+            line,
+            0,
+            a,
+            b,
+            c,
+            d,
+            e,
+            f,
+            g,
+            h,
+        ],
+    )
+}
+
+// The time, the count of the bytes, and the bytes padded with zeros to a word.
+fn put_recorded(out: &mut [u8], at: usize, time: u32, samples: &[u8]) -> usize
+    requires samples { length samples.now ≤ 16000 }
+    requires room { at + 16008 ≤ length out.old }
+    ensures end { result ≡ at + 8 + 4 * words_for (length samples.now) }
+    ensures bytes { take result out.new ≡ take at out.old ++ body_bytes (recorded time samples.now) }
+{
+    let at = put(out, at, &time.to_be_bytes());
+    let at = put(out, at, &(samples.len() as u32).to_be_bytes());
+    let at = put(out, at, samples);
+    put_zeros(out, at, 4 * samples.len().div_ceil(4) - samples.len())
+}
+
+fn put_controls(out: &mut [u8], at: usize, controls: &Controls) -> usize
+    requires { at + 8 ≤ length out.old }
+    ensures end { result ≡ at + 8 }
+    ensures bytes { take result out.new ≡ take at out.old ++ body_bytes (controls_answer controls.now) }
+{
+    let input_on = u8::from(controls.input_on);
+    let output_on = u8::from(controls.output_on);
+    let [a, b] = gain_bytes(controls.input_gain);
+    let [c, d] = gain_bytes(controls.output_gain);
+    put(out, at, &[input_on, output_on, 0, 0, a, b, c, d])
+}
+
+fn gain_bytes(gain: Gain) -> [u8; 2]
+    ensures { result ≡ i16_bytes gain }
+{
+    (gain.db() as i16).to_be_bytes()
+}
+
+fn put_phone(out: &mut [u8], at: usize, phone: &Phone) -> usize
+    requires { at + 8 ≤ length out.old }
+    ensures end { result ≡ at + 8 }
+    ensures bytes { take result out.new ≡ take at out.old ++ body_bytes (phone_answer phone.now) }
+{
+    let wanted_off = u8::from(phone.wanted_off);
+    let given_off = u8::from(phone.given_off);
+    let ringing = u8::from(phone.ringing);
+    let current = u8::from(phone.current);
+    let dead = u8::from(phone.dead);
+    put(
+        out,
+        at,
+        &[wanted_off, given_off, ringing, current, dead, 0, 0, 0],
+    )
+}

@@ -101,3 +101,28 @@ read_more out cells t k n x size within so_far place is j h =
           (get_or-set_same out k x (pos 0) within ∙ is ∙ ap (λ m. get_or cells m (pos 0)) place ∙ same_cell cells ((t + k) % 2 ^ 32) (t + k) size (mod-mod (t + k) (2 ^ 32)))
       | inr other ↦ get_or-set_other out k j x (pos 0) other ∙ so_far j (omega arith)
     ]
+
+-- a cell of a run, by any time that shares it
+pub in_run : (old new : List ℤ) (t u k n : ℕ) (f : ℕ → ℤ → ℤ) → IsSize (length old) → ChangesRun old new t n f → (t + k) % 2 ^ 32 ≡ u % 2 ^ 32 → k < n → n ≤ length old →
+    cell new u ≡ f k (cell old u)
+in_run old new t u k n f size run same within room =
+    let size' : IsSize (length new) = subst IsSize (sym run.size) size in
+    sym (same_cell new (t + k) u size' same) ∙ run.each k (omega arith)
+    ∙ ap (λ b. cond b (f k (cell old (t + k))) (cell old (t + k))) (lt-ltb k n within)
+    ∙ ap (f k) (same_cell old (t + k) u size same)
+
+-- a cell past a run, less than a round from its start
+pub past_run : (old new : List ℤ) (t u k n : ℕ) (f : ℕ → ℤ → ℤ) → IsSize (length old) → ChangesRun old new t n f → (t + k) % 2 ^ 32 ≡ u % 2 ^ 32 → n ≤ k → k < length old →
+    cell new u ≡ cell old u
+past_run old new t u k n f size run same past round =
+    let size' : IsSize (length new) = subst IsSize (sym run.size) size in
+    sym (same_cell new (t + k) u size' same) ∙ run.each k round
+    ∙ ap (λ b. cond b (f k (cell old (t + k))) (cell old (t + k))) (le-ltb k n past)
+    ∙ same_cell old (t + k) u size same
+
+-- the same of a time that is a round earlier
+pub before_run : (old new : List ℤ) (t u k n : ℕ) (f : ℕ → ℤ → ℤ) → IsSize (length old) → ChangesRun old new t n f → (t + k) % 2 ^ 32 ≡ (u + length old) % 2 ^ 32 → n ≤ k → k < length old →
+    cell new u ≡ cell old u
+before_run old new t u k n f size run same past round =
+    sym (around new u) ∙ ap (λ m. cell new (u + m)) run.size
+    ∙ past_run old new t (u + length old) k n f size run same past round ∙ around old u

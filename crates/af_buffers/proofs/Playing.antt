@@ -1,17 +1,16 @@
 -- Plays and what is handed out, over a ring.
-use Rattle.std.proofs.Common.{◌≡◌, ℕ, ℤ, pos, ◌+◌, ◌-◌, ◌*◌, ◌%◌, ◌^◌, ◌<◌, ◌≤◌, inl, inr, ◌↔◌, Bool, true, false, cond, nat_lt, List, ◌++◌, replicate, length, get_or, take, drop, map, refl, sym, ap, ◌∙◌, subst, arith, length-drop, length-append, get_or-drop}
+use Rattle.std.proofs.Common.{◌≡◌, ℕ, ℤ, pos, ◌+◌, ◌-◌, ◌%◌, ◌^◌, ◌<◌, ◌≤◌, inl, inr, ◌↔◌, Bool, true, false, List, ◌++◌, replicate, length, get_or, take, drop, refl, sym, ap, ◌∙◌, subst, arith, length-drop, length-append, get_or-drop}
 use Rattle.std.proofs.lemmas.List.{get_or_past, get_or-replicate, length-replicate, ext_get_or, get_or-take, length-take-le, get_or_append_left, get_or-append_right}
 use Rattle.std.proofs.lemmas.Bool.{cases_lt}
 use Rattle.std.proofs.lemmas.List.FromFn.{length-map-range_with_len, get_or-map-range_with_len}
 use Rattle.std.proofs.Math.Nat.{mod-add-mod}
-use Rattle.std.specs.List.{range_with_len}
-use Rattle.af_time.specs.DeviceTime.{unwrap, AreNear, IsMeant}
-use Rattle.af_time.proofs.WholeTimes.{unwrap_meant}
-use Rattle.af_sample.specs.Heard.{Entry, blended, covers, with_entry}
+use Rattle.af_time.specs.DeviceTime.{ahead, unwrap, AreNear, IsMeant}
+use Rattle.af_time.proofs.WholeTimes.{unwrap_meant, unwrap_ahead, unwrap_late}
+use Rattle.af_sample.specs.Heard.{Entry, blended, with_entry}
 use Rattle.af_ring.specs.Cells.{cell, ChangesRun, IsSize}
 use Rattle.af_ring.proofs.Turning.{same_cell, around, in_run, past_run, before_run}
-use Rattle.af_buffers.specs.Horizons.{IsHorizon, IsRoomFor, whole_time}
-use Rattle.af_buffers.specs.PlayBuffer.{Next, next_of, accepted_at, accepted_by, EndsWithin, Plays, ChangesCovered, HandsOut, HoldsNext, IsRingOf}
+use Rattle.af_buffers.specs.Horizons.{IsRoomFor, whole_time}
+use Rattle.af_buffers.specs.PlayBuffer.{Next, next_of, accepted_at, EndsWithin, Plays, ChangesCovered, HandsOut, HoldsNext, IsRingOf}
 use Rattle.af_buffers.proofs.Entries.{covers_before, covers_past, not_covered, covered}
 use Rattle.af_buffers.proofs.Rooms.{horizon_within, silent_cell, get_or-silence}
 
@@ -225,3 +224,10 @@ late_by t start late word word' before is =
     let same : unwrap (whole_time t) start % 2 ^ 32 ≡ start = meant.word in
     let early : whole_time t ≤ unwrap (whole_time t) start + 2 ^ 31 = meant.early in
     omega arith
+
+-- a play whose start is ahead ends within the horizon where its words say so, and a late one always
+pub ends_ahead : (b : Next) (start n : ℕ) → ahead (whole_time b.time) start < 2 ^ 31 → ahead (whole_time b.time) start + n ≤ length b.next → EndsWithin b start n
+ends_ahead b start n early within = let e = unwrap_ahead (whole_time b.time) start early in omega arith
+
+pub ends_late : (b : Next) (start n : ℕ) → 2 ^ 31 ≤ ahead (whole_time b.time) start → n ≤ length b.next → EndsWithin b start n
+ends_late b start n late within = let e = unwrap_late (whole_time b.time) start late in omega arith

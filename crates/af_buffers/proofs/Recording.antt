@@ -1,14 +1,13 @@
 -- Captures and reads, over a ring.
-use Rattle.std.proofs.Common.{◌≡◌, ℕ, ℤ, pos, ◌+◌, ◌-◌, ◌*◌, ◌%◌, ◌^◌, ◌<◌, ◌≤◌, inl, inr, true, false, cond, nat_lt, nat_le, ◌&&◌, List, ◌++◌, replicate, length, get_or, drop, map, refl, sym, ap, ◌∙◌, subst, arith, length-drop, length-append, get_or-drop}
+use Rattle.std.proofs.Common.{◌≡◌, ℕ, ℤ, pos, ◌+◌, ◌-◌, ◌%◌, ◌^◌, ◌<◌, ◌≤◌, inl, inr, cond, nat_lt, ◌&&◌, List, ◌++◌, replicate, length, get_or, drop, refl, sym, ap, ◌∙◌, subst, arith, length-drop, length-append, get_or-drop}
 use Rattle.std.proofs.lemmas.Bool.{cases_lt, le-leb, lt-leb, lt-ltb, le-ltb}
 use Rattle.std.proofs.lemmas.List.{get_or-replicate, length-replicate, ext_get_or, get_or_append_left, get_or-append_right}
 use Rattle.std.proofs.lemmas.List.FromFn.{length-map-range_with_len, get_or-map-range_with_len}
-use Rattle.std.specs.List.{range_with_len}
 use Rattle.af_time.specs.DeviceTime.{unwrap, IsMeant}
 use Rattle.af_time.proofs.WholeTimes.{unwrap_meant}
 use Rattle.af_ring.specs.Cells.{cell, ChangesRun, IsSize}
 use Rattle.af_ring.proofs.Turning.{same_cell, in_run, before_run}
-use Rattle.af_buffers.specs.Horizons.{IsHorizon, IsRoomFor, whole_time}
+use Rattle.af_buffers.specs.Horizons.{IsRoomFor, whole_time}
 use Rattle.af_buffers.specs.RecordBuffer.{Last, last_of, Captures, sample_at, samples_from, HoldsLast, IsRoomOf, within_run}
 use Rattle.af_buffers.proofs.Rooms.{horizon_within, silent_cell}
 

@@ -1,12 +1,11 @@
 -- Horizons and the rings that hold them.
-use Rattle.std.proofs.Common.{◌≡◌, ℕ, ℤ, pos, ◌+◌, ◌*◌, ◌%◌, ◌^◌, ◌<◌, ◌≤◌, ◌==◌, inl, inr, true, List, [], ◌∷◌, replicate, length, get_or, ap, ◌∙◌, sym, refl, arith}
-use Rattle.std.specs.List.{list_any}
-use Rattle.std.proofs.lemmas.Bool.{or_cases, eqb-true, cases_lt}
+use Rattle.std.proofs.Common.{◌≡◌, ℕ, ℤ, pos, ◌*◌, ◌%◌, ◌^◌, ◌<◌, ◌≤◌, inl, inr, List, replicate, length, get_or, ap, ◌∙◌, refl, arith}
+use Rattle.std.proofs.lemmas.Bool.{cases_lt}
 use Rattle.std.proofs.lemmas.Bool.Decides.{nat_tests}
 use Rattle.std.proofs.lemmas.List.{get_or-replicate, get_or_past, length-replicate}
 use Rattle.af_ring.specs.Cells.{cell}
 use Rattle.af_ring.proofs.Turning.{size_of}
-use Rattle.af_buffers.specs.Horizons.{listed_rates, IsListedRate, IsHorizon, IsRoomFor}
+use Rattle.af_buffers.specs.Horizons.{IsHorizon, IsRoomFor}
 
 -- a horizon is from 32000 to 192000 frames
 pub horizon_within : (n : ℕ) → IsHorizon n → (32000 ≤ n) × (n ≤ 192000)

@@ -1,10 +1,9 @@
 -- A record buffer that keeps what was recorded goes on doing so, and reads are windows.
-use Rattle.std.proofs.Common.{◌≡◌, ℕ, ℤ, pos, ◌+◌, ◌-◌, ◌%◌, ◌^◌, ◌<◌, ◌≤◌, inl, inr, cond, nat_lt, nat_le, ◌&&◌, List, [], ◌++◌, replicate, length, get_or, drop, map, refl, sym, ap, ◌∙◌, arith, length-drop, length-append, get_or-drop}
+use Rattle.std.proofs.Common.{◌≡◌, ℕ, ℤ, pos, ◌+◌, ◌-◌, ◌%◌, ◌^◌, ◌<◌, ◌≤◌, inl, inr, cond, nat_lt, nat_le, ◌&&◌, List, [], ◌++◌, replicate, length, get_or, refl, sym, ap, ◌∙◌, arith, length-drop, length-append, get_or-drop}
 use Rattle.std.proofs.lemmas.Bool.{cases_lt, lt-leb, le-leb, le-ltb}
 use Rattle.std.proofs.lemmas.List.{get_or-replicate, length-replicate, ext_get_or, get_or_append_left, get_or-append_right}
 use Rattle.std.proofs.lemmas.List.FromFn.{length-map-range_with_len, get_or-map-range_with_len}
 use Rattle.std.proofs.Math.Nat.{mod-add-mod}
-use Rattle.std.specs.List.{range_with_len}
 use Rattle.af_time.specs.DeviceTime.{unwrap}
 use Rattle.af_sample.specs.Window.{recorded, window}
 use Rattle.af_sample.proofs.Hearing.{recorded_within, recorded_before, recorded-append}

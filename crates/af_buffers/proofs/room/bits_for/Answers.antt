@@ -1,5 +1,4 @@
-use Rattle.std.proofs.Common.{◌≤◌, ◌*◌, ◌^◌, arith, refl}
-use Rattle.af_buffers.specs.Horizons.{IsHorizon, IsRoomFor}
+use Rattle.std.proofs.Common.{arith}
 use Rattle.af_buffers.proofs.Rooms.{horizon_within, room_of}
 use Rattle.af_buffers.proofs.room.bits_for.Goals as goal
 

@@ -1,4 +1,4 @@
-use Rattle.std.proofs.Common.{◌≡◌, ◌+◌, ◌%◌, ◌^◌, subst, sym, arith, length}
+use Rattle.std.proofs.Common.{subst, sym, arith}
 use Rattle.af_buffers.specs.PlayBuffer.{Next, next_of, HandsOut, IsRingOf}
 use Rattle.af_buffers.proofs.Playing.{hands_out, ring_of_hand_out}
 use Rattle.af_buffers.proofs.play.PlayBuffer.hand_out.Goals as goal

@@ -1,4 +1,3 @@
-use Rattle.std.proofs.Common.{arith}
 use Rattle.af_buffers.proofs.Playing.{next_of-silence}
 use Rattle.af_buffers.proofs.play.PlayBuffer.new.Goals as goal
 

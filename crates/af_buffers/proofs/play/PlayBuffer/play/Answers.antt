@@ -1,6 +1,5 @@
-use Rattle.std.proofs.Common.{◌≡◌, ℕ, ◌<◌, ◌≤◌, ◌+◌, ◌-◌, ◌%◌, ◌^◌, subst, arith, rules, length, take, drop, refl}
+use Rattle.std.proofs.Common.{◌<◌, ◌+◌, ◌-◌, ◌%◌, ◌^◌, subst, arith, rules, length, refl}
 use Rattle.std.proofs.lemmas.Grind.{common_steps}
-use Rattle.af_time.specs.DeviceTime.{unwrap}
 use Rattle.af_buffers.specs.Horizons.{whole_time}
 use Rattle.af_buffers.specs.PlayBuffer.{Next, next_of, accepted_at, accepted_by, Plays, ChangesCovered}
 use Rattle.af_buffers.proofs.Playing.{LaysOver, lays_ahead, lays_rest, lays_nothing, plays, changes_covered, ring_of_play, within_of, word_of_start, is_late, not_late, late_by}

@@ -1,4 +1,4 @@
-use Rattle.std.proofs.Common.{◌≡◌, subst, sym, arith, length}
+use Rattle.std.proofs.Common.{subst, sym}
 use Rattle.af_buffers.specs.RecordBuffer.{Last, last_of, Captures}
 use Rattle.af_buffers.proofs.Recording.{captures}
 use Rattle.af_buffers.proofs.record.RecordBuffer.capture.Goals as goal

@@ -1,0 +1,13 @@
+//! What a device is about to play and what it has captured of late: a ring of samples each, seen as
+//! the list of the next and of the last samples.
+#![tactic(auto)]
+
+mod play;
+mod record;
+mod room;
+
+pub use play::PlayBuffer;
+pub use record::RecordBuffer;
+
+#[cfg(test)]
+mod tests;

@@ -1,0 +1,95 @@
+// The last samples of a device.
+ghost use Rattle.std.specs.Prelude.{◌≡◌, ℕ, ◌+◌, ◌%◌, ◌^◌, ◌<◌, ◌≤◌, length, IfOk, pos, replicate, slice_index_or};
+ghost use Rattle.af_ring.specs.Cells.{ChangesRun};
+ghost use Rattle.af_buffers.specs.Horizons.{IsHorizon};
+ghost use Rattle.af_buffers.specs.RecordBuffer.{Captures, HoldsLast, samples_from, within_run};
+
+use crate::room::bits_for;
+use af_ring::TimeRing;
+use af_time::{DevTime, OutOfMemory};
+use std::alloc::Global;
+use std::marker::Model;
+
+/// A device's time, and its samples up to then. They lie in a ring, each in the cell of its time.
+#[derive(Drop)]
+pub struct RecordBuffer {
+    ring: TimeRing,
+    time: DevTime,
+    horizon: u32,
+}
+
+impl Model for RecordBuffer {
+    ghost use Rattle.af_buffers.specs.RecordBuffer.{Last, last_of, IsRoomOf};
+
+    ghost Value = { Last };
+
+    ghost view = { λ b. last_of b.ring b.time.0 b.horizon };
+
+    ghost invariant = { λ b. IsRoomOf b.ring b.horizon };
+}
+
+impl RecordBuffer {
+    /// Silence up to a time, over a horizon of frames: four seconds at a listed rate.
+    pub fn new(alloc: Global, now: DevTime, horizon: u32) -> Result<RecordBuffer, OutOfMemory>
+        requires { IsHorizon horizon }
+        ensures time { IfOk result (λ b. b.time ≡ now.0) }
+        ensures last { IfOk result (λ b. b.last ≡ replicate horizon (pos 0)) }
+        ensures ring { IfOk result (λ b. b.ring ≡ replicate (length b.ring) (pos 0)) }
+    {
+        let ring = TimeRing::new(alloc, bits_for(horizon))?;
+        Ok(RecordBuffer {
+            ring,
+            time: now,
+            horizon,
+        })
+    }
+
+    /// The cells by time: among them the last samples.
+    pub fn ring(&self) -> &TimeRing
+        ensures cells { result.now ≡ self.now.ring }
+        ensures held { HoldsLast self.now }
+    {
+        &self.ring
+    }
+
+    /// Appends samples, at most 4096, and moves the time behind them.
+    pub fn capture(&mut self, samples: &[i16])
+        requires { length samples.now ≤ 4096 }
+        ensures last { Captures self.old self.new samples.now }
+        ensures ring { ChangesRun self.old.ring self.new.ring self.old.time (length samples.now) (λ k _. slice_index_or samples.now k (pos 0)) }
+    {
+        self.ring.put_run(self.time, samples);
+        self.time = self.time.after(samples.len() as u32);
+    }
+
+    /// Reads the samples from a time on, at most 16000: silence further back than the horizon, and
+    /// from now on.
+    pub fn read(&self, start: DevTime, out: &mut [i16])
+        requires { length out.old ≤ 16000 }
+        ensures { out.new ≡ samples_from self.now start.0 (length out.new) }
+    {
+        let first = DevTime(self.time.0.wrapping_sub(self.horizon));
+        read_window(&self.ring, first, self.horizon, start, out);
+    }
+}
+
+// The sample of a time that is one of the n from the first on, and silence elsewhere.
+fn sample_of(ring: &TimeRing, first: DevTime, n: u32, t: DevTime) -> i16
+    ensures { result ≡ within_run ring.now first.0 n t.0 }
+{
+    if t.0.wrapping_sub(first.0) < n {
+        ring.get(t)
+    } else {
+        0
+    }
+}
+
+// The samples from a time on: silence at all times but the n from the first on.
+fn read_window(ring: &TimeRing, first: DevTime, n: u32, start: DevTime, out: &mut [i16])
+    requires { length out.old ≤ 16000 }
+    ensures { (i : ℕ) → i < length out.new → slice_index_or out.new i (pos 0) ≡ within_run ring.now first.0 n ((start.0 + i) % 2 ^ 32) }
+{
+    for (i, x) in out.iter_mut().enumerate() {
+        *x = sample_of(ring, first, n, start.after(i as u32));
+    }
+}

@@ -2,6 +2,7 @@
 //! chose (CRL 93/8).
 #![tactic(auto)]
 
+pub mod laws;
 mod list;
 
 use af_sample::{Gain, SampleType};
@@ -31,3 +32,6 @@ pub enum ContextFault {
     #[error("a link has 16 contexts at most")]
     TooMany,
 }
+
+#[cfg(test)]
+mod tests;

@@ -1,7 +1,6 @@
 -- Lists of contexts in which each number stands once.
-use Rattle.std.proofs.Common.{◌≡◌, ◌≢◌, ℕ, zero, suc, ◌+◌, ◌<◌, ◌≤◌, ◌==◌, nat_lt, Bool, true, false, cond, not, ◌||◌, List, [], ◌∷◌, ◌++◌, length, map, filter, find, position, take, drop, set, get_or, option_map, length-append, slice_get, Option, Some, None, Ok, refl, sym, ap, ◌∙◌, subst, arith, rules}
+use Rattle.std.proofs.Common.{◌≡◌, ◌≢◌, ℕ, zero, suc, ◌+◌, ◌<◌, ◌==◌, nat_lt, Bool, true, false, cond, not, ◌||◌, List, [], ◌∷◌, ◌++◌, length, find, position, take, drop, set, get_or, option_map, length-append, Option, Some, None, Ok, refl, sym, ap, ◌∙◌, subst, arith, rules}
 use Rattle.std.proofs.lemmas.Bool.Decides.{nat_tests}
-use Rattle.std.proofs.lemmas.Grind.{common_steps}
 use Rattle.std.specs.List.{list_any, refill, remove, position_or_len, All, AllPairs}
 use Rattle.std.proofs.lemmas.List.{length_push, get_or-map}
 use Rattle.std.proofs.lemmas.List.Folds.{find_at, find-append, list_any_at}
@@ -154,10 +153,11 @@ or_nothing (Some x) = refl
 pub context_of-created : (xs : List Context) (c : Context) (n : ℕ) → is_in_use xs c.ac ≡ false → context_of (xs ++ c ∷ []) n ≡ cond (c.ac == n) (Some c) (context_of xs n)
 context_of-created xs c n free =
     find-append (λ x. x.ac == n) xs (c ∷ [])
-    ∙ (elim (c.ac == n) as (λ b. (c.ac == n) ≡ b → option_or (context_of xs n) (cond b (Some c) None) ≡ cond b (Some c) (context_of xs n))
-    [ true ↦ λ t. let same : c.ac ≡ n = grind (arith, nat_tests) in
-        ap (λ o. option_or o (Some c)) (subst (λ k. context_of xs k ≡ None) same (find-none (λ x. x.ac == c.ac) xs free))
-    | false ↦ λ t. or_nothing (context_of xs n) ] refl)
+    ∙ (elim (c.ac == n) as (λ b. (c.ac == n) ≡ b → option_or (context_of xs n) (cond b (Some c) None) ≡ cond b (Some c) (context_of xs n)) [
+      | true ↦ λ t. let same : c.ac ≡ n = grind (arith, nat_tests) in
+          ap (λ o. option_or o (Some c)) (subst (λ k. context_of xs k ≡ None) same (find-none (λ x. x.ac == c.ac) xs free))
+      | false ↦ λ t. or_nothing (context_of xs n)
+    ] refl)
 
 -- what a number means when the context of a number was changed
 pub context_of-changed : (xs : List Context) (ac n : ℕ) (change : Context → Context) → ((c : Context) → (change c).ac ≡ c.ac)
@@ -166,38 +166,44 @@ context_of-changed [] ac n change keeps =
     let none : Option Context = None in elim (ac == n) as (λ b. none ≡ cond b none none) [ true ↦ refl | false ↦ refl ]
 context_of-changed (x ∷ xs) ac n change keeps =
     let rest : context_of (with_changed xs ac change) n ≡ cond (ac == n) (option_map change (context_of xs n)) (context_of xs n) =
-        context_of-changed xs ac n change keeps in
+    context_of-changed xs ac n change keeps in
     let after : Context → Option Context = λ y. cond (y.ac == n) (Some y) (context_of (with_changed xs ac change) n) in
     let meant : Option Context → Option Context = λ o. cond (ac == n) (option_map change o) o in
-    elim (x.ac == ac) as (λ b. (x.ac == ac) ≡ b → after (cond b (change x) x) ≡ meant (cond (x.ac == n) (Some x) (context_of xs n)))
-    [ true ↦ λ is.
-        ap (λ k. cond (k == n) (Some (change x)) (context_of (with_changed xs ac change) n)) (keeps x)
-        ∙ (elim (x.ac == n) as (λ b. (x.ac == n) ≡ b → cond b (Some (change x)) (context_of (with_changed xs ac change) n) ≡ meant (cond b (Some x) (context_of xs n)))
-            [ true ↦ λ t. let here : (ac == n) ≡ true = grind (arith, nat_tests) in
+    elim (x.ac == ac) as (λ b. (x.ac == ac) ≡ b → after (cond b (change x) x) ≡ meant (cond (x.ac == n) (Some x) (context_of xs n))) [
+      | true ↦ λ is.
+          ap (λ k. cond (k == n) (Some (change x)) (context_of (with_changed xs ac change) n)) (keeps x)
+          ∙ (elim (x.ac == n) as (λ b. (x.ac == n) ≡ b → cond b (Some (change x)) (context_of (with_changed xs ac change) n) ≡ meant (cond b (Some x) (context_of xs n))) [
+            | true ↦ λ t. let here : (ac == n) ≡ true = grind (arith, nat_tests) in
                 sym (ap (λ b. cond b (Some (change x)) (Some x)) here)
-            | false ↦ λ _. rest ] refl)
-    | false ↦ λ other.
-        (elim (x.ac == n) as (λ b. (x.ac == n) ≡ b → cond b (Some x) (context_of (with_changed xs ac change) n) ≡ meant (cond b (Some x) (context_of xs n)))
-            [ true ↦ λ t. let elsewhere : (ac == n) ≡ false = grind (arith, nat_tests) in
+            | false ↦ λ _. rest
+          ] refl)
+      | false ↦ λ other.
+          (elim (x.ac == n) as (λ b. (x.ac == n) ≡ b → cond b (Some x) (context_of (with_changed xs ac change) n) ≡ meant (cond b (Some x) (context_of xs n))) [
+            | true ↦ λ t. let elsewhere : (ac == n) ≡ false = grind (arith, nat_tests) in
                 sym (ap (λ b. cond b (Some (change x)) (Some x)) elsewhere)
-            | false ↦ λ _. rest ] refl) ] refl
+            | false ↦ λ _. rest
+          ] refl)
+    ] refl
 
 -- what a number means when the context of a number was freed
 pub context_of-freed : (xs : List Context) (ac n : ℕ) → context_of (without_context xs ac) n ≡ cond (ac == n) None (context_of xs n)
 context_of-freed [] ac n = let none : Option Context = None in elim (ac == n) as (λ b. none ≡ cond b none none) [ true ↦ refl | false ↦ refl ]
 context_of-freed (x ∷ xs) ac n =
     let rest : context_of (without_context xs ac) n ≡ cond (ac == n) None (context_of xs n) = context_of-freed xs ac n in
-    elim (x.ac == ac) as (λ b. (x.ac == ac) ≡ b → context_of (cond (not b) (x ∷ without_context xs ac) (without_context xs ac)) n ≡ cond (ac == n) None (cond (x.ac == n) (Some x) (context_of xs n)))
-    [ true ↦ λ is. rest
-        ∙ (elim (ac == n) as (λ b. (ac == n) ≡ b → cond b None (context_of xs n) ≡ cond b None (cond (x.ac == n) (Some x) (context_of xs n)))
-            [ true ↦ λ _. refl
+    elim (x.ac == ac) as (λ b. (x.ac == ac) ≡ b → context_of (cond (not b) (x ∷ without_context xs ac) (without_context xs ac)) n ≡ cond (ac == n) None (cond (x.ac == n) (Some x) (context_of xs n))) [
+      | true ↦ λ is. rest
+          ∙ (elim (ac == n) as (λ b. (ac == n) ≡ b → cond b None (context_of xs n) ≡ cond b None (cond (x.ac == n) (Some x) (context_of xs n))) [
+            | true ↦ λ _. refl
             | false ↦ λ f. let elsewhere : (x.ac == n) ≡ false = grind (arith, nat_tests) in
-                sym (ap (λ b. cond b (Some x) (context_of xs n)) elsewhere) ] refl)
-    | false ↦ λ other.
-        (elim (x.ac == n) as (λ b. (x.ac == n) ≡ b → cond b (Some x) (context_of (without_context xs ac) n) ≡ cond (ac == n) None (cond b (Some x) (context_of xs n)))
-            [ true ↦ λ t. let elsewhere : (ac == n) ≡ false = grind (arith, nat_tests) in
+                sym (ap (λ b. cond b (Some x) (context_of xs n)) elsewhere)
+          ] refl)
+      | false ↦ λ other.
+          (elim (x.ac == n) as (λ b. (x.ac == n) ≡ b → cond b (Some x) (context_of (without_context xs ac) n) ≡ cond (ac == n) None (cond b (Some x) (context_of xs n))) [
+            | true ↦ λ t. let elsewhere : (ac == n) ≡ false = grind (arith, nat_tests) in
                 sym (ap (λ b. cond b None (Some x)) elsewhere)
-            | false ↦ λ _. rest ] refl) ] refl
+            | false ↦ λ _. rest
+          ] refl)
+    ] refl
 
 get_or-append_seam : (before : List Context) (c : Context) (after : List Context) → get_or (before ++ c ∷ after) (length before) c ≡ c
 get_or-append_seam [] c after = refl
@@ -212,7 +218,7 @@ without_context-one (x ∷ before) after c h =
     let at : get_or (before ++ c ∷ after) (length before) c ≡ c = get_or-append_seam before c after in
     let low : length before < length (before ++ c ∷ after) = omega (arith, length-append before (c ∷ after)) in
     let other : (x.ac == c.ac) ≡ false =
-        let ne : x.ac ≢ c.ac = λ same. h 0 (suc (length before)) c (omega arith) (omega arith) (same ∙ sym (ap (λ (y : Context). y.ac) at)) in
-        grind (arith, nat_tests) in
+    let ne : x.ac ≢ c.ac = λ same. h 0 (suc (length before)) c (omega arith) (omega arith) (same ∙ sym (ap (λ (y : Context). y.ac) at)) in
+    grind (arith, nat_tests) in
     ap (λ b. cond (not b) (x ∷ without_context (before ++ c ∷ after) c.ac) (without_context (before ++ c ∷ after) c.ac)) other
     ∙ ap (λ l. x ∷ l) (without_context-one before after c (tail_pairs x (before ++ c ∷ after) h))

@@ -1,5 +1,5 @@
 -- The contexts of a link: a list in order of creation, in which each number stands once.
-use Rattle.std.specs.Prelude.{◌≡◌, ◌≢◌, ℕ, ◌==◌, ◌<◌, ◌≤◌, nat_lt, Bool, true, false, not, if◌then◌else◌, ℤ, Option, Some, None, unwrap_or, Result, Ok, Err, List, length, map, filter, find, slice_get, AllPairs}
+use Rattle.std.specs.Prelude.{◌≡◌, ◌≢◌, ℕ, ◌==◌, ◌<◌, ◌≤◌, nat_lt, Bool, true, false, not, if◌then◌else◌, ℤ, Option, None, unwrap_or, Result, Ok, Err, List, length, map, filter, find, slice_get, AllPairs}
 use Rattle.std.specs.List.{list_any}
 use Rattle.af_context.specs.declared.Context.{Context}
 use Rattle.af_context.specs.declared.ContextFault.{ContextFault}

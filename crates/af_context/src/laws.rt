@@ -10,7 +10,7 @@ pub fn other_numbers_stay()
     ensures changed { (contexts : List Context) (ac n : ℕ) (play record_to : Option ℤ) (preempt : Option Bool) →
         context_of (with_changed contexts ac (with_settings play record_to preempt)) n
         ≡ (if ac == n then option_map (with_settings play record_to preempt) (context_of contexts n)
-           else context_of contexts n) }
+        else context_of contexts n) }
     ensures freed { (contexts : List Context) (ac n : ℕ) →
         context_of (without_context contexts ac) n ≡ (if ac == n then None else context_of contexts n) }
 {}

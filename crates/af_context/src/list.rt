@@ -1,5 +1,5 @@
 // The list of a link's contexts.
-ghost use Rattle.std.specs.Prelude.{◌≡◌, ◌==◌, ◌↔◌, ◌<◌, false, true, [], ◌∷◌, ◌++◌, length, Err, IsTrue, IsSome, IfSome, OnOk, OnErr, Contains, position};
+ghost use Rattle.std.specs.Prelude.{◌≡◌, ◌==◌, ◌↔◌, ◌<◌, false, true, [], ◌∷◌, ◌++◌, length, Err, IsOk, IsTrue, IsSome, IfSome, OnOk, OnErr, Contains, position};
 ghost use Rattle.af_context.specs.Contexts.{context_of, creation, is_in_use, reference, with_changed, with_settings, without_context, AreContexts, IsPlaceOf};
 
 use crate::{Context, ContextFault};
@@ -47,6 +47,7 @@ impl Contexts {
         ensures answer { result ≡ creation self.old context.ac }
         ensures bad_id_choice { (result ≡ Err ContextFault.BadIdChoice) ↔ IsTrue (is_in_use self.old context.ac) }
         ensures too_many { (result ≡ Err ContextFault.TooMany) ↔ ((is_in_use self.old context.ac ≡ false) × (length self.old ≡ 16)) }
+        ensures ok { IsOk result ↔ ((is_in_use self.old context.ac ≡ false) × (length self.old < 16)) }
         ensures created { OnOk result (self.new ≡ self.old ++ context ∷ []) }
         ensures refused { OnErr result (self.new ≡ self.old) }
         ensures list { AreContexts self.new }

@@ -18,7 +18,10 @@ fn a_number_in_use_is_told_before_the_room(rt: HostRuntime) {
     for ac in 0..16u32 {
         assert_eq!(rt; contexts.create(context(ac, 0)), Ok(()));
     }
-    assert_eq!(rt; contexts.create(context(7, 1)), Err(ContextFault::BadIdChoice));
+    assert_eq!(rt;
+        contexts.create(context(7, 1)),
+        Err(ContextFault::BadIdChoice)
+    );
     assert_eq!(rt; contexts.create(context(16, 1)), Err(ContextFault::TooMany));
     assert_eq!(rt; contexts.get(7).map(|c| c.device), Some(0));
     assert!(rt; contexts.get(16).is_none());
@@ -41,7 +44,10 @@ fn only_the_stated_settings_change(rt: HostRuntime) -> Result<(), Fail> {
     };
     assert_eq!(rt; contexts.get(2), Some(changed));
     assert_eq!(rt; contexts.get(1), Some(context(1, 0)));
-    assert_eq!(rt; contexts.change(3, Some(louder), None, None), Err(ContextFault::BadAc));
+    assert_eq!(rt;
+        contexts.change(3, Some(louder), None, None),
+        Err(ContextFault::BadAc)
+    );
     Ok(())
 }
 

@@ -5,6 +5,7 @@ use Rattle.af_context.proofs.laws.other_numbers_stay.Goals as goal
 
 pub returns : goal.returns
 returns c = record {
-    created = context_of-created;
-    changed = λ contexts ac n play record_to preempt. context_of-changed contexts ac n (with_settings play record_to preempt) (λ _. refl);
-    freed = context_of-freed }
+  created = context_of-created;
+  changed = λ contexts ac n play record_to preempt. context_of-changed contexts ac n (with_settings play record_to preempt) (λ _. refl);
+  freed = context_of-freed;
+}

@@ -1,4 +1,4 @@
-use Rattle.std.proofs.Common.{◌≡◌, ◌∙◌, ap, subst, sym, List, Ok, refl, length, arith, rules, set, get_or}
+use Rattle.std.proofs.Common.{◌≡◌, ◌∙◌, ap, subst, sym, List, Ok, refl, length, set, get_or}
 use Rattle.std.specs.List.{refill}
 use Rattle.af_context.specs.declared.Context.{Context}
 use Rattle.af_context.specs.Contexts.{with_changed, with_settings, AreContexts, IsPlaceOf}

@@ -1,4 +1,4 @@
-use Rattle.std.proofs.Common.{◌≡◌, ◌∙◌, ap, subst, sym, List, Ok}
+use Rattle.std.proofs.Common.{◌∙◌, ap, subst, sym, List, Ok}
 use Rattle.af_context.specs.declared.Context.{Context}
 use Rattle.af_context.specs.Contexts.{without_context, AreContexts, IsPlaceOf}
 use Rattle.af_context.proofs.ContextLemmas.{found-number, remove-place, AreContexts-remove}

@@ -1,4 +1,4 @@
-use Rattle.std.proofs.Common.{◌≡◌, ◌∙◌, ◌<◌, ap, subst, sym, length, List, get_or, Ok}
+use Rattle.std.proofs.Common.{◌∙◌, ap, subst, sym, List, get_or, Ok}
 use Rattle.af_context.specs.declared.Context.{Context}
 use Rattle.af_context.specs.Contexts.{IsPlaceOf}
 use Rattle.af_context.proofs.ContextLemmas.{found-number}

@@ -42,6 +42,15 @@ impl Gain {
     }
 }
 
+impl Default for Gain {
+    ghost is_default = { λ g. g ≡ pos 0 };
+
+    /// 0 decibels, which leaves samples as they are.
+    fn default() -> Gain {
+        Gain { db: 0 }
+    }
+}
+
 // What multiplies a sample, in 1024ths, for each gain from -30 on.
 static MULTIPLIERS: [u16; 61] = [
     32, 36, 40, 45, 51, 57, 64, 72, 81, 91, 102, 114, 128, 144, 162, 182, 204, 229, 257, 288, 323,

@@ -3,8 +3,9 @@ ghost use Rattle.std.specs.Prelude.{◌≡◌, ◌<◌, ◌↔◌, IsNone, IfSom
 
 /// How a device or a client codes a sample: mu-law or A-law (ITU-T G.711), or a big-endian
 /// two's complement number of 16 or 32 bits.
-#[derive(Clone, Copy, Debug, PartialEq, Eq)]
+#[derive(Clone, Copy, Debug, Default, PartialEq, Eq)]
 pub enum SampleType {
+    #[default]
     Mu255,
     Alaw,
     Lin16,

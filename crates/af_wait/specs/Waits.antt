@@ -1,0 +1,39 @@
+-- The requests that wait: a list in the order in which they began to wait, in which each link stands once.
+use Rattle.std.specs.Prelude.{◌≢◌, ℕ, ◌-◌, ◌==◌, ◌<◌, Bool, not, ◌&&◌, if◌then◌else◌, Option, Some, None, List, [], ◌∷◌, filter, find, AllPairs}
+use Rattle.std.specs.List.{list_any, All}
+use Rattle.af_wait.specs.declared.Wait.{Wait}
+
+-- whether a link waits
+abbrev pub is_waiting : List Wait → ℕ → Bool
+is_waiting waits link = list_any (λ w. w.link == link) waits
+
+-- each link waits once at most, and links are numbered 0..31
+pub record AreWaits (waits : List Wait) : Type 0 where
+  pub distinct : AllPairs (λ a b. a.link ≢ b.link) waits
+  pub links : All (λ w. w.link < 32) waits
+
+-- a wait when n frames of a device have passed: one for another device stays, and no less than 0 frames are left
+abbrev pub passed : ℕ → ℕ → Wait → Wait
+passed device n w = if w.device == device then record w { left = w.left - n } else w
+
+-- whether a wait is for a device and due
+abbrev pub is_due : ℕ → Wait → Bool
+is_due device w = w.device == device && w.left == 0
+
+-- the earliest of the waits for a device that are due
+abbrev pub first_due : ℕ → List Wait → Option Wait
+first_due device waits = find (is_due device) waits
+
+-- a list without the first element that passes a test
+abbrev pub without_first : {X : Type 0} → (X → Bool) → List X → List X
+without_first passes [] = []
+without_first passes (x ∷ xs) = if passes x then xs else x ∷ without_first passes xs
+
+-- the waits without that of a link
+abbrev pub without_link : List Wait → ℕ → List Wait
+without_link waits link = filter (λ w. not (w.link == link)) waits
+
+-- the waits without that of a link that is taken out, if there is one
+abbrev pub without_taken : List Wait → Option ℕ → List Wait
+without_taken waits None = waits
+without_taken waits (Some link) = without_link waits link

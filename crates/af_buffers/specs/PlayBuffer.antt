@@ -2,8 +2,8 @@
 use Rattle.std.specs.Prelude.{◌≡◌, ℕ, ◌+◌, ◌%◌, ◌^◌, ◌<◌, ◌≤◌, Bool, false, List, ◌++◌, length, map, take, drop, replicate, ℤ, pos, slice_index_or}
 use Rattle.std.specs.List.{range_with_len, All}
 use Rattle.af_time.specs.DeviceTime.{unwrap}
-use Rattle.af_sample.specs.Heard.{Entry, covers, with_entry, heard}
-use Rattle.af_ring.specs.Cells.{cell}
+use Rattle.af_sample.specs.Heard.{Entry, covers, with_entry, heard, blended}
+use Rattle.af_ring.specs.Cells.{cell, ChangesRun}
 use Rattle.af_buffers.specs.Horizons.{IsHorizon, IsRoomFor, whole_time}
 
 -- a buffer: the word of its time, the next samples from then on, and the cells of its ring
@@ -58,6 +58,11 @@ pub record Hears (b : Next) (accepted : List Entry) (now : ℕ) : Type 0 where
   pub time : b.time ≡ now % 2 ^ 32
   pub each : (j : ℕ) → slice_index_or b.next j (pos 0) ≡ heard accepted (now + j)
   pub within : All (λ e. e.start + length e.samples ≤ now + length b.next) accepted
+
+-- samples are laid over the cells from a time on: mixed in, or put there
+abbrev pub LaysRun : List ℤ → List ℤ → ℕ → List ℤ → Bool → Type 0
+LaysRun old new t samples preempt =
+    ChangesRun old new t (length samples) (λ k x. blended preempt x (slice_index_or samples k (pos 0)))
 
 -- the cells of a ring as a buffer: the n cells from its time on are its next samples
 abbrev pub next_of : List ℤ → ℕ → ℕ → Next

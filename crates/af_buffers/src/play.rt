@@ -1,9 +1,8 @@
 // The next samples of a device.
-ghost use Rattle.std.specs.Prelude.{◌≡◌, ◌≤◌, length, IfOk, pos, replicate, slice_index_or};
-ghost use Rattle.af_sample.specs.Heard.{blended};
-ghost use Rattle.af_ring.specs.Cells.{ChangesRun};
-ghost use Rattle.af_buffers.specs.Horizons.{IsHorizon, IsRoomFor};
-ghost use Rattle.af_buffers.specs.PlayBuffer.{accepted_by, ChangesCovered, EndsWithin, HandsOut, HoldsNext, Plays};
+ghost use Rattle.std.specs.Prelude.{◌≡◌, ◌≤◌, length, IfOk, pos, replicate};
+ghost use Rattle.af_ring.specs.Cells.{ClearsRun};
+ghost use Rattle.af_buffers.specs.Horizons.{IsHorizon};
+ghost use Rattle.af_buffers.specs.PlayBuffer.{accepted_by, ChangesCovered, EndsWithin, HandsOut, HoldsNext, LaysRun, Plays};
 
 use crate::room::bits_for;
 use af_ring::TimeRing;
@@ -84,7 +83,7 @@ impl PlayBuffer {
     pub fn hand_out(&mut self, out: &mut [i16])
         requires { length out.old ≤ 4096 }
         ensures next { HandsOut self.old self.new out.new }
-        ensures ring { ChangesRun self.old.ring self.new.ring self.old.time (length out.new) (λ _ _. pos 0) }
+        ensures ring { ClearsRun self.old.ring self.new.ring self.old.time (length out.new) }
     {
         self.ring.read_run(self.time, out);
         let n = out.len() as u32;
@@ -96,7 +95,7 @@ impl PlayBuffer {
 // Mixes samples into the cells from a time on, or puts them there.
 fn lay(ring: &mut TimeRing, t: DevTime, samples: &[i16], preempt: bool)
     requires { length samples.now ≤ length ring.old }
-    ensures { ChangesRun ring.old ring.new t.0 (length samples.now) (λ k x. blended preempt x (slice_index_or samples.now k (pos 0))) }
+    ensures { LaysRun ring.old ring.new t.0 samples.now preempt }
 {
     if preempt {
         ring.put_run(t, samples);

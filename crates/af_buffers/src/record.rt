@@ -1,6 +1,6 @@
 // The last samples of a device.
 ghost use Rattle.std.specs.Prelude.{◌≡◌, ℕ, ◌+◌, ◌%◌, ◌^◌, ◌<◌, ◌≤◌, length, IfOk, pos, replicate, slice_index_or};
-ghost use Rattle.af_ring.specs.Cells.{ChangesRun};
+ghost use Rattle.af_ring.specs.Cells.{PutsRun};
 ghost use Rattle.af_buffers.specs.Horizons.{IsHorizon};
 ghost use Rattle.af_buffers.specs.RecordBuffer.{Captures, HoldsLast, samples_from, within_run};
 
@@ -56,7 +56,7 @@ impl RecordBuffer {
     pub fn capture(&mut self, samples: &[i16])
         requires { length samples.now ≤ 4096 }
         ensures last { Captures self.old self.new samples.now }
-        ensures ring { ChangesRun self.old.ring self.new.ring self.old.time (length samples.now) (λ k _. slice_index_or samples.now k (pos 0)) }
+        ensures ring { PutsRun self.old.ring self.new.ring self.old.time samples.now }
     {
         self.ring.put_run(self.time, samples);
         self.time = self.time.after(samples.len() as u32);
@@ -87,7 +87,8 @@ fn sample_of(ring: &TimeRing, first: DevTime, n: u32, t: DevTime) -> i16
 // The samples from a time on: silence at all times but the n from the first on.
 fn read_window(ring: &TimeRing, first: DevTime, n: u32, start: DevTime, out: &mut [i16])
     requires { length out.old ≤ 16000 }
-    ensures { (i : ℕ) → i < length out.new → slice_index_or out.new i (pos 0) ≡ within_run ring.now first.0 n ((start.0 + i) % 2 ^ 32) }
+    ensures { (i : ℕ) → i < length out.new →
+        slice_index_or out.new i (pos 0) ≡ within_run ring.now first.0 n ((start.0 + i) % 2 ^ 32) }
 {
     for (i, x) in out.iter_mut().enumerate() {
         *x = sample_of(ring, first, n, start.after(i as u32));

@@ -1,7 +1,6 @@
 // Runs of cells from a time on, over the list of a ring's cells.
-ghost use Rattle.std.specs.Prelude.{◌≡◌, ℕ, ◌+◌, ◌%◌, ◌<◌, ◌≤◌, length, pos, slice_index_or};
-ghost use Rattle.af_ring.specs.Cells.{cell, ChangesRun, IsSize};
-ghost use Rattle.af_sample.specs.Mixing.{mixed};
+ghost use Rattle.std.specs.Prelude.{◌≡◌, ◌%◌, ◌<◌, ◌≤◌, length};
+ghost use Rattle.af_ring.specs.Cells.{ClearsRun, IsRunAt, IsSize, MixesRun, PutsRun};
 
 use af_sample::mixed;
 use af_time::DevTime;
@@ -18,7 +17,7 @@ pub fn place(t: DevTime, size: usize) -> usize
 pub fn read_cells(cells: &[i16], t: DevTime, out: &mut [i16])
     requires size { IsSize (length cells.now) }
     requires count { length out.old ≤ length cells.now }
-    ensures { (k : ℕ) → k < length out.new → slice_index_or out.new k (pos 0) ≡ cell cells.now (t.0 + k) }
+    ensures { IsRunAt out.new cells.now t.0 }
 {
     for (k, x) in out.iter_mut().enumerate() {
         *x = cells[place(t.after(k as u32), cells.len())];
@@ -28,7 +27,7 @@ pub fn read_cells(cells: &[i16], t: DevTime, out: &mut [i16])
 pub fn put_cells(cells: &mut [i16], t: DevTime, samples: &[i16])
     requires size { IsSize (length cells.old) }
     requires count { length samples.now ≤ length cells.old }
-    ensures { ChangesRun cells.old cells.new t.0 (length samples.now) (λ k _. slice_index_or samples.now k (pos 0)) }
+    ensures { PutsRun cells.old cells.new t.0 samples.now }
 {
     for (k, x) in samples.iter().enumerate() {
         let at = place(t.after(k as u32), cells.len());
@@ -39,7 +38,7 @@ pub fn put_cells(cells: &mut [i16], t: DevTime, samples: &[i16])
 pub fn mix_cells(cells: &mut [i16], t: DevTime, samples: &[i16])
     requires size { IsSize (length cells.old) }
     requires count { length samples.now ≤ length cells.old }
-    ensures { ChangesRun cells.old cells.new t.0 (length samples.now) (λ k x. mixed x (slice_index_or samples.now k (pos 0))) }
+    ensures { MixesRun cells.old cells.new t.0 samples.now }
 {
     for (k, x) in samples.iter().enumerate() {
         let at = place(t.after(k as u32), cells.len());
@@ -50,7 +49,7 @@ pub fn mix_cells(cells: &mut [i16], t: DevTime, samples: &[i16])
 pub fn clear_cells(cells: &mut [i16], t: DevTime, n: u32)
     requires size { IsSize (length cells.old) }
     requires count { n ≤ length cells.old }
-    ensures { ChangesRun cells.old cells.new t.0 n (λ _ _. pos 0) }
+    ensures { ClearsRun cells.old cells.new t.0 n }
 {
     for k in 0..n {
         let at = place(t.after(k), cells.len());

@@ -1,7 +1,6 @@
 // The ring, and what it promises of each cell.
-ghost use Rattle.std.specs.Prelude.{◌≡◌, ℕ, ◌+◌, ◌%◌, ◌^◌, ◌<◌, ◌≤◌, length, IfOk, pos, replicate, slice_set, slice_index_or};
-ghost use Rattle.af_ring.specs.Cells.{cell, ChangesRun, IsSize};
-ghost use Rattle.af_sample.specs.Mixing.{mixed};
+ghost use Rattle.std.specs.Prelude.{◌≡◌, ◌%◌, ◌^◌, ◌≤◌, length, IfOk, pos, replicate, slice_set};
+ghost use Rattle.af_ring.specs.Cells.{cell, ClearsRun, IsRunAt, MixesRun, PutsRun};
 
 use crate::runs::{clear_cells, mix_cells, place, put_cells, read_cells};
 use af_time::{DevTime, OutOfMemory};
@@ -56,7 +55,7 @@ impl TimeRing {
     /// Reads the cells from a time on: at most as many as there are.
     pub fn read_run(&self, t: DevTime, out: &mut [i16])
         requires { length out.old ≤ length self.now }
-        ensures { (k : ℕ) → k < length out.new → slice_index_or out.new k (pos 0) ≡ cell self.now (t.0 + k) }
+        ensures { IsRunAt out.new self.now t.0 }
     {
         read_cells(&self.cells, t, out);
     }
@@ -64,7 +63,7 @@ impl TimeRing {
     /// Mixes samples into the cells from a time on: at most as many as there are.
     pub fn mix_run(&mut self, t: DevTime, samples: &[i16])
         requires { length samples.now ≤ length self.old }
-        ensures { ChangesRun self.old self.new t.0 (length samples.now) (λ k x. mixed x (slice_index_or samples.now k (pos 0))) }
+        ensures { MixesRun self.old self.new t.0 samples.now }
     {
         mix_cells(&mut self.cells, t, samples);
     }
@@ -72,7 +71,7 @@ impl TimeRing {
     /// Puts samples into the cells from a time on: at most as many as there are.
     pub fn put_run(&mut self, t: DevTime, samples: &[i16])
         requires { length samples.now ≤ length self.old }
-        ensures { ChangesRun self.old self.new t.0 (length samples.now) (λ k _. slice_index_or samples.now k (pos 0)) }
+        ensures { PutsRun self.old self.new t.0 samples.now }
     {
         put_cells(&mut self.cells, t, samples);
     }
@@ -80,7 +79,7 @@ impl TimeRing {
     /// Silences the n cells from a time on: at most as many as there are.
     pub fn clear_run(&mut self, t: DevTime, n: u32)
         requires { n ≤ length self.old }
-        ensures { ChangesRun self.old self.new t.0 n (λ _ _. pos 0) }
+        ensures { ClearsRun self.old self.new t.0 n }
     {
         clear_cells(&mut self.cells, t, n);
     }

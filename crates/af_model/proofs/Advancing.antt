@@ -1,14 +1,24 @@
 -- Advancing a link comes to an end, and goes on from each step.
-use Rattle.std.proofs.Common.{◌≡◌, ℕ, zero, suc, ◌≤◌, ◌<◌, Bool, true, false, List, [], ◌∷◌, length, take, refl, ◌∙◌, ap, subst, arith, length-drop, cond, slice_get}
+use Rattle.std.proofs.Common.{◌≡◌, ℕ, zero, suc, ◌≤◌, ◌<◌, Bool, true, false, List, [], ◌∷◌, ◌++◌, length, take, refl, ◌∙◌, ap, subst, arith, length-drop, cond, slice_get}
 use Rattle.std.specs.declared.option.Option.{Option}
 use Rattle.std.specs.declared.option.Option.TheVariants.{None, Some}
 use Rattle.af_wire.specs.declared.front.Front.{Front}
 use Rattle.af_wire.specs.declared.front.Front.TheVariants.{NeedMore, Frame, Malformed}
 use Rattle.af_wire.specs.declared.front.SetupFront.{SetupFront}
-use Rattle.af_wire.specs.declared.front.SetupFront.TheVariants as setup
+use Rattle.af_wire.specs.declared.front.SetupFront.TheVariants as front
 use Rattle.af_wire.specs.Front.{setup_front, frame_front, IsFrameWithin, IsSetupWithin}
 use Rattle.af_model.specs.State.{Place, DeviceState, place}
-use Rattle.af_model.specs.Perform.{Request, get_time, request_in, perform, time_told, counted}
+use Rattle.af_context.specs.declared.Context.{Context}
+use Rattle.af_context.specs.Contexts.{creation, reference, context_of, without_context}
+use Rattle.af_request.specs.Asked.{Asked, no_op, get_time, create_ac, change_ac, free_ac, play_run, record_run, select_events, set_controls, query_controls, hook_switch, query_phone}
+use Rattle.af_request.specs.Answer.{plain}
+use Rattle.af_model.specs.declared.refusal.Refusal.{Refusal}
+use Rattle.af_model.specs.Reply.{replied}
+use Rattle.af_model.specs.Checks.{refused_or, in_device, context_refusal}
+use Rattle.af_model.specs.ContextRequests.{creation_refusal, described, create, change_refusal, change, free, with_contexts}
+use Rattle.af_model.specs.Play.{play, play_refusal, tell_played, accept}
+use Rattle.af_model.specs.Record.{record_sound, record_refusal, give_record}
+use Rattle.af_model.specs.Perform.{request_in, perform, done, tell_time, in_context, counted}
 use Rattle.af_model.specs.Advance.{advance, advance_by, advance_step, after_frame, after_setup, after_front, takes_more, requested, without_front, or_else}
 
 frame_within : (xs : List ℕ) → IsFrameWithin (frame_front xs) (length xs)
@@ -21,15 +31,61 @@ frame_within (a ∷ b ∷ c ∷ d ∷ xs) = grind arith
 setup_within : (xs : List ℕ) → IsSetupWithin (setup_front xs) (length xs)
 setup_within xs = grind arith
 
-time_told_rest : (d : ℕ) (o : Option DeviceState) (p : Place) → (time_told d o p).link.rest ≡ p.link.rest
-time_told_rest d None p = refl
-time_told_rest d (Some device) p = refl
-
 -- performing leaves the input alone
-pub perform_rest : (k : ℕ) (request : Request) (p : Place) → (perform k request p).link.rest ≡ p.link.rest
-perform_rest k (get_time d) p = time_told_rest d (slice_get p.around.devices d) (place p.around (counted p.link))
 
-requested_rest : (k : ℕ) (o : Option Request) (p : Place) → length (requested k o p).link.rest ≤ length p.link.rest
+-- what a request does leaves the input alone
+abbrev Leaves : (Place → Place) → Type 0
+Leaves f = (p : Place) → (f p).link.rest ≡ p.link.rest
+
+refused_or_rest : (opcode : ℕ) (r : Option Refusal) (f : Place → Place) → Leaves f → Leaves (refused_or opcode r f)
+refused_or_rest opcode None f h p = h p
+refused_or_rest opcode (Some r) f h p = refl
+
+in_device_rest : (opcode d : ℕ) (f : DeviceState → Place → Place) (o : Option DeviceState) → ((device : DeviceState) → Leaves (f device)) → Leaves (in_device opcode d f o)
+in_device_rest opcode d f None h p = refl
+in_device_rest opcode d f (Some device) h p = h device p
+
+in_context_rest : (opcode ac : ℕ) (f : Context → DeviceState → Place → Place) (o : Option Context) → ((c : Context) (device : DeviceState) → Leaves (f c device)) → Leaves (in_context opcode ac f o)
+in_context_rest opcode ac f None h p = refl
+in_context_rest opcode ac f (Some c) h p = in_device_rest opcode c.device (f c) (slice_get p.around.devices c.device) (h c) p
+
+create_rest : (c : Context) → Leaves (create c)
+create_rest c p = refused_or_rest 3 (context_refusal c.ac (creation p.link.contexts c.ac)) (λ q. replied 3 plain (with_contexts (q.link.contexts ++ c ∷ []) q)) (λ q. refl) p
+
+free_rest : (ac : ℕ) → Leaves (free ac)
+free_rest ac p = refused_or_rest 5 (context_refusal ac (reference p.link.contexts ac)) (λ q. replied 5 plain (with_contexts (without_context q.link.contexts ac) q)) (λ q. refl) p
+
+tell_played_rest : (quiet : Bool) (device : DeviceState) → Leaves (tell_played quiet device)
+tell_played_rest true device p = refl
+tell_played_rest false device p = refl
+
+play_rest : (quiet : Bool) (c : Context) (start : ℕ) (bytes : List ℕ) (device : DeviceState) → Leaves (play quiet c start bytes device)
+play_rest quiet c start bytes device = refused_or_rest 6 (play_refusal c device start (length bytes)) (λ q. tell_played quiet device (accept c start bytes q))
+    (λ q. tell_played_rest quiet device (accept c start bytes q))
+
+record_rest : (blocking : Bool) (c : Context) (start bytes : ℕ) (device : DeviceState) → Leaves (record_sound blocking c start bytes device)
+record_rest blocking c start bytes device = refused_or_rest 7 (record_refusal blocking c device start bytes) (give_record blocking c start bytes device) (λ q. refl)
+
+done_rest : (request : Asked) → Leaves (done request)
+done_rest no_op p = refl
+done_rest (get_time d) p = in_device_rest 2 d tell_time (slice_get p.around.devices d) (λ device q. refl) p
+done_rest (create_ac d ac ty channels preempt play_gain record_gain) p =
+    refused_or_rest 3 (creation_refusal (length p.around.devices) d ty channels preempt play_gain record_gain) (create (described d ac ty preempt play_gain record_gain)) (create_rest (described d ac ty preempt play_gain record_gain)) p
+done_rest (change_ac mask ac preempt play_gain record_gain) p =
+    refused_or_rest 4 (change_refusal p.link.contexts mask ac preempt play_gain record_gain) (change mask ac preempt play_gain record_gain) (λ q. refl) p
+done_rest (free_ac ac) p = free_rest ac p
+done_rest (play_run quiet ac start bytes) p = in_context_rest 6 ac (λ c. play quiet c start bytes) (context_of p.link.contexts ac) (λ c device. play_rest quiet c start bytes device) p
+done_rest (record_run blocking ac start bytes) p = in_context_rest 7 ac (λ c. record_sound blocking c start bytes) (context_of p.link.contexts ac) (λ c device. record_rest blocking c start bytes device) p
+done_rest (select_events d mask) p = refl
+done_rest (set_controls d mask input_on output_on input_gain output_gain) p = refl
+done_rest (query_controls d) p = refl
+done_rest (hook_switch d off) p = refl
+done_rest (query_phone d) p = refl
+
+pub perform_rest : (k : ℕ) (request : Asked) (p : Place) → (perform k request p).link.rest ≡ p.link.rest
+perform_rest k request p = done_rest request (place p.around (counted p.link))
+
+requested_rest : (k : ℕ) (o : Option Asked) (p : Place) → length (requested k o p).link.rest ≤ length p.link.rest
 requested_rest k None p = omega arith
 requested_rest k (Some request) p = let e = ap length (perform_rest k request p) in omega (arith, e)
 
@@ -46,9 +102,9 @@ frame_shorter k (Frame n) p w =
     omega (arith, less, length-drop n p.link.rest, w)
 
 setup_shorter : (front : SetupFront) (p : Place) → IsSetupWithin front (length p.link.rest) → IsShorter (length p.link.rest) (after_setup front p)
-setup_shorter setup.NeedMore p w = tt
-setup_shorter setup.Setup p w = omega (arith, w, length-drop 8 p.link.rest)
-setup_shorter (setup.BadSetup value) p w = omega (arith, w)
+setup_shorter front.NeedMore p w = tt
+setup_shorter front.Setup p w = omega (arith, w, length-drop 8 p.link.rest)
+setup_shorter (front.BadSetup value) p w = omega (arith, w)
 
 front_shorter : (b : Bool) (k : ℕ) (p : Place) → IsShorter (length p.link.rest) (cond b (after_frame k (frame_front p.link.rest) p) (after_setup (setup_front p.link.rest) p))
 front_shorter true k p = frame_shorter k (frame_front p.link.rest) p (frame_within p.link.rest)

@@ -1,6 +1,6 @@
 -- Two logs that go through a phase from one state, and are answered by one outside, go through it alike: their happenings
 -- and the states behind them are the same, and the links that are open inside stay those that are open outside.
-use Rattle.std.proofs.Common.{◌≡◌, ℕ, zero, suc, ◌+◌, ◌*◌, Bool, true, false, not, cond, ◌&&◌, ◌==◌, List, [], ◌∷◌, length, take, drop, map, slice_get, slice_set, is_some, refl, sym, ap, ◌∙◌, subst, eqb-true, IsSomeAnd, IfSome}
+use Rattle.std.proofs.Common.{◌≡◌, ℕ, ℤ, zero, suc, ◌+◌, ◌*◌, Bool, true, false, not, cond, ◌&&◌, ◌==◌, List, [], ◌∷◌, length, take, drop, map, slice_get, slice_set, is_some, refl, sym, ap, ◌∙◌, subst, eqb-true, IsSomeAnd, IfSome}
 use Rattle.std.proofs.lemmas.List.{map-set}
 use Rattle.std.specs.declared.option.Option.{Option}
 use Rattle.std.specs.declared.option.Option.TheVariants.{None, Some}
@@ -17,7 +17,7 @@ use Rattle.af_outside.specs.Told.{Log}
 use Rattle.af_outside.specs.Outside.{Outside, Peer, Station, answered, read_answered, write_answered, capture_answered, emit_answered, captured, station_at, with_station, peer_at, with_peer, gives_of, same_bytes}
 use Rattle.af_sample.specs.SampleTypes.{width_of}
 use Rattle.af_model.specs.State.{State, Slot, Around, Place, LinkState, DeviceState, place, opened, slot_at, some_slot, with_slot, links_of}
-use Rattle.af_model.specs.Tick.{sound, tick}
+use Rattle.af_model.specs.Tick.{sound, capture_of, tick}
 use Rattle.af_model.specs.Turn.{Behind, behind, and_then, then_go, take_one, Door, door, wants_read, is_read, read_by, read_phase, after_read, wants_write, write_by, write_taken, write_phase, after_write, same_why, close_due, close_by, close_for, close_phase, serve_link, serve_open, serve_door, door_at, with_door, serve_at, serve_from, serve_all, ready, in_open, in_slot, is_capture, capture_by, emit_by, after_capture, tick_phase, wake_phase}
 use Rattle.af_model.specs.Script.{AnswersTo}
 use Rattle.af_model.proofs.Tests.{cond-some, cond-true, both-true, not_true, none_some, same_bytes-true}
@@ -440,7 +440,7 @@ is_capture-size : (n : ℕ) (device : DeviceState) (got : Option (List ℕ)) →
 is_capture-size n device None e = tt
 is_capture-size n device (Some bytes) e = eqb-true (length bytes) (n * width_of device.ty) e
 
-capture_one : (w : List Bool) (d n : ℕ) (device : DeviceState) (s : State) (o : Outside) (h : Happening) (t : Bool) → capture_by d n device h ≡ Some t →
+capture_one : (w : List Bool) (d n : ℕ) (device : DeviceState) (s : State) (o : Outside) (h : Happening) (t : Option (List ℕ)) → capture_by d n device h ≡ Some t →
     TakesOne (λ (s : State). capture_by d n device) (λ s o. opens o ≡ w) (λ t o. opens o ≡ w) s o h (Captured d n (expected_capture (n * width_of device.ty) (station_at o d)))
 capture_one w d n device s o (Woke wake) t e = absurd (none_some e)
 capture_one w d n device s o (Read j got) t e = absurd (none_some e)
@@ -448,7 +448,7 @@ capture_one w d n device s o (Wrote j offered took) t e = absurd (none_some e)
 capture_one w d n device s o (Closed j why) t e = absurd (none_some e)
 capture_one w d n device s o (Emitted j bytes done) t e = absurd (none_some e)
 capture_one w d n device s o (Captured j frames got) t e =
-    let i = cond-some (j == d && frames == n && is_capture n device got) (Some (is_some got)) t e in
+    let i = cond-some (j == d && frames == n && is_capture n device got) (Some got) t e in
     let v = both-true (j == d && frames == n) (is_capture n device got) i.0 in
     let u = both-true (j == d) (frames == n) v.0 in
     let at : j ≡ d = eqb-true j d u.0 in
@@ -475,15 +475,15 @@ emit_answer w o o' d station true e =
       | false ↦ λ e. let same : o ≡ o' = cc in (refl, λ p. subst (λ x. opens x ≡ w) same p)
     ] e
 
-emit_one : (d n : ℕ) (device : DeviceState) (s : State) (o : Outside) (h : Happening) (t : State) → emit_by d n device s h ≡ Some t →
-    TakesOne (λ s. emit_by d n device s) Agree Agree s o h (Emitted d (sound device n) (not (station_at o d).fails_emit))
-emit_one d n device s o (Woke wake) t e = absurd (none_some e)
-emit_one d n device s o (Read j got) t e = absurd (none_some e)
-emit_one d n device s o (Wrote j offered took) t e = absurd (none_some e)
-emit_one d n device s o (Closed j why) t e = absurd (none_some e)
-emit_one d n device s o (Captured j frames got) t e = absurd (none_some e)
-emit_one d n device s o (Emitted j bytes done) t e =
-    let i = cond-some (j == d && same_bytes bytes (sound device n)) (Some (tick d n (not done) s)) t e in
+emit_one : (d n : ℕ) (device : DeviceState) (heard : List ℤ) (s : State) (o : Outside) (h : Happening) (t : State) → emit_by d n device heard s h ≡ Some t →
+    TakesOne (λ s. emit_by d n device heard s) Agree Agree s o h (Emitted d (sound device n) (not (station_at o d).fails_emit))
+emit_one d n device heard s o (Woke wake) t e = absurd (none_some e)
+emit_one d n device heard s o (Read j got) t e = absurd (none_some e)
+emit_one d n device heard s o (Wrote j offered took) t e = absurd (none_some e)
+emit_one d n device heard s o (Closed j why) t e = absurd (none_some e)
+emit_one d n device heard s o (Captured j frames got) t e = absurd (none_some e)
+emit_one d n device heard s o (Emitted j bytes done) t e =
+    let i = cond-some (j == d && same_bytes bytes (sound device n)) (Some (tick d heard (not done) s)) t e in
     let u = both-true (j == d) (same_bytes bytes (sound device n)) i.0 in
     let at : j ≡ d = eqb-true j d u.0 in
     let here : (o' : Outside) → answered o (Emitted j bytes done) ≡ Some o' → emit_answered o d (station_at o d) done ≡ Some o' = λ o' a. subst (λ m. emit_answered o m (station_at o m) done ≡ Some o') at a in
@@ -491,18 +491,18 @@ emit_one d n device s o (Emitted j bytes done) t e =
       quiet = refl;
       is = λ o' a. ap (λ m. Emitted m bytes done) at ∙ ap (λ b. Emitted d b done) (same_bytes-true bytes (sound device n) u.1) ∙ ap (Emitted d (sound device n)) (emit_answer (opens o) o o' d (station_at o d) done (here o' a)).0;
       stands = λ t o' p f a.
-          let g : Some (tick d n (not done) s) ≡ Some t = (cond-some (j == d && same_bytes bytes (sound device n)) (Some (tick d n (not done) s)) t f).1 in
-          let next : tick d n (not done) s ≡ t = cc in
+          let g : Some (tick d heard (not done) s) ≡ Some t = (cond-some (j == d && same_bytes bytes (sound device n)) (Some (tick d heard (not done) s)) t f).1 in
+          let next : tick d heard (not done) s ≡ t = cc in
           subst (λ x. Agree x o') next ((emit_answer (open_links s.slots) o o' d (station_at o d) done (here o' a)).1 p);
     }
 
 -- Ticks
 
-after_capture_alike : (d n : ℕ) (device : DeviceState) (s : State) → GoesAlike (after_capture d n device s) (λ (t : Bool) o. opens o ≡ open_links s.slots) Agree
-after_capture_alike d n device s steps false o log1 log2 b1 b2 e1 e2 at f1 f2 r1 r2 =
-    alike_nothing (λ (t : Bool). tick d n true s) (λ t o. opens o ≡ open_links s.slots) Agree (λ t o at. at) steps false o log1 log2 b1 b2 e1 e2 at f1 f2 r1 r2
-after_capture_alike d n device s steps true o log1 log2 b1 b2 e1 e2 at f1 f2 r1 r2 =
-    alike_one (λ s. emit_by d n device s) Agree Agree (λ s o. Emitted d (sound device n) (not (station_at o d).fails_emit)) (emit_one d n device) steps s o log1 log2 b1 b2 e1 e2 at f1 f2 r1 r2
+after_capture_alike : (d n : ℕ) (device : DeviceState) (s : State) → GoesAlike (after_capture d n device s) (λ (t : Option (List ℕ)) o. opens o ≡ open_links s.slots) Agree
+after_capture_alike d n device s steps None o log1 log2 b1 b2 e1 e2 at f1 f2 r1 r2 =
+    alike_nothing (λ (t : Option (List ℕ)). tick d (capture_of device.ty n None) true s) (λ t o. opens o ≡ open_links s.slots) Agree (λ t o at. at) steps None o log1 log2 b1 b2 e1 e2 at f1 f2 r1 r2
+after_capture_alike d n device s steps (Some bytes) o log1 log2 b1 b2 e1 e2 at f1 f2 r1 r2 =
+    alike_one (λ s. emit_by d n device (capture_of device.ty n (Some bytes)) s) Agree Agree (λ s o. Emitted d (sound device n) (not (station_at o d).fails_emit)) (emit_one d n device (capture_of device.ty n (Some bytes))) steps s o log1 log2 b1 b2 e1 e2 at f1 f2 r1 r2
 
 live_alike : (d n : ℕ) (device : DeviceState) (steps : List Step) (s : State) (o : Outside) (log1 log2 : Log) (b1 b2 : Behind State) (e1 e2 : Outside) → Agree s o →
     and_then (take_one (capture_by d n device) log1) (after_capture d n device s) ≡ Some b1 → and_then (take_one (capture_by d n device) log2) (after_capture d n device s) ≡ Some b2 →
@@ -510,7 +510,7 @@ live_alike : (d n : ℕ) (device : DeviceState) (steps : List Step) (s : State) 
 live_alike d n device steps s o log1 log2 b1 b2 e1 e2 at f1 f2 r1 r2 =
     let w = open_links s.slots in
     alike_then (λ (u : State) log. take_one (capture_by d n device) log) (after_capture d n device s) (λ u o. opens o ≡ w) (λ t o. opens o ≡ w) Agree
-    (alike_one (λ (s : State). capture_by d n device) (λ s o. opens o ≡ w) (λ t o. opens o ≡ w) (λ s o. Captured d n (expected_capture (n * width_of device.ty) (station_at o d))) (capture_one w d n device))
+    (alike_one (λ (s : State). capture_by d n device) (λ s o. opens o ≡ w) (λ (t : Option (List ℕ)) o. opens o ≡ w) (λ s o. Captured d n (expected_capture (n * width_of device.ty) (station_at o d))) (capture_one w d n device))
     (after_capture_alike d n device s)
     steps s o log1 log2 b1 b2 e1 e2 at f1 f2 r1 r2
 
@@ -518,9 +518,9 @@ tick_alike : (d n : ℕ) (device : Option DeviceState) (steps : List Step) (s : 
     Agree s o → tick_phase d n device s log1 ≡ Some b1 → tick_phase d n device s log2 ≡ Some b2 → AnswersTo o log1 steps e1 → AnswersTo o log2 steps e2 → Agreed steps Agree log1 log2 e1 e2 b1 b2
 tick_alike d n None steps s o log1 log2 b1 b2 e1 e2 at f1 f2 r1 r2 = absurd (none_some f1)
 tick_alike d n (Some device) steps s o log1 log2 b1 b2 e1 e2 at f1 f2 r1 r2 =
-    elim device.is_dead as (λ t. cond t (behind (tick d n true s) log1) (and_then (take_one (capture_by d n device) log1) (after_capture d n device s)) ≡ Some b1 →
-    cond t (behind (tick d n true s) log2) (and_then (take_one (capture_by d n device) log2) (after_capture d n device s)) ≡ Some b2 → Agreed steps Agree log1 log2 e1 e2 b1 b2) [
-      | true ↦ λ f1 f2. alike_nothing (λ s. tick d n true s) Agree Agree (λ s o at. at) steps s o log1 log2 b1 b2 e1 e2 at f1 f2 r1 r2
+    elim device.is_dead as (λ t. cond t (behind (tick d (capture_of device.ty n None) true s) log1) (and_then (take_one (capture_by d n device) log1) (after_capture d n device s)) ≡ Some b1 →
+    cond t (behind (tick d (capture_of device.ty n None) true s) log2) (and_then (take_one (capture_by d n device) log2) (after_capture d n device s)) ≡ Some b2 → Agreed steps Agree log1 log2 e1 e2 b1 b2) [
+      | true ↦ λ f1 f2. alike_nothing (λ s. tick d (capture_of device.ty n None) true s) Agree Agree (λ s o at. at) steps s o log1 log2 b1 b2 e1 e2 at f1 f2 r1 r2
       | false ↦ λ f1 f2. live_alike d n device steps s o log1 log2 b1 b2 e1 e2 at f1 f2 r1 r2
     ] f1 f2
 

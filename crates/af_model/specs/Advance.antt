@@ -6,19 +6,21 @@ use Rattle.af_outside.specs.declared.happening.Why.TheVariants as why
 use Rattle.af_wire.specs.declared.front.Front.{Front}
 use Rattle.af_wire.specs.declared.front.Front.TheVariants.{NeedMore, Frame, Malformed}
 use Rattle.af_wire.specs.declared.front.SetupFront.{SetupFront}
-use Rattle.af_wire.specs.declared.front.SetupFront.TheVariants as setup
+use Rattle.af_wire.specs.declared.front.SetupFront.TheVariants as front
 use Rattle.af_wire.specs.Front.{setup_front, frame_front}
 use Rattle.af_wire.specs.Message.{error}
+use Rattle.af_request.specs.Asked.{Asked}
+use Rattle.af_request.specs.Answer.{setup}
 use Rattle.af_model.specs.State.{LinkState, Place, place, say, stopped}
-use Rattle.af_model.specs.Reply.{setup_reply, infos_of}
-use Rattle.af_model.specs.Perform.{Request, request_in, perform}
+use Rattle.af_model.specs.Reply.{reply_message, infos_of}
+use Rattle.af_model.specs.Perform.{request_in, perform}
 
 -- n bytes are taken off the front of the input
 abbrev pub without_front : ℕ → LinkState → LinkState
 without_front n l = record l { rest = drop n l.rest }
 
 -- link k makes a request, or a frame that is none closes it
-abbrev pub requested : ℕ → Option Request → Place → Place
+abbrev pub requested : ℕ → Option Asked → Place → Place
 requested k None p = place p.around (stopped why.Malformed p.link)
 requested k (Some request) p = perform k request p
 
@@ -28,12 +30,13 @@ after_frame k NeedMore p = None
 after_frame k Malformed p = Some (place p.around (stopped why.Malformed p.link))
 after_frame k (Frame n) p = Some (requested k (request_in (take n p.link.rest)) (place p.around (without_front n p.link)))
 
--- what becomes of a link with a setup at the front of its input; a bad one is answered with BadSetup (1) and closes the link
+-- what becomes of a link with a setup at the front of its input; a bad one is refused and closes the link. Setups have the
+-- opcode 0 and the number 0.
 abbrev pub after_setup : SetupFront → Place → Option Place
-after_setup setup.NeedMore p = None
-after_setup setup.Setup p =
-    Some (say (place p.around (record (without_front 8 p.link) { is_set_up = true })) (setup_reply (infos_of p.around.devices)))
-after_setup (setup.BadSetup value) p = Some (say (place p.around (stopped why.BadSetup p.link)) (error 1 value 0 0))
+after_setup front.NeedMore p = None
+after_setup front.Setup p =
+    Some (say (place p.around (record (without_front 8 p.link) { is_set_up = true })) (reply_message 0 (setup (infos_of p.around.devices)) 0))
+after_setup (front.BadSetup value) p = Some (say (place p.around (stopped why.BadSetup p.link)) (error 1 value 0 0))
 
 -- nothing is taken off while a link is closing, or while more than 16384 bytes wait to be sent to it
 abbrev pub takes_more : LinkState → Bool

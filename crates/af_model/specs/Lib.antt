@@ -1,5 +1,9 @@
 pub mod State
 pub mod Reply
+pub mod Checks
+pub mod ContextRequests
+pub mod Play
+pub mod Record
 pub mod Perform
 pub mod Advance
 pub mod Tick

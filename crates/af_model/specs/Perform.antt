@@ -1,30 +1,62 @@
 -- Performing a request.
-use Rattle.std.specs.Prelude.{ℕ, ◌+◌, ◌%◌, ◌^◌, List, [], ◌∷◌, if◌then◌else◌, ◌==◌, slice_get}
+use Rattle.std.specs.Prelude.{ℕ, ◌+◌, ◌%◌, ◌^◌, List, length, option_and_then, slice_get}
 use Rattle.std.specs.declared.option.Option.{Option}
 use Rattle.std.specs.declared.option.Option.TheVariants.{None, Some}
-use Rattle.af_wire.specs.Message.{error}
-use Rattle.af_model.specs.State.{DeviceState, LinkState, Place, place, say}
-use Rattle.af_model.specs.Reply.{time_reply}
+use Rattle.af_context.specs.declared.Context.{Context}
+use Rattle.af_context.specs.Contexts.{context_of}
+use Rattle.af_request.specs.Asked.{Asked, no_op, get_time, create_ac, change_ac, free_ac, play_run, record_run}
+use Rattle.af_request.specs.Requests.{asked_in}
+use Rattle.af_request.specs.Answer.{time}
+use Rattle.af_model.specs.declared.refusal.Cause.TheVariants.{BadAc}
+use Rattle.af_model.specs.State.{DeviceState, LinkState, Place, place}
+use Rattle.af_model.specs.Reply.{refusal, refused, replied}
+use Rattle.af_model.specs.Checks.{refused_or, in_device}
+use Rattle.af_model.specs.ContextRequests.{creation_refusal, described, create, change_refusal, change, free}
+use Rattle.af_model.specs.Play.{play}
+use Rattle.af_model.specs.Record.{record_sound}
 
--- what a client asks
-pub data Request : Type 0 where
-  get_time : ℕ → Request
+-- The requests that are performed so far: the others are as requests that are not known.
+abbrev pub performed : Asked → Option Asked
+performed no_op = Some no_op
+performed (get_time d) = Some (get_time d)
+performed (create_ac d ac ty channels preempt play_gain record_gain) = Some (create_ac d ac ty channels preempt play_gain record_gain)
+performed (change_ac mask ac preempt play_gain record_gain) = Some (change_ac mask ac preempt play_gain record_gain)
+performed (free_ac ac) = Some (free_ac ac)
+performed (play_run quiet ac start bytes) = Some (play_run quiet ac start bytes)
+performed (record_run blocking ac start bytes) = Some (record_run blocking ac start bytes)
+performed _ = None
 
--- The request that a whole frame is. GetTime (opcode 2) is the only one that is performed so far: every other frame is
--- none.
-abbrev pub request_in : List ℕ → Option Request
-request_in (opcode ∷ device ∷ high ∷ low ∷ []) = if opcode == 2 then Some (get_time device) else None
-request_in _ = None
+-- the request that a whole frame is, where it is one
+abbrev pub request_in : List ℕ → Option Asked
+request_in frame = option_and_then performed (asked_in frame)
 
 -- one more request of a link, modulo 2^16
 abbrev pub counted : LinkState → LinkState
 counted l = record l { sequence = (l.sequence + 1) % 2 ^ 16 }
 
--- the time of a device is replied, modulo 2^32; a device that is not there is refused as BadDevice (3)
-abbrev pub time_told : ℕ → Option DeviceState → Place → Place
-time_told d None p = say p (error 3 d 2 p.link.sequence)
-time_told d (Some device) p = say p (time_reply p.link.sequence (device.now % 2 ^ 32))
+-- the time of a device is replied, modulo 2^32
+abbrev pub tell_time : DeviceState → Place → Place
+tell_time device p = replied 2 (time (device.now % 2 ^ 32)) p
+
+-- a request that names a context is done with it and its device, or refused where it is not in use
+abbrev pub in_context : ℕ → ℕ → (Context → DeviceState → Place → Place) → Option Context → Place → Place
+in_context opcode ac f None p = refused opcode (refusal BadAc ac) p
+in_context opcode ac f (Some c) p = in_device opcode c.device (f c) (slice_get p.around.devices c.device) p
+
+-- what a request does
+abbrev pub done : Asked → Place → Place
+done no_op p = p
+done (get_time d) p = in_device 2 d tell_time (slice_get p.around.devices d) p
+done (create_ac d ac ty channels preempt play_gain record_gain) p =
+    refused_or 3 (creation_refusal (length p.around.devices) d ty channels preempt play_gain record_gain)
+    (create (described d ac ty preempt play_gain record_gain)) p
+done (change_ac mask ac preempt play_gain record_gain) p =
+    refused_or 4 (change_refusal p.link.contexts mask ac preempt play_gain record_gain) (change mask ac preempt play_gain record_gain) p
+done (free_ac ac) p = free ac p
+done (play_run quiet ac start bytes) p = in_context 6 ac (λ c. play quiet c start bytes) (context_of p.link.contexts ac) p
+done (record_run blocking ac start bytes) p = in_context 7 ac (λ c. record_sound blocking c start bytes) (context_of p.link.contexts ac) p
+done _ p = p
 
 -- link k makes a request
-abbrev pub perform : ℕ → Request → Place → Place
-perform k (get_time d) p = time_told d (slice_get p.around.devices d) (place p.around (counted p.link))
+abbrev pub perform : ℕ → Asked → Place → Place
+perform k request p = done request (place p.around (counted p.link))

@@ -1,34 +1,46 @@
--- How the server's replies are spelled.
-use Rattle.std.specs.Prelude.{ℕ, ◌+◌, ◌*◌, ◌%◌, ◌^◌, List, ◌∷◌, ◌++◌, length, map}
-use Rattle.std.specs.List.{flat_map}
-use Rattle.std.specs.Int.{w32, to_be_bytes}
-use Rattle.af_sample.specs.declared.sample_type.SampleType.{SampleType}
-use Rattle.af_sample.specs.SampleTypes.{code_of}
-use Rattle.af_wire.specs.Message.{head}
-use Rattle.af_model.specs.State.{DeviceState}
+-- What the server answers: replies, and errors.
+use Rattle.std.specs.Prelude.{ℕ, ◌*◌, false, List, map}
+use Rattle.af_wire.specs.Message.{error}
+use Rattle.af_request.specs.declared.reply.DeviceInfo.{DeviceInfo}
+use Rattle.af_request.specs.Answer.{Answer}
+use Rattle.af_request.specs.Replies.{reply_bytes}
+use Rattle.af_model.specs.declared.refusal.Cause.{Cause}
+use Rattle.af_model.specs.declared.refusal.Cause.TheVariants.{BadSetup, BadValue, BadDevice, BadAc, BadIdChoice, BadMatch, TooManyAcs}
+use Rattle.af_model.specs.declared.refusal.Refusal.{Refusal}
+use Rattle.af_model.specs.State.{DeviceState, Place, say}
 
--- what the reply to a setup says of a device
-pub record Info : Type 0 where
-  pub ty : SampleType
-  pub rate : ℕ
+-- how far ahead of its time, and how far back, a device keeps sound: four seconds
+abbrev pub horizon_of : DeviceState → ℕ
+horizon_of device = device.rate * 4
 
--- the code of its sample type, one channel, no line, its rate, and its horizon of four seconds
-unfoldable pub device_info : Info → List ℕ
-device_info info = code_of info.ty ∷ 1 ∷ 0 ∷ 0 ∷ to_be_bytes w32 info.rate ++ to_be_bytes w32 ((info.rate * 4) % 2 ^ 32)
+-- what the reply to a setup says of a device: it has one channel and no line
+abbrev pub info_of : DeviceState → DeviceInfo
+info_of device = record { ty = device.ty; channels = 1; line = false; rate = device.rate; horizon = horizon_of device }
 
--- the reply to a setup begins with the version 1.0 and how many devices there are
-unfoldable pub setup_head : ℕ → List ℕ
-setup_head devices = head 1 0 0 (2 + 3 * devices) ++ (0 ∷ 1 ∷ 0 ∷ 0 ∷ to_be_bytes w32 devices)
-
-abbrev pub setup_reply : List Info → List ℕ
-setup_reply infos = setup_head (length infos) ++ flat_map device_info infos
-
-abbrev pub info_of : DeviceState → Info
-info_of d = record { ty = d.ty; rate = d.rate }
-
-abbrev pub infos_of : List DeviceState → List Info
+abbrev pub infos_of : List DeviceState → List DeviceInfo
 infos_of devices = map info_of devices
 
--- the reply to GetTime
-unfoldable pub time_reply : ℕ → ℕ → List ℕ
-time_reply sequence time = head 1 2 sequence 1 ++ to_be_bytes w32 time
+-- the code of a cause in error messages
+abbrev pub code_of_cause : Cause → ℕ
+code_of_cause BadSetup = 1
+code_of_cause BadValue = 2
+code_of_cause BadDevice = 3
+code_of_cause BadAc = 4
+code_of_cause BadIdChoice = 5
+code_of_cause BadMatch = 6
+code_of_cause TooManyAcs = 7
+
+abbrev pub refusal : Cause → ℕ → Refusal
+refusal cause value = record { cause = cause; value = value }
+
+-- the bytes of a reply to the request with this opcode and number
+unfoldable pub reply_message : ℕ → Answer → ℕ → List ℕ
+reply_message opcode answer sequence = reply_bytes opcode answer sequence
+
+-- the request with this opcode is replied to, with the number that it has
+abbrev pub replied : ℕ → Answer → Place → Place
+replied opcode answer p = say p (reply_message opcode answer p.link.sequence)
+
+-- it is refused: an error says why, and nothing else changes
+abbrev pub refused : ℕ → Refusal → Place → Place
+refused opcode r p = say p (error (code_of_cause r.cause) r.value opcode p.link.sequence)

@@ -1,22 +1,29 @@
 -- The state of the abstract server: its devices, its links, and what was ever said to each link.
-use Rattle.std.specs.Prelude.{ℕ, ◌+◌, ◌^◌, Bool, false, List, [], ◌++◌, map, replicate, slice_get, slice_set, is_some, length}
+use Rattle.std.specs.Prelude.{ℕ, ◌+◌, ◌^◌, ℤ, Bool, false, List, [], ◌++◌, map, replicate, slice_get, slice_set, is_some, length}
 use Rattle.std.specs.declared.option.Option.{Option}
 use Rattle.std.specs.declared.option.Option.TheVariants.{None, Some}
 use Rattle.af_sample.specs.declared.sample_type.SampleType.{SampleType}
+use Rattle.af_sample.specs.Heard.{Entry}
+use Rattle.af_context.specs.declared.Context.{Context}
 use Rattle.af_outside.specs.declared.happening.Why.{Why}
 use Rattle.af_outside.specs.declared.script.DeviceSpec.{DeviceSpec}
 
 -- A device. Its time is unbounded, and begins 2^32 above the stated start, so that times before the start are natural
 -- numbers too: only differences of times, and times modulo 2^32, are ever seen.
+-- What was accepted and what was captured are history: all plays in the order of their acceptance, and all samples since
+-- the begin.
 -- A device is dead once a capture or an emit of it has failed.
 pub record DeviceState : Type 0 where
   pub ty : SampleType
   pub rate : ℕ
+  pub begin : ℕ
   pub now : ℕ
+  pub accepted : List Entry
+  pub captured : List ℤ
   pub is_dead : Bool
 
--- An open link: its unread input, its unsent output, whether it may have something to read, why it is to be closed, and
--- how many requests it has made, modulo 2^16.
+-- An open link: its unread input, its unsent output, whether it may have something to read, why it is to be closed, how
+-- many requests it has made, modulo 2^16, and its contexts in order of creation.
 pub record LinkState : Type 0 where
   pub is_set_up : Bool
   pub rest : List ℕ
@@ -24,6 +31,7 @@ pub record LinkState : Type 0 where
   pub is_ready : Bool
   pub closing : Option Why
   pub sequence : ℕ
+  pub contexts : List Context
 
 -- A number for a link, open or not. What was said is history: all that was appended to the link's output since it was
 -- opened last, which stays behind a close.
@@ -53,9 +61,17 @@ abbrev pub say : Place → List ℕ → Place
 say p bytes =
     place (record p.around { said = p.around.said ++ bytes }) (record p.link { pending = p.link.pending ++ bytes })
 
+-- the devices, the one at a number changed
+abbrev pub device_set : ℕ → (DeviceState → DeviceState) → List DeviceState → Option DeviceState → List DeviceState
+device_set d f devices None = devices
+device_set d f devices (Some device) = slice_set devices d (f device)
+
+abbrev pub with_device : ℕ → (DeviceState → DeviceState) → List DeviceState → List DeviceState
+with_device d f devices = device_set d f devices (slice_get devices d)
+
 -- a link that was just opened
 abbrev pub opened : LinkState
-opened = record { is_set_up = false; rest = []; pending = []; is_ready = false; closing = None; sequence = 0 }
+opened = record { is_set_up = false; rest = []; pending = []; is_ready = false; closing = None; sequence = 0; contexts = [] }
 
 -- a link that is to be closed, for its first cause; nothing more of its input is read
 abbrev pub stopped : Why → LinkState → LinkState
@@ -63,7 +79,15 @@ stopped cause l = record l { rest = []; closing = Some cause }
 
 -- a device at its start
 abbrev pub opening_device : DeviceSpec → DeviceState
-opening_device d = record { ty = d.ty; rate = d.rate; now = d.start + 2 ^ 32; is_dead = false }
+opening_device d = record {
+  ty = d.ty;
+  rate = d.rate;
+  begin = d.start + 2 ^ 32;
+  now = d.start + 2 ^ 32;
+  accepted = [];
+  captured = [];
+  is_dead = false;
+}
 
 abbrev pub closed_slot : Slot
 closed_slot = record { link = None; said = [] }

@@ -1,7 +1,7 @@
 -- A turn, phase by phase. Each phase takes its own happenings off the front of a log; the answers in them are the
 -- outside's, and all else is determined. What is behind a phase is the next state and the rest of the log, or nothing where
 -- the log does not go on as it must.
-use Rattle.std.specs.Prelude.{◌≡◌, ℕ, zero, suc, ◌+◌, Bool, true, false, not, List, [], ◌∷◌, ◌++◌, length, drop, if◌then◌else◌, ◌==◌, ◌&&◌, nat_le, nat_lt, is_none, is_some, ◌*◌, slice_get}
+use Rattle.std.specs.Prelude.{◌≡◌, ℕ, zero, suc, ◌+◌, Bool, true, false, not, List, [], ◌∷◌, ◌++◌, length, drop, if◌then◌else◌, ◌==◌, ◌&&◌, nat_le, nat_lt, is_none, is_some, ◌*◌, ℤ, slice_get}
 use Rattle.std.specs.declared.option.Option.{Option}
 use Rattle.std.specs.declared.option.Option.TheVariants.{None, Some}
 use Rattle.af_outside.specs.declared.happening.Happening.{Happening}
@@ -17,7 +17,7 @@ use Rattle.af_outside.specs.Told.{Log}
 use Rattle.af_outside.specs.Outside.{same_bytes}
 use Rattle.af_model.specs.State.{State, DeviceState, Slot, LinkState, Around, Place, Outline, place, opened, slot_at, with_slot, outline}
 use Rattle.af_model.specs.Advance.{advance, absorb}
-use Rattle.af_model.specs.Tick.{sound, tick}
+use Rattle.af_model.specs.Tick.{sound, capture_of, tick}
 
 -- a state, and the log that is left behind it
 pub record Behind (S : Type 0) : Type 0 where
@@ -180,32 +180,33 @@ abbrev pub in_slot : (LinkState → LinkState) → Slot → Slot
 in_slot f slot = record slot { link = in_open f slot.link }
 
 -- A live device that ticks: one capture of as many frames, and where that was done one emit of the sound of that stretch. It is
--- dead behind one that failed. A dead device makes neither call again. Its time goes on in every case.
+-- dead behind one that failed. A dead device makes neither call again. Its time goes on in every case, and where no bytes were
+-- captured it captures silence.
 
 -- a capture of n frames gives as many bytes as they have
 abbrev pub is_capture : ℕ → DeviceState → Option (List ℕ) → Bool
 is_capture n device None = true
 is_capture n device (Some bytes) = length bytes == n * width_of device.ty
 
--- whether the capture was done
-abbrev pub capture_by : ℕ → ℕ → DeviceState → Happening → Option Bool
+-- the bytes that were captured, or none
+abbrev pub capture_by : ℕ → ℕ → DeviceState → Happening → Option (Option (List ℕ))
 capture_by d n device (Captured c frames got) =
-    if c == d && frames == n && is_capture n device got then Some (is_some got) else None
+    if c == d && frames == n && is_capture n device got then Some got else None
 capture_by d n device _ = None
 
-abbrev pub emit_by : ℕ → ℕ → DeviceState → State → Happening → Option State
-emit_by d n device s (Emitted e bytes done) =
-    if e == d && same_bytes bytes (sound device n) then Some (tick d n (not done) s) else None
-emit_by d n device s _ = None
+abbrev pub emit_by : ℕ → ℕ → DeviceState → List ℤ → State → Happening → Option State
+emit_by d n device captured s (Emitted e bytes done) =
+    if e == d && same_bytes bytes (sound device n) then Some (tick d captured (not done) s) else None
+emit_by d n device captured s _ = None
 
-abbrev pub after_capture : ℕ → ℕ → DeviceState → State → Bool → Log → Option (Behind State)
-after_capture d n device s false log = behind (tick d n true s) log
-after_capture d n device s true log = take_one (emit_by d n device s) log
+abbrev pub after_capture : ℕ → ℕ → DeviceState → State → Option (List ℕ) → Log → Option (Behind State)
+after_capture d n device s None log = behind (tick d (capture_of device.ty n None) true s) log
+after_capture d n device s (Some bytes) log = take_one (emit_by d n device (capture_of device.ty n (Some bytes)) s) log
 
 abbrev pub tick_phase : ℕ → ℕ → Option DeviceState → State → Log → Option (Behind State)
 tick_phase d n None s log = None
 tick_phase d n (Some device) s log =
-    if device.is_dead then behind (tick d n true s) log
+    if device.is_dead then behind (tick d (capture_of device.ty n None) true s) log
     else and_then (take_one (capture_by d n device) log) (after_capture d n device s)
 
 -- what a wake does

@@ -1,6 +1,10 @@
 //! The abstract server: its states, what a turn is, what a run is, and the laws of whole runs.
 #![tactic(auto)]
 
+mod refusal;
+
+pub use refusal::{Cause, Refusal};
+
 ghost use Rattle.std.specs.Prelude.{◌≡◌, List};
 ghost use Rattle.af_outside.specs.declared.script.DeviceSpec.{DeviceSpec};
 ghost use Rattle.af_outside.specs.declared.script.Step.{Step};

@@ -9,7 +9,7 @@ use Rattle.af_time.specs.DeviceTime.{unwrap}
 use Rattle.af_sample.specs.Heard.{Entry, heard, with_entry}
 use Rattle.af_sample.proofs.Hearing.{heard-push}
 use Rattle.af_buffers.specs.Horizons.{whole_time}
-use Rattle.af_buffers.specs.PlayBuffer.{Next, accepted_at, accepted_by, EndsWithin, Plays, HandsOut, Hears}
+use Rattle.af_buffers.specs.PlayBuffer.{Next, accepted_at, accepted_by, frames_within, EndsWithin, Plays, HandsOut, Hears}
 use Rattle.af_buffers.proofs.Rooms.{get_or-silence}
 use Rattle.af_buffers.proofs.Entries.{covers_past, not_covered, with_entry-later, unwrap-same}
 
@@ -58,9 +58,20 @@ hears_play b c accepted now start samples preempt h word within p =
           (All-push (λ e. e.start + length e.samples ≤ now + length b.next) accepted (accepted_at now start samples preempt) h.within within);
     }
 
+-- how many frames end within the horizon is the same in whole times
+pub frames_within-same : (b : Next) (accepted : List Entry) (now start : ℕ) → Hears b accepted now → start < 2 ^ 32 → frames_within b start ≡ now + length b.next - unwrap now start
+frames_within-same b accepted now start h word = let same = same_start b accepted now start h word in omega arith
+
 -- no more is given than is next
 given_few : (b c : Next) (given : List ℤ) → HandsOut b c given → length given ≤ length b.next
 given_few b c given o = let e = ap length o.first ∙ length-take (length given) b.next in omega arith
+
+-- as many samples are next behind it
+pub size_hand_out : (b c : Next) (given : List ℤ) → HandsOut b c given → length c.next ≡ length b.next
+size_hand_out b c given o =
+    let few : length given ≤ length b.next = given_few b c given o in
+    ap length o.next ∙ length-append (drop (length given) b.next) (replicate (length given) (pos 0))
+    ∙ ap (λ m. m + length (replicate (length given) (pos 0))) (length-drop (length given) b.next) ∙ ap (λ m. length b.next - length given + m) (length-replicate (length given) (pos 0)) ∙ omega arith
 
 -- what is handed out
 pub hears_hand_out : (b c : Next) (accepted : List Entry) (now : ℕ) (given : List ℤ) → Hears b accepted now → HandsOut b c given → Hears c accepted (now + length given)
@@ -68,9 +79,7 @@ hears_hand_out b c accepted now given h o =
     let late : 2 ^ 32 ≤ now = h.late in
     let few : length given ≤ length b.next = given_few b c given o in
     let left : length (drop (length given) b.next) ≡ length b.next - length given = length-drop (length given) b.next in
-    let size : length c.next ≡ length b.next =
-    ap length o.next ∙ length-append (drop (length given) b.next) (replicate (length given) (pos 0))
-    ∙ ap (λ m. m + length (replicate (length given) (pos 0))) left ∙ ap (λ m. length b.next - length given + m) (length-replicate (length given) (pos 0)) ∙ omega arith in
+    let size : length c.next ≡ length b.next = size_hand_out b c given o in
     record {
       late = omega arith;
       time = o.time ∙ ap (λ x. (x + length given) % 2 ^ 32) h.time ∙ mod-add-mod now (2 ^ 32) (length given);

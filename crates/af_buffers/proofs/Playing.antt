@@ -225,6 +225,14 @@ late_by t start late word word' before is =
     let early : whole_time t ≤ unwrap (whole_time t) start + 2 ^ 31 = meant.early in
     omega arith
 
+-- how far ahead a start is, by the words
+pub ahead_by : (t start far : ℕ) → t < 2 ^ 32 → start < 2 ^ 32 → whole_time t ≤ unwrap (whole_time t) start → far ≡ (start + (2 ^ 32 - t)) % 2 ^ 32 → unwrap (whole_time t) start ≡ whole_time t + far
+ahead_by t start far word word' begun is =
+    let meant : IsMeant (whole_time t) start (unwrap (whole_time t) start) = unwrap_meant (whole_time t) start (omega arith) word' in
+    let same : unwrap (whole_time t) start % 2 ^ 32 ≡ start = meant.word in
+    let late : unwrap (whole_time t) start < whole_time t + 2 ^ 31 = meant.late in
+    omega arith
+
 -- a play whose start is ahead ends within the horizon where its words say so, and a late one always
 pub ends_ahead : (b : Next) (start n : ℕ) → ahead (whole_time b.time) start < 2 ^ 31 → ahead (whole_time b.time) start + n ≤ length b.next → EndsWithin b start n
 ends_ahead b start n early within = let e = unwrap_ahead (whole_time b.time) start early in omega arith

@@ -8,7 +8,7 @@ use Rattle.af_time.specs.DeviceTime.{unwrap}
 use Rattle.af_sample.specs.Window.{recorded, window}
 use Rattle.af_sample.proofs.Hearing.{recorded_within, recorded_before, recorded-append}
 use Rattle.af_buffers.specs.Horizons.{whole_time}
-use Rattle.af_buffers.specs.RecordBuffer.{Last, Captures, sample_at, samples_from, Keeps}
+use Rattle.af_buffers.specs.RecordBuffer.{Last, Captures, frames_before, sample_at, samples_from, Keeps}
 use Rattle.af_buffers.proofs.Entries.{unwrap-same}
 use Rattle.af_buffers.proofs.Recording.{sample_before, sample_within, sample_after}
 
@@ -48,6 +48,19 @@ keeps_silence b now n late short time last =
           ∙ recorded_before [] now now (length b.last) (now - length b.last + j) (omega arith) (omega arith) (omega arith)));
     }
 
+-- how many frames are before now is the same in whole times
+pub frames_before-same : (b : Last) (captured : List ℤ) (begin now start : ℕ) → Keeps b captured begin now → start < 2 ^ 32 → frames_before b start ≡ now - unwrap now start
+frames_before-same b captured begin now start k word =
+    let late : 2 ^ 32 ≤ begin = k.late in
+    let now_is : now ≡ begin + length captured = k.all in
+    let time : b.time ≡ now % 2 ^ 32 = k.time in
+    let same = unwrap-same (whole_time b.time) now start (omega arith) (omega arith) (omega arith) word in
+    omega arith
+
+-- as many samples are last behind a capture
+pub size_capture : (b c : Last) (samples : List ℤ) → Captures b c samples → length c.last ≡ length b.last
+size_capture b c samples more = let all : length (b.last ++ samples) ≡ length b.last + length samples = length-append b.last samples in ap length more.last ∙ length-drop (length samples) (b.last ++ samples) ∙ omega arith
+
 -- more is captured
 pub keeps_capture : (b c : Last) (captured samples : List ℤ) (begin now : ℕ) → Keeps b captured begin now → Captures b c samples → Keeps c (captured ++ samples) begin (now + length samples)
 keeps_capture b c captured samples begin now k more =
@@ -55,7 +68,7 @@ keeps_capture b c captured samples begin now k more =
     let now_is : now ≡ begin + length captured = k.all in
     let short : length b.last ≤ 2 ^ 32 = k.short in
     let all : length (b.last ++ samples) ≡ length b.last + length samples = length-append b.last samples in
-    let size : length c.last ≡ length b.last = ap length more.last ∙ length-drop (length samples) (b.last ++ samples) ∙ omega arith in
+    let size : length c.last ≡ length b.last = size_capture b c samples more in
     let both : length (captured ++ samples) ≡ length captured + length samples = length-append captured samples in
     record {
       late = late;

@@ -1,5 +1,5 @@
 -- What a device is about to play: the samples from its time on, a horizon's worth of them.
-use Rattle.std.specs.Prelude.{◌≡◌, ℕ, ◌+◌, ◌%◌, ◌^◌, ◌<◌, ◌≤◌, Bool, false, List, ◌++◌, length, map, take, drop, replicate, ℤ, pos, slice_index_or}
+use Rattle.std.specs.Prelude.{◌≡◌, ℕ, ◌+◌, ◌-◌, ◌%◌, ◌^◌, ◌<◌, ◌≤◌, Bool, false, List, ◌++◌, length, map, take, drop, replicate, ℤ, pos, slice_index_or}
 use Rattle.std.specs.List.{range_with_len, All}
 use Rattle.af_time.specs.DeviceTime.{unwrap}
 use Rattle.af_sample.specs.Heard.{Entry, covers, with_entry, heard, blended}
@@ -20,6 +20,10 @@ accepted_at now start samples preempt =
 -- the same at a buffer's time
 abbrev pub accepted_by : Next → ℕ → List ℤ → Bool → Entry
 accepted_by b start samples preempt = accepted_at (whole_time b.time) start samples preempt
+
+-- how many frames from a word on end at most a horizon after a buffer's time
+abbrev pub frames_within : Next → ℕ → ℕ
+frames_within b start = whole_time b.time + length b.next - unwrap (whole_time b.time) start
 
 -- so many samples from a word on end at most a horizon after a buffer's time
 abbrev pub EndsWithin : Next → ℕ → ℕ → Type 0

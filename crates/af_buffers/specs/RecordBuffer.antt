@@ -18,6 +18,10 @@ pub record Captures (old new : Last) (samples : List ℤ) : Type 0 where
   pub time : new.time ≡ (old.time + length samples) % 2 ^ 32
   pub last : new.last ≡ drop (length samples) (old.last ++ samples)
 
+-- how many frames from a word on are before a buffer's time
+abbrev pub frames_before : Last → ℕ → ℕ
+frames_before b start = whole_time b.time - unwrap (whole_time b.time) start
+
 -- the sample of a whole time: one of the last, and silence further back and from now on
 abbrev pub sample_at : Last → ℕ → ℤ
 sample_at b t =

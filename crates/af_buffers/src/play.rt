@@ -2,7 +2,7 @@
 ghost use Rattle.std.specs.Prelude.{◌≡◌, ◌≤◌, length, IfOk, pos, replicate};
 ghost use Rattle.af_ring.specs.Cells.{ClearsRun};
 ghost use Rattle.af_buffers.specs.Horizons.{IsHorizon};
-ghost use Rattle.af_buffers.specs.PlayBuffer.{accepted_by, ChangesCovered, EndsWithin, HandsOut, HoldsNext, LaysRun, Plays};
+ghost use Rattle.af_buffers.specs.PlayBuffer.{accepted_by, frames_within, ChangesCovered, EndsWithin, HandsOut, HoldsNext, LaysRun, Plays};
 
 use crate::room::bits_for;
 use af_ring::TimeRing;
@@ -51,6 +51,19 @@ impl PlayBuffer {
         ensures { result.0 ≡ self.now.time }
     {
         self.time
+    }
+
+    /// How many frames from a time on end within the horizon: the horizon and more from a late time,
+    /// and none from a time past the horizon.
+    pub fn frames_within(&self, start: DevTime) -> u32
+        ensures { result ≡ frames_within self.now start.0 }
+    {
+        if start.is_before(self.time) {
+            self.horizon + self.time.0.wrapping_sub(start.0)
+        } else {
+            self.horizon
+                .saturating_sub(start.0.wrapping_sub(self.time.0))
+        }
     }
 
     /// The cells by time: the next samples, and silence.

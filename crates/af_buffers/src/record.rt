@@ -2,7 +2,7 @@
 ghost use Rattle.std.specs.Prelude.{◌≡◌, ℕ, ◌+◌, ◌%◌, ◌^◌, ◌<◌, ◌≤◌, length, IfOk, pos, replicate, slice_index_or};
 ghost use Rattle.af_ring.specs.Cells.{PutsRun};
 ghost use Rattle.af_buffers.specs.Horizons.{IsHorizon};
-ghost use Rattle.af_buffers.specs.RecordBuffer.{Captures, HoldsLast, samples_from, within_run};
+ghost use Rattle.af_buffers.specs.RecordBuffer.{frames_before, Captures, HoldsLast, samples_from, within_run};
 
 use crate::room::bits_for;
 use af_ring::TimeRing;
@@ -50,6 +50,18 @@ impl RecordBuffer {
         ensures held { HoldsLast self.now }
     {
         &self.ring
+    }
+
+    /// How many frames from a time on are before the buffer's time: none from a later one.
+    pub fn frames_before(&self, start: DevTime) -> u32
+        ensures { result ≡ frames_before self.now start.0 }
+    {
+        let frames = self.time.0.wrapping_sub(start.0);
+        if start.is_before(self.time) {
+            frames
+        } else {
+            0
+        }
     }
 
     /// Appends samples, at most 4096, and moves the time behind them.

@@ -1,77 +1,83 @@
 -- What devices and the states that they stand for have in common.
-use Rattle.std.proofs.Common.{◌≡◌, ℕ, zero, suc, true, ◌+◌, ◌<◌, List, [], ◌∷◌, ◌++◌, length, take, get_or, slice_get, map, refl, sym, ap, ◌∙◌, subst}
-use Rattle.std.specs.List.{flat_map}
-use Rattle.std.proofs.lemmas.List.{map_more, flat_map_more}
+use Rattle.std.proofs.Common.{◌≡◌, ℕ, zero, suc, true, false, ◌*◌, ◌≤◌, ◌<◌, List, [], ◌∷◌, ◌++◌, length, get_or, slice_get, slice_set, map, refl, sym, ap, ◌∙◌, subst, arith}
+use Rattle.std.proofs.lemmas.Option.{slice_get-get_or}
+use Rattle.std.specs.declared.option.Option.{Option}
 use Rattle.std.specs.declared.option.Option.TheVariants.{None, Some}
-use Rattle.af_model.specs.State.{DeviceState, LinkState, Around, place}
 use Rattle.af_sample.specs.declared.sample_type.SampleType.{SampleType}
-use Rattle.af_wire.specs.Message.{error}
 use Rattle.af_wire.specs.Front.{setup_front}
-use Rattle.af_wire.specs.declared.front.SetupFront.TheVariants as setup
-use Rattle.af_model.specs.Reply.{Info, device_info, info_of, infos_of, time_reply, setup_reply}
-use Rattle.af_model.specs.Perform.{time_told}
+use Rattle.af_wire.specs.declared.front.SetupFront.TheVariants as front
+use Rattle.af_request.specs.declared.reply.DeviceInfo.{DeviceInfo}
+use Rattle.af_request.specs.Answer.{setup}
+use Rattle.af_model.specs.State.{DeviceState, LinkState, Around, place, with_device, device_set}
+use Rattle.af_model.specs.Reply.{info_of, infos_of, reply_message}
 use Rattle.af_model.specs.Advance.{after_setup, without_front}
-use Rattle.af_core.specs.declared.device.Device.{Device}
-use Rattle.af_core.specs.Stands.{StandForDevices, StandsForDevice, StandAround, At, StepsTo, kept_info}
+use Rattle.af_core.specs.Kept.{KeptDevice, StandsForDevice, kept_info}
+use Rattle.af_core.specs.Stands.{StandForDevices, StandAround, At, StepsTo}
+
+-- there are as many
+pub stands_length : (ds : List KeptDevice) (ss : List DeviceState) → StandForDevices ds ss → length ss ≡ length ds
+stands_length [] [] h = refl
+stands_length [] (s ∷ ss) h = absurd h
+stands_length (d ∷ ds) [] h = absurd h
+stands_length (d ∷ ds) (s ∷ ss) h = ap suc (stands_length ds ss h.1)
 
 -- what is kept of devices is what the reply to a setup says of them
-pub same_infos : (ds : List Device) (ss : List DeviceState) → StandForDevices ds ss → map {A = Device} {B = Info} kept_info ds ≡ infos_of ss
+pub same_infos : (ds : List KeptDevice) (ss : List DeviceState) → StandForDevices ds ss → map {A = KeptDevice} {B = DeviceInfo} kept_info ds ≡ infos_of ss
 same_infos [] [] h = refl
 same_infos [] (s ∷ ss) h = absurd h
 same_infos (d ∷ ds) [] h = absurd h
 same_infos (d ∷ ds) (s ∷ ss) h =
-    let with_type : SampleType → Info = λ ty. record { ty = ty; rate = d.rate } in
-    let with_rate : ℕ → Info = λ rate. record { ty = s.ty; rate = rate } in
+    let with_type : SampleType → DeviceInfo = λ ty. record { ty = ty; channels = 1; line = false; rate = d.rate; horizon = d.rate * 4 } in
+    let with_rate : ℕ → DeviceInfo = λ rate. record { ty = s.ty; channels = 1; line = false; rate = rate; horizon = rate * 4 } in
     let one : kept_info d ≡ info_of s = ap with_type h.0.ty ∙ ap with_rate h.0.rate in
     let rest = same_infos ds ss h.1 in
-    ap (λ i. i ∷ map {A = Device} {B = Info} kept_info ds) one ∙ ap (λ l. info_of s ∷ l) rest
+    ap (λ i. i ∷ map {A = KeptDevice} {B = DeviceInfo} kept_info ds) one ∙ ap (λ l. info_of s ∷ l) rest
 
 -- the device at a number, and the state that it stands for
-pub record Found (ss : List DeviceState) (d : ℕ) (x : Device) : Type 0 where
+pub record Found (ss : List DeviceState) (d : ℕ) (x : KeptDevice) : Type 0 where
   pub state : DeviceState
   pub here : slice_get ss d ≡ Some state
   pub stands : StandsForDevice x state
 
-pub found : (ds : List Device) (ss : List DeviceState) (d : ℕ) (x : Device) → slice_get ds d ≡ Some x → StandForDevices ds ss → Found ss d x
+pub found : (ds : List KeptDevice) (ss : List DeviceState) (d : ℕ) (x : KeptDevice) → slice_get ds d ≡ Some x → StandForDevices ds ss → Found ss d x
 found [] ss d x e h = absurd cc
 found (y ∷ ds) [] d x e h = absurd h
 found (y ∷ ds) (s ∷ ss) zero x e h = let same : y ≡ x = cc in record { state = s; here = refl; stands = subst (λ z. StandsForDevice z s) same h.0 }
 found (y ∷ ds) (s ∷ ss) (suc d) x e h = let r = found ds ss d x e h.1 in record { state = r.state; here = r.here; stands = r.stands }
 
-pub not_found : (ds : List Device) (ss : List DeviceState) (d : ℕ) → slice_get ds d ≡ None → StandForDevices ds ss → slice_get ss d ≡ None
-not_found [] [] d e h = refl
-not_found [] (s ∷ ss) d e h = absurd h
-not_found (y ∷ ds) [] d e h = absurd h
-not_found (y ∷ ds) (s ∷ ss) zero e h = absurd cc
-not_found (y ∷ ds) (s ∷ ss) (suc d) e h = not_found ds ss d e h.1
+pub not_found : (ds : List KeptDevice) (ss : List DeviceState) (d : ℕ) → length ds ≤ d → StandForDevices ds ss → slice_get ss d ≡ None
+not_found [] [] d past h = refl
+not_found [] (s ∷ ss) d past h = absurd h
+not_found (y ∷ ds) [] d past h = absurd h
+not_found (y ∷ ds) (s ∷ ss) zero past h = absurd (omega arith)
+not_found (y ∷ ds) (s ∷ ss) (suc d) past h = not_found ds ss d (omega arith) h.1
 
--- the time that is kept is the time that is told
-pub time_found : (ds : List Device) (d : ℕ) (x : Device) (l l' : LinkState) → slice_get ds d ≡ Some x → l' ≡ record l { pending = l.pending ++ time_reply l.sequence x.time.0 } →
-    (a : Around) → StandAround ds a → At ds l' (time_told d (slice_get a.devices d) (place a l))
-time_found ds d x l l' e is a h =
-    let r = found ds a.devices d x e h in
-    let said : ℕ → LinkState = λ t. record l { pending = l.pending ++ time_reply l.sequence t } in
-    subst (λ o. At ds l' (time_told d o (place a l))) (sym r.here) (h, ap said (sym r.stands.time) ∙ sym is)
+-- the device at a number
+pub device_at : (ds : List KeptDevice) (i k : ℕ) (d : KeptDevice) → i ≡ k → i < length ds → slice_get ds k ≡ Some (get_or ds i d)
+device_at ds i k d e lt = subst (λ j. slice_get ds j ≡ Some (get_or ds i d)) e (slice_get-get_or ds i d lt)
 
--- a device that is not kept is not there
-pub time_not_found : (ds : List Device) (d value : ℕ) (l l' : LinkState) → slice_get ds d ≡ None → value ≡ d → l' ≡ record l { pending = l.pending ++ error 3 value 2 l.sequence } →
-    (a : Around) → StandAround ds a → At ds l' (time_told d (slice_get a.devices d) (place a l))
-time_not_found ds d value l l' e v is a h =
-    let refused : ℕ → LinkState = λ t. record l { pending = l.pending ++ error 3 t 2 l.sequence } in
-    subst (λ o. At ds l' (time_told d o (place a l))) (sym (not_found ds a.devices d e h)) (h, ap refused (sym v) ∙ sym is)
+pub device_is : (ds : List KeptDevice) (i k : ℕ) (fallback d : KeptDevice) → i ≡ k → i < length ds → slice_get ds k ≡ Some d → get_or ds i fallback ≡ d
+device_is ds i k fallback d e lt here = let both : Some (get_or ds i fallback) ≡ Some d = sym (device_at ds i k fallback e lt) ∙ here in cc
+
+-- one device changes with the state that it stands for
+pub stands_set : (ds : List KeptDevice) (ss : List DeviceState) (k : ℕ) (d : KeptDevice) (s : DeviceState) → StandForDevices ds ss → StandsForDevice d s → StandForDevices (slice_set ds k d) (slice_set ss k s)
+stands_set [] [] k d s h e = tt
+stands_set [] (y ∷ ss) k d s h e = absurd h
+stands_set (x ∷ ds) [] k d s h e = absurd h
+stands_set (x ∷ ds) (y ∷ ss) zero d s h e = (e, h.1)
+stands_set (x ∷ ds) (y ∷ ss) (suc k) d s h e = (h.0, stands_set ds ss k d s h.1 e)
+
+pub stands_with : (ds : List KeptDevice) (ss : List DeviceState) (k : ℕ) (d d' : KeptDevice) (f : DeviceState → DeviceState) → slice_get ds k ≡ Some d → StandForDevices ds ss →
+    ((s : DeviceState) → StandsForDevice d s → StandsForDevice d' (f s)) → StandForDevices (slice_set ds k d') (with_device k f ss)
+stands_with ds ss k d d' f here h step =
+    let r = found ds ss k d here h in
+    subst (λ o. StandForDevices (slice_set ds k d') (device_set k f ss o)) (sym r.here) (stands_set ds ss k d' (f r.state) h (step r.state r.stands))
 
 -- a good setup is taken off and replied to
-pub setup_replied : (ds : List Device) (l l1 l2 : LinkState) → setup_front l.rest ≡ setup.Setup → l1 ≡ record (without_front 8 l) { is_set_up = true } →
-    l2 ≡ record l1 { pending = l1.pending ++ setup_reply (map {A = Device} {B = Info} kept_info ds) } →
+pub setup_replied : (ds : List KeptDevice) (l l1 l2 : LinkState) → setup_front l.rest ≡ front.Setup → l1 ≡ record (without_front 8 l) { is_set_up = true } →
+    l2 ≡ record l1 { pending = l1.pending ++ reply_message 0 (setup (map {A = KeptDevice} {B = DeviceInfo} kept_info ds)) 0 } →
     (a : Around) → StandAround ds a → StepsTo true (after_setup (setup_front l.rest) (place a l)) ds l2
 setup_replied ds l l1 l2 f e1 e2 a h =
-    let replied : List Info → LinkState = λ infos. record (without_front 8 l) { is_set_up = true; pending = l.pending ++ setup_reply infos } in
-    let pushed : LinkState → LinkState = λ m. record m { pending = m.pending ++ setup_reply (map {A = Device} {B = Info} kept_info ds) } in
+    let replied : List DeviceInfo → LinkState = λ infos. record (without_front 8 l) { is_set_up = true; pending = l.pending ++ reply_message 0 (setup infos) 0 } in
+    let pushed : LinkState → LinkState = λ m. record m { pending = m.pending ++ reply_message 0 (setup (map {A = KeptDevice} {B = DeviceInfo} kept_info ds)) 0 } in
     rw f (h, ap replied (sym (same_infos ds a.devices h)) ∙ sym (e2 ∙ ap pushed e1))
-
--- one more device is written
-pub one_more : (before out : List ℕ) (devices : List Device) (i : ℕ) (d : Device) → i < length devices →
-    before ≡ out ++ flat_map device_info (map {A = Device} {B = Info} kept_info (take i devices)) →
-    before ++ device_info (kept_info (get_or devices i d)) ≡ out ++ flat_map device_info (map {A = Device} {B = Info} kept_info (take (i + 1) devices))
-one_more before out devices i d lt e =
-    rw (map_more kept_info devices i d lt, e) (flat_map_more device_info out (map {A = Device} {B = Info} kept_info (take i devices)) (kept_info (get_or devices i d)))

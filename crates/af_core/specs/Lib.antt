@@ -1,4 +1,5 @@
+pub mod Kept
+pub mod Sounds
 pub mod Stands
 pub mod Does
-pub mod Request
 pub mod Live

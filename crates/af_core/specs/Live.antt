@@ -1,18 +1,32 @@
 -- What a live device adds to a log when it ticks.
-use Rattle.std.specs.Prelude.{◌≡◌, ℕ, Bool, not, List, ◌++◌}
+use Rattle.std.specs.Prelude.{◌≡◌, ℕ, ℤ, Bool, List, ◌++◌, true, false}
 use Rattle.std.specs.declared.option.Option.{Option}
-use Rattle.af_sample.specs.declared.sample_type.SampleType.{SampleType}
+use Rattle.std.specs.declared.option.Option.TheVariants.{None}
 use Rattle.af_outside.specs.Told.{Log, Grew}
 use Rattle.af_model.specs.State.{State, DeviceState}
-use Rattle.af_model.specs.Tick.{tick}
+use Rattle.af_model.specs.Tick.{capture_of, later, sound, tick}
 use Rattle.af_model.specs.Turn.{behind, and_then, take_one, capture_by, after_capture}
 use Rattle.af_model.specs.Run.{wakes}
+use Rattle.af_core.specs.Kept.{KeptDevice, StandsForDevice}
 
--- One part was added to the log: a capture of device d and, where that was done, an emit of its sound. The device is alive behind
--- it or not.
-pub record TicksLive (d n : ℕ) (ty : SampleType) (before after : Option Log) (is_alive : Bool) : Type 0 where
+-- n sample periods of a device went by in which these bytes came, or none, and this sound is handed out
+pub record Passes (old new : KeptDevice) (n : ℕ) (came : Option (List ℕ)) (given : List ℕ) : Type 0 where
+  pub stands : (device : DeviceState) → StandsForDevice old device → StandsForDevice new (later (capture_of old.ty n came) device.is_dead device)
+  pub gives : (device : DeviceState) → StandsForDevice old device → given ≡ sound device n
+
+-- One part was added to the log: a capture of device d in n sample periods and, where that was done, an emit of its sound.
+-- The device has passed over these, and is dead behind them or not.
+pub record TicksLive (d n : ℕ) (old new : KeptDevice) (before after : Option Log) : Type 0 where
   pub part : Log
   pub told : Grew before part after
   pub quiet : wakes part ≡ 0
-  pub goes : (device : DeviceState) → device.ty ≡ ty → (s : State) (more : Log) →
-      and_then (take_one (capture_by d n device) (part ++ more)) (after_capture d n device s) ≡ behind (tick d n (not is_alive) s) more
+  pub captured : List ℤ
+  pub is_dead : Bool
+  pub stands : (device : DeviceState) → StandsForDevice old device → StandsForDevice new (later captured is_dead device)
+  pub goes : (device : DeviceState) → StandsForDevice old device → (s : State) (more : Log) →
+      and_then (take_one (capture_by d n device) (part ++ more)) (after_capture d n device s) ≡ behind (tick d captured is_dead s) more
+
+-- A dead device has passed over silence and nothing was added to the log, and a live one has made its calls.
+abbrev pub Ticks : Bool → ℕ → ℕ → KeptDevice → KeptDevice → Option Log → Option Log → Type 0
+Ticks true d n old new before after = (given : List ℕ) × Passes old new n None given × (before ≡ after)
+Ticks false d n old new before after = TicksLive d n old new before after

@@ -1,48 +1,41 @@
 -- What the core keeps, and the states of the abstract server that it stands for.
-use Rattle.std.specs.Prelude.{◌≡◌, ℕ, ◌+◌, ◌<◌, ◌%◌, ◌^◌, Bool, true, false, IsTrue, List, [], ◌∷◌, length, if◌then◌else◌}
+use Rattle.std.specs.Prelude.{◌≡◌, ℕ, ◌+◌, ◌<◌, Bool, true, false, IsTrue, List, [], ◌∷◌, length, slice_get, option_and_then, if◌then◌else◌}
 use Rattle.std.specs.declared.option.Option.{Option}
 use Rattle.std.specs.declared.option.Option.TheVariants.{None, Some}
 use Rattle.af_outside.specs.declared.happening.Happening.TheVariants.{Woke}
 use Rattle.af_outside.specs.declared.happening.Wake.{Wake}
 use Rattle.af_outside.specs.Told.{Log, Grew}
-use Rattle.af_model.specs.State.{State, DeviceState, LinkState, Around, Place, Outline, links_of, outline_with}
-use Rattle.af_model.specs.Reply.{Info}
+use Rattle.af_model.specs.State.{State, DeviceState, LinkState, Around, Place, Outline, place, links_of, outline_with}
 use Rattle.af_model.specs.Advance.{takes_more}
 use Rattle.af_model.specs.Turn.{Door, IsTurn, wants_write}
 use Rattle.af_model.specs.Run.{wakes}
-use Rattle.af_core.specs.declared.device.Device.{Device}
+use Rattle.af_core.specs.Kept.{KeptDevice, StandsForDevice}
 
--- a device's time is kept modulo 2^32, and its history is not kept
-pub record StandsForDevice (d : Device) (s : DeviceState) : Type 0 where
-  pub ty : d.ty ≡ s.ty
-  pub rate : d.rate ≡ s.rate
-  pub time : d.time.0 ≡ s.now % 2 ^ 32
-  pub dead : d.is_dead ≡ s.is_dead
-
--- what the reply to a setup says of a device
-abbrev pub kept_info : Device → Info
-kept_info d = record { ty = d.ty; rate = d.rate }
-
-abbrev pub StandForDevices : List Device → List DeviceState → Type 0
+-- devices stand for states of devices one by one
+abbrev pub StandForDevices : List KeptDevice → List DeviceState → Type 0
 StandForDevices [] [] = Unit {0}
 StandForDevices [] (s ∷ ss) = ⊥
 StandForDevices (d ∷ ds) [] = ⊥
 StandForDevices (d ∷ ds) (s ∷ ss) = StandsForDevice d s × StandForDevices ds ss
 
 -- what is kept of what is around a link
-abbrev pub StandAround : List Device → Around → Type 0
+abbrev pub StandAround : List KeptDevice → Around → Type 0
 StandAround ds a = StandForDevices ds a.devices
 
 -- a link with what is around it
-abbrev pub At : List Device → LinkState → Place → Type 0
+abbrev pub At : List KeptDevice → LinkState → Place → Type 0
 At ds l p = StandAround ds p.around × (p.link ≡ l)
 
+-- something is done to a link: it is the same with whatever around it, and leaves the devices alone
+abbrev pub LeadsLink : (Place → Place) → LinkState → LinkState → Type 0
+LeadsLink f l l' = (a : Around) → ((f (place a l)).link ≡ l') × ((f (place a l)).around.devices ≡ a.devices)
+
 -- a link's number, open or not, with what is around it
-abbrev pub AtDoor : List Device → Option LinkState → Door → Type 0
+abbrev pub AtDoor : List KeptDevice → Option LinkState → Door → Type 0
 AtDoor ds link d = StandAround ds d.around × (d.link ≡ link)
 
 -- where something was taken off, what is kept now is what that leads to, and else there was nothing to take
-abbrev pub StepsTo : Bool → Option Place → List Device → LinkState → Type 0
+abbrev pub StepsTo : Bool → Option Place → List KeptDevice → LinkState → Type 0
 StepsTo true (Some p) ds l = At ds l p
 StepsTo true None ds l = ⊥
 StepsTo false None ds l = Unit {0}
@@ -58,14 +51,18 @@ writes_left l = length l.rest + (if wants_write l then 1 else 0)
 
 -- all that a core keeps
 pub record Kept : Type 0 where
-  pub devices : List Device
+  pub devices : List KeptDevice
   pub links : List (Option LinkState)
+
+-- the link that is open at a number
+abbrev pub link_kept : Kept → ℕ → Option LinkState
+link_kept kept k = option_and_then (λ link. link) (slice_get kept.links k)
 
 abbrev pub outline_of : Kept → Outline
 outline_of kept = outline_with (length kept.devices) kept.links
 
 -- A core stands for each state whose devices and links it keeps; it keeps no history, so there are many.
-pub record StandsFor (ds : List Device) (kept : List (Option LinkState)) (s : State) : Type 0 where
+pub record StandsFor (ds : List KeptDevice) (kept : List (Option LinkState)) (s : State) : Type 0 where
   pub devices : StandForDevices ds s.devices
   pub links : links_of s.slots ≡ kept
 

@@ -3,10 +3,15 @@
 
 mod advance;
 mod buffer;
+mod checks;
+mod context_requests;
 mod device;
 mod link;
 mod perform;
+mod play;
+mod record;
 mod request;
+mod scratch;
 mod serve;
 mod server;
 mod slot;

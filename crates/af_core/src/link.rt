@@ -1,16 +1,23 @@
 // A link, as the core keeps it. There is one small method for each thing that becomes of a link.
-ghost use Rattle.std.specs.Prelude.{◌≡◌, ◌+◌, ◌≤◌, ◌++◌, length, drop, true, false, IfOk};
+ghost use Rattle.std.specs.Prelude.{◌≡◌, ◌+◌, ◌≤◌, [], ◌∷◌, ◌++◌, length, drop, take, true, false, IfOk, OnOk, OnErr};
+ghost use Rattle.af_context.specs.Contexts.{context_of, creation, is_in_use, reference, with_changed, with_settings, without_context};
+ghost use Rattle.af_request.specs.Answer.{meaning};
+ghost use Rattle.af_request.specs.Replies.{HasRoom};
 ghost use Rattle.af_wire.specs.Message.{error};
 ghost use Rattle.af_model.specs.State.{opened, stopped};
-ghost use Rattle.af_model.specs.Reply.{time_reply};
+ghost use Rattle.af_model.specs.Reply.{code_of_cause, reply_message};
 ghost use Rattle.af_model.specs.Perform.{counted};
 ghost use Rattle.af_model.specs.Advance.{takes_more, without_front};
 ghost use Rattle.af_model.specs.Turn.{wants_read, wants_write, close_due, ready};
 
 use crate::buffer::Buffer;
+use af_context::{Context, ContextFault, Contexts};
+use af_model::Refusal;
 use af_outside::Why;
-use af_time::{DevTime, OutOfMemory};
-use af_wire::{write_error, write_head};
+use af_request::{Reply, write_reply};
+use af_sample::Gain;
+use af_time::OutOfMemory;
+use af_wire::write_error;
 use std::alloc::Global;
 use std::marker::Model;
 
@@ -22,6 +29,7 @@ pub struct Link {
     is_ready: bool,
     closing: Option<Why>,
     sequence: u16,
+    contexts: Contexts,
 }
 
 impl Model for Link {
@@ -29,18 +37,7 @@ impl Model for Link {
 
     ghost Value = { LinkState };
 
-    ghost view = { λ a. record { is_set_up = a.is_set_up; rest = a.rest; pending = a.pending; is_ready = a.is_ready; closing = a.closing; sequence = a.sequence } };
-}
-
-// The reply to GetTime.
-fn time_reply(sequence: u16, time: DevTime) -> [u8; 12]
-    ensures { result ≡ time_reply sequence time.0 }
-{
-    let mut message = [0; 12];
-    let (head, body) = message.split_at_mut(8);
-    write_head(1, 2, sequence, 1, head);
-    body.copy_from_slice(&time.0.to_be_bytes());
-    message
+    ghost view = { λ a. record { is_set_up = a.is_set_up; rest = a.rest; pending = a.pending; is_ready = a.is_ready; closing = a.closing; sequence = a.sequence; contexts = a.contexts } };
 }
 
 impl Link {
@@ -56,6 +53,7 @@ impl Link {
             is_ready: false,
             closing: None,
             sequence: 0,
+            contexts: Contexts::new(),
         })
     }
 
@@ -127,11 +125,14 @@ impl Link {
         self.is_set_up = true;
     }
 
-    /// The first n bytes of the input are taken off.
-    pub fn drop_front(&mut self, n: usize)
-        requires { n ≤ length self.old.rest }
-        ensures { self.new ≡ without_front n self.old }
+    /// The first bytes of the input are taken off, and come to stand in `front`.
+    pub fn take_front(&mut self, front: &mut [u8])
+        requires { length front.old ≤ length self.old.rest }
+        ensures link { self.new ≡ without_front (length front.old) self.old }
+        ensures front { front.new ≡ take (length front.old) self.old.rest }
     {
+        let n = front.len();
+        front.copy_from_slice(&self.rest.as_slice()[..n]);
         self.rest.drop_front(n);
     }
 
@@ -158,22 +159,73 @@ impl Link {
         self.sequence = self.sequence.wrapping_add(1);
     }
 
-    /// The request is replied to with a device's time.
-    pub fn reply_time(&mut self, time: DevTime)
-        requires { length self.old.pending ≤ 16384 }
-        ensures { self.new ≡ record self.old { pending = self.old.pending ++ time_reply self.old.sequence time.0 } }
+    /// The request with this opcode is replied to. The message comes to stand in `message`.
+    pub fn reply(&mut self, opcode: u8, reply: &Reply<'_>, message: &mut [u8])
+        requires room { length self.old.pending ≤ 16384 }
+        requires samples { HasRoom (meaning reply.now) }
+        requires size { length message.old ≡ 16016 }
+        ensures { self.new ≡ record self.old { pending = self.old.pending ++ reply_message opcode (meaning reply.now) self.old.sequence } }
     {
-        self.pending.append(&time_reply(self.sequence, time));
+        let n = write_reply(opcode, reply, self.sequence, message);
+        self.pending.append(&message[..n]);
     }
 
     /// The request with this opcode is refused.
-    pub fn refuse(&mut self, code: u8, value: u32, opcode: u8)
+    pub fn refuse(&mut self, opcode: u8, refusal: Refusal)
         requires { length self.old.pending ≤ 16384 }
-        ensures { self.new ≡ record self.old { pending = self.old.pending ++ error code value opcode self.old.sequence } }
+        ensures { self.new ≡ record self.old { pending = self.old.pending ++ error (code_of_cause refusal.cause) refusal.value opcode self.old.sequence } }
     {
         let mut message = [0; 16];
-        write_error(code, value, opcode, self.sequence, &mut message);
+        write_error(refusal.cause.code(), refusal.value, opcode, self.sequence, &mut message);
         self.pending.append(&message);
+    }
+
+    /// The contexts.
+    pub fn contexts(&self) -> &Contexts
+        ensures { result.now ≡ self.now.contexts }
+    {
+        &self.contexts
+    }
+
+    /// The context of a number, where it is in use.
+    pub fn context(&self, ac: u32) -> Option<Context>
+        ensures { result ≡ context_of self.now.contexts ac }
+    {
+        self.contexts.get(ac)
+    }
+
+    /// Whether a context has this number.
+    pub fn has_context(&self, ac: u32) -> bool
+        ensures { result ≡ is_in_use self.now.contexts ac }
+    {
+        self.contexts.get(ac).is_some()
+    }
+
+    /// One context more.
+    pub fn create(&mut self, context: Context) -> Result<(), ContextFault>
+        ensures answer { result ≡ creation self.old.contexts context.ac }
+        ensures done { OnOk result (self.new ≡ record self.old { contexts = self.old.contexts ++ context ∷ [] }) }
+        ensures refused { OnErr result (self.new ≡ self.old) }
+    {
+        self.contexts.create(context)
+    }
+
+    /// Changes the settings that are stated of the context of a number.
+    pub fn change(&mut self, ac: u32, play: Option<Gain>, record_to: Option<Gain>, preempt: Option<bool>) -> Result<(), ContextFault>
+        ensures answer { result ≡ reference self.old.contexts ac }
+        ensures done { OnOk result (self.new ≡ record self.old { contexts = with_changed self.old.contexts ac (with_settings play record_to preempt) }) }
+        ensures refused { OnErr result (self.new ≡ self.old) }
+    {
+        self.contexts.change(ac, play, record_to, preempt)
+    }
+
+    /// The context of a number is no more.
+    pub fn free(&mut self, ac: u32) -> Result<(), ContextFault>
+        ensures answer { result ≡ reference self.old.contexts ac }
+        ensures done { OnOk result (self.new ≡ record self.old { contexts = without_context self.old.contexts ac }) }
+        ensures refused { OnErr result (self.new ≡ self.old) }
+    {
+        self.contexts.free(ac)
     }
 
     /// There is nothing to read.
@@ -208,5 +260,6 @@ impl Link {
         self.is_ready = false;
         self.closing = None;
         self.sequence = 0;
+        self.contexts.clear();
     }
 }

@@ -1,19 +1,27 @@
-// The requests that are performed.
+// Reading a request.
 ghost use Rattle.std.specs.Prelude.{◌≡◌, option_map};
-ghost use Rattle.af_core.specs.Request.{asked};
-ghost use Rattle.af_model.specs.Perform.{request_in};
+ghost use Rattle.af_request.specs.Asked.{meaning};
+ghost use Rattle.af_model.specs.Perform.{performed, request_in};
 
-#[derive(Clone, Copy, Debug, PartialEq, Eq)]
-pub enum Request {
-    GetTime { device: u8 },
+use af_request::{Request, read_request};
+
+// The requests that are performed so far.
+fn performed<'a>(request: Request<'a>) -> Option<Request<'a>>
+    ensures { option_map meaning result ≡ performed (meaning request.entry) }
+{
+    match request {
+        Request::SelectEvents { .. }
+        | Request::SetControls { .. }
+        | Request::QueryControls { .. }
+        | Request::HookSwitch { .. }
+        | Request::QueryPhone { .. } => None,
+        _ => Some(request),
+    }
 }
 
 /// Reads a whole frame. None: it is no request that is performed.
-pub fn read_request(frame: &[u8]) -> Option<Request>
-    ensures { option_map asked result ≡ request_in frame.now }
+pub fn request_in<'a>(frame: &'a [u8]) -> Option<Request<'a>>
+    ensures { option_map meaning result ≡ request_in frame.entry.now }
 {
-    match frame {
-        [2, device, _, _] => Some(Request::GetTime { device: *device }),
-        _ => None,
-    }
+    performed(read_request(frame)?)
 }

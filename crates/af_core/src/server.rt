@@ -1,17 +1,23 @@
 // The core: all that the server keeps, and one turn.
-ghost use Rattle.std.specs.Prelude.{◌≡◌, ◌≤◌, ◌<◌, List, length, IfOk, IsTrue, replicate};
+ghost use Rattle.std.specs.Prelude.{◌≡◌, ◌≤◌, ◌<◌, ◌↔◌, List, length, map, slice_get, All, IfOk, IsNone, IsTrue, IsSomeAnd, MatchOption, replicate};
 ghost use Rattle.std.specs.declared.option.Option.{Option};
 ghost use Rattle.std.specs.declared.option.Option.TheVariants.{None, Some};
-ghost use Rattle.af_model.specs.State.{LinkState, opening, opening_device};
+ghost use Rattle.af_buffers.specs.Horizons.{IsListedRate};
+ghost use Rattle.af_buffers.specs.PlayBuffer.{Next, Hears};
+ghost use Rattle.af_buffers.specs.RecordBuffer.{Last, Keeps};
+ghost use Rattle.af_model.specs.State.{State, LinkState, opening, slot_at};
 ghost use Rattle.af_model.specs.Turn.{behind, fits, wake_phase};
 ghost use Rattle.af_core.specs.Does.{Does};
-ghost use Rattle.af_core.specs.Stands.{Stands, StandsFor, StandsForDevice, StandForDevices, Turns, outline_of};
+ghost use Rattle.af_core.specs.Stands.{Stands, StandsFor, StandForDevices, Turns, link_kept, outline_of};
 
 use crate::device::Device;
+use crate::scratch::Scratch;
 use crate::slot::{Slot, serve_slots};
 use crate::tick::{TICK, tick};
+use af_buffers::{PlayBuffer, RecordBuffer};
+use af_context::Contexts;
 use af_outside::{Config, DeviceSpec, Wake, World};
-use af_time::{DevTime, OutOfMemory};
+use af_time::OutOfMemory;
 use std::alloc::Global;
 use std::marker::Model;
 
@@ -20,8 +26,7 @@ use std::marker::Model;
 pub struct Core {
     devices: Vec<Device>,
     slots: Vec<Slot>,
-    // where the bytes of a read, a capture or a sound come to stand
-    scratch: Vec<u8>,
+    scratch: Scratch,
 }
 
 impl Model for Core {
@@ -32,29 +37,18 @@ impl Model for Core {
 
     ghost view = { λ a. record { devices = a.devices.items; links = a.slots.items } };
 
-    ghost invariant = { λ a. (length a.devices.items ≤ 8) × (length a.slots.items ≡ 32) × (length a.scratch.items ≡ 16384) };
-}
-
-// A device at its start.
-fn start_device(spec: DeviceSpec) -> Device
-    ensures { StandsForDevice result (opening_device spec) }
-{
-    Device {
-        ty: spec.ty,
-        rate: spec.rate,
-        time: DevTime(spec.start),
-        is_dead: false,
-    }
+    ghost invariant = { λ a. (length a.devices.items ≤ 8) × (length a.slots.items ≡ 32) };
 }
 
 // The devices at their starts.
 fn start_devices(alloc: Global, config: &[DeviceSpec]) -> Result<Vec<Device>, OutOfMemory>
+    requires rates { All (λ d. IsListedRate d.rate) config.now }
     ensures stands { IfOk result (λ devices. StandForDevices devices.items (opening config.now).devices) }
     ensures count { IfOk result (λ devices. length devices.items ≡ length config.now) }
 {
     let mut devices = Vec::with_capacity(alloc, config.len())?;
     for spec in config {
-        let device = start_device(*spec);
+        let device = Device::new(alloc, *spec)?;
         devices.push(device)?;
     }
     Ok(devices)
@@ -77,11 +71,10 @@ fn wake_up<W: World>(
     wake: Wake,
     devices: &mut [Device],
     slots: &mut [Slot],
-    scratch: &mut [u8],
+    scratch: &mut Scratch,
     world: &mut W,
 )
     requires fits { IsTrue (fits (outline_of (record { devices = devices.old; links = slots.old })) wake) }
-    requires room { length scratch.old ≡ 16384 }
     ensures does { Does (W.log world.old) (W.log world.new) (StandsFor devices.old slots.old) (StandsFor devices.new slots.new) (wake_phase wake) behind }
     ensures leads { W.leads_to world.old world.new }
 {
@@ -98,12 +91,11 @@ fn turn_parts<W: World>(
     wake: Wake,
     devices: &mut [Device],
     slots: &mut [Slot],
-    scratch: &mut [u8],
+    scratch: &mut Scratch,
     world: &mut W,
 )
     requires count { length devices.old ≤ 8 }
     requires links { length slots.old ≤ 32 }
-    requires room { length scratch.old ≡ 16384 }
     requires fits { IsTrue (fits (outline_of (record { devices = devices.old; links = slots.old })) wake) }
     ensures turns { Turns (W.log world.old) (W.log world.new) wake (record { devices = devices.old; links = slots.old }) (record { devices = devices.new; links = slots.new }) }
     ensures leads { W.leads_to world.old world.new }
@@ -115,13 +107,14 @@ fn turn_parts<W: World>(
 
 impl Core {
     /// A core where no link is open, and each device stands at its start. All memory of all links and devices is taken
-    /// here. There are 1 to 8 devices.
+    /// here. There are 1 to 8 devices, of listed rates.
     pub fn new(alloc: Global, config: &Config) -> Result<Core, OutOfMemory>
+        requires rates { All (λ d. IsListedRate d.rate) config.now.items }
         ensures { IfOk result (λ core. Stands core (opening config.now.items)) }
     {
         let devices = start_devices(alloc, config.as_slice())?;
         let slots = make_slots(alloc)?;
-        let scratch = vec![in alloc; 0; 16384]?;
+        let scratch = Scratch::new(alloc)?;
         Ok(Core {
             devices,
             slots,
@@ -147,6 +140,33 @@ impl Core {
             }
             Wake::Idle | Wake::Stop => true,
         }
+    }
+
+    /// The samples next of a device, which is there: what is heard of all accepted plays from its time on.
+    pub fn play_buffer(&self, device: u8) -> &PlayBuffer
+        requires { device < length self.now.devices }
+        ensures kept { slice_get (map {B = Next} (λ d. d.next) self.now.devices) device ≡ Some result.now }
+        ensures hears { (s : State) → Stands self.now s → IsSomeAnd (slice_get s.devices device) (λ d. Hears result.now d.accepted d.now) }
+    {
+        self.devices[usize::from(device)].next()
+    }
+
+    /// The last samples of a device, which is there: what was captured up to its time.
+    pub fn record_buffer(&self, device: u8) -> &RecordBuffer
+        requires { device < length self.now.devices }
+        ensures kept { slice_get (map {B = Last} (λ d. d.last) self.now.devices) device ≡ Some result.now }
+        ensures keeps { (s : State) → Stands self.now s → IsSomeAnd (slice_get s.devices device) (λ d. Keeps result.now d.captured d.begin d.now) }
+    {
+        self.devices[usize::from(device)].last()
+    }
+
+    /// The contexts of a link. None where the link is not open.
+    pub fn contexts(&self, link: u8) -> Option<&Contexts>
+        ensures none { IsNone result ↔ (link_kept self.now link ≡ None) }
+        ensures shows { (s : State) → Stands self.now s →
+            MatchOption result ((slot_at link s).link ≡ None) (λ contexts. IsSomeAnd (slot_at link s).link (λ l. contexts.now ≡ l.contexts)) }
+    {
+        self.slots.get(usize::from(link))?.contexts()
     }
 
     /// One turn: the wake with its effect, and then each open link by rising number. It answers nothing and takes no

@@ -1,5 +1,5 @@
 // A number for a link, which keeps its memory while no link is open there.
-ghost use Rattle.std.specs.Prelude.{◌≡◌, ◌≤◌, length, IfOk, is_some};
+ghost use Rattle.std.specs.Prelude.{◌≡◌, ◌≤◌, length, IfOk, IsSomeAnd, MatchOption, is_some};
 ghost use Rattle.std.specs.declared.option.Option.TheVariants.{None, Some};
 ghost use Rattle.af_model.specs.State.{opened};
 ghost use Rattle.af_model.specs.Turn.{behind, serve_door, serve_all, ready, in_open};
@@ -8,7 +8,9 @@ ghost use Rattle.af_core.specs.Stands.{AtDoor, StandsFor};
 
 use crate::device::Device;
 use crate::link::Link;
+use crate::scratch::Scratch;
 use crate::serve::serve_link;
+use af_context::Contexts;
 use af_outside::World;
 use af_time::OutOfMemory;
 use std::alloc::Global;
@@ -51,6 +53,13 @@ impl Slot {
         self.is_open
     }
 
+    /// The contexts of the link that is open here.
+    pub fn contexts(&self) -> Option<&Contexts>
+        ensures { MatchOption result (self.now ≡ None) (λ contexts. IsSomeAnd self.now (λ l. contexts.now ≡ l.contexts)) }
+    {
+        self.is_open.then_some(self.link.contexts())
+    }
+
     /// A link is open here from now on.
     pub fn open(&mut self)
         ensures { self.new ≡ Some opened }
@@ -73,16 +82,22 @@ impl Slot {
         &mut self,
         number: u8,
         devices: &mut [Device],
-        scratch: &mut [u8],
+        scratch: &mut Scratch,
         world: &mut W,
     )
         requires count { length devices.old ≤ 8 }
-        requires room { length scratch.old ≡ 16384 }
         ensures does { Does (W.log world.old) (W.log world.new) (AtDoor devices.old self.old) (AtDoor devices.new self.new) (serve_door number) behind }
         ensures leads { W.leads_to world.old world.new }
     {
         if self.is_open {
-            let is_closed = serve_link(number, devices, &mut self.link, scratch, world);
+            let is_closed = serve_link(
+                number,
+                devices,
+                &mut self.link,
+                &mut scratch.input,
+                &mut scratch.work,
+                world,
+            );
             self.is_open = !is_closed;
         }
     }
@@ -92,12 +107,11 @@ impl Slot {
 pub fn serve_slots<W: World>(
     devices: &mut [Device],
     slots: &mut [Slot],
-    scratch: &mut [u8],
+    scratch: &mut Scratch,
     world: &mut W,
 )
     requires count { length devices.old ≤ 8 }
     requires links { length slots.old ≤ 32 }
-    requires room { length scratch.old ≡ 16384 }
     ensures does { Does (W.log world.old) (W.log world.new) (StandsFor devices.old slots.old) (StandsFor devices.new slots.new) serve_all behind }
     ensures leads { W.leads_to world.old world.new }
 {

@@ -1,45 +1,25 @@
 // Sample periods of a device go by: it captures, hands its sound out, and its time rises.
-ghost use Rattle.std.specs.Prelude.{◌≡◌, ◌≤◌, ◌<◌, ◌*◌, [], ◌∷◌, List, length, replicate, if◌then◌else◌};
+ghost use Rattle.std.specs.Prelude.{◌≡◌, ◌≤◌, ◌<◌, ◌*◌, [], ◌∷◌, List, length, pos, replicate, if◌then◌else◌, false};
 ghost use Rattle.std.specs.declared.option.Option.{Option};
 ghost use Rattle.std.specs.declared.option.Option.TheVariants.{None, Some};
 ghost use Rattle.af_sample.specs.SampleTypes.{width_of};
 ghost use Rattle.af_outside.specs.declared.happening.Happening.TheVariants.{Captured, Emitted};
 ghost use Rattle.af_outside.specs.declared.happening.Wake.TheVariants.{Ticked};
 ghost use Rattle.af_outside.specs.Told.{Grew};
-ghost use Rattle.af_outside.specs.Outside.{silent_byte};
 ghost use Rattle.af_model.specs.State.{LinkState};
+ghost use Rattle.af_model.specs.Tick.{capture_of};
 ghost use Rattle.af_model.specs.Turn.{behind, wake_phase};
 ghost use Rattle.af_core.specs.Does.{Does};
-ghost use Rattle.af_core.specs.Live.{TicksLive};
+ghost use Rattle.af_core.specs.Live.{Passes, Ticks, TicksLive};
 ghost use Rattle.af_core.specs.Stands.{StandsFor};
 
 use crate::device::Device;
+use crate::scratch::{Scratch, Work};
 use af_outside::{Put, World};
-use af_sample::SampleType;
+use af_sample::{SampleType, convert_in, convert_out};
 
 /// How many frames a tick may have.
 pub const TICK: u32 = 4096;
-
-// The byte that silence is made of.
-fn silent_byte(ty: SampleType) -> u8
-    ensures { result ≡ silent_byte ty }
-{
-    match ty {
-        SampleType::Mu255 => 0xFF,
-        SampleType::Alaw => 0xD5,
-        SampleType::Lin16 | SampleType::Lin32 => 0,
-    }
-}
-
-// Silence in these bytes.
-fn fill_with_silence(ty: SampleType, bytes: &mut [u8])
-    ensures { bytes.new ≡ replicate (length bytes.old) (silent_byte ty) }
-{
-    let silent = silent_byte(ty);
-    for byte in bytes.iter_mut() {
-        *byte = silent;
-    }
-}
 
 // One capture. The answer is whether it was done.
 fn capture<W: World>(number: u8, frames: u32, bytes: &mut [u8], world: &mut W) -> bool
@@ -53,60 +33,118 @@ fn capture<W: World>(number: u8, frames: u32, bytes: &mut [u8], world: &mut W) -
     }
 }
 
-// One emit of silence. The answer is whether it was done.
-fn emit_silence<W: World>(number: u8, ty: SampleType, bytes: &mut [u8], world: &mut W) -> bool
-    requires { 0 < length bytes.old }
-    ensures log { Grew (W.log world.old) (Emitted number (replicate (length bytes.old) (silent_byte ty)) result ∷ []) (W.log world.new) }
+// Silence.
+fn silence(samples: &mut [i16])
+    ensures { samples.new ≡ replicate (length samples.old) (pos 0) }
+{
+    for x in samples.iter_mut() {
+        *x = 0;
+    }
+}
+
+// What a device captures: the samples of the bytes that came, or silence where none did.
+fn captured(came: bool, ty: SampleType, bytes: &[u8], samples: &mut [i16])
+    requires { length bytes.now ≡ length samples.old * width_of ty }
+    ensures { samples.new ≡ capture_of ty (length samples.old) (if came then Some bytes.now else None) }
+{
+    if came {
+        convert_in(ty, bytes, samples);
+    } else {
+        silence(samples);
+    }
+}
+
+// One emit. The answer is whether it was done.
+fn emit<W: World>(number: u8, sound: &[u8], world: &mut W) -> bool
+    requires { 0 < length sound.now }
+    ensures log { Grew (W.log world.old) (Emitted number sound.now result ∷ []) (W.log world.new) }
     ensures leads { W.leads_to world.old world.new }
 {
-    fill_with_silence(ty, bytes);
-    match world.emit(number, bytes) {
+    match world.emit(number, sound) {
         Put::Done => true,
         Put::Failed => false,
     }
 }
 
-// What a live device does: one capture, and where that was done one emit of its sound, which is silence so far. The answer is
-// whether it is still alive.
+// The sample periods of a device go by. It captured what came, and its sound comes to stand in the bytes.
+fn pass(came: bool, frames: u32, device: &mut Device, bytes: &mut [u8], work: &mut Work)
+    requires bound { frames ≤ 4096 }
+    requires size { length bytes.old ≡ frames * width_of device.old.ty }
+    ensures passes { Passes device.old device.new frames (if came then Some bytes.old else None) bytes.new }
+{
+    let ty = device.ty();
+    let (before, after) = work.samples.split_at_mut(4096);
+    let samples = &mut before[..frames as usize];
+    let sound = &mut after[..frames as usize];
+    captured(came, ty, bytes, samples);
+    device.pass(samples, sound);
+    convert_out(ty, sound, bytes);
+}
+
+// A live device makes one capture and, where that was done, one emit of its sound. It is dead behind one that failed.
 fn tick_live<W: World>(
     number: u8,
     frames: u32,
-    ty: SampleType,
+    device: &mut Device,
     bytes: &mut [u8],
+    work: &mut Work,
     world: &mut W,
-) -> bool
+)
     requires some { 0 < length bytes.old }
-    requires size { length bytes.old ≡ frames * width_of ty }
-    ensures ticks { TicksLive number frames ty (W.log world.old) (W.log world.new) result }
+    requires bound { frames ≤ 4096 }
+    requires size { length bytes.old ≡ frames * width_of device.old.ty }
+    requires alive { device.old.is_dead ≡ false }
+    ensures ticks { TicksLive number frames device.old device.new (W.log world.old) (W.log world.new) }
     ensures leads { W.leads_to world.old world.new }
 {
-    if !capture(number, frames, bytes, world) {
-        return false;
+    let came = capture(number, frames, bytes, world);
+    pass(came, frames, device, bytes, work);
+    if !came {
+        device.set_dead();
+        return;
     }
-    emit_silence(number, ty, bytes, world)
+    if !emit(number, bytes, world) {
+        device.set_dead();
+    }
 }
 
-/// The time of device `number` rises by so many frames. The links stay as they are.
+// The sample periods of a device go by, with room for what it captures.
+fn tick_device<W: World>(
+    number: u8,
+    frames: u32,
+    device: &mut Device,
+    input: &mut [u8],
+    work: &mut Work,
+    world: &mut W,
+)
+    requires some { 1 ≤ frames }
+    requires bound { frames ≤ 4096 }
+    requires size { length input.old ≡ 16384 }
+    ensures ticks { Ticks device.old.is_dead number frames device.old device.new (W.log world.old) (W.log world.new) }
+    ensures leads { W.leads_to world.old world.new }
+{
+    let size = frames as usize * device.ty().width();
+    if device.is_dead() {
+        pass(false, frames, device, &mut input[..size], work);
+    } else {
+        tick_live(number, frames, device, &mut input[..size], work, world);
+    }
+}
+
+/// The sample periods of device `number` go by, so many frames. The links stay as they are.
 pub fn tick<W: World>(
     number: u8,
     frames: u32,
     devices: &mut [Device],
-    scratch: &mut [u8],
+    scratch: &mut Scratch,
     world: &mut W,
 )
     requires there { number < length devices.old }
     requires some { 1 ≤ frames }
     requires bound { frames ≤ 4096 }
-    requires room { length scratch.old ≡ 16384 }
     ensures does { (links : List (Option LinkState)) → Does (W.log world.old) (W.log world.new) (StandsFor devices.old links) (StandsFor devices.new links) (wake_phase (Ticked number frames)) behind }
     ensures leads { W.leads_to world.old world.new }
 {
     let device = &mut devices[number as usize];
-    device.time = device.time.after(frames);
-    if device.is_dead {
-        return;
-    }
-    let size = frames as usize * device.ty.width();
-    let is_alive = tick_live(number, frames, device.ty, &mut scratch[..size], world);
-    device.is_dead = !is_alive;
+    tick_device(number, frames, device, &mut scratch.input, &mut scratch.work, world);
 }

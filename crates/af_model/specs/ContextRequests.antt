@@ -1,5 +1,5 @@
 -- CreateAC, ChangeAC and FreeAC: a link's contexts are created, changed and freed.
-use Rattle.std.specs.Prelude.{ℕ, ◌==◌, nat_lt, not, Bool, ℤ, List, [], ◌∷◌, ◌++◌, unwrap_or, if◌then◌else◌}
+use Rattle.std.specs.Prelude.{ℕ, ◌==◌, nat_le, nat_lt, not, Bool, ℤ, pos, List, [], ◌∷◌, ◌++◌, unwrap_or, if◌then◌else◌}
 use Rattle.std.specs.declared.option.Option.{Option}
 use Rattle.std.specs.declared.option.Option.TheVariants.{None, Some}
 use Rattle.af_sample.specs.Gains.{gain_of}
@@ -19,23 +19,23 @@ abbrev pub with_contexts : List Context → Place → Place
 with_contexts contexts p = place p.around (record p.link { contexts = contexts })
 
 -- The settings of a new context, before its number is looked at. Each device has one channel.
-abbrev pub creation_refusal : ℕ → ℕ → ℕ → ℕ → ℕ → ℤ → ℤ → Option Refusal
+unfoldable pub creation_refusal : ℕ → ℕ → ℕ → ℕ → ℕ → ℤ → ℤ → Option Refusal
 creation_refusal devices device ty channels preempt play_gain record_gain = first_refusal
-    (check (not (nat_lt device devices)) BadDevice device
+    (check (nat_le devices device) BadDevice device
     ∷ check (nat_lt 3 ty) BadValue ty
     ∷ check (nat_lt 1 preempt) BadValue preempt
     ∷ check_gain play_gain
     ∷ check_gain record_gain
     ∷ check (not (channels == 1)) BadMatch channels ∷ [])
 
--- the context that a request describes, whose type is one of the four
+-- The context that a request describes. Behind the checks its type is one of the four, and its gains are gains.
 abbrev pub described : ℕ → ℕ → ℕ → ℕ → ℤ → ℤ → Context
 described device ac ty preempt play_gain record_gain = record {
   ac = ac;
   device = device;
   ty = unwrap_or (type_of_code ty) Lin16;
-  play_gain = play_gain;
-  record_gain = record_gain;
+  play_gain = unwrap_or (gain_of play_gain) (pos 0);
+  record_gain = unwrap_or (gain_of record_gain) (pos 0);
   preempt = preempt == 1;
 }
 
@@ -44,7 +44,7 @@ abbrev pub create : Context → Place → Place
 create c p = refused_or 3 (context_refusal c.ac (creation p.link.contexts c.ac)) (λ q. replied 3 plain (with_contexts (q.link.contexts ++ c ∷ []) q)) p
 
 -- the fields that the mask names are looked at: 1 play gain, 2 record gain, 4 preempt
-abbrev pub change_refusal : List Context → ℕ → ℕ → ℕ → ℤ → ℤ → Option Refusal
+unfoldable pub change_refusal : List Context → ℕ → ℕ → ℕ → ℤ → ℤ → Option Refusal
 change_refusal contexts mask ac preempt play_gain record_gain = first_refusal
     (check (not (is_in_use contexts ac)) BadAc ac
     ∷ where_named mask 1 (check_gain play_gain)

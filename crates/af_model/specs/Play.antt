@@ -32,7 +32,7 @@ abbrev pub frames_within : DeviceState → ℕ → ℕ
 frames_within device time = device.now + horizon_of device - unwrap device.now time
 
 -- A play has whole frames. As long as no request can wait, one that ends past the horizon is refused with its time.
-abbrev pub play_refusal : Context → DeviceState → ℕ → ℕ → Option Refusal
+unfoldable pub play_refusal : Context → DeviceState → ℕ → ℕ → Option Refusal
 play_refusal c device time bytes = first_refusal
     (check (not (are_frames c bytes)) BadValue bytes
     ∷ check (nat_lt (frames_within device time) (frames_of c bytes)) BadValue time ∷ [])

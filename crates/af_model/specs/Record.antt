@@ -20,7 +20,7 @@ frames_before device time = device.now - unwrap device.now time
 
 -- A record has at most 16000 bytes, in whole frames. As long as no request can wait, a blocking one that ends past now is
 -- refused with its time.
-abbrev pub record_refusal : Bool → Context → DeviceState → ℕ → ℕ → Option Refusal
+unfoldable pub record_refusal : Bool → Context → DeviceState → ℕ → ℕ → Option Refusal
 record_refusal blocking c device time bytes = first_refusal
     (check (nat_lt 16000 bytes) BadValue bytes
     ∷ check (not (are_frames c bytes)) BadValue bytes
@@ -31,7 +31,7 @@ abbrev pub given_frames : Bool → DeviceState → ℕ → ℕ → ℕ
 given_frames blocking device time frames = if blocking then frames else min (frames_before device time) frames
 
 -- n frames that a device recorded from a time on, as a context takes them
-abbrev pub recorded_bytes : Context → DeviceState → ℕ → ℕ → List ℕ
+unfoldable pub recorded_bytes : Context → DeviceState → ℕ → ℕ → List ℕ
 recorded_bytes c device time n = bytes_of c.ty (map (λ x. gained x c.record_gain)
     (window device.captured device.begin device.now (horizon_of device) (unwrap device.now time) n))
 

@@ -6,6 +6,7 @@ use Rattle.af_core.proofs.advance.advance.Goals as goal
 pub loop-preserved : goal.loop-preserved
 loop-preserved c = record {
   count = omega arith;
+  size = omega arith;
   answered = let s = c.loop-test.ensures.shorter refl in inr (⊎_elim (λ e. rw (← e) s) (λ less. omega arith) c.loop.invariant.answered);
   step = λ a h.
       let before = c.loop.invariant.step a h in

@@ -1,9 +1,16 @@
-use Rattle.std.proofs.Common.{rules}
-use Rattle.af_core.proofs.Devices.{time_found, time_not_found}
+use Rattle.std.proofs.Common.{◌≡◌, ◌≤◌, length, ◌∙◌, ap, sym, arith, rules, subst}
+use Rattle.af_core.proofs.Devices.{device_at}
+use Rattle.std.specs.declared.option.Option.TheVariants.{Some}
+use Rattle.af_model.specs.Perform.{tell_time}
+use Rattle.af_core.proofs.Requests.{device_missing, device_found, leads_at, time_told}
 use Rattle.af_core.proofs.perform.get_time.Goals as goal
 
-pub returns-in-Some-clause-step : goal.returns-in-Some-clause-step
-returns-in-Some-clause-step c = time_found c.args.devices.now c.args.device c.in-Some.found c.args.link.now _ (search rules) (search rules)
+pub returns-then-from-devices-clause-step : goal.returns-then-from-devices-clause-step
+returns-then-from-devices-clause-step c =
+    device_missing c.args.devices.now c.args.link.now _ 2 c.args.device _ tell_time (omega (arith, c.if-from-devices.true, c.from.ensures)) c.from-then-from-devices.ensures c.refuse.ensures
 
-pub returns-in-None-clause-step : goal.returns-in-None-clause-step
-returns-in-None-clause-step c = time_not_found c.args.devices.now c.args.device c.from.result c.args.link.now _ (search rules) (search rules) (search rules)
+pub returns-clause-step : goal.returns-clause-step
+returns-clause-step c =
+    device_found c.args.devices.now c.args.devices.now c.args.link.now _ 2 c.args.device _ tell_time
+    (device_at c.args.devices.now _ _ c.index-devices-from.result c.from-2.ensures (search rules) ∙ ap (λ x. Some x) (sym c.index-devices-from.is))
+    (λ a s h here st. leads_at c.args.devices.now c.args.link.now _ (tell_time s) (time_told c.args.link.now _ c.index-devices-from.result _ c.time-time.ensures c.reply.ensures s st) a h)

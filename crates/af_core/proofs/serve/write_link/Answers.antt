@@ -6,6 +6,7 @@ use Rattle.af_core.proofs.serve.write_link.Goals as goal
 pub loop-devices-preserved : goal.loop-devices-preserved
 loop-devices-preserved g c = record {
   count = omega arith;
+  size = omega arith;
   settled = c.write_once.ensures.settled;
   leads = g.met.W.World.leads_on _ _ _ c.loop-devices.invariant.leads c.write_once.ensures.leads;
   does = does_more c.loop-devices.invariant.does c.write_once.ensures.does;

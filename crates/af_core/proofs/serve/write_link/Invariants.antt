@@ -1,4 +1,4 @@
-use Rattle.std.proofs.Common.{◌≤◌, length}
+use Rattle.std.proofs.Common.{◌≡◌, ◌≤◌, length}
 use Rattle.af_model.specs.Turn.{write_phase}
 use Rattle.af_core.specs.Stands.{At, IsSettled, writes_left}
 use Rattle.af_core.specs.Does.{Does}
@@ -7,6 +7,7 @@ use Rattle.af_core.proofs.serve.write_link.Given as goal
 abbrev pub invariant-loop-devices : goal.invariant-loop-devices
 invariant-loop-devices g l = record {
   count : length l.devices ≤ 8;
+  size : length l.input ≡ 16384;
   settled : IsSettled l.link;
   leads : g.W.World.leads_to l.initial.world l.world;
   does : Does (g.W.World.log l.initial.world) (g.W.World.log l.world) (At l.initial.devices l.initial.link) (At l.devices l.link) (write_phase l.number) (write_phase l.number);

@@ -5,7 +5,6 @@ use Rattle.af_core.proofs.slot.serve_slots.Goals as goal
 pub loop-number-preserved : goal.loop-number-preserved
 loop-number-preserved g c = record {
   count = omega arith;
-  room = omega arith;
   leads = g.met.W.World.leads_on _ _ _ c.loop-number.invariant.leads c.serve.ensures.leads;
   does = next_served _ _ _ _ _ c.loop-number.number _ _ _ _ _ _ _ (omega arith) (link_here c.loop-number.slots c.loop-number.number _ (omega arith)) c.loop-number.invariant.does c.serve.ensures.does;
 }

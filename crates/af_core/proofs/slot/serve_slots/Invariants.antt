@@ -7,7 +7,6 @@ use Rattle.af_core.proofs.slot.serve_slots.Given as goal
 abbrev pub invariant-loop-number : goal.invariant-loop-number
 invariant-loop-number g l = record {
   count : length l.devices ≤ 8;
-  room : length l.scratch ≡ 16384;
   leads : g.W.World.leads_to l.initial.world l.world;
   does : Does (g.W.World.log l.initial.world) (g.W.World.log l.world) (StandsFor l.initial.devices l.initial.slots) (StandsFor l.devices l.slots) (serve_from (length l.initial.slots) 0) (serve_from (length l.initial.slots - l.number) l.number);
 }

@@ -1,10 +1,7 @@
-use Rattle.std.proofs.Common.{refl, rules}
-use Rattle.std.proofs.lemmas.Option.{slice_get-get_or}
-use Rattle.af_core.proofs.Turning.{ticks_dead, ticks_live}
+use Rattle.std.proofs.Common.{refl}
+use Rattle.af_core.proofs.Devices.{device_at}
+use Rattle.af_core.proofs.Turning.{ticks}
 use Rattle.af_core.proofs.tick.tick.Goals as goal
 
-pub returns-then-device-clause-does : goal.returns-then-device-clause-does
-returns-then-device-clause-does g c = λ links. ticks_dead _ c.args.number c.args.frames c.args.devices.now _ _ links (slice_get-get_or c.args.devices.now c.args.number _ c.requires.there) (search rules) refl refl c.after-device.ensures (search rules)
-
 pub returns-clause-does : goal.returns-clause-does
-returns-clause-does g c = λ links. ticks_live _ _ c.args.number c.args.frames c.args.devices.now _ _ _ links (slice_get-get_or c.args.devices.now c.args.number _ c.requires.there) (search rules) refl refl c.after-device.ensures refl c.tick_live-is_alive.ensures.ticks
+returns-clause-does g c = λ links. ticks _ _ c.args.number c.args.frames c.args.devices.now _ _ links (device_at c.args.devices.now c.args.number _ c.index-devices-number.result refl c.requires.there) c.tick_device.ensures.ticks

@@ -1,0 +1,62 @@
+-- A request that a frame of at most 16384 bytes asks has at most 16368 bytes of samples.
+use Rattle.std.proofs.Common.{◌≡◌, ℕ, ◌+◌, ◌*◌, ◌-◌, ◌≤◌, ◌==◌, Bool, true, false, cond, List, length, drop, take, option_and_then, IfSome, sym, subst, arith, length-drop}
+use Rattle.std.proofs.lemmas.List.{length-take}
+use Rattle.std.specs.declared.option.Option.{Option}
+use Rattle.std.specs.declared.option.Option.TheVariants.{None, Some}
+use Rattle.af_request.specs.Asked.{Asked, no_op, get_time, create_ac, change_ac, free_ac, play_run, record_run, select_events, set_controls, query_controls, hook_switch, query_phone}
+use Rattle.af_request.specs.Fields.{u8_at, u32_at}
+use Rattle.af_request.specs.Requests.{Row, row_of, asked_by, asked_in, HasRoom, low_bit, no_op_row, get_time_row, create_ac_row, change_ac_row, free_ac_row, play_run_row, record_run_row, select_events_row, set_controls_row, query_controls_row, hook_switch_row, query_phone_row}
+use Rattle.af_model.specs.Perform.{performed, request_in}
+
+-- what a frame asks by a row, where it is one, has room
+abbrev Fits : List ℕ → Option Row → Type 0
+Fits frame o = IfSome (option_and_then (asked_by frame) o) HasRoom
+
+either : (frame : List ℕ) (b : Bool) (x y : Option Row) → Fits frame x → Fits frame y → Fits frame (cond b x y)
+either frame true x y p q = p
+either frame false x y p q = q
+
+a_row : (frame : List ℕ) (r : Row) → HasRoom r.asked → Fits frame (Some r)
+a_row frame r room = elim (length frame == 4 * r.words) as (λ b. IfSome (cond b (Some r.asked) None) HasRoom) [ true ↦ room | false ↦ tt ]
+
+play_room : (frame : List ℕ) (count : ℕ) → length frame ≤ 16384 → length (take (16 + count - 16) (drop 16 frame)) ≤ 16368
+play_room frame count few =
+    let left = length-drop 16 frame in
+    let all = length-take (16 + count - 16) (drop 16 frame) in
+    omega (arith, left, all, few)
+
+row_room : (opcode : ℕ) (frame : List ℕ) → length frame ≤ 16384 → Fits frame (row_of opcode frame)
+row_room opcode frame few =
+    either frame (opcode == 1) _ _ (a_row frame (no_op_row frame) tt)
+    (either frame (opcode == 2) _ _ (a_row frame (get_time_row frame) tt)
+    (either frame (opcode == 3) _ _ (a_row frame (create_ac_row frame) tt)
+    (either frame (opcode == 4) _ _ (a_row frame (change_ac_row frame) tt)
+    (either frame (opcode == 5) _ _ (a_row frame (free_ac_row frame) tt)
+    (either frame (opcode == 6) _ _ (a_row frame (play_run_row frame) (play_room frame (u32_at 12 frame) few))
+    (either frame (opcode == 7) _ _ (a_row frame (record_run_row frame) tt)
+    (either frame (opcode == 8) _ _ (a_row frame (select_events_row frame) tt)
+    (either frame (opcode == 9) _ _ (a_row frame (set_controls_row frame) tt)
+    (either frame (opcode == 10) _ _ (a_row frame (query_controls_row frame) tt)
+    (either frame (opcode == 11) _ _ (a_row frame (hook_switch_row frame) tt)
+    (either frame (opcode == 12) _ _ (a_row frame (query_phone_row frame) tt) tt)))))))))))
+
+performed_room : (a : Asked) → HasRoom a → IfSome (performed a) HasRoom
+performed_room no_op h = h
+performed_room (get_time d) h = h
+performed_room (create_ac d ac ty channels preempt play_gain record_gain) h = h
+performed_room (change_ac mask ac preempt play_gain record_gain) h = h
+performed_room (free_ac ac) h = h
+performed_room (play_run quiet ac start bytes) h = h
+performed_room (record_run blocking ac start bytes) h = h
+performed_room (select_events d mask) h = tt
+performed_room (set_controls d mask input_on output_on input_gain output_gain) h = tt
+performed_room (query_controls d) h = tt
+performed_room (hook_switch d off) h = tt
+performed_room (query_phone d) h = tt
+
+performed_of : (o : Option Asked) → IfSome o HasRoom → IfSome (option_and_then performed o) HasRoom
+performed_of None h = tt
+performed_of (Some a) h = performed_room a h
+
+pub asked_room : (frame : List ℕ) (a : Asked) → length frame ≤ 16384 → Some a ≡ request_in frame → HasRoom a
+asked_room frame a few e = subst (λ o. IfSome o HasRoom) (sym e) (performed_of (asked_in frame) (row_room (u8_at 0 frame) frame few))

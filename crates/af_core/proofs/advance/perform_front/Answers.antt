@@ -1,0 +1,7 @@
+use Rattle.std.proofs.Common.{◌≡◌, ◌∙◌, ap, sym, rules, arith, option_map, length}
+use Rattle.af_request.specs.Asked.{Asked, meaning}
+use Rattle.af_core.proofs.Asking.{asked_room}
+use Rattle.af_core.proofs.advance.perform_front.Goals as goal
+
+pub perform-requires-clause-samples : goal.perform-requires-clause-samples
+perform-requires-clause-samples c = asked_room c.take_front.new.front (meaning c.in-Some.request) (search rules) (sym (ap (option_map meaning) c.in-Some.is) ∙ c.request_in.ensures)

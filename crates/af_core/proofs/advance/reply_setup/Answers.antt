@@ -1,0 +1,8 @@
+use Rattle.std.proofs.Common.{rules, ap, ◌∙◌}
+use Rattle.af_request.specs.Answer.{setup}
+use Rattle.af_model.specs.Reply.{reply_message}
+use Rattle.af_core.proofs.advance.reply_setup.Goals as goal
+
+pub returns : goal.returns
+unfolding reply_message
+returns c = search rules

@@ -1,0 +1,61 @@
+// The checks of a request, in their order.
+ghost use Rattle.std.specs.Prelude.{◌≡◌};
+ghost use Rattle.af_model.specs.Reply.{refusal};
+ghost use Rattle.af_model.specs.Checks.{check, check_gain, context_cause, first_refusal, names, where_named};
+
+use af_context::ContextFault;
+use af_model::{Cause, Refusal};
+use af_sample::Gain;
+
+/// What a check refuses with, where it fails.
+pub fn check(fails: bool, cause: Cause, value: u32) -> Option<Refusal>
+    ensures { result ≡ check fails cause value }
+{
+    fails.then_some(Refusal { cause, value })
+}
+
+/// A gain outside -30 to 30 decibels is refused with its 16 bits.
+pub fn check_gain(gain: i16) -> Option<Refusal>
+    ensures { result ≡ check_gain gain }
+{
+    let is_bad = Gain::new(i32::from(gain)).is_none();
+    check(is_bad, Cause::BadValue, u32::from(gain.cast_unsigned()))
+}
+
+/// Whether a mask names the field of a bit.
+pub fn names(mask: u8, bit: u8) -> bool
+    ensures { result ≡ names mask bit }
+{
+    mask & bit != 0
+}
+
+/// A check of a field that is made where the mask names it.
+pub fn where_named(mask: u8, bit: u8, refusal: Option<Refusal>) -> Option<Refusal>
+    ensures { result ≡ where_named mask bit refusal }
+{
+    if names(mask, bit) { refusal } else { None }
+}
+
+/// The first check that fails.
+pub fn first_refusal(checks: &[Option<Refusal>]) -> Option<Refusal>
+    ensures { result ≡ first_refusal checks.now }
+{
+    for check in checks {
+        if check.is_some() {
+            return *check;
+        }
+    }
+    None
+}
+
+/// Why contexts stay as they are, as errors tell it.
+pub fn context_refusal(fault: ContextFault, ac: u32) -> Refusal
+    ensures { result ≡ refusal (context_cause fault) ac }
+{
+    let cause = match fault {
+        ContextFault::BadAc => Cause::BadAc,
+        ContextFault::BadIdChoice => Cause::BadIdChoice,
+        ContextFault::TooMany => Cause::TooManyAcs,
+    };
+    Refusal { cause, value: ac }
+}

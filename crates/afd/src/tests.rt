@@ -176,7 +176,7 @@ fn each_end_has_its_cause(rt: HostRuntime) -> Result<(), Fail> {
     let (end, held) = outcome(
         rt.alloc(),
         &["script"],
-        b"# two\ndevice lin16 8000 0\nopen 1\n",
+        b"# two\ndevice lin16 8000 0\nopen 32\n",
         &[],
         4096,
     )?;

@@ -32,7 +32,8 @@ fn assert_transcripts(rt: &impl Abort, alloc: Global, cases: &[(&str, &str)]) ->
     for (script, transcript) in cases {
         let (end, held) = outcome(alloc, &["script"], script.as_bytes(), &[], 4096)?;
         assert_eq!(rt; end, ScriptEnd::Done, "{script}");
-        assert_eq!(rt; held.as_slice(), transcript.as_bytes(), "{script}");
+        let written = String::from_utf8_lossy(alloc, &held)?;
+        assert_eq!(rt; written.as_str(), *transcript, "{script}");
     }
     Ok(())
 }

@@ -1,4 +1,5 @@
 # demo: runs the example through `afd script`, by the proved program where it is built
+# listen: runs the example in which three clients are heard, in the same way, and makes a sound file of it
 # build: proves everything and leaves the program in bin/
 # test: the whole gate
 # fmt: lays out each crate's files
@@ -6,6 +7,14 @@
 demo:
 	@if [ -x bin/afd ]; then echo "(the proved program)"; bin/afd script < examples/time.script; \
 	else echo "(no proved program in bin/: run before any proof, by rt try)"; cd crates/afd && rt try -- script < ../../examples/time.script 2>/dev/null; fi
+
+listen:
+	@transcript=$$(mktemp) && trap 'rm -f "$$transcript"' EXIT && \
+	if [ -x bin/afd ]; then echo "(the proved program)"; bin/afd script < examples/mixing.script > "$$transcript"; \
+	else echo "(no proved program in bin/: run before any proof, by rt try)"; \
+	(cd crates/afd && rt try -- script < ../../examples/mixing.script 2>/dev/null) > "$$transcript"; fi && \
+	tools/transcript-to-au --script examples/mixing.script --output examples/mixing.au "$$transcript" && \
+	echo "examples/mixing.au: let any player play it"
 
 build:
 	rt all check && mkdir -p bin && cd crates/afd && rt run -- script < stdin > /dev/null && cp out/afd ../../bin/afd
@@ -16,4 +25,4 @@ test:
 fmt:
 	for crate in crates/*; do (cd $$crate && rt fmt) || exit; done
 
-.PHONY: demo build test fmt
+.PHONY: demo listen build test fmt

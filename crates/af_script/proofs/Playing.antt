@@ -1,5 +1,5 @@
 -- A tape that is being run: the turns so far are a run, and their answers are those that the steps so far give.
-use Rattle.std.proofs.Common.{◌≡◌, ℕ, zero, suc, ◌+◌, ◌<◌, ◌≤◌, true, List, [], ◌∷◌, ◌++◌, length, map, is_some, All, refl, sym, ap, ◌∙◌, subst, append_assoc, append-nil, arith}
+use Rattle.std.proofs.Common.{◌≡◌, suc, ◌<◌, true, List, [], ◌∷◌, ◌++◌, length, map, is_some, All, refl, sym, ap, ◌∙◌, subst, append_assoc, append-nil, arith}
 use Rattle.std.specs.declared.option.Option.{Option}
 use Rattle.std.specs.declared.option.Option.TheVariants.{None, Some}
 use Rattle.af_outside.specs.declared.happening.Happening.TheVariants.{Woke}
@@ -8,12 +8,12 @@ use Rattle.af_outside.specs.declared.script.DeviceSpec.{DeviceSpec}
 use Rattle.af_outside.specs.declared.script.Step.{Step}
 use Rattle.af_outside.specs.Told.{Log, Grew}
 use Rattle.af_outside.specs.Outside.{Outside, Peer, outside_start, TapeState, fresh, TakesStep, TapeLeadsTo, Answered, IsStep, stepped, wake_of, replayed}
-use Rattle.af_model.specs.State.{State, LinkState, DeviceState, Slot, opening, links_of, outline, outline_with}
-use Rattle.af_model.specs.Turn.{Behind, behind, turn, fits}
+use Rattle.af_model.specs.State.{State, LinkState, DeviceState, opening, links_of, outline, outline_with}
+use Rattle.af_model.specs.Turn.{behind, turn, fits}
 use Rattle.af_model.specs.Run.{wakes}
 use Rattle.af_model.specs.Script.{AnswersTo, ScriptLog, OneLog}
-use Rattle.af_model.proofs.Running.{OneTurn, TurnsTo, joined, joined-more, turns_more, turns_run, answers_more, replayed_answers}
-use Rattle.af_model.proofs.Alike.{Agree, Agreed, opens}
+use Rattle.af_model.proofs.Running.{TurnsTo, joined, joined-more, turns_more, turns_run, answers_more, replayed_answers}
+use Rattle.af_model.proofs.Alike.{Agree}
 use Rattle.af_model.proofs.Steps.{agree_start, step_fits}
 use Rattle.af_model.proofs.Unique.{turn_alike, one_log}
 use Rattle.af_core.specs.declared.device.Device.{Device}

@@ -4,6 +4,7 @@ use Rattle.std.specs.Prelude.{Option, Some, None, option_map, option_and_then, R
 use Rattle.std.proofs.lemmas.Bool.{and_parts}
 use Rattle.std.proofs.lemmas.Bool.Decides.{nat_tests}
 use Rattle.std.proofs.lemmas.List.Elements.{All-nil, All-cons}
+use Rattle.af_buffers.specs.Horizons.{IsListedRate}
 use Rattle.af_outside.specs.declared.script.DeviceSpec.{DeviceSpec}
 use Rattle.af_outside.specs.declared.script.Step.{Step}
 use Rattle.af_outside.specs.declared.script.Step.TheVariants as step
@@ -14,7 +15,7 @@ use Rattle.af_script.specs.declared.statement.Kind.{Kind}
 use Rattle.af_script.specs.declared.statement.Kind.TheVariants as kind
 use Rattle.af_script.specs.Words.{number_of, number_within, only_if, then_some, bytes_within}
 use Rattle.af_script.specs.Statement.{kind_of, is_device_kind, is_listed_rate, type_of, rate_of, device_at, device_with, device_of, link_of, device_number, open_of, send_of, capture_of, tick_of, fail_capture_of, fail_emit_of, idle_of, step_of_kind, step_of, is_device_line}
-use Rattle.af_script.specs.Script.{Stated, Entry, most_devices, device_lines, with_first, each_says, first_number, with_steps, with_config, stated_by, script_of, entries, HasListedRate}
+use Rattle.af_script.specs.Script.{Stated, Entry, most_devices, device_lines, with_first, each_says, first_number, with_steps, with_config, stated_by, script_of, entries}
 use Rattle.af_script.specs.Lines.{lines}
 use Rattle.af_script.proofs.LineByLine.{read_on}
 
@@ -58,7 +59,7 @@ rate_from word rate e =
     let b = only_if_from is_listed_rate a.0 rate a.2 in
     subst (λ r. is_listed_rate r ≡ true) b.1 b.0
 
-device_with_from : (arguments : List (List ℕ)) (d : DeviceSpec) → device_with arguments ≡ Some d → HasListedRate d
+device_with_from : (arguments : List (List ℕ)) (d : DeviceSpec) → device_with arguments ≡ Some d → IsListedRate d.rate
 device_with_from [] d e = cc e
 device_with_from (ty ∷ []) d e = cc e
 device_with_from (ty ∷ rate ∷ []) d e = cc e
@@ -67,12 +68,12 @@ device_with_from (ty ∷ rate ∷ start ∷ []) d e =
     let a = and_then_from (λ t. option_and_then (λ r. option_map (device_at t r) (number_within 0 4294967295 start)) (rate_of rate)) (type_of ty) d e in
     let b = and_then_from (λ r. option_map (device_at a.0 r) (number_within 0 4294967295 start)) (rate_of rate) d a.2 in
     let c = map_from (device_at a.0 b.0) (number_within 0 4294967295 start) d b.2 in
-    subst HasListedRate c.2 (rate_from rate b.0 b.1)
+    subst (λ (s : DeviceSpec). IsListedRate s.rate) c.2 (rate_from rate b.0 b.1)
 
-device_from : (ws : List (List ℕ)) (d : DeviceSpec) → device_of ws ≡ Some d → HasListedRate d
+device_from : (ws : List (List ℕ)) (d : DeviceSpec) → device_of ws ≡ Some d → IsListedRate d.rate
 device_from [] d e = cc e
 device_from (name ∷ arguments) d e =
-    (elim (is_device_kind (kind_of name)) as (λ t. cond t (device_with arguments) None ≡ Some d → HasListedRate d) [
+    (elim (is_device_kind (kind_of name)) as (λ t. cond t (device_with arguments) None ≡ Some d → IsListedRate d.rate) [
       | true ↦ λ h. device_with_from arguments d h
       | false ↦ λ h. cc h
     ]) e
@@ -82,7 +83,7 @@ open_from config [] s e = cc e
 open_from config (link ∷ w ∷ ws) s e = cc e
 open_from config (link ∷ []) s e =
     let a = map_from step.Open (link_of link) s e in
-    let n = number_from 0 0 link a.0 a.1 in
+    let n = number_from 0 31 link a.0 a.1 in
     subst (IsStep config) a.2 (omega (arith, n.1))
 
 size_within : (low high m n : ℕ) → m ≡ n → nat_le low m ≡ true → nat_le m high ≡ true → (low ≤ n) × (n ≤ high)
@@ -102,7 +103,7 @@ send_from config (link ∷ hex ∷ w ∷ ws) s e = cc e
 send_from config (link ∷ hex ∷ []) s e =
     let a = and_then_from (λ k. option_map (step.Send k) (bytes_within 1 16384 hex)) (link_of link) s e in
     let b = map_from (step.Send a.0) (bytes_within 1 16384 hex) s a.2 in
-    let n = number_from 0 0 link a.0 a.1 in
+    let n = number_from 0 31 link a.0 a.1 in
     let size = bytes_from 1 16384 hex b.0 b.1 in
     subst (IsStep config) b.2 (omega (arith, n.1), size.0, size.1)
 
@@ -196,7 +197,7 @@ each_from P says good (entry ∷ es) xs e =
 pub record IsSound (s : Stated) : Type 0 where
   pub some : 1 ≤ length s.config
   pub few : length s.config ≤ most_devices
-  pub rates : All HasListedRate s.config
+  pub rates : All (λ device. IsListedRate device.rate) s.config
   pub steps : All (IsStep s.config) s.steps
 
 abbrev ok_or : Stated → Result Stated ℕ → Stated
@@ -225,7 +226,7 @@ sound (suc k) es behind s few there e =
     (elim (each_says device_of devices) as (λ r. each_says device_of devices ≡ r → with_config r rest ≡ Ok s → IsSound s) [
       | Err n ↦ λ was h. cc h
       | Ok config ↦ λ was h.
-          let ds = each_from HasListedRate device_of device_from devices config was in
+          let ds = each_from (λ (device : DeviceSpec). IsListedRate device.rate) device_of device_from devices config was in
           let len = ds.count in
           let taken = length-take (suc k) es in
           (elim (each_says (step_of config) rest) as (λ r. each_says (step_of config) rest ≡ r → with_steps config r ≡ Ok s → IsSound s) [

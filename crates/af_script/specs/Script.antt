@@ -1,11 +1,11 @@
 -- The script that a text is, or the line of its first fault.
-use Rattle.std.specs.Prelude.{◌≡◌, ℕ, zero, suc, ◌+◌, ◌==◌, Bool, false, ◌||◌, IsTrue, List, [], ◌∷◌, length, take, drop, Option, Some, None, Result, Ok, Err, if◌then◌else◌}
+use Rattle.std.specs.Prelude.{◌≡◌, ℕ, zero, suc, ◌+◌, ◌==◌, Bool, false, ◌||◌, List, [], ◌∷◌, length, take, drop, Option, Some, None, Result, Ok, Err, if◌then◌else◌}
 use Rattle.af_outside.specs.declared.script.DeviceSpec.{DeviceSpec}
 use Rattle.af_outside.specs.declared.script.Step.{Step}
 use Rattle.af_script.specs.declared.fault.ScriptFault.{ScriptFault}
 use Rattle.af_script.specs.declared.fault.ScriptFault.TheVariants as fault
 use Rattle.af_script.specs.Lines.{lines, words, is_nil}
-use Rattle.af_script.specs.Statement.{is_device_line, is_listed_rate, device_of, step_of}
+use Rattle.af_script.specs.Statement.{is_device_line, device_of, step_of}
 
 -- what a script states
 pub record Stated : Type 0 where
@@ -82,7 +82,3 @@ script_of text =
 abbrev pub IsFault : List ℕ → ScriptFault → Type 0
 IsFault text (fault.Line n) = script_of text ≡ Err n
 IsFault text fault.OutOfMemory = Unit {0}
-
--- a device of a rate that is listed
-abbrev pub HasListedRate : DeviceSpec → Type 0
-HasListedRate device = IsTrue (is_listed_rate device.rate)

@@ -1,5 +1,7 @@
 -- What a line states by its words: a device, or a step.
-use Rattle.std.specs.Prelude.{ℕ, ◌*◌, ◌-◌, ◌^◌, nat_lt, ◌==◌, ◌||◌, Bool, true, false, List, [], ◌∷◌, length, codes, bytes_eq, Option, Some, None, option_map, option_and_then, if◌then◌else◌}
+use Rattle.std.specs.Prelude.{ℕ, ◌*◌, ◌-◌, ◌^◌, nat_lt, ◌==◌, Bool, true, false, List, [], ◌∷◌, length, codes, bytes_eq, Option, Some, None, option_map, option_and_then, if◌then◌else◌}
+use Rattle.std.specs.List.{list_any}
+use Rattle.af_buffers.specs.Horizons.{listed_rates}
 use Rattle.af_sample.specs.declared.sample_type.SampleType.{SampleType}
 use Rattle.af_sample.specs.declared.sample_type.SampleType.TheVariants.{Mu255, Alaw, Lin16, Lin32}
 use Rattle.af_outside.specs.declared.script.DeviceSpec.{DeviceSpec}
@@ -53,10 +55,9 @@ type_of word =
     else if bytes_eq word (codes "lin32") then Some Lin32
     else None
 
--- the rates that a device can have, in frames a second
+-- whether a device can have this rate
 abbrev pub is_listed_rate : ℕ → Bool
-is_listed_rate rate =
-    rate == 8000 || rate == 11025 || rate == 16000 || rate == 22050 || rate == 32000 || rate == 44100 || rate == 48000
+is_listed_rate rate = list_any (λ listed. rate == listed) listed_rates
 
 -- the rate of a word, where it is listed
 abbrev pub rate_of : List ℕ → Option ℕ
@@ -85,7 +86,7 @@ device_of (name ∷ arguments) = device_of_kind (kind_of name) arguments
 
 -- links are numbered from 0 to this
 abbrev pub last_link : ℕ
-last_link = 0
+last_link = 31
 
 -- the number of a link
 abbrev pub link_of : List ℕ → Option ℕ

@@ -1,8 +1,9 @@
 // A text is read as a script, line by line.
 ghost use Rattle.std.specs.Prelude.{◌≡◌, ◌≤◌, ◌&&◌, ◌⊎◌, ℕ, [], Some, length, All, IfOk, IfErr, option_map, ◌++◌, ◌∷◌, ◌<◌};
+ghost use Rattle.af_buffers.specs.Horizons.{IsListedRate};
 ghost use Rattle.af_outside.specs.Outside.{IsStep};
 ghost use Rattle.af_script.specs.Lines.{words};
-ghost use Rattle.af_script.specs.Script.{script_of, IsFault, HasListedRate};
+ghost use Rattle.af_script.specs.Script.{script_of, IsFault};
 ghost use Rattle.af_script.specs.Words.{then_some};
 ghost use Rattle.af_script.specs.Statement.{is_device_kind, device_with, step_of_kind};
 ghost use Rattle.af_script.specs.Reading.{with_line, can_take_device};
@@ -33,7 +34,7 @@ pub fn read_script(alloc: Global, text: &[u8]) -> Result<Script, ScriptFault>
     ensures fault { IfErr result (λ e. IsFault text.now e) }
     ensures found { (n : ℕ) → script_of text.now ≡ Err n → (result ≡ Err (ScriptFault.Line n)) ⊎ (result ≡ Err ScriptFault.OutOfMemory) }
     ensures devices { IfOk result (λ s. (1 ≤ length s.config.items) × (length s.config.items ≤ 8)) }
-    ensures rates { IfOk result (λ s. All HasListedRate s.config.items) }
+    ensures rates { IfOk result (λ s. All (λ device. IsListedRate device.rate) s.config.items) }
     ensures steps { IfOk result (λ s. All (IsStep s.config.items) s.steps) }
 {
     let mut config = ArrayVec::new();

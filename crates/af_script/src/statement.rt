@@ -14,7 +14,7 @@ use hex::FromHexError;
 use std::alloc::Global;
 
 /// Links are numbered from 0 to this.
-const LAST_LINK: u32 = 0;
+const LAST_LINK: u32 = 31;
 
 /// What the first word of a line says that the line is.
 #[derive(Clone, Copy, Debug, PartialEq, Eq)]

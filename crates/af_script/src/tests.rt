@@ -41,10 +41,10 @@ fn fault(alloc: Global, text: &[u8]) -> Option<u32> {
     }
 }
 
-/// Whether a step sends these bytes on link 0.
+/// Whether a step sends these bytes on link 31.
 fn sends(step: Option<&Step>, wanted: &[u8]) -> bool {
     match step {
-        Some(Step::Send(0, bytes)) => bytes.as_slice() == wanted,
+        Some(Step::Send(31, bytes)) => bytes.as_slice() == wanted,
         _ => false,
     }
 }
@@ -70,7 +70,7 @@ fn captures(step: Option<&Step>, wanted: u32, captured: &[u8]) -> bool {
 #[test]
 fn reads_a_script(rt: HostRuntime) -> Result<(), Fail> {
     let text =
-        b"# one device\n\n  device   lin16 08000 4294967295 \n   \nopen 0\n#send\nsend  0 00fFA5\ntick 00 0001\n idle\ntick 0 4096";
+        b"# one device\n\n  device   lin16 08000 4294967295 \n   \nopen 031\n#send\nsend  31 00fFA5\ntick 00 0001\n idle\ntick 0 4096";
     let script = read_script(rt.alloc(), text)?;
     assert_eq!(rt;
         script.config.as_slice(),
@@ -78,7 +78,7 @@ fn reads_a_script(rt: HostRuntime) -> Result<(), Fail> {
     );
     let steps = script.steps.as_slice();
     assert_eq!(rt; steps.len(), 5);
-    assert!(rt; matches!(steps.first(), Some(Step::Open(0))));
+    assert!(rt; matches!(steps.first(), Some(Step::Open(31))));
     assert!(rt; sends(steps.get(1), &[0, 255, 165]));
     assert!(rt; ticks(steps.get(2), 1));
     assert!(rt; matches!(steps.get(3), Some(Step::Idle)));
@@ -151,7 +151,7 @@ fn numbers_the_first_faulty_line(rt: HostRuntime) {
         (b"\t\ndevice lin16 8000 0\n", 1),
         (b"device lin16 8000 0\r\n", 1),
         (b"device lin16 8000 0\0\n", 1),
-        (b"#\xff\t\r\0\ndevice lin16 8000 0\nopen 1\n", 3),
+        (b"#\xff\t\r\0\ndevice lin16 8000 0\nopen 32\n", 3),
         (b"device lin16 8000 0\nopen 0\n\nopen 0 0", 4),
         (b"device lin16 8000 0\nsend 0\n", 2),
         (b"device lin16 8000 0\nsend 0 0\n", 2),
@@ -173,7 +173,8 @@ fn numbers_the_first_faulty_line(rt: HostRuntime) {
         ),
         (b"device lin16 8000 0\nidle 0\n", 2),
         (b"device lin16 8000 0\nend 0\n", 2),
-        (b"device lin16 8000 0\nopen 0\nopen 1\nopen 2\n", 3),
+        (b"device lin16 8000 0\nopen 31\nopen 32\nopen 33\n", 3),
+        (b"device lin16 8000 0\nsend 31 00\nsend 32 00\n", 3),
     ];
     for (text, line) in rows {
         assert_eq!(rt; fault(rt.alloc(), text), Some(line));

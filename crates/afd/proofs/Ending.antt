@@ -1,5 +1,5 @@
 -- A script that was read and run.
-use Rattle.std.proofs.Common.{◌≡◌, ℕ, List, sym, ap, subst, IfSome, Result, Ok, Err}
+use Rattle.std.proofs.Common.{◌≡◌, ℕ, List, ap, subst, IfSome, Ok}
 use Rattle.std.specs.declared.option.Option.{Option}
 use Rattle.std.specs.declared.option.Option.TheVariants.{None, Some}
 use Rattle.af_outside.specs.declared.script.DeviceSpec.{DeviceSpec}

@@ -14,8 +14,12 @@ pub struct DeviceInfo {
     pub horizon: u32,
 }
 
-// It fills the room of a `Devices` that is not used.
 impl Default for DeviceInfo {
+    ghost use Rattle.af_request.specs.Replies.{IsStated};
+
+    ghost is_default = { λ device. IsStated device };
+
+    /// A device that the reply to a setup may state. It fills the room of a `Devices` that is not used.
     fn default() -> DeviceInfo {
         DeviceInfo {
             ty: SampleType::Lin16,

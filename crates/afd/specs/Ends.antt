@@ -80,3 +80,13 @@ writes end.TooLong = false
 writes (end.ScriptFault line) = false
 writes end.SinkFault = true
 writes end.OutOfMemory = false
+
+-- the exit status of an end
+abbrev pub status : ScriptEnd → ℕ
+status end.Done = 0
+status end.Usage = 2
+status (end.ScriptFault line) = 3
+status end.TooLong = 4
+status end.ReadFault = 5
+status end.SinkFault = 6
+status end.OutOfMemory = 7

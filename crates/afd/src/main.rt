@@ -1,6 +1,9 @@
 //! The server's program: it makes the real objects, calls the one function, and says how that ended.
 #![tactic(auto)]
 
+ghost use Rattle.std.specs.Prelude.{◌≡◌};
+ghost use Rattle.afd.specs.Ends.{status};
+
 mod script;
 mod text;
 
@@ -35,7 +38,9 @@ fn words_of(alloc: Global, rt: &(impl Env + Alloc)) -> Result<Args, WordsFault> 
 }
 
 // The exit status of an end.
-fn status_of(end: ScriptEnd) -> u8 {
+fn status_of(end: ScriptEnd) -> u8
+    ensures { result ≡ status end }
+{
     match end {
         ScriptEnd::Done => 0,
         ScriptEnd::Usage => 2,

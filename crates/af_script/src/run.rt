@@ -1,5 +1,6 @@
 // A tape is run to its end: one turn for each step.
 ghost use Rattle.std.specs.Prelude.{◌≡◌, All, OnOk};
+ghost use Rattle.af_buffers.specs.Horizons.{IsListedRate};
 ghost use Rattle.af_outside.specs.Outside.{fresh, IsStep};
 ghost use Rattle.af_script.specs.Run.{HasOneLog};
 
@@ -8,9 +9,10 @@ use af_outside::{Config, Tape};
 use af_time::OutOfMemory;
 use std::alloc::Global;
 
-/// Makes a core and takes one turn for each step of a tape, which was made with this configuration and stands as it was
-/// made. At Ok the tape tells the one log that its script has.
+/// Makes a core and takes one turn for each step of a tape, which was made with this configuration, of listed
+/// rates, and stands as it was made. At Ok the tape tells the one log that its script has.
 pub fn run_tape(alloc: Global, config: &Config, tape: &mut Tape) -> Result<(), OutOfMemory>
+    requires rates { All (λ device. IsListedRate device.rate) config.now.items }
     requires made { tape.old ≡ fresh config.now.items tape.old.left }
     requires steps { All (IsStep config.now.items) tape.old.left }
     ensures { OnOk result (HasOneLog config.now.items tape.old.left tape.new.log) }

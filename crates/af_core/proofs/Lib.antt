@@ -1,7 +1,3 @@
-pub mod Devices
-pub mod Sounding
-pub mod Requests
-pub mod Asking
 pub mod Taking
 pub mod Doing
 pub mod Serving

@@ -18,8 +18,9 @@ use Rattle.af_model.specs.Advance.{absorb, advance}
 use Rattle.af_model.specs.Turn.{behind, and_then, then_go, take_one, door, wants_read, is_read, read_by, read_phase, after_read, wants_write, write_by, write_phase, after_write, same_why, close_due, close_for, close_phase, serve_link, serve_open, serve_door, door_at, with_door, serve_from, serve_all}
 use Rattle.af_model.proofs.Tests.{both-true}
 use Rattle.af_model.proofs.Slots.{some_link, slot_link, links_of-set, length-links_of}
-use Rattle.af_core.specs.Kept.{KeptDevice}
-use Rattle.af_core.specs.Stands.{At, AtDoor, StandAround, StandsFor}
+use Rattle.af_perform.specs.Kept.{KeptDevice}
+use Rattle.af_perform.specs.Places.{At, StandAround}
+use Rattle.af_core.specs.Stands.{AtDoor, StandsFor}
 use Rattle.af_core.specs.Does.{Does}
 use Rattle.af_core.proofs.Doing.{does_nothing, does_one, does_more, does_then}
 

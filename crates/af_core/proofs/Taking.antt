@@ -1,12 +1,19 @@
 -- What was taken off is one step of all.
-use Rattle.std.proofs.Common.{◌≡◌, ℕ, true, false, List, refl, sym, ◌∙◌, ap}
+use Rattle.std.proofs.Common.{◌≡◌, ℕ, true, false, List, ◌++◌, map, refl, sym, ◌∙◌, ap}
 use Rattle.std.specs.declared.option.Option.{Option}
 use Rattle.std.specs.declared.option.Option.TheVariants.{None, Some}
+use Rattle.af_wire.specs.Front.{setup_front}
+use Rattle.af_wire.specs.declared.front.SetupFront.TheVariants as front
+use Rattle.af_request.specs.declared.reply.DeviceInfo.{DeviceInfo}
+use Rattle.af_request.specs.Answer.{setup}
 use Rattle.af_model.specs.State.{Place, Around, LinkState, place}
-use Rattle.af_model.specs.Advance.{advance, advance_step}
+use Rattle.af_model.specs.Reply.{reply_message}
+use Rattle.af_model.specs.Advance.{advance, advance_step, after_setup, without_front}
 use Rattle.af_model.proofs.Advancing.{advance-some, advance-none}
-use Rattle.af_core.specs.Kept.{KeptDevice}
-use Rattle.af_core.specs.Stands.{StandAround, StepsTo}
+use Rattle.af_perform.proofs.Devices.{same_infos}
+use Rattle.af_perform.specs.Kept.{KeptDevice, kept_info}
+use Rattle.af_perform.specs.Places.{StandAround}
+use Rattle.af_core.specs.Stands.{StepsTo}
 
 goes_on_at : (k : ℕ) (p : Place) (ds : List KeptDevice) (l : LinkState) (o : Option Place) → advance_step k p ≡ o → StepsTo true o ds l →
     (now : Around) × StandAround ds now × (advance k (place now l) ≡ advance k p)
@@ -23,3 +30,12 @@ ends_at k p ds l (Some q) e s = absurd s
 
 pub ends : (k : ℕ) (p : Place) (ds : List KeptDevice) (l : LinkState) → StepsTo false (advance_step k p) ds l → advance k p ≡ p
 ends k p ds l s = ends_at k p ds l (advance_step k p) refl s
+
+-- a good setup is taken off and replied to
+pub setup_replied : (ds : List KeptDevice) (l l1 l2 : LinkState) → setup_front l.rest ≡ front.Setup → l1 ≡ record (without_front 8 l) { is_set_up = true } →
+    l2 ≡ record l1 { pending = l1.pending ++ reply_message 0 (setup (map {A = KeptDevice} {B = DeviceInfo} kept_info ds)) 0 } →
+    (a : Around) → StandAround ds a → StepsTo true (after_setup (setup_front l.rest) (place a l)) ds l2
+setup_replied ds l l1 l2 f e1 e2 a h =
+    let replied : List DeviceInfo → LinkState = λ infos. record (without_front 8 l) { is_set_up = true; pending = l.pending ++ reply_message 0 (setup infos) 0 } in
+    let pushed : LinkState → LinkState = λ m. record m { pending = m.pending ++ reply_message 0 (setup (map {A = KeptDevice} {B = DeviceInfo} kept_info ds)) 0 } in
+    rw f (h, ap replied (sym (same_infos ds a.devices h)) ∙ sym (e2 ∙ ap pushed e1))

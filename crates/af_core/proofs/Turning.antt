@@ -14,13 +14,14 @@ use Rattle.af_model.specs.Tick.{sound, tick, later, capture_of}
 use Rattle.af_model.specs.Turn.{behind, and_then, then_go, take_one, turn, fits, is_open_at, wake_phase, tick_phase, is_capture, capture_by, after_capture, emit_by, serve_all, ready, in_open, in_slot}
 use Rattle.af_model.proofs.Running.{wakes-append-none}
 use Rattle.af_model.proofs.Slots.{slot_link, links_of-set, some_link}
-use Rattle.af_core.specs.Kept.{KeptDevice, StandsForDevice}
-use Rattle.af_core.specs.Stands.{StandsFor, StandForDevices, Turns, outline_of}
+use Rattle.af_perform.specs.Kept.{KeptDevice, StandsForDevice}
+use Rattle.af_perform.specs.Places.{StandForDevices}
+use Rattle.af_core.specs.Stands.{StandsFor, Turns, outline_of}
 use Rattle.af_sample.specs.SampleTypes.{width_of}
 use Rattle.af_core.specs.Does.{Does}
 use Rattle.af_core.specs.Live.{Passes, Ticks, TicksLive}
 use Rattle.af_core.proofs.Doing.{grew_nothing, grew_more, does_nothing}
-use Rattle.af_core.proofs.Devices.{found, stands_length, stands_set, stands_with}
+use Rattle.af_perform.proofs.Devices.{found, stands_length, stands_set, stands_with}
 
 pub turns : (a b c d : Option Log) (wake : Wake) (ds ds' ds'' : List KeptDevice) (links links' links'' : List (Option LinkState)) →
     fits (outline_of (record { devices = ds; links = links })) wake ≡ true → length ds'' ≡ length ds → length links'' ≡ length links → Grew a (Woke wake ∷ []) b →

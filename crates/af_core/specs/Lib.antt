@@ -1,5 +1,3 @@
-pub mod Kept
-pub mod Sounds
 pub mod Stands
 pub mod Does
 pub mod Live

@@ -8,15 +8,12 @@ ghost use Rattle.af_request.specs.Answer.{setup};
 ghost use Rattle.af_model.specs.State.{Around, place, stopped};
 ghost use Rattle.af_model.specs.Reply.{reply_message};
 ghost use Rattle.af_model.specs.Advance.{after_setup, after_frame, advance_step, advance};
-ghost use Rattle.af_core.specs.Kept.{kept_info};
-ghost use Rattle.af_core.specs.Stands.{StandAround, At, StepsTo, IsSettled};
+ghost use Rattle.af_perform.specs.Kept.{kept_info};
+ghost use Rattle.af_perform.specs.Places.{StandAround, At};
+ghost use Rattle.af_core.specs.Stands.{StepsTo, IsSettled};
 
-use crate::device::Device;
-use crate::link::Link;
-use crate::perform::perform;
-use crate::request::request_in;
-use crate::scratch::Work;
 use af_outside::Why;
+use af_perform::{Device, Link, Work, perform, request_in};
 use af_request::{Devices, Reply, write_reply};
 use af_wire::{Front, SetupFront, frame_at, setup_of, write_error};
 
@@ -84,7 +81,13 @@ fn setup_once(devices: &[Device], link: &mut Link, message: &mut [u8]) -> bool
 }
 
 // The first frame, as long as `frame`, is taken off and performed. It comes to stand there.
-fn perform_front(number: u8, devices: &mut [Device], link: &mut Link, frame: &mut [u8], work: &mut Work)
+fn perform_front(
+    number: u8,
+    devices: &mut [Device],
+    link: &mut Link,
+    frame: &mut [u8],
+    work: &mut Work,
+)
     requires there { length frame.old ≤ length link.old.rest }
     requires some { 0 < length frame.old }
     requires few { length frame.old ≤ 16384 }
@@ -100,7 +103,13 @@ fn perform_front(number: u8, devices: &mut [Device], link: &mut Link, frame: &mu
 }
 
 // A frame is taken off, where one is there.
-fn frame_once(number: u8, devices: &mut [Device], link: &mut Link, input: &mut [u8], work: &mut Work) -> bool
+fn frame_once(
+    number: u8,
+    devices: &mut [Device],
+    link: &mut Link,
+    input: &mut [u8],
+    work: &mut Work,
+) -> bool
     requires room { length link.old.pending ≤ 16384 }
     requires size { length input.old ≡ 16384 }
     ensures step { (a : Around) → StandAround devices.old a → StepsTo result (after_frame number (frame_front link.old.rest) (place a link.old)) devices.new link.new }
@@ -122,7 +131,13 @@ fn frame_once(number: u8, devices: &mut [Device], link: &mut Link, input: &mut [
 }
 
 // One setup or frame is taken off, where the link takes more and one is there.
-fn advance_once(number: u8, devices: &mut [Device], link: &mut Link, input: &mut [u8], work: &mut Work) -> bool
+fn advance_once(
+    number: u8,
+    devices: &mut [Device],
+    link: &mut Link,
+    input: &mut [u8],
+    work: &mut Work,
+) -> bool
     requires count { length devices.old ≤ 8 }
     requires size { length input.old ≡ 16384 }
     ensures step { (a : Around) → StandAround devices.old a → StepsTo result (advance_step number (place a link.old)) devices.new link.new }
@@ -141,7 +156,13 @@ fn advance_once(number: u8, devices: &mut [Device], link: &mut Link, input: &mut
 }
 
 /// Takes off and answers what is there, as far as the link takes more.
-pub fn advance(number: u8, devices: &mut [Device], link: &mut Link, input: &mut [u8], work: &mut Work)
+pub fn advance(
+    number: u8,
+    devices: &mut [Device],
+    link: &mut Link,
+    input: &mut [u8],
+    work: &mut Work,
+)
     requires count { length devices.old ≤ 8 }
     requires size { length input.old ≡ 16384 }
     ensures step { (a : Around) → StandAround devices.old a → At devices.new link.new (advance number (place a link.old)) }

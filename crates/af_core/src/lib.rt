@@ -2,16 +2,6 @@
 #![tactic(auto)]
 
 mod advance;
-mod buffer;
-mod checks;
-mod context_requests;
-mod device;
-mod link;
-mod perform;
-mod play;
-mod record;
-mod request;
-mod scratch;
 mod serve;
 mod server;
 mod slot;

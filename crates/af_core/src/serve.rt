@@ -3,15 +3,14 @@ ghost use Rattle.std.specs.Prelude.{◌≡◌, ◌≤◌, ◌<◌, List, length,
 ghost use Rattle.std.specs.declared.option.Option.TheVariants.{None, Some};
 ghost use Rattle.af_outside.specs.World.{taken_count};
 ghost use Rattle.af_model.specs.Turn.{behind, wants_write, read_phase, write_phase, close_phase, serve_link};
-ghost use Rattle.af_core.specs.Kept.{KeptDevice};
+ghost use Rattle.af_perform.specs.Kept.{KeptDevice};
 ghost use Rattle.af_core.specs.Does.{Does};
-ghost use Rattle.af_core.specs.Stands.{At, AtDoor, IsSettled, writes_left};
+ghost use Rattle.af_perform.specs.Places.{At};
+ghost use Rattle.af_core.specs.Stands.{AtDoor, IsSettled, writes_left};
 
 use crate::advance::advance;
-use crate::device::Device;
-use crate::link::Link;
-use crate::scratch::Work;
 use af_outside::{LinkGot, LinkTook, World};
+use af_perform::{Device, Link, Work};
 
 // One read, where the link is to be read.
 fn read_link<W: World>(
@@ -51,7 +50,14 @@ fn taken(took: LinkTook) -> usize
 }
 
 // One write of all that waits to be sent.
-fn write_once<W: World>(number: u8, devices: &mut [Device], link: &mut Link, input: &mut [u8], work: &mut Work, world: &mut W)
+fn write_once<W: World>(
+    number: u8,
+    devices: &mut [Device],
+    link: &mut Link,
+    input: &mut [u8],
+    work: &mut Work,
+    world: &mut W,
+)
     requires count { length devices.old ≤ 8 }
     requires wants { IsTrue (wants_write link.old) }
     requires size { length input.old ≡ 16384 }
@@ -66,7 +72,14 @@ fn write_once<W: World>(number: u8, devices: &mut [Device], link: &mut Link, inp
 }
 
 // Writes until nothing waits to be sent.
-fn write_link<W: World>(number: u8, devices: &mut [Device], link: &mut Link, input: &mut [u8], work: &mut Work, world: &mut W)
+fn write_link<W: World>(
+    number: u8,
+    devices: &mut [Device],
+    link: &mut Link,
+    input: &mut [u8],
+    work: &mut Work,
+    world: &mut W,
+)
     requires count { length devices.old ≤ 8 }
     requires settled { IsSettled link.old }
     requires size { length input.old ≡ 16384 }

@@ -8,15 +8,15 @@ ghost use Rattle.af_buffers.specs.RecordBuffer.{Last, Keeps};
 ghost use Rattle.af_model.specs.State.{State, LinkState, opening, slot_at};
 ghost use Rattle.af_model.specs.Turn.{behind, fits, wake_phase};
 ghost use Rattle.af_core.specs.Does.{Does};
-ghost use Rattle.af_core.specs.Stands.{Stands, StandsFor, StandForDevices, Turns, link_kept, outline_of};
+ghost use Rattle.af_perform.specs.Places.{StandForDevices};
+ghost use Rattle.af_core.specs.Stands.{Stands, StandsFor, Turns, link_kept, outline_of};
 
-use crate::device::Device;
-use crate::scratch::Scratch;
 use crate::slot::{Slot, serve_slots};
 use crate::tick::{TICK, tick};
 use af_buffers::{PlayBuffer, RecordBuffer};
 use af_context::Contexts;
 use af_outside::{Config, DeviceSpec, Wake, World};
+use af_perform::{Device, Scratch};
 use af_time::OutOfMemory;
 use std::alloc::Global;
 use std::marker::Model;

@@ -6,12 +6,10 @@ ghost use Rattle.af_model.specs.Turn.{behind, serve_door, serve_all, ready, in_o
 ghost use Rattle.af_core.specs.Does.{Does};
 ghost use Rattle.af_core.specs.Stands.{AtDoor, StandsFor};
 
-use crate::device::Device;
-use crate::link::Link;
-use crate::scratch::Scratch;
 use crate::serve::serve_link;
 use af_context::Contexts;
 use af_outside::World;
+use af_perform::{Device, Link, Scratch};
 use af_time::OutOfMemory;
 use std::alloc::Global;
 use std::marker::Model;

@@ -13,9 +13,8 @@ ghost use Rattle.af_core.specs.Does.{Does};
 ghost use Rattle.af_core.specs.Live.{Passes, Ticks, TicksLive};
 ghost use Rattle.af_core.specs.Stands.{StandsFor};
 
-use crate::device::Device;
-use crate::scratch::{Scratch, Work};
 use af_outside::{Put, World};
+use af_perform::{Device, Scratch, Work};
 use af_sample::{SampleType, convert_in, convert_out};
 
 /// How many frames a tick may have.
@@ -146,5 +145,12 @@ pub fn tick<W: World>(
     ensures leads { W.leads_to world.old world.new }
 {
     let device = &mut devices[number as usize];
-    tick_device(number, frames, device, &mut scratch.input, &mut scratch.work, world);
+    tick_device(
+        number,
+        frames,
+        device,
+        &mut scratch.input,
+        &mut scratch.work,
+        world,
+    );
 }

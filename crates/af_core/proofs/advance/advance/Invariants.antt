@@ -1,7 +1,7 @@
 use Rattle.std.proofs.Common.{◌≡◌, ◌⊎◌, ◌<◌, ◌≤◌, length}
 use Rattle.af_model.specs.State.{Around, place}
 use Rattle.af_model.specs.Advance.{advance}
-use Rattle.af_core.specs.Stands.{StandAround}
+use Rattle.af_perform.specs.Places.{StandAround}
 use Rattle.af_core.proofs.advance.advance.Given as goal
 
 abbrev pub invariant-loop : goal.invariant-loop

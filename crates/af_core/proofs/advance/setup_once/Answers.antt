@@ -1,5 +1,5 @@
 use Rattle.std.proofs.Common.{rules}
-use Rattle.af_core.proofs.Devices.{setup_replied}
+use Rattle.af_core.proofs.Taking.{setup_replied}
 use Rattle.af_core.proofs.advance.setup_once.Goals as goal
 
 pub returns-in-Setup-clause-step : goal.returns-in-Setup-clause-step

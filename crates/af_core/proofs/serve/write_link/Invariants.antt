@@ -1,6 +1,7 @@
 use Rattle.std.proofs.Common.{◌≡◌, ◌≤◌, length}
 use Rattle.af_model.specs.Turn.{write_phase}
-use Rattle.af_core.specs.Stands.{At, IsSettled, writes_left}
+use Rattle.af_perform.specs.Places.{At}
+use Rattle.af_core.specs.Stands.{IsSettled, writes_left}
 use Rattle.af_core.specs.Does.{Does}
 use Rattle.af_core.proofs.serve.write_link.Given as goal
 

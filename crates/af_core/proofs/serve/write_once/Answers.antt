@@ -5,7 +5,7 @@ use Rattle.af_outside.specs.World.{took_of, TookFits}
 use Rattle.af_model.specs.State.{LinkState, place}
 use Rattle.af_model.specs.Advance.{advance}
 use Rattle.af_model.specs.Turn.{after_write}
-use Rattle.af_core.specs.Stands.{At}
+use Rattle.af_perform.specs.Places.{At}
 use Rattle.af_core.proofs.Serving.{writes, at_place, whole_taken, whole_count}
 use Rattle.af_core.proofs.serve.write_once.Goals as goal
 

@@ -1,5 +1,5 @@
 use Rattle.std.proofs.Common.{refl}
-use Rattle.af_core.proofs.Devices.{device_at}
+use Rattle.af_perform.proofs.Devices.{device_at}
 use Rattle.af_core.proofs.Turning.{ticks}
 use Rattle.af_core.proofs.tick.tick.Goals as goal
 

@@ -1,7 +1,0 @@
-use Rattle.std.proofs.Common.{rules}
-use Rattle.af_model.specs.ContextRequests.{creation_refusal}
-use Rattle.af_core.proofs.context_requests.creation_refusal.Goals as goal
-
-pub returns : goal.returns
-unfolding creation_refusal
-returns c = search rules

@@ -1,6 +1,0 @@
-use Rattle.std.proofs.Common.{rules}
-use Rattle.af_core.proofs.Sounding.{starts}
-use Rattle.af_core.proofs.device.Device.new.Goals as goal
-
-pub returns : goal.returns
-returns c = starts c.args.spec _ _ c.requires (search rules) c.in_ok-next.ensures.time c.in_ok-next.ensures.next c.in_ok-last.ensures.time c.in_ok-last.ensures.last

@@ -1,7 +1,0 @@
-use Rattle.std.proofs.Common.{rules}
-use Rattle.af_core.specs.Sounds.{kept_record_refusal}
-use Rattle.af_core.proofs.record.record_refusal.Goals as goal
-
-pub returns : goal.returns
-unfolding kept_record_refusal
-returns c = search rules

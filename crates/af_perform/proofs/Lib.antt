@@ -1,0 +1,4 @@
+pub mod Devices
+pub mod Sounding
+pub mod Requests
+pub mod Asking

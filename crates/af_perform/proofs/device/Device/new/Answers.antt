@@ -1,0 +1,6 @@
+use Rattle.std.proofs.Common.{rules}
+use Rattle.af_perform.proofs.Sounding.{starts}
+use Rattle.af_perform.proofs.device.Device.new.Goals as goal
+
+pub returns : goal.returns
+returns c = starts c.args.spec _ _ c.requires (search rules) c.in_ok-next.ensures.time c.in_ok-next.ensures.next c.in_ok-last.ensures.time c.in_ok-last.ensures.last

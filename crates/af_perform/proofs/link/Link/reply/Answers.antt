@@ -1,0 +1,7 @@
+use Rattle.std.proofs.Common.{rules}
+use Rattle.af_model.specs.Reply.{reply_message}
+use Rattle.af_perform.proofs.link.Link.reply.Goals as goal
+
+pub returns : goal.returns
+unfolding reply_message
+returns c = search rules

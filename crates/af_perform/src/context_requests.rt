@@ -1,0 +1,183 @@
+// CreateAC, ChangeAC and FreeAC: the link's contexts are created, changed and freed.
+ghost use Rattle.std.specs.Prelude.{◌≡◌, ◌≤◌, length, pos, unwrap_or};
+ghost use Rattle.std.specs.declared.option.Option.TheVariants.{None};
+ghost use Rattle.af_sample.specs.Gains.{gain_of};
+ghost use Rattle.af_request.specs.Asked.{create_ac, change_ac, free_ac};
+ghost use Rattle.af_model.specs.State.{Around, place};
+ghost use Rattle.af_model.specs.ContextRequests.{creation_refusal, described, create, change_refusal, change, named_gain, named_preempt};
+ghost use Rattle.af_model.specs.Perform.{done};
+ghost use Rattle.af_perform.specs.Places.{At, LeadsLink, StandAround};
+
+use crate::checks::{check, check_gain, context_refusal, first_refusal, names, where_named};
+use crate::device::Device;
+use crate::link::Link;
+use crate::scratch::Work;
+use af_context::Context;
+use af_model::{Cause, Refusal};
+use af_request::Reply;
+use af_sample::{Gain, SampleType};
+
+/// What CreateAC asks, as it came.
+#[derive(Clone, Copy, Debug, PartialEq, Eq)]
+pub struct NewContext {
+    pub device: u8,
+    pub ac: u32,
+    pub ty: u8,
+    pub channels: u8,
+    pub preempt: u8,
+    pub play_gain: i16,
+    pub record_gain: i16,
+}
+
+/// What ChangeAC asks, as it came.
+#[derive(Clone, Copy, Debug, PartialEq, Eq)]
+pub struct NewSettings {
+    pub mask: u8,
+    pub ac: u32,
+    pub preempt: u8,
+    pub play_gain: i16,
+    pub record_gain: i16,
+}
+
+// The settings of a new context, before its number is looked at.
+fn creation_refusal(devices: usize, asked: NewContext) -> Option<Refusal>
+    ensures { result ≡ creation_refusal devices asked.device asked.ty asked.channels asked.preempt asked.play_gain asked.record_gain }
+{
+    first_refusal(&[
+        check(
+            usize::from(asked.device) >= devices,
+            Cause::BadDevice,
+            u32::from(asked.device),
+        ),
+        check(asked.ty > 3, Cause::BadValue, u32::from(asked.ty)),
+        check(asked.preempt > 1, Cause::BadValue, u32::from(asked.preempt)),
+        check_gain(asked.play_gain),
+        check_gain(asked.record_gain),
+        check(
+            asked.channels != 1,
+            Cause::BadMatch,
+            u32::from(asked.channels),
+        ),
+    ])
+}
+
+// A gain, or none where the decibels are out of range.
+fn gain_or_none(decibels: i16) -> Gain
+    ensures { result ≡ unwrap_or (gain_of decibels) (pos 0) }
+{
+    Gain::new(i32::from(decibels)).unwrap_or(Gain::default())
+}
+
+// The context that a request describes.
+fn described(asked: NewContext) -> Context
+    ensures { result ≡ described asked.device asked.ac asked.ty asked.preempt asked.play_gain asked.record_gain }
+{
+    Context {
+        ac: asked.ac,
+        device: asked.device,
+        ty: SampleType::of_code(asked.ty).unwrap_or(SampleType::Lin16),
+        play_gain: gain_or_none(asked.play_gain),
+        record_gain: gain_or_none(asked.record_gain),
+        preempt: asked.preempt == 1,
+    }
+}
+
+// One context more, where the number is free and there is room.
+fn create(context: Context, link: &mut Link, work: &mut Work)
+    requires room { length link.old.pending ≤ 16384 }
+    ensures step { LeadsLink (create context) link.old link.new }
+    ensures rest { link.new.rest ≡ link.old.rest }
+{
+    let ac = context.ac;
+    match link.create(context) {
+        Ok(()) => link.reply(3, &Reply::Plain, &mut work.message),
+        Err(fault) => link.refuse(3, context_refusal(fault, ac)),
+    }
+}
+
+/// CreateAC.
+pub fn create_ac(asked: NewContext, devices: &[Device], link: &mut Link, work: &mut Work)
+    requires room { length link.old.pending ≤ 16384 }
+    ensures step { (a : Around) → StandAround devices.now a → At devices.now link.new
+        (done (create_ac asked.device asked.ac asked.ty asked.channels asked.preempt asked.play_gain asked.record_gain) (place a link.old)) }
+    ensures rest { link.new.rest ≡ link.old.rest }
+{
+    match creation_refusal(devices.len(), asked) {
+        Some(refusal) => link.refuse(3, refusal),
+        None => create(described(asked), link, work),
+    }
+}
+
+// The fields that the mask names are looked at.
+fn change_refusal(link: &Link, asked: NewSettings) -> Option<Refusal>
+    ensures { result ≡ change_refusal link.now.contexts asked.mask asked.ac asked.preempt asked.play_gain asked.record_gain }
+{
+    first_refusal(&[
+        check(!link.has_context(asked.ac), Cause::BadAc, asked.ac),
+        where_named(asked.mask, 1, check_gain(asked.play_gain)),
+        where_named(asked.mask, 2, check_gain(asked.record_gain)),
+        where_named(
+            asked.mask,
+            4,
+            check(asked.preempt > 1, Cause::BadValue, u32::from(asked.preempt)),
+        ),
+    ])
+}
+
+// A gain that the mask names.
+fn named_gain(mask: u8, bit: u8, gain: i16) -> Option<Gain>
+    ensures { result ≡ named_gain mask bit gain }
+{
+    if names(mask, bit) {
+        Gain::new(i32::from(gain))
+    } else {
+        None
+    }
+}
+
+// Whether plays preempt from now on, where the mask names it.
+fn named_preempt(mask: u8, preempt: u8) -> Option<bool>
+    ensures { result ≡ named_preempt mask preempt }
+{
+    names(mask, 4).then_some(preempt == 1)
+}
+
+// The fields that the mask names are changed.
+fn change(asked: NewSettings, link: &mut Link, work: &mut Work)
+    requires room { length link.old.pending ≤ 16384 }
+    requires passes { change_refusal link.old.contexts asked.mask asked.ac asked.preempt asked.play_gain asked.record_gain ≡ None }
+    ensures step { LeadsLink (change asked.mask asked.ac asked.preempt asked.play_gain asked.record_gain) link.old link.new }
+    ensures rest { link.new.rest ≡ link.old.rest }
+{
+    let play = named_gain(asked.mask, 1, asked.play_gain);
+    let record_to = named_gain(asked.mask, 2, asked.record_gain);
+    let preempt = named_preempt(asked.mask, asked.preempt);
+    match link.change(asked.ac, play, record_to, preempt) {
+        Ok(()) => link.reply(4, &Reply::Plain, &mut work.message),
+        Err(fault) => link.refuse(4, context_refusal(fault, asked.ac)),
+    }
+}
+
+/// ChangeAC.
+pub fn change_ac(asked: NewSettings, link: &mut Link, work: &mut Work)
+    requires room { length link.old.pending ≤ 16384 }
+    ensures step { LeadsLink (done (change_ac asked.mask asked.ac asked.preempt asked.play_gain asked.record_gain)) link.old link.new }
+    ensures rest { link.new.rest ≡ link.old.rest }
+{
+    match change_refusal(link, asked) {
+        Some(refusal) => link.refuse(4, refusal),
+        None => change(asked, link, work),
+    }
+}
+
+/// FreeAC.
+pub fn free_ac(ac: u32, link: &mut Link, work: &mut Work)
+    requires room { length link.old.pending ≤ 16384 }
+    ensures step { LeadsLink (done (free_ac ac)) link.old link.new }
+    ensures rest { link.new.rest ≡ link.old.rest }
+{
+    match link.free(ac) {
+        Ok(()) => link.reply(5, &Reply::Plain, &mut work.message),
+        Err(fault) => link.refuse(5, context_refusal(fault, ac)),
+    }
+}

@@ -1,0 +1,164 @@
+// A device, as the core keeps it.
+ghost use Rattle.std.specs.Prelude.{◌≡◌, ◌*◌, ◌≤◌, length, IfOk, true};
+ghost use Rattle.af_sample.specs.SampleTypes.{width_of};
+ghost use Rattle.af_buffers.specs.Horizons.{IsListedRate};
+ghost use Rattle.af_buffers.specs.PlayBuffer.{frames_within};
+ghost use Rattle.af_buffers.specs.RecordBuffer.{frames_before};
+ghost use Rattle.af_model.specs.State.{DeviceState, opening_device};
+ghost use Rattle.af_model.specs.Play.{accepting};
+ghost use Rattle.af_model.specs.Record.{recorded_bytes};
+ghost use Rattle.af_model.specs.Tick.{later, next_sound};
+ghost use Rattle.af_perform.specs.Kept.{StandsForDevice, kept_info};
+
+use af_buffers::{PlayBuffer, RecordBuffer};
+use af_context::Context;
+use af_outside::DeviceSpec;
+use af_request::DeviceInfo;
+use af_sample::{SampleType, convert_in, convert_out, gain_run};
+use af_time::{DevTime, OutOfMemory};
+use std::alloc::Global;
+use std::marker::Model;
+
+#[derive(Drop)]
+pub struct Device {
+    ty: SampleType,
+    rate: u32,
+    next: PlayBuffer,
+    last: RecordBuffer,
+    // a capture or an emit has failed
+    is_dead: bool,
+}
+
+impl Model for Device {
+    ghost use Rattle.std.specs.Prelude.{length};
+    ghost use Rattle.af_buffers.specs.Horizons.{IsListedRate};
+    ghost use Rattle.af_perform.specs.Kept.{KeptDevice};
+
+    ghost Value = { KeptDevice };
+
+    ghost view = { λ d. record { ty = d.ty; rate = d.rate; next = d.next; last = d.last; is_dead = d.is_dead } };
+
+    ghost invariant = { λ d. IsListedRate d.rate };
+}
+
+impl Device {
+    /// A device at its start, with silence ahead and behind.
+    pub fn new(alloc: Global, spec: DeviceSpec) -> Result<Device, OutOfMemory>
+        requires { IsListedRate spec.rate }
+        ensures { IfOk result (λ d. StandsForDevice d (opening_device spec)) }
+    {
+        let start = DevTime(spec.start);
+        let horizon = spec.rate * 4;
+        let next = PlayBuffer::new(alloc, start, horizon)?;
+        let last = RecordBuffer::new(alloc, start, horizon)?;
+        Ok(Device {
+            ty: spec.ty,
+            rate: spec.rate,
+            next,
+            last,
+            is_dead: false,
+        })
+    }
+
+    pub fn ty(&self) -> SampleType
+        ensures { result ≡ self.now.ty }
+    {
+        self.ty
+    }
+
+    pub fn time(&self) -> DevTime
+        ensures { result.0 ≡ self.now.next.time }
+    {
+        self.next.now()
+    }
+
+    pub fn is_dead(&self) -> bool
+        ensures { result ≡ self.now.is_dead }
+    {
+        self.is_dead
+    }
+
+    /// What the reply to a setup says of it.
+    pub fn info(&self) -> DeviceInfo
+        ensures { result ≡ kept_info self.now }
+    {
+        DeviceInfo {
+            ty: self.ty,
+            channels: 1,
+            line: false,
+            rate: self.rate,
+            horizon: self.rate * 4,
+        }
+    }
+
+    pub fn next(&self) -> &PlayBuffer
+        ensures { result.now ≡ self.now.next }
+    {
+        &self.next
+    }
+
+    pub fn last(&self) -> &RecordBuffer
+        ensures { result.now ≡ self.now.last }
+    {
+        &self.last
+    }
+
+    /// How many frames from a time on end within the horizon.
+    pub fn frames_within(&self, start: DevTime) -> u32
+        ensures { result ≡ frames_within self.now.next start.0 }
+    {
+        self.next.frames_within(start)
+    }
+
+    /// How many frames from a time on are before now.
+    pub fn frames_before(&self, start: DevTime) -> u32
+        ensures { result ≡ frames_before self.now.last start.0 }
+    {
+        self.last.frames_before(start)
+    }
+
+    /// Accepts a play by a context: whole frames, which end within the horizon. Their samples come to stand in `samples`, with
+    /// the gain that the context has now.
+    pub fn accept(&mut self, context: &Context, start: DevTime, bytes: &[u8], samples: &mut [i16])
+        requires count { length bytes.now ≡ length samples.old * width_of context.now.ty }
+        requires few { length samples.old ≤ 16368 }
+        requires within { length samples.old ≤ frames_within self.old.next start.0 }
+        ensures { (s : DeviceState) → StandsForDevice self.old s → StandsForDevice self.new (accepting context.now start.0 bytes.now s) }
+    {
+        if samples.is_empty() {
+            return;
+        }
+        convert_in(context.ty, bytes, samples);
+        gain_run(samples, context.play_gain);
+        self.next.play(start, samples, context.preempt);
+    }
+
+    /// The frames that were recorded from a time on, as a context takes them.
+    pub fn record(&self, context: &Context, start: DevTime, samples: &mut [i16], bytes: &mut [u8])
+        requires count { length bytes.old ≡ length samples.old * width_of context.now.ty }
+        requires few { length samples.old ≤ 16000 }
+        ensures { (s : DeviceState) → StandsForDevice self.now s → bytes.new ≡ recorded_bytes context.now s start.0 (length samples.old) }
+    {
+        self.last.read(start, samples);
+        gain_run(samples, context.record_gain);
+        convert_out(context.ty, samples, bytes);
+    }
+
+    /// As many sample periods go by as samples were captured. These are kept, and the next ones are handed out.
+    pub fn pass(&mut self, captured: &[i16], sound: &mut [i16])
+        requires same { length sound.old ≡ length captured.now }
+        requires few { length captured.now ≤ 4096 }
+        ensures stands { (s : DeviceState) → StandsForDevice self.old s → StandsForDevice self.new (later captured.now s.is_dead s) }
+        ensures sound { (s : DeviceState) → StandsForDevice self.old s → sound.new ≡ next_sound s (length captured.now) }
+    {
+        self.last.capture(captured);
+        self.next.hand_out(sound);
+    }
+
+    /// A capture or an emit has failed.
+    pub fn set_dead(&mut self)
+        ensures { self.new ≡ record self.old { is_dead = true } }
+    {
+        self.is_dead = true;
+    }
+}

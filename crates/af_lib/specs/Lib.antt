@@ -1,0 +1,5 @@
+pub mod Ring
+pub mod Incoming
+pub mod Answers
+pub mod Told
+pub mod Receive

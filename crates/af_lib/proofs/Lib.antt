@@ -2,3 +2,4 @@ pub mod Bytes
 pub mod Fronts
 pub mod Frames
 pub mod Taking
+pub mod Exchanges

@@ -3,3 +3,5 @@ pub mod Incoming
 pub mod Answers
 pub mod Told
 pub mod Receive
+pub mod Calls
+pub mod Exchange

@@ -3,6 +3,7 @@ ghost use Rattle.std.specs.Prelude.{◌≡◌, ◌≢◌, ◌≤◌, ◌<◌, �
 ghost use Rattle.af_outside.specs.Told.{Rose};
 ghost use Rattle.af_request.specs.Fields.{u8_at};
 ghost use Rattle.af_lib.specs.Incoming.{bad_reply, first_bytes, message_in};
+ghost use Rattle.af_lib.specs.Calls.{IsFresh};
 ghost use Rattle.af_lib.specs.Receive.{Fills, Frames, Takes, Awaits, taken_as, IsFramedWithin, IsTakenWithin};
 
 use crate::fault::ConnFault;
@@ -106,6 +107,7 @@ pub fn message_in(bytes: &[u8]) -> Result<Taken, ConnFault>
     requires { 8 ≤ length bytes.now }
     ensures value { taken_as result bytes.now ≡ message_in bytes.now }
     ensures within { IsTakenWithin result (length bytes.now) }
+    ensures fresh { IsFresh result }
 {
     if bytes[0] != 2 {
         return Ok(Taken::Other(bytes.len()));
@@ -121,6 +123,7 @@ pub fn take_message<L: Link>(link: &mut L, input: &mut [u8]) -> Result<Taken, Co
     requires { 16016 ≤ length input.old }
     ensures takes { result ≢ Err ConnFault.LinkFault → Takes result input.new (L.left link.old) (L.left link.new) }
     ensures within { IsTakenWithin result 16016 }
+    ensures fresh { IsFresh result }
     ensures sends { L.sent link.new ≡ L.sent link.old }
     ensures count { L.faults link.old ≤ L.faults link.new }
     ensures cause { result ≡ Err ConnFault.LinkFault → Rose (L.faults link.old) (L.faults link.new) }
@@ -139,6 +142,7 @@ pub fn await_message<L: Link>(link: &mut L, input: &mut [u8], ring: &mut Ring) -
     requires { 16016 ≤ length input.old }
     ensures awaits { result ≢ Err ConnFault.LinkFault → Awaits result input.new ring.old ring.new (L.left link.old) (L.left link.new) }
     ensures within { IfOk result (λ n. (8 ≤ n) × (n ≤ 16016)) }
+    ensures fresh { IsFresh result }
     ensures sends { L.sent link.new ≡ L.sent link.old }
     ensures count { L.faults link.old ≤ L.faults link.new }
     ensures cause { result ≡ Err ConnFault.LinkFault → Rose (L.faults link.old) (L.faults link.new) }

@@ -1,5 +1,5 @@
 -- What a call of a connection sends, takes and answers.
-use Rattle.std.specs.Prelude.{◌≡◌, ◌≢◌, ◌≤◌, ◌+◌, ◌%◌, ◌^◌, ◌↔◌, ◌==◌, nat_le, if◌then◌else◌, ⊤, ℕ, Bool, List, length, take, drop, option_and_then, Result, Ok, Err, IsOk, IsSome}
+use Rattle.std.specs.Prelude.{◌≡◌, ◌≢◌, ◌≤◌, ◌+◌, ◌%◌, ◌^◌, ◌↔◌, ◌==◌, nat_le, if◌then◌else◌, ⊤, ◌⊎◌, ℕ, ℤ, pos, Bool, List, [], ◌∷◌, length, take, drop, slice_get, is_some, option_and_then, Result, Ok, Err, IsSome}
 use Rattle.std.specs.declared.option.Option.{Option}
 use Rattle.std.specs.declared.option.Option.TheVariants.{None, Some}
 use Rattle.af_time.specs.declared.DevTime.{DevTime}
@@ -10,14 +10,17 @@ use Rattle.af_request.specs.declared.reply.DeviceInfo.{DeviceInfo}
 use Rattle.af_request.specs.declared.reply.Phone.{Phone}
 use Rattle.af_request.specs.Asked.{Asked, no_op, get_time, create_ac, change_ac, free_ac, play_run, record_run, select_events, set_controls, query_controls, hook_switch, query_phone}
 use Rattle.af_request.specs.Answer.{Answer, setup, plain, time, played, recorded, controls, phone}
+use Rattle.af_request.specs.Fields.{flag_byte}
 use Rattle.af_request.specs.Requests.{request_bytes}
+use Rattle.af_wire.specs.declared.event.Event.{Event}
+use Rattle.arrayvec.specs.ArrayVec.{ArrayVec}
 use Rattle.af_request.specs.Replies.{answer_in}
 use Rattle.af_lib.specs.declared.fault.Cause.{Cause}
 use Rattle.af_lib.specs.declared.fault.Cause.TheVariants as cause
 use Rattle.af_lib.specs.declared.fault.ConnFault.{ConnFault}
 use Rattle.af_lib.specs.declared.fault.ConnFault.TheVariants as fault
 use Rattle.af_lib.specs.Ring.{RingState}
-use Rattle.af_lib.specs.Incoming.{awaited, bad_reply}
+use Rattle.af_lib.specs.Incoming.{Incoming, event, other, awaited, bad_reply, incoming, rest_of}
 use Rattle.af_lib.specs.Answers.{and_then, answer_to, value_or_bad}
 use Rattle.af_lib.specs.Told.{BothTold}
 
@@ -141,6 +144,57 @@ abbrev pub IsKeptBehind : Result (DevTime × ℕ) ConnFault → List ℕ → Lis
 IsKeptBehind (Ok r) old new = drop r.1 new ≡ drop r.1 old
 IsKeptBehind (Err fault) old new = new ≡ old
 
+-- the same before the message is looked at
+abbrev pub stored_in : Option (DevTime × ℕ) → List ℕ → Option Recorded
+stored_in (Some r) into = Some (record { time = r.0; samples = take r.1 into })
+stored_in None into = None
+
+abbrev pub IsStoredIn : Option (DevTime × ℕ) → List ℕ → List ℕ → Type 0
+IsStoredIn (Some r) old new = drop r.1 new ≡ drop r.1 old
+IsStoredIn None old new = new ≡ old
+
+-- devices, as the list of them
+abbrev pub listed : Result (ArrayVec DeviceInfo) ConnFault → Result (List DeviceInfo) ConnFault
+listed (Ok devices) = Ok devices.items
+listed (Err fault) = Err fault
+
+-- the setup of version 1.0
+abbrev pub setup_bytes : List ℕ
+setup_bytes = 0x41 ∷ 0x46 ∷ 0x42 ∷ 0 ∷ 0 ∷ 1 ∷ 0 ∷ 0 ∷ []
+
+-- a field that a request changes, or zero
+abbrev pub gain_or_zero : Option ℤ → ℤ
+gain_or_zero (Some gain) = gain
+gain_or_zero None = pos 0
+
+abbrev pub flag_or_zero : Option Bool → ℕ
+flag_or_zero (Some flag) = flag_byte flag
+flag_or_zero None = 0
+
+-- the bit of a field in the mask of those that a request changes
+abbrev pub bit_if : ℕ → Bool → ℕ
+bit_if bit there = if there then bit else 0
+
+-- the request that changes the stated settings of a context
+abbrev pub settings_changed : ℕ → Option ℤ → Option ℤ → Option Bool → Asked
+settings_changed ac play record_by preempt =
+    change_ac (bit_if 1 (is_some play) + bit_if 2 (is_some record_by) + bit_if 4 (is_some preempt)) ac
+    (flag_or_zero preempt) (gain_or_zero play) (gain_or_zero record_by)
+
+-- the request that changes the stated controls of a device
+abbrev pub controls_changed : ℕ → Option ℤ → Option ℤ → Option Bool → Option Bool → Asked
+controls_changed device input_gain output_gain input_on output_on =
+    set_controls device (bit_if 1 (is_some input_gain) + bit_if 2 (is_some output_gain) + bit_if 4 (is_some input_on) + bit_if 8 (is_some output_on))
+    (flag_or_zero input_on) (flag_or_zero output_on) (gain_or_zero input_gain) (gain_or_zero output_gain)
+
+-- what the first message of an input is to a client that waits for an event
+abbrev pub event_only : Incoming → Result Event ConnFault
+event_only (event e) = Ok e
+event_only (other bytes) = Err (bad_reply bytes)
+
+abbrev pub event_of : List ℕ → Result Event ConnFault
+event_of input = and_then event_only (incoming input)
+
 -- A call of a connection that sends a request and takes its answer, by the bytes that the link is left to give and was
 -- sent, where it tells them, and by its count of faults.
 pub record Called {L X : Type 0} (left sent : L → Option (List ℕ)) (faults : L → ℕ) (asked : Asked) (value_of : Answer → Option X)
@@ -158,3 +212,41 @@ pub record Called {L X : Type 0} (left sent : L → Option (List ℕ)) (faults :
   -- LinkFault only where the link's count of faults rose
   pub failed : result ≡ Err fault.LinkFault → Rose (faults old.link) (faults new.link)
   pub count : faults old.link ≤ faults new.link
+
+-- A call that waits for an event: the oldest of the ring, or where that is empty the next message.
+pub record Waited {L : Type 0} (left sent : L → Option (List ℕ)) (faults : L → ℕ) (old new : ConnState L) (result : Result Event ConnFault) : Type 0 where
+  -- Spent exactly where an earlier call answered a fault behind which the connection can be used no more: the first one
+  pub spent : (first : Cause) → (result ≡ Err (fault.Spent first)) ↔ (old.cause ≡ Some first)
+  -- and then nothing is read
+  pub untouched : IsSome old.cause → new ≡ old
+  -- the oldest event of the ring, and nothing is read
+  pub oldest : old.cause ≡ None → (e : Event) → slice_get old.ring.events 0 ≡ Some e →
+      (result ≡ Ok e) × (new ≡ record old { ring = record old.ring { events = drop 1 old.ring.events } })
+  -- exactly one message was taken
+  pub next : old.cause ≡ None → slice_get old.ring.events 0 ≡ None → result ≢ Err fault.LinkFault →
+      BothTold (left old.link) (left new.link) (λ b a. (result ≡ event_of b) × (a ≡ rest_of b))
+  pub keeps : old.cause ≡ None → slice_get old.ring.events 0 ≡ None →
+      new ≡ record { link = new.link; devices = old.devices; sequence = old.sequence; ring = new.ring; cause = cause_of result }
+  -- nothing is sent
+  pub sends : sent new.link ≡ sent old.link
+  -- LinkFault only where the link's count of faults rose
+  pub failed : result ≡ Err fault.LinkFault → Rose (faults old.link) (faults new.link)
+  pub count : faults old.link ≤ faults new.link
+
+-- A setup that was sent, and its answer.
+pub record IsSetUp {L : Type 0} (left sent : L → Option (List ℕ)) (faults : L → ℕ) (old new : L) (ring : RingState) (result : Result (List DeviceInfo) ConnFault) : Type 0 where
+  -- exactly the setup was sent
+  pub sends : Sends result (sent old) setup_bytes (sent new)
+  -- exactly its answer was taken
+  pub answers : Answers as_devices 0 0 result (record { events = []; lost = 0 }) ring (left old) (left new)
+  -- it is neither Spent nor want of memory
+  pub fresh : IsFresh result
+  -- LinkFault only where the link's count of faults rose
+  pub failed : result ≡ Err fault.LinkFault → Rose (faults old) (faults new)
+  pub count : faults old ≤ faults new
+
+-- a connection that was set up; or a fault, with the link, which is as it was where memory ran out
+abbrev pub Connects : {L : Type 0} → (L → Option (List ℕ)) → (L → Option (List ℕ)) → (L → ℕ) → L → Result (ConnState L) (ConnFault × L) → Type 0
+Connects left sent faults link (Ok conn) = (conn.sequence ≡ 0) × (conn.cause ≡ None) × IsSetUp left sent faults link conn.link conn.ring (Ok conn.devices)
+Connects left sent faults link (Err e) =
+    ((e.0 ≡ fault.OutOfMemory) × (e.1 ≡ link)) ⊎ ((ring : RingState) × IsSetUp left sent faults link e.1 ring (Err e.0))

@@ -46,6 +46,11 @@ IsFramedWithin (framed.Message n) = (8 ≤ n) × (n ≤ 16016)
 IsFramedWithin _ = ⊤
 
 -- a message as it is told of, which stands in a buffer
+abbrev pub taken_of : Taken → List ℕ → Incoming
+taken_of (taken.Event e) into = event e
+taken_of (taken.Other n) into = other (take n into)
+
+-- the same where there may be none
 abbrev pub taken_as : Result Taken ConnFault → List ℕ → Result Incoming ConnFault
 taken_as (Ok (taken.Event e)) into = Ok (event e)
 taken_as (Ok (taken.Other n)) into = Ok (other (take n into))

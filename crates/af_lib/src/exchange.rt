@@ -5,7 +5,7 @@ ghost use Rattle.af_outside.specs.Flow.{Written};
 ghost use Rattle.af_request.specs.Asked.{meaning};
 ghost use Rattle.af_request.specs.Requests.{request_bytes, HasRoom};
 ghost use Rattle.af_lib.specs.Answers.{answer_to, refused_in};
-ghost use Rattle.af_lib.specs.Calls.{cause_of, held_in, opcode_of, IsFresh, Sends};
+ghost use Rattle.af_lib.specs.Calls.{cause_of, held_in, opcode_of, setup_bytes, IsFresh, Sends};
 ghost use Rattle.af_lib.specs.Exchange.{Finds};
 
 use crate::fault::{Cause, ConnFault};
@@ -142,6 +142,22 @@ pub fn ask<L: Link>(
 {
     match send(link, output, request) {
         Put::Done => await_answer(link, ring, input, opcode_of(request), sequence),
+        Put::Failed => Err(ConnFault::LinkFault),
+    }
+}
+
+/// Sends the setup, and takes messages up to its answer.
+pub fn await_setup<L: Link>(link: &mut L, ring: &mut Ring, input: &mut [u8]) -> Result<usize, ConnFault>
+    requires { 16016 ≤ length input.old }
+    ensures finds { result ≢ Err ConnFault.LinkFault → Finds 0 0 result input.new ring.old ring.new (L.left link.old) (L.left link.new) }
+    ensures within { IfOk result (λ n. (8 ≤ n) × (n ≤ 16016)) }
+    ensures fresh { IsFresh result }
+    ensures sends { Sends result (L.sent link.old) setup_bytes (L.sent link.new) }
+    ensures count { L.faults link.old ≤ L.faults link.new }
+    ensures cause { result ≡ Err ConnFault.LinkFault → Rose (L.faults link.old) (L.faults link.new) }
+{
+    match link.write(&[0x41, 0x46, 0x42, 0, 0, 1, 0, 0]) {
+        Put::Done => await_answer(link, ring, input, 0, 0),
         Put::Failed => Err(ConnFault::LinkFault),
     }
 }

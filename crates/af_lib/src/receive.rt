@@ -2,9 +2,10 @@
 ghost use Rattle.std.specs.Prelude.{◌≡◌, ◌≢◌, ◌≤◌, ◌<◌, ◌++◌, length, take, drop, IfOk, Ok, Err};
 ghost use Rattle.af_outside.specs.Told.{Rose};
 ghost use Rattle.af_request.specs.Fields.{u8_at};
-ghost use Rattle.af_lib.specs.Incoming.{bad_reply, first_bytes, message_in};
-ghost use Rattle.af_lib.specs.Calls.{IsFresh};
-ghost use Rattle.af_lib.specs.Receive.{Fills, Frames, Takes, Awaits, taken_as, IsFramedWithin, IsTakenWithin};
+ghost use Rattle.af_lib.specs.Incoming.{bad_reply, first_bytes, message_in, rest_of};
+ghost use Rattle.af_lib.specs.Calls.{event_of, event_only, IsFresh};
+ghost use Rattle.af_lib.specs.Told.{BothTold};
+ghost use Rattle.af_lib.specs.Receive.{Fills, Frames, Takes, Awaits, taken_as, taken_of, IsFramedWithin, IsTakenWithin};
 
 use crate::fault::ConnFault;
 use crate::ring::Ring;
@@ -156,4 +157,33 @@ pub fn await_message<L: Link>(link: &mut L, input: &mut [u8], ring: &mut Ring) -
         allowed -= 1;
     }
     Err(ConnFault::EventFlood)
+}
+
+/// Takes one message, which is to be an event.
+pub fn take_event<L: Link>(link: &mut L, input: &mut [u8]) -> Result<Event, ConnFault>
+    requires { 16016 ≤ length input.old }
+    ensures takes { result ≢ Err ConnFault.LinkFault → BothTold (L.left link.old) (L.left link.new) (λ b a. (result ≡ event_of b) × (a ≡ rest_of b)) }
+    ensures fresh { IsFresh result }
+    ensures sends { L.sent link.new ≡ L.sent link.old }
+    ensures count { L.faults link.old ≤ L.faults link.new }
+    ensures cause { result ≡ Err ConnFault.LinkFault → Rose (L.faults link.old) (L.faults link.new) }
+{
+    match take_message(link, input) {
+        Ok(taken) => event_in(taken, input),
+        Err(fault) => Err(fault),
+    }
+}
+
+// The event that was taken, or the fault of another message, which stands in the input.
+fn event_in(taken: Taken, input: &[u8]) -> Result<Event, ConnFault>
+    requires { IsTakenWithin (Ok taken) (length input.now) }
+    ensures value { Ok (taken_of taken input.now) ≡ taken_as (Ok taken) input.now }
+    ensures event { result ≡ event_only (taken_of taken input.now) }
+    ensures fresh { IsFresh result }
+    ensures sound { result ≢ Err ConnFault.LinkFault }
+{
+    match taken {
+        Taken::Event(event) => Ok(event),
+        Taken::Other(length) => Err(bad_reply(&input[..length])),
+    }
 }

@@ -10,3 +10,6 @@ mod ring;
 
 pub use conn::Conn;
 pub use fault::{Cause, ConnFault};
+
+#[cfg(test)]
+mod tests;

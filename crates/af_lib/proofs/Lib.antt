@@ -3,3 +3,4 @@ pub mod Fronts
 pub mod Frames
 pub mod Taking
 pub mod Exchanges
+pub mod Success

@@ -1,5 +1,5 @@
 -- What a call of a connection sends, takes and answers.
-use Rattle.std.specs.Prelude.{◌≡◌, ◌≢◌, ◌≤◌, ◌+◌, ◌%◌, ◌^◌, ◌↔◌, ◌==◌, nat_le, if◌then◌else◌, ⊤, ◌⊎◌, ℕ, ℤ, pos, Bool, List, [], ◌∷◌, length, take, drop, slice_get, is_some, option_and_then, Result, Ok, Err, IsSome}
+use Rattle.std.specs.Prelude.{◌≡◌, ◌≢◌, ◌≤◌, ◌+◌, ◌%◌, ◌^◌, ◌↔◌, ◌==◌, nat_le, if◌then◌else◌, ⊤, ◌⊎◌, ℕ, ℤ, pos, Bool, List, [], ◌∷◌, length, take, drop, slice_get, is_some, option_and_then, Result, Ok, Err, IsOk, IsSome}
 use Rattle.std.specs.declared.option.Option.{Option}
 use Rattle.std.specs.declared.option.Option.TheVariants.{None, Some}
 use Rattle.af_time.specs.declared.DevTime.{DevTime}
@@ -250,3 +250,9 @@ abbrev pub Connects : {L : Type 0} → (L → Option (List ℕ)) → (L → Opti
 Connects left sent faults link (Ok conn) = (conn.sequence ≡ 0) × (conn.cause ≡ None) × IsSetUp left sent faults link conn.link conn.ring (Ok conn.devices)
 Connects left sent faults link (Err e) =
     ((e.0 ≡ fault.OutOfMemory) × (e.1 ≡ link)) ⊎ ((ring : RingState) × IsSetUp left sent faults link e.1 ring (Err e.0))
+
+-- a call whose link tells its bytes is Ok where these hold the awaited reply and the link's count of faults did not rise
+abbrev pub Succeeds : {L X : Type 0} → (L → Option (List ℕ)) → (L → ℕ) → Asked → (Answer → Option X) → ConnState L → ConnState L → Result X ConnFault → Type 0
+Succeeds left faults asked value_of old new result =
+    old.cause ≡ None → ¬ (Rose (faults old.link) (faults new.link)) → BothTold (left old.link) (left new.link) (λ b a.
+    IsOk (answered value_of (opcode_of asked) (following old.sequence) (awaited 4096 old.ring b).found) → IsOk result)

@@ -33,7 +33,12 @@ fn done_of(reply: &Reply<'_>) -> Option<()>
 {
     match reply {
         Reply::Plain => Some(()),
-        Reply::Setup { .. } | Reply::Time { .. } | Reply::Played { .. } | Reply::Recorded { .. } | Reply::Controls { .. } | Reply::Phone { .. } => None,
+        Reply::Setup { .. }
+        | Reply::Time { .. }
+        | Reply::Played { .. }
+        | Reply::Recorded { .. }
+        | Reply::Controls { .. }
+        | Reply::Phone { .. } => None,
     }
 }
 
@@ -77,7 +82,11 @@ fn time_of(reply: &Reply<'_>) -> Option<DevTime>
 {
     match reply {
         Reply::Time { time } | Reply::Played { time } => Some(*time),
-        Reply::Setup { .. } | Reply::Plain | Reply::Recorded { .. } | Reply::Controls { .. } | Reply::Phone { .. } => None,
+        Reply::Setup { .. }
+        | Reply::Plain
+        | Reply::Recorded { .. }
+        | Reply::Controls { .. }
+        | Reply::Phone { .. } => None,
     }
 }
 
@@ -121,7 +130,12 @@ fn controls_of(reply: &Reply<'_>) -> Option<Controls>
 {
     match reply {
         Reply::Controls { controls } => Some(*controls),
-        Reply::Setup { .. } | Reply::Plain | Reply::Time { .. } | Reply::Played { .. } | Reply::Recorded { .. } | Reply::Phone { .. } => None,
+        Reply::Setup { .. }
+        | Reply::Plain
+        | Reply::Time { .. }
+        | Reply::Played { .. }
+        | Reply::Recorded { .. }
+        | Reply::Phone { .. } => None,
     }
 }
 
@@ -165,7 +179,12 @@ fn phone_of(reply: &Reply<'_>) -> Option<Phone>
 {
     match reply {
         Reply::Phone { phone } => Some(*phone),
-        Reply::Setup { .. } | Reply::Plain | Reply::Time { .. } | Reply::Played { .. } | Reply::Recorded { .. } | Reply::Controls { .. } => None,
+        Reply::Setup { .. }
+        | Reply::Plain
+        | Reply::Time { .. }
+        | Reply::Played { .. }
+        | Reply::Recorded { .. }
+        | Reply::Controls { .. } => None,
     }
 }
 
@@ -205,7 +224,12 @@ pub fn ask_phone<L: Link>(
 }
 
 // Takes recorded samples, where they are as many as were asked for, or fewer where the request does not wait for all.
-fn stored(time: DevTime, samples: &[u8], blocking: bool, into: &mut [u8]) -> Option<(DevTime, usize)>
+fn stored(
+    time: DevTime,
+    samples: &[u8],
+    blocking: bool,
+    into: &mut [u8],
+) -> Option<(DevTime, usize)>
     ensures value { stored_in result into.new ≡ as_recorded blocking (length into.old) (recorded time.0 samples.now) }
     ensures kept { IsStoredIn result into.old into.new }
     ensures within { IfSome result (λ r. r.1 ≤ length into.old) }
@@ -311,7 +335,11 @@ fn devices_in(bytes: &[u8]) -> Result<Devices, ConnFault>
 }
 
 /// Sends the setup, and takes its answer.
-pub fn set_up<L: Link>(link: &mut L, ring: &mut Ring, input: &mut [u8]) -> Result<Devices, ConnFault>
+pub fn set_up<L: Link>(
+    link: &mut L,
+    ring: &mut Ring,
+    input: &mut [u8],
+) -> Result<Devices, ConnFault>
     requires { 16016 ≤ length input.old }
     ensures answers { Answers as_devices 0 0 (listed result) ring.old ring.new (L.left link.old) (L.left link.new) }
     ensures fresh { IsFresh result }

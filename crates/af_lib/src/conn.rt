@@ -174,12 +174,7 @@ impl<L: Link + Drop> Conn<L> {
     }
 
     /// Plays samples of a context from a time on: at most 16368 bytes. It answers the device's time, once they are taken.
-    pub fn play_run(
-        &mut self,
-        ac: u32,
-        time: DevTime,
-        samples: &[u8],
-    ) -> Result<DevTime, ConnFault>
+    pub fn play_run(&mut self, ac: u32, time: DevTime, samples: &[u8]) -> Result<DevTime, ConnFault>
         requires { length samples.now ≤ 16368 }
         ensures { Called L.left L.sent L.faults (play_run false ac time.0 samples.now) as_time self.old self.new result }
     {

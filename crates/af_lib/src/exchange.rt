@@ -147,7 +147,11 @@ pub fn ask<L: Link>(
 }
 
 /// Sends the setup, and takes messages up to its answer.
-pub fn await_setup<L: Link>(link: &mut L, ring: &mut Ring, input: &mut [u8]) -> Result<usize, ConnFault>
+pub fn await_setup<L: Link>(
+    link: &mut L,
+    ring: &mut Ring,
+    input: &mut [u8],
+) -> Result<usize, ConnFault>
     requires { 16016 ≤ length input.old }
     ensures finds { result ≢ Err ConnFault.LinkFault → Finds 0 0 result input.new ring.old ring.new (L.left link.old) (L.left link.new) }
     ensures within { IfOk result (λ n. (8 ≤ n) × (n ≤ 16016)) }

@@ -5,6 +5,7 @@ mod asks;
 mod conn;
 mod exchange;
 mod fault;
+pub mod laws;
 mod receive;
 mod ring;
 

@@ -139,7 +139,11 @@ pub fn take_message<L: Link>(link: &mut L, input: &mut [u8]) -> Result<Taken, Co
 
 /// Takes messages up to the first that is no event, which then stands in the input, and answers its length. Events go into
 /// the ring.
-pub fn await_message<L: Link>(link: &mut L, input: &mut [u8], ring: &mut Ring) -> Result<usize, ConnFault>
+pub fn await_message<L: Link>(
+    link: &mut L,
+    input: &mut [u8],
+    ring: &mut Ring,
+) -> Result<usize, ConnFault>
     requires { 16016 ≤ length input.old }
     ensures awaits { result ≢ Err ConnFault.LinkFault → Awaits result input.new ring.old ring.new (L.left link.old) (L.left link.new) }
     ensures within { IfOk result (λ n. (8 ≤ n) × (n ≤ 16016)) }

@@ -10,9 +10,11 @@ use std::test::Fail;
 
 // The setup, and the reply to it of a server with one device.
 const SETUP: [u8; 8] = [0x41, 0x46, 0x42, 0, 0, 1, 0, 0];
+
 const SETUP_REPLY: [u8; 28] = [
     1, 0, 0, 0, 0, 0, 0, 5, 0, 1, 0, 0, 0, 0, 0, 1, 2, 1, 0, 0, 0, 0, 0x1F, 0x40, 0, 0, 0x7D, 0,
 ];
+
 const DIGIT: [u8; 20] = [
     2, 8, 0, 0, 0, 0, 0, 3, 0, 0, 0, 0, 0, 0, 0, 0, 0, 0, 0, 0x35,
 ];
@@ -68,7 +70,10 @@ fn a_connection_has_the_devices_of_the_setup_reply(rt: HostRuntime) -> Result<()
 fn setups_that_fail(rt: HostRuntime) -> Result<(), Fail> {
     let cut = fault_of(rt.alloc(), &[1, 0, 0, 0])?;
     assert_eq!(rt; cut, Some(ConnFault::LinkEnded));
-    let refused = fault_of(rt.alloc(), &[0, 1, 0, 0, 0, 0, 0, 2, 0, 0, 0, 2, 0, 0, 0, 0])?;
+    let refused = fault_of(
+        rt.alloc(),
+        &[0, 1, 0, 0, 0, 0, 0, 2, 0, 0, 0, 2, 0, 0, 0, 0],
+    )?;
     assert_eq!(rt; refused, Some(ConnFault::ServerError { code: 1, value: 2 }));
     let bad = fault_of(rt.alloc(), &[2, 3, 0, 0, 0, 0, 0, 3])?;
     let shown = ConnFault::BadReply {
@@ -117,7 +122,10 @@ fn a_refused_connection_stays_usable(rt: HostRuntime) -> Result<(), Fail> {
         0, 4, 0, 1, 0, 0, 0, 2, 0, 0, 0, 5, 5, 0, 0, 0, 1, 2, 0, 2, 0, 0, 0, 1, 0, 0, 0, 3,
     ];
     let mut conn = connected(rt.alloc(), &bytes)?.ok_or("no connection")?;
-    assert_eq!(rt; conn.free_ac(5), Err(ConnFault::ServerError { code: 4, value: 5 }));
+    assert_eq!(rt;
+        conn.free_ac(5),
+        Err(ConnFault::ServerError { code: 4, value: 5 })
+    );
     assert_eq!(rt; conn.get_time(0), Ok(DevTime(3)));
     Ok(())
 }

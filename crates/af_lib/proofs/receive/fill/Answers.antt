@@ -9,8 +9,9 @@ loop-filled-preserved g c =
     let e = c.in-Bytes.ensures in
     let filled = c.loop-filled.filled in
     let room = length c.loop-filled.into - filled in
-    let past = post_of filled room c.loop-filled.into in
-    (search rules,
-     Gave-part _ _ _ filled c.in-Bytes.count c.loop-filled.into c.read.new.into past i.0 e.bound.1 i.1 e.gave,
-     e.sends ∙ i.2,
-     omega (arith, i.3, e.count))
+    let past = post_of filled room c.loop-filled.into in (
+      search rules,
+      Gave-part _ _ _ filled c.in-Bytes.count c.loop-filled.into c.read.new.into past i.0 e.bound.1 i.1 e.gave,
+      e.sends ∙ i.2,
+      omega (arith, i.3, e.count),
+    )

@@ -1,5 +1,5 @@
 -- Requests that are sent, and their answers.
-use Rattle.std.proofs.Common.{◌≡◌, ◌≢◌, ℕ, List, [], ◌++◌, ◌-◌, length, take, drop, sym, ap, ◌∙◌, append-nil}
+use Rattle.std.proofs.Common.{◌≡◌, ◌≢◌, ℕ, List, [], ◌-◌, length, take, drop, sym, ap, ◌∙◌, append-nil}
 use Rattle.std.proofs.lemmas.List.{take_rest}
 use Rattle.std.specs.Prelude.{Result, Ok, Err, Bool, refl, option_and_then, option_map}
 use Rattle.std.specs.declared.option.Option.TheVariants.{None, Some}
@@ -10,9 +10,9 @@ use Rattle.af_request.specs.Replies.{answer_in}
 use Rattle.af_lib.specs.declared.fault.ConnFault.{ConnFault}
 use Rattle.af_lib.specs.declared.fault.ConnFault.TheVariants as fault
 use Rattle.af_lib.specs.Ring.{RingState}
-use Rattle.af_lib.specs.Incoming.{awaited, bad_reply}
-use Rattle.af_lib.specs.Answers.{and_then, answer_to, value_or_bad}
-use Rattle.af_lib.specs.Calls.{answered, as_devices, as_recorded, listed, recorded_in, stored_in, value_in, Answers, Sends}
+use Rattle.af_lib.specs.Incoming.{bad_reply}
+use Rattle.af_lib.specs.Answers.{and_then, value_or_bad}
+use Rattle.af_lib.specs.Calls.{as_devices, as_recorded, listed, recorded_in, stored_in, value_in, Answers, Sends}
 use Rattle.af_request.specs.declared.reply.DeviceInfo.{DeviceInfo}
 use Rattle.af_request.specs.Answer.{items_of}
 use Rattle.af_time.specs.declared.DevTime.{DevTime}

@@ -1,6 +1,6 @@
 -- Calls whose awaited reply is there.
-use Rattle.std.proofs.Common.{◌≡◌, ◌≢◌, ℕ, List, sym, subst}
-use Rattle.std.specs.Prelude.{Result, Ok, Err, IsOk}
+use Rattle.std.proofs.Common.{ℕ, List, sym, subst}
+use Rattle.std.specs.Prelude.{Result, IsOk}
 use Rattle.std.specs.declared.option.Option.{Option}
 use Rattle.af_request.specs.Answer.{Answer}
 use Rattle.af_request.specs.Asked.{Asked}

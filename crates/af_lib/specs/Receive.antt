@@ -12,7 +12,7 @@ use Rattle.af_lib.specs.declared.receive.Framed.TheVariants as framed
 use Rattle.af_lib.specs.declared.receive.Taken.{Taken}
 use Rattle.af_lib.specs.declared.receive.Taken.TheVariants as taken
 use Rattle.af_lib.specs.Ring.{RingState}
-use Rattle.af_lib.specs.Incoming.{Incoming, Awaited, event, other, incoming, rest_of, awaited}
+use Rattle.af_lib.specs.Incoming.{Incoming, event, other, incoming, rest_of, awaited}
 use Rattle.af_lib.specs.Told.{BothTold}
 
 -- a slice was filled; or fewer bytes than it has room for were left, and were all given

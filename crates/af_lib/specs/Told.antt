@@ -1,5 +1,5 @@
 -- What is said of the bytes of a link, as far as it tells them.
-use Rattle.std.specs.Prelude.{◌≡◌, ◌<◌, ⊤, ℕ, List, [], length, Result, Ok, Err}
+use Rattle.std.specs.Prelude.{⊤, ℕ, List}
 use Rattle.std.specs.declared.option.Option.{Option}
 use Rattle.std.specs.declared.option.Option.TheVariants.{None, Some}
 

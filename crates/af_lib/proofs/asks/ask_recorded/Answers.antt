@@ -1,4 +1,4 @@
-use Rattle.std.proofs.Common.{◌≡◌, length}
+use Rattle.std.proofs.Common.{length}
 use Rattle.af_request.specs.Asked.{meaning}
 use Rattle.af_lib.specs.Calls.{as_recorded, opcode_of, recorded_in}
 use Rattle.af_lib.proofs.Exchanges.{answers_value}

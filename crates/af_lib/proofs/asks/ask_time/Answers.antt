@@ -1,4 +1,3 @@
-use Rattle.std.proofs.Common.{◌≡◌}
 use Rattle.af_request.specs.Asked.{meaning}
 use Rattle.af_lib.specs.Calls.{as_time, opcode_of}
 use Rattle.af_lib.proofs.Exchanges.{answers_value}

@@ -1,4 +1,3 @@
-use Rattle.std.proofs.Common.{◌≡◌}
 use Rattle.af_request.specs.Answer.{meaning}
 use Rattle.af_lib.proofs.Exchanges.{value_listed}
 use Rattle.af_lib.proofs.asks.devices_in.Goals as goal

@@ -1,4 +1,4 @@
-use Rattle.std.proofs.Common.{◌≡◌, length}
+use Rattle.std.proofs.Common.{length}
 use Rattle.af_request.specs.Answer.{meaning}
 use Rattle.af_lib.specs.Calls.{as_recorded}
 use Rattle.af_lib.proofs.Exchanges.{value_none, value_recorded}

@@ -1,4 +1,3 @@
-use Rattle.std.proofs.Common.{◌≡◌}
 use Rattle.af_request.specs.Answer.{meaning}
 use Rattle.af_lib.specs.Calls.{as_time}
 use Rattle.af_lib.proofs.Exchanges.{value_some, value_none}

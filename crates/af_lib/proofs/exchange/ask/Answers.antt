@@ -1,4 +1,4 @@
-use Rattle.std.proofs.Common.{rules, ◌≡◌, sym, subst, List, ℕ}
+use Rattle.std.proofs.Common.{sym, subst, List, ℕ}
 use Rattle.std.specs.declared.option.Option.{Option}
 use Rattle.af_request.specs.Asked.{meaning}
 use Rattle.af_request.specs.Requests.{request_bytes}

@@ -1,4 +1,4 @@
-use Rattle.std.proofs.Common.{rules, arith, ◌≡◌, ◌≢◌, List, ℕ, subst, sym, ◌∙◌, ap}
+use Rattle.std.proofs.Common.{rules, arith, ◌≡◌, ◌≢◌, ℕ, subst, sym, ◌∙◌}
 use Rattle.std.specs.Prelude.{Result, Ok, Err}
 use Rattle.af_lib.specs.declared.receive.Taken.{Taken}
 use Rattle.af_lib.specs.declared.fault.ConnFault.{ConnFault}

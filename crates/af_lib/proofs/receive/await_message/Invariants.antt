@@ -1,4 +1,4 @@
-use Rattle.std.proofs.Common.{◌≡◌, ◌≤◌, length}
+use Rattle.std.proofs.Common.{◌≡◌, ◌≤◌}
 use Rattle.af_lib.specs.Told.{BothTold}
 use Rattle.af_lib.specs.Incoming.{awaited}
 use Rattle.af_lib.proofs.receive.await_message.Given as goal

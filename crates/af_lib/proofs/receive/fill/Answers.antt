@@ -1,4 +1,4 @@
-use Rattle.std.proofs.Common.{rules, arith, length, ◌-◌, ◌∙◌, ◌+◌, ◌≤◌}
+use Rattle.std.proofs.Common.{rules, arith, length, ◌-◌, ◌∙◌}
 use borrow.Rule.Slice.PartMut.{post_of}
 use Rattle.af_lib.proofs.Bytes.{Gave-part}
 use Rattle.af_lib.proofs.receive.fill.Goals as goal

@@ -1,4 +1,4 @@
-use Rattle.std.proofs.Common.{rules, arith, ◌≡◌, ◌++◌, length, take, drop, ◌-◌}
+use Rattle.std.proofs.Common.{rules, ◌++◌, length, drop, ◌-◌}
 use borrow.Rule.Slice.PartMut.{post_of}
 use Rattle.af_lib.proofs.Frames.{no_head, bad_head, head_alone, head_and_body, head_and_cut}
 use Rattle.af_lib.proofs.receive.frame.Goals as goal

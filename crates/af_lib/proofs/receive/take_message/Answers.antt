@@ -1,4 +1,4 @@
-use Rattle.std.proofs.Common.{rules, arith}
+use Rattle.std.proofs.Common.{arith}
 use Rattle.af_lib.proofs.Taking.{taken_whole, taken_bad, taken_cut}
 use Rattle.af_lib.proofs.receive.take_message.Goals as goal
 

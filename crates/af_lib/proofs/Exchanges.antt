@@ -24,11 +24,6 @@ use Rattle.af_lib.proofs.Bytes.{BothTold-map}
 pub sends_all : {X : Type 0} (result : Result X ConnFault) (before : Option (List ℕ)) (bytes : List ℕ) (after : Option (List ℕ)) → Grew before bytes after → Sends result before bytes after
 sends_all result before bytes after grew = record { whole = λ _. grew; part = record { front = bytes; rest = []; whole = sym (append-nil bytes); grew = grew } }
 
--- the same sent bytes, of a call with another answer
-pub sends_value : {X Y : Type 0} (r : Result X ConnFault) (r' : Result Y ConnFault) (before : Option (List ℕ)) (bytes : List ℕ) (after : Option (List ℕ)) →
-    Sends r before bytes after → r ≢ Err fault.LinkFault → Sends r' before bytes after
-sends_value r r' before bytes after sends sound = record { whole = λ _. sends.whole sound; part = sends.part }
-
 -- the value of the reply that was found
 pub answers_value : {X : Type 0} (value_of : Answer → Option X) (opcode opcode' sequence n : ℕ) (into : List ℕ) (ring ring' : RingState) (before after : Option (List ℕ)) (result : Result X ConnFault) →
     ((let r : Result ℕ ConnFault = Ok n in r ≢ Err fault.LinkFault) → Finds opcode sequence (Ok n) into ring ring' before after) →

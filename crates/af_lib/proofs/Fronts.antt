@@ -8,10 +8,7 @@ use Rattle.af_wire.specs.declared.message_front.MessageFront.TheVariants.{NeedMo
 use Rattle.af_wire.specs.MessageFront.{is_head, message_front}
 use Rattle.af_lib.specs.Receive.{IsWhole, IsCut}
 
--- the front of a good or a bad head, behind which so many bytes are there in all
-front_by : Bool → ℕ → ℕ → ℕ → ℕ → ℕ → MessageFront
-front_by good kind detail sequence size there = if good then (if nat_lt there size then NeedMore size else Message kind detail sequence size) else BadMessage
-
+-- the front of a good or a bad head, when more bytes are there
 more_by : (t : Bool) (k d s m there there' n : ℕ) → (if t then (if nat_lt there m then NeedMore m else Message k d s m) else BadMessage) ≡ NeedMore n → n ≤ there' →
     (if t then (if nat_lt there' m then NeedMore m else Message k d s m) else BadMessage) ≡ Message k d s n
 more_by true k d s m there there' n e more = grind (arith, nat_tests)

@@ -2,7 +2,7 @@
 use crate::*;
 use af_outside::MemLink;
 use af_request::DeviceInfo;
-use af_sample::SampleType;
+use af_sample::{Gain, SampleType};
 use af_time::{DevTime, OutOfMemory};
 use af_wire::EventKind;
 use std::alloc::{AllocError, Global};
@@ -127,5 +127,67 @@ fn a_refused_connection_stays_usable(rt: HostRuntime) -> Result<(), Fail> {
         Err(ConnFault::ServerError { code: 4, value: 5 })
     );
     assert_eq!(rt; conn.get_time(0), Ok(DevTime(3)));
+    Ok(())
+}
+
+#[test]
+fn only_stated_settings_are_sent(rt: HostRuntime) -> Result<(), Fail> {
+    let bytes = [
+        1, 4, 0, 1, 0, 0, 0, 0, 1, 9, 0, 2, 0, 0, 0, 0, 1, 11, 0, 3, 0, 0, 0, 0,
+    ];
+    let mut conn = connected(rt.alloc(), &bytes)?.ok_or("no connection")?;
+    let quieter = Gain::new(-6).ok_or("no gain")?;
+    assert_eq!(rt; conn.change_ac(7, None, Some(quieter), Some(true)), Ok(()));
+    assert_eq!(rt;
+        conn.set_controls(1, None, Some(quieter), None, Some(false)),
+        Ok(())
+    );
+    assert_eq!(rt; conn.hook(1, true), Ok(()));
+    let link = conn.into_link();
+    let requests = [
+        4, 6, 0, 4, 0, 0, 0, 7, 1, 0, 0, 0, 0, 0, 0xFF, 0xFA, 9, 1, 0, 3, 10, 0, 0, 0, 0, 0, 0xFF,
+        0xFA, 11, 1, 0, 2, 0, 0, 0, 1,
+    ];
+    assert_eq!(rt; &link.sent()[8..], requests.as_slice());
+    Ok(())
+}
+
+#[test]
+fn a_record_that_waits_is_whole(rt: HostRuntime) -> Result<(), Fail> {
+    let bytes = [
+        1, 7, 0, 1, 0, 0, 0, 3, 0, 0, 0, 2, 0, 0, 0, 2, 0, 10, 0, 0, 1, 7, 0, 2, 0, 0, 0, 3, 0, 0,
+        0, 2, 0, 0, 0, 2, 0, 10, 0, 0,
+    ];
+    let mut conn = connected(rt.alloc(), &bytes)?.ok_or("no connection")?;
+    let mut into = [9u8; 4];
+    assert_eq!(rt;
+        conn.record_run(1, DevTime(0), false, &mut into),
+        Ok((DevTime(2), 2))
+    );
+    assert_eq!(rt; into, [0, 10, 9, 9]);
+    let bad = ConnFault::BadReply {
+        header: [1, 7, 0, 2, 0, 0, 0, 3],
+        first: [0, 0, 0, 2, 0, 0, 0, 2],
+    };
+    assert_eq!(rt; conn.record_run(1, DevTime(0), true, &mut into), Err(bad));
+    Ok(())
+}
+
+#[test]
+fn waiting_takes_the_next_event(rt: HostRuntime) -> Result<(), Fail> {
+    let mut bytes = Vec::from_slice(rt.alloc(), &DIGIT)?;
+    bytes.extend_from_slice(&[1, 2, 0, 0, 0, 0, 0, 1, 0, 0, 0, 9])?;
+    let mut conn = connected(rt.alloc(), bytes.as_slice())?.ok_or("no connection")?;
+    let event = conn.wait_event().expect(&rt, "an event");
+    assert_eq!(rt; event.value, 0x35);
+    let bad = ConnFault::BadReply {
+        header: [1, 2, 0, 0, 0, 0, 0, 1],
+        first: [0, 0, 0, 9, 0, 0, 0, 0],
+    };
+    assert_eq!(rt; conn.wait_event(), Err(bad));
+    let spent = ConnFault::Spent {
+        first: Cause::BadReply,
+    };
+    assert_eq!(rt; conn.wait_event(), Err(spent));
     Ok(())
 }

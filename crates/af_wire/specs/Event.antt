@@ -1,5 +1,5 @@
 -- Events of telephone lines: how they are spelled, and which messages are events.
-use Rattle.std.specs.Prelude.{ℕ, Bool, true, ◌==◌, ◌&&◌, nat_le, if◌then◌else◌, List, [], ◌∷◌, ◌++◌, Option, Some, None}
+use Rattle.std.specs.Prelude.{ℕ, ◌≤◌, ◌<◌, ◌^◌, IsTrue, Bool, true, ◌==◌, ◌&&◌, nat_le, if◌then◌else◌, List, [], ◌∷◌, ◌++◌, Option, Some, None}
 use Rattle.std.specs.Int.{w32, from_be_bytes, to_be_bytes}
 use Rattle.af_wire.specs.declared.event.Event.{Event}
 use Rattle.af_wire.specs.declared.event.EventKind.{EventKind}
@@ -46,3 +46,10 @@ event_in detail (d0 ∷ d1 ∷ d2 ∷ d3 ∷ t0 ∷ t1 ∷ t2 ∷ t3 ∷ v0 ∷ 
     event_of (kind_of_code detail) (from_be_bytes w32 (d0 ∷ d1 ∷ d2 ∷ d3 ∷ [])) (from_be_bytes w32 (t0 ∷ t1 ∷ t2 ∷ t3 ∷ []))
     (from_be_bytes w32 (v0 ∷ v1 ∷ v2 ∷ v3 ∷ []))
 event_in detail _ = None
+
+-- an event as a message may state it
+pub record IsStated (e : Event) : Type 0 where
+  pub device : e.device ≤ 7
+  pub time : e.time.0 < 2 ^ 32
+  pub value : e.value < 2 ^ 32
+  pub fits : IsTrue (is_value e.kind e.value)

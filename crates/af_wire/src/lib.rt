@@ -4,6 +4,7 @@
 
 mod event;
 mod front;
+pub mod laws;
 mod message;
 mod message_front;
 

@@ -4,3 +4,4 @@ pub mod Frames
 pub mod Taking
 pub mod Exchanges
 pub mod Success
+pub mod Replies

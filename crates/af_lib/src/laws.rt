@@ -1,5 +1,9 @@
 //! Laws of connections, each the contract of a function that does nothing.
-ghost use Rattle.std.specs.Prelude.{Bool, ℕ, Result};
+ghost use Rattle.std.specs.Prelude.{◌≡◌, ◌<◌, ◌+◌, ◌*◌, ◌^◌, ◌++◌, Bool, ℕ, List, Result};
+ghost use Rattle.af_wire.specs.declared.message_front.MessageFront.TheVariants.{Message};
+ghost use Rattle.af_wire.specs.MessageFront.{message_front};
+ghost use Rattle.af_request.specs.Answer.{Answer};
+ghost use Rattle.af_request.specs.Replies.{body_words, reply_bytes, IsReplyTo};
 ghost use Rattle.af_request.specs.Asked.{Asked};
 ghost use Rattle.af_time.specs.declared.DevTime.{DevTime};
 ghost use Rattle.af_request.specs.declared.reply.Controls.{Controls};
@@ -21,4 +25,10 @@ pub fn awaited_replies_are_ok<L: Link>()
         → Called L.left L.sent L.faults asked as_phone old new answer → Succeeds L.left L.faults asked as_phone old new answer }
     ensures records { (asked : Asked) (old new : ConnState L) (blocking : Bool) (room : ℕ) (answer : Result Recorded ConnFault)
         → Called L.left L.sent L.faults asked (as_recorded blocking room) old new answer → Succeeds L.left L.faults asked (as_recorded blocking room) old new answer }
+{}
+
+/// A reply that is written is one message to a client, whatever follows it.
+pub fn replies_are_messages()
+    ensures { (opcode : ℕ) (a : Answer) (sequence : ℕ) (rest : List ℕ) → IsReplyTo opcode a → sequence < 2 ^ 16
+        → message_front (reply_bytes opcode a sequence ++ rest) ≡ Message 1 opcode sequence (8 + 4 * body_words a) }
 {}

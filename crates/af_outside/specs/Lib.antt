@@ -4,5 +4,6 @@ pub mod World
 pub mod Outside
 pub mod Tape
 pub mod Memory
+pub mod Link
 pub mod Real
 pub mod TapeLaws

@@ -338,3 +338,20 @@ fn a_writer_is_interrupted_and_takes_nothing(rt: HostRuntime) {
     drop(sink);
     assert_eq!(rt; narrow.taken.as_slice(), [1, 2, 3].as_slice());
 }
+
+#[test]
+fn a_link_in_memory_counts_reads_and_writes_together(rt: HostRuntime) -> Result<(), Fail> {
+    let mut link = MemLink::new(rt.alloc(), &[1, 2, 3], 2, 4, &[1, 3])?;
+    let mut into = [0u8; 8];
+    assert_eq!(rt; link.read(&mut into), Got::Bytes(2));
+    assert_eq!(rt; &into[..2], [1, 2].as_slice());
+    assert_eq!(rt; link.write(&[7]), Put::Failed);
+    assert_eq!(rt; link.write(&[7, 8, 9]), Put::Done);
+    assert_eq!(rt; link.read(&mut into), Got::Failed);
+    assert_eq!(rt; link.write(&[5, 6]), Put::Failed);
+    assert_eq!(rt; link.read(&mut into), Got::Bytes(1));
+    assert_eq!(rt; into[0], 3);
+    assert_eq!(rt; link.read(&mut into), Got::Ended);
+    assert_eq!(rt; link.sent(), [7, 8, 9].as_slice());
+    Ok(())
+}

@@ -1,5 +1,5 @@
 -- The fronts of the bytes that a client sends: what they begin with.
-use Rattle.std.specs.Prelude.{ℕ, ◌<◌, ◌≤◌, ◌*◌, ◌+◌, List, [], ◌∷◌, length, if◌then◌else◌, ◌==◌, ◌||◌, nat_lt}
+use Rattle.std.specs.Prelude.{ℕ, ◌<◌, ◌≤◌, ◌*◌, List, [], ◌∷◌, length, if◌then◌else◌, ◌==◌, ◌||◌, nat_lt}
 use Rattle.std.specs.Int.{w16, w32, from_be_bytes}
 use Rattle.af_wire.specs.declared.front.SetupFront.{SetupFront}
 use Rattle.af_wire.specs.declared.front.SetupFront.TheVariants as setup

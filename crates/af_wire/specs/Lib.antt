@@ -1,2 +1,4 @@
 pub mod Front
 pub mod Message
+pub mod Event
+pub mod MessageFront

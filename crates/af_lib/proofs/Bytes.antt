@@ -1,0 +1,66 @@
+-- The bytes that a link gives, over several reads.
+use Rattle.std.proofs.Common.{◌≡◌, ℕ, ◌+◌, ◌<◌, ◌≤◌, List, [], ◌++◌, length, take, sym, ap, ap₂, ◌∙◌, subst, arith, append_assoc, append-nil}
+use Rattle.std.proofs.Math.Seq.{take-add}
+use Rattle.std.proofs.lemmas.List.{take_at, drop_at, take_all, length-take-le, take-append-le}
+use Rattle.std.specs.declared.option.Option.{Option}
+use Rattle.std.specs.declared.option.Option.TheVariants.{None, Some}
+use Rattle.af_outside.specs.Told.{Gave}
+use Rattle.af_outside.specs.Flow.{IsSpent}
+use Rattle.af_lib.specs.Told.{BothTold}
+
+-- what two reads gave
+pub Gave-trans : (a b c : Option (List ℕ)) (p q : List ℕ) → Gave a p b → Gave b q c → Gave a (p ++ q) c
+Gave-trans a b None p q first second = tt
+Gave-trans None None (Some z) p q first second = second
+Gave-trans (Some x) None (Some z) p q first second = absurd second
+Gave-trans None (Some y) (Some z) p q first second = absurd first
+Gave-trans (Some x) (Some y) (Some z) p q first second = first ∙ ap (λ (t : List ℕ). p ++ t) second ∙ sym (append_assoc p q z)
+
+-- a slice whose first part stands before what was read into the rest of it
+pub take-part : (filled count : ℕ) (into part : List ℕ) → filled ≤ length into → take (filled + count) (take filled into ++ part) ≡ take filled into ++ take count part
+take-part filled count into part fits =
+    let len = length-take-le filled into fits in
+    take-add filled count (take filled into ++ part) ∙ ap₂ (λ (a b : List ℕ). a ++ take count b) (take_at (take filled into) part filled len) (drop_at (take filled into) part filled len)
+
+-- one more read into the rest of a slice
+pub Gave-part : (before now after : Option (List ℕ)) (filled count : ℕ) (into part past : List ℕ) → filled ≤ length into → count ≤ length part →
+    Gave before (take filled into) now → Gave now (take count part) after → Gave before (take (filled + count) (take filled into ++ (part ++ past))) after
+Gave-part before now after filled count into part past fits few first second =
+    let P : List ℕ → Type 0 = λ bytes. Gave before bytes after in
+    let bytes = take-part filled count into (part ++ past) fits ∙ ap (λ (t : List ℕ). take filled into ++ t) (take-append-le count part past few) in
+    subst P (sym bytes) (Gave-trans before now after (take filled into) (take count part) first second)
+
+-- a slice that is full
+pub Gave-whole : (before after : Option (List ℕ)) (filled : ℕ) (into : List ℕ) → length into ≤ filled → Gave before (take filled into) after → Gave before into after
+Gave-whole before after filled into full gave = let P : List ℕ → Type 0 = λ bytes. Gave before bytes after in subst P (take_all filled into full) gave
+
+-- the end came before a slice was full
+pub Gave-cut : (before now after : Option (List ℕ)) (filled room : ℕ) (into : List ℕ) → filled < room → filled ≤ length into →
+    Gave before (take filled into) now → Gave now [] after → IsSpent after → BothTold before after (λ b a. (length b < room) × (a ≡ []))
+Gave-cut before now None filled room into short fits first second spent = tt
+Gave-cut before None (Some z) filled room into short fits first second spent = absurd second
+Gave-cut None (Some y) (Some z) filled room into short fits first second spent = absurd first
+Gave-cut (Some x) (Some y) (Some z) filled room into short fits first second spent =
+    let whole : x ≡ take filled into = first ∙ ap (λ (t : List ℕ). take filled into ++ t) (second ∙ spent) ∙ append-nil (take filled into) in
+    let len : length x ≡ filled = ap length whole ∙ length-take-le filled into fits in
+    (omega arith, spent)
+
+-- what is told in other words
+pub BothTold-map : (before after : Option (List ℕ)) (P Q : List ℕ → List ℕ → Type 0) → BothTold before after P → ((b a : List ℕ) → P b a → Q b a) → BothTold before after Q
+BothTold-map before None P Q told f = tt
+BothTold-map None (Some z) P Q told f = told
+BothTold-map (Some x) (Some z) P Q told f = f x z told
+
+-- what was given, as told
+pub BothTold-Gave : (before after : Option (List ℕ)) (part : List ℕ) → Gave before part after → BothTold before after (λ b a. b ≡ part ++ a)
+BothTold-Gave before None part gave = tt
+BothTold-Gave None (Some z) part gave = gave
+BothTold-Gave (Some x) (Some z) part gave = gave
+
+-- what is told of a second stretch, behind what was given in a first
+pub BothTold-behind : (before now after : Option (List ℕ)) (part : List ℕ) (P Q : List ℕ → List ℕ → Type 0) → Gave before part now → BothTold now after P →
+    ((b a : List ℕ) → P b a → Q (part ++ b) a) → BothTold before after Q
+BothTold-behind before now None part P Q gave told f = tt
+BothTold-behind before None (Some z) part P Q gave told f = absurd told
+BothTold-behind None (Some y) (Some z) part P Q gave told f = absurd gave
+BothTold-behind (Some x) (Some y) (Some z) part P Q gave told f = let R : List ℕ → Type 0 = λ b. Q b z in subst R (sym gave) (f y z told)

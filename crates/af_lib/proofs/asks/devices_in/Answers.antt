@@ -1,0 +1,7 @@
+use Rattle.af_request.specs.Answer.{meaning}
+use Rattle.af_lib.proofs.Exchanges.{value_listed}
+use Rattle.af_lib.proofs.asks.devices_in.Goals as goal
+
+pub returns-in-Some-clause-value : goal.returns-in-Some-clause-value
+returns-in-Some-clause-value c =
+    value_listed c.args.bytes.now (meaning c.in-Some.reply) c.devices_of.result c.or_bad.result c.or_bad.ensures.value c.devices_of.ensures c.in-Some.ensures

@@ -1,0 +1,49 @@
+use Rattle.std.proofs.Common.{rules, arith, ◌≡◌, ◌≢◌, ℕ, subst, sym, ◌∙◌}
+use Rattle.std.specs.Prelude.{Result, Ok, Err}
+use Rattle.af_lib.specs.declared.receive.Taken.{Taken}
+use Rattle.af_lib.specs.declared.fault.ConnFault.{ConnFault}
+use Rattle.af_lib.specs.declared.fault.ConnFault.TheVariants as fault
+use Rattle.af_lib.specs.Receive.{Takes, Awaits}
+use Rattle.af_lib.proofs.Taking.{await_event, await_other, await_fault, await_flood}
+use Rattle.af_lib.proofs.receive.await_message.Goals as goal
+
+-- what was taken, which is no fault of the link
+sound : (taken taken' : Taken) (P : Taken → Type 0) → taken ≡ taken' → (let r : Result Taken ConnFault = Ok taken in r ≢ Err fault.LinkFault → P taken) → P taken'
+sound taken taken' P is f = subst P is (f (λ e. cc))
+
+-- the same fault of a call with another answer
+retag : {f f' : ConnFault} → (let r : Result Taken ConnFault = Err f in r ≡ Err f') → (let r : Result ℕ ConnFault = Err f in r ≡ Err f')
+retag e = cc
+
+pub returns-in_err-event-clause-awaits : goal.returns-in_err-event-clause-awaits
+returns-in_err-event-clause-awaits g c unfailed =
+    let same : c.from_residual.result ≡ Err c.in_err-event.field-0.0 = search rules in
+    let l0 = g.L.Link.left c.args.link.now in
+    let l1 = g.L.Link.left c.loop-allowed.link in
+    let l2 = g.L.Link.left c.take_message.new.link in
+    let told = await_fault l0 l1 l2 4096 c.loop-allowed.allowed c.args.ring.now c.loop-allowed.ring c.loop-allowed.invariant.0 c.in_err-event.field-0.0 (omega arith)
+    (c.in_err-event.ensures.takes (λ e. unfailed (same ∙ retag e))) in
+    let P : Result ℕ ConnFault → Type 0 = λ r. Awaits r c.take_message.new.input c.args.ring.now c.loop-allowed.ring l0 l2 in
+    subst P (sym same) told
+
+pub returns-in-Other-clause-awaits : goal.returns-in-Other-clause-awaits
+returns-in-Other-clause-awaits g c _ =
+    let l0 = g.L.Link.left c.args.link.now in
+    let l1 = g.L.Link.left c.loop-allowed.link in
+    let l2 = g.L.Link.left c.take_message.new.link in
+    await_other l0 l1 l2 4096 c.loop-allowed.allowed c.args.ring.now c.loop-allowed.ring c.loop-allowed.invariant.0 _ (omega arith)
+    (sound c.in_ok-event.field-0 _ (λ t. Takes (Ok t) c.take_message.new.input l1 l2) c.in-Other.is c.in_ok-event.ensures.takes)
+
+pub loop-allowed-preserved : goal.loop-allowed-preserved
+loop-allowed-preserved g c =
+    let l0 = g.L.Link.left c.args.link.now in
+    let l1 = g.L.Link.left c.loop-allowed.link in
+    let l2 = g.L.Link.left c.take_message.new.link in
+    let i = c.loop-allowed.invariant in
+    let told = await_event l0 l1 l2 4096 c.loop-allowed.allowed c.args.ring.now c.loop-allowed.ring i.0 c.in-Event.event (omega arith)
+    (sound c.in_ok-event.field-0 _ (λ t. Takes (Ok t) c.take_message.new.input l1 l2) c.in-Event.is c.in_ok-event.ensures.takes) in
+    (rw c.note.ensures told, c.in_ok-event.ensures.sends ∙ i.1, omega (arith, i.2, c.in_ok-event.ensures.count))
+
+pub returns-clause-awaits : goal.returns-clause-awaits
+returns-clause-awaits g c _ =
+    await_flood (g.L.Link.left c.args.link.now) (g.L.Link.left c.loop-allowed.link) 4096 c.loop-allowed.allowed c.args.ring.now c.loop-allowed.ring c.loop-allowed.invariant.0 (omega arith)

@@ -1,0 +1,37 @@
+-- What a message answers to a request of a client.
+use Rattle.std.specs.Prelude.{ℕ, ◌==◌, ◌&&◌, if◌then◌else◌, List, [], ◌∷◌, drop, Option, Some, None, Result, Ok, Err}
+use Rattle.std.specs.Int.{w32, from_be_bytes}
+use Rattle.af_request.specs.Fields.{u8_at, u16_at}
+use Rattle.af_lib.specs.declared.fault.ConnFault.{ConnFault}
+use Rattle.af_lib.specs.declared.fault.ConnFault.TheVariants as fault
+use Rattle.af_lib.specs.Incoming.{bad_reply}
+
+-- the value that an error refuses, if its body is that of an error to a request of this opcode: the value, the opcode, and
+-- three zeros
+abbrev pub refused_in : ℕ → List ℕ → Option ℕ
+refused_in opcode (a ∷ b ∷ c ∷ d ∷ asked ∷ x ∷ y ∷ z ∷ []) =
+    if asked == opcode && x == 0 && y == 0 && z == 0 then Some (from_be_bytes w32 (a ∷ b ∷ c ∷ d ∷ [])) else None
+refused_in opcode _ = None
+
+-- the fault that an error of a code is, if its body refuses a value of the request
+abbrev pub refusal : List ℕ → ℕ → Option ℕ → ConnFault
+refusal bytes code (Some value) = fault.ServerError code value
+refusal bytes code None = bad_reply bytes
+
+-- a message that is no event, as the answer to a request of an opcode with a number: the message itself where it is a
+-- reply to that request, the error where it is one to that request, and else it is bad
+abbrev pub answer_to : ℕ → ℕ → List ℕ → Result (List ℕ) ConnFault
+answer_to opcode sequence bytes =
+    if u16_at 2 bytes == sequence && u8_at 0 bytes == 1 && u8_at 1 bytes == opcode then Ok bytes
+    else if u16_at 2 bytes == sequence && u8_at 0 bytes == 0 then Err (refusal bytes (u8_at 1 bytes) (refused_in opcode (drop 8 bytes)))
+    else Err (bad_reply bytes)
+
+-- the value that the body of a reply states, or a bad reply
+abbrev pub value_or_bad : {X : Type 0} → List ℕ → Option X → Result X ConnFault
+value_or_bad bytes (Some value) = Ok value
+value_or_bad bytes None = Err (bad_reply bytes)
+
+-- a step that may fail, and one behind it
+abbrev pub and_then : {X Y : Type 0} → (X → Result Y ConnFault) → Result X ConnFault → Result Y ConnFault
+and_then f (Ok x) = f x
+and_then f (Err e) = Err e

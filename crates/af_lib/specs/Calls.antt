@@ -1,0 +1,258 @@
+-- What a call of a connection sends, takes and answers.
+use Rattle.std.specs.Prelude.{◌≡◌, ◌≢◌, ◌≤◌, ◌+◌, ◌%◌, ◌^◌, ◌↔◌, ◌==◌, nat_le, if◌then◌else◌, ⊤, ◌⊎◌, ℕ, ℤ, pos, Bool, List, [], ◌∷◌, length, take, drop, slice_get, is_some, option_and_then, Result, Ok, Err, IsOk, IsSome}
+use Rattle.std.specs.declared.option.Option.{Option}
+use Rattle.std.specs.declared.option.Option.TheVariants.{None, Some}
+use Rattle.af_time.specs.declared.DevTime.{DevTime}
+use Rattle.af_outside.specs.Told.{Grew, Rose}
+use Rattle.af_outside.specs.Flow.{GrewByPrefix}
+use Rattle.af_request.specs.declared.reply.Controls.{Controls}
+use Rattle.af_request.specs.declared.reply.DeviceInfo.{DeviceInfo}
+use Rattle.af_request.specs.declared.reply.Phone.{Phone}
+use Rattle.af_request.specs.Asked.{Asked, no_op, get_time, create_ac, change_ac, free_ac, play_run, record_run, select_events, set_controls, query_controls, hook_switch, query_phone}
+use Rattle.af_request.specs.Answer.{Answer, setup, plain, time, played, recorded, controls, phone}
+use Rattle.af_request.specs.Fields.{flag_byte}
+use Rattle.af_request.specs.Requests.{request_bytes}
+use Rattle.af_wire.specs.declared.event.Event.{Event}
+use Rattle.arrayvec.specs.ArrayVec.{ArrayVec}
+use Rattle.af_request.specs.Replies.{answer_in}
+use Rattle.af_lib.specs.declared.fault.Cause.{Cause}
+use Rattle.af_lib.specs.declared.fault.Cause.TheVariants as cause
+use Rattle.af_lib.specs.declared.fault.ConnFault.{ConnFault}
+use Rattle.af_lib.specs.declared.fault.ConnFault.TheVariants as fault
+use Rattle.af_lib.specs.Ring.{RingState}
+use Rattle.af_lib.specs.Incoming.{Incoming, event, other, awaited, bad_reply, incoming, rest_of}
+use Rattle.af_lib.specs.Answers.{and_then, answer_to, value_or_bad}
+use Rattle.af_lib.specs.Told.{BothTold}
+
+-- a connection: its link, the devices of the reply to its setup, the number of the last request that it sent, its ring of
+-- events, and the first fault behind which it can be used no more
+pub record ConnState (L : Type 0) : Type 0 where
+  pub link : L
+  pub devices : List DeviceInfo
+  pub sequence : ℕ
+  pub ring : RingState
+  pub cause : Option Cause
+
+-- the number of the next request
+abbrev pub following : ℕ → ℕ
+following sequence = (sequence + 1) % 2 ^ 16
+
+-- the opcode of a request
+abbrev pub opcode_of : Asked → ℕ
+opcode_of no_op = 1
+opcode_of (get_time device) = 2
+opcode_of (create_ac device ac ty channels preempt play_gain record_gain) = 3
+opcode_of (change_ac mask ac preempt play_gain record_gain) = 4
+opcode_of (free_ac ac) = 5
+opcode_of (play_run quiet ac start samples) = 6
+opcode_of (record_run blocking ac start nbytes) = 7
+opcode_of (select_events device mask) = 8
+opcode_of (set_controls device mask input_on output_on input_gain output_gain) = 9
+opcode_of (query_controls device) = 10
+opcode_of (hook_switch device off) = 11
+opcode_of (query_phone device) = 12
+
+-- what a reply is to a call: that the request was performed
+abbrev pub as_done : Answer → Option Unit
+as_done plain = Some tt
+as_done _ = None
+
+-- the device's time
+abbrev pub as_time : Answer → Option DevTime
+as_time (time now) = Some (record { 0 = now })
+as_time (played now) = Some (record { 0 = now })
+as_time _ = None
+
+-- the controls of a device
+abbrev pub as_controls : Answer → Option Controls
+as_controls (controls c) = Some c
+as_controls _ = None
+
+-- the state of a telephone line
+abbrev pub as_phone : Answer → Option Phone
+as_phone (phone p) = Some p
+as_phone _ = None
+
+-- the devices of a server
+abbrev pub as_devices : Answer → Option (List DeviceInfo)
+as_devices (setup devices) = Some devices
+as_devices _ = None
+
+-- recorded samples, and the device's time
+pub record Recorded : Type 0 where
+  pub time : DevTime
+  pub samples : List ℕ
+
+-- recorded samples: all that were asked for where the request waits for them, and else no more
+abbrev pub as_recorded : Bool → ℕ → Answer → Option Recorded
+as_recorded blocking asked (recorded now samples) =
+    if (if blocking then length samples == asked else nat_le (length samples) asked)
+    then Some (record { time = record { 0 = now }; samples = samples })
+    else None
+as_recorded blocking asked _ = None
+
+-- the value that the body of a reply states
+abbrev pub stated : {X : Type 0} → (Answer → Option X) → ℕ → List ℕ → Option X
+stated value_of opcode body = option_and_then value_of (answer_in opcode body)
+
+-- the value of a reply that stands in a message
+abbrev pub value_in : {X : Type 0} → (Answer → Option X) → ℕ → List ℕ → Result X ConnFault
+value_in value_of opcode bytes = value_or_bad bytes (stated value_of opcode (drop 8 bytes))
+
+-- what the message that was found answers to a request of an opcode with a number
+abbrev pub answered : {X : Type 0} → (Answer → Option X) → ℕ → ℕ → Result (List ℕ) ConnFault → Result X ConnFault
+answered value_of opcode sequence found = and_then (value_in value_of opcode) (and_then (answer_to opcode sequence) found)
+
+-- the fault, if the connection can be used no more behind it
+abbrev pub cause_of : {X : Type 0} → Result X ConnFault → Option Cause
+cause_of (Err fault.LinkFault) = Some cause.LinkFault
+cause_of (Err fault.LinkEnded) = Some cause.LinkEnded
+cause_of (Err (fault.BadReply header first)) = Some cause.BadReply
+cause_of (Err fault.EventFlood) = Some cause.EventFlood
+cause_of _ = None
+
+-- an answer of a connection that can still be used
+abbrev pub IsFresh : {X : Type 0} → Result X ConnFault → Type 0
+IsFresh (Err (fault.Spent first)) = ⊥
+IsFresh (Err fault.OutOfMemory) = ⊥
+IsFresh _ = ⊤
+
+-- all bytes were sent, or a part of them where the link failed
+pub record Sends {X : Type 0} (result : Result X ConnFault) (before : Option (List ℕ)) (bytes : List ℕ) (after : Option (List ℕ)) : Type 0 where
+  pub whole : result ≢ Err fault.LinkFault → Grew before bytes after
+  pub part : GrewByPrefix before bytes after
+
+-- where the link did not fail and tells its bytes, exactly the messages up to the first that is no event were taken, the
+-- events went into the ring, and the answer is what that message says
+abbrev pub Answers : {X : Type 0} → (Answer → Option X) → ℕ → ℕ → Result X ConnFault → RingState → RingState → Option (List ℕ) → Option (List ℕ) → Type 0
+Answers value_of opcode sequence result ring ring' before after = result ≢ Err fault.LinkFault →
+    BothTold before after (λ b a. (result ≡ answered value_of opcode sequence (awaited 4096 ring b).found)
+    × (ring' ≡ (awaited 4096 ring b).ring) × (a ≡ (awaited 4096 ring b).rest))
+
+-- the same of the message itself, which stands in a buffer then
+abbrev pub held_in : {X : Type 0} → Result X ConnFault → List ℕ → Result (List ℕ) ConnFault
+held_in (Ok x) bytes = Ok bytes
+held_in (Err fault) bytes = Err fault
+
+-- recorded samples, which stand in a buffer
+abbrev pub recorded_in : Result (DevTime × ℕ) ConnFault → List ℕ → Result Recorded ConnFault
+recorded_in (Ok r) into = Ok (record { time = r.0; samples = take r.1 into })
+recorded_in (Err fault) into = Err fault
+
+-- a buffer behind what was recorded stays, and all of it where nothing was
+abbrev pub IsKeptBehind : Result (DevTime × ℕ) ConnFault → List ℕ → List ℕ → Type 0
+IsKeptBehind (Ok r) old new = drop r.1 new ≡ drop r.1 old
+IsKeptBehind (Err fault) old new = new ≡ old
+
+-- the same before the message is looked at
+abbrev pub stored_in : Option (DevTime × ℕ) → List ℕ → Option Recorded
+stored_in (Some r) into = Some (record { time = r.0; samples = take r.1 into })
+stored_in None into = None
+
+abbrev pub IsStoredIn : Option (DevTime × ℕ) → List ℕ → List ℕ → Type 0
+IsStoredIn (Some r) old new = drop r.1 new ≡ drop r.1 old
+IsStoredIn None old new = new ≡ old
+
+-- devices, as the list of them
+abbrev pub listed : Result (ArrayVec DeviceInfo) ConnFault → Result (List DeviceInfo) ConnFault
+listed (Ok devices) = Ok devices.items
+listed (Err fault) = Err fault
+
+-- the setup of version 1.0
+abbrev pub setup_bytes : List ℕ
+setup_bytes = 0x41 ∷ 0x46 ∷ 0x42 ∷ 0 ∷ 0 ∷ 1 ∷ 0 ∷ 0 ∷ []
+
+-- a field that a request changes, or zero
+abbrev pub gain_or_zero : Option ℤ → ℤ
+gain_or_zero (Some gain) = gain
+gain_or_zero None = pos 0
+
+abbrev pub flag_or_zero : Option Bool → ℕ
+flag_or_zero (Some flag) = flag_byte flag
+flag_or_zero None = 0
+
+-- the bit of a field in the mask of those that a request changes
+abbrev pub bit_if : ℕ → Bool → ℕ
+bit_if bit there = if there then bit else 0
+
+-- the request that changes the stated settings of a context
+abbrev pub settings_changed : ℕ → Option ℤ → Option ℤ → Option Bool → Asked
+settings_changed ac play record_by preempt =
+    change_ac (bit_if 1 (is_some play) + bit_if 2 (is_some record_by) + bit_if 4 (is_some preempt)) ac
+    (flag_or_zero preempt) (gain_or_zero play) (gain_or_zero record_by)
+
+-- the request that changes the stated controls of a device
+abbrev pub controls_changed : ℕ → Option ℤ → Option ℤ → Option Bool → Option Bool → Asked
+controls_changed device input_gain output_gain input_on output_on =
+    set_controls device (bit_if 1 (is_some input_gain) + bit_if 2 (is_some output_gain) + bit_if 4 (is_some input_on) + bit_if 8 (is_some output_on))
+    (flag_or_zero input_on) (flag_or_zero output_on) (gain_or_zero input_gain) (gain_or_zero output_gain)
+
+-- what the first message of an input is to a client that waits for an event
+abbrev pub event_only : Incoming → Result Event ConnFault
+event_only (event e) = Ok e
+event_only (other bytes) = Err (bad_reply bytes)
+
+abbrev pub event_of : List ℕ → Result Event ConnFault
+event_of input = and_then event_only (incoming input)
+
+-- A call of a connection that sends a request and takes its answer, by the bytes that the link is left to give and was
+-- sent, where it tells them, and by its count of faults.
+pub record Called {L X : Type 0} (left sent : L → Option (List ℕ)) (faults : L → ℕ) (asked : Asked) (value_of : Answer → Option X)
+    (old new : ConnState L) (result : Result X ConnFault) : Type 0 where
+  -- Spent exactly where an earlier call answered a fault behind which the connection can be used no more: the first one
+  pub spent : (first : Cause) → (result ≡ Err (fault.Spent first)) ↔ (old.cause ≡ Some first)
+  -- and then nothing is read or written
+  pub untouched : IsSome old.cause → new ≡ old
+  -- exactly the request was sent
+  pub sends : old.cause ≡ None → Sends result (sent old.link) (request_bytes asked) (sent new.link)
+  -- exactly its answer was taken
+  pub answers : old.cause ≡ None → Answers value_of (opcode_of asked) (following old.sequence) result old.ring new.ring (left old.link) (left new.link)
+  -- the devices stay, and a fault is kept
+  pub keeps : old.cause ≡ None → new ≡ record { link = new.link; devices = old.devices; sequence = following old.sequence; ring = new.ring; cause = cause_of result }
+  -- LinkFault only where the link's count of faults rose
+  pub failed : result ≡ Err fault.LinkFault → Rose (faults old.link) (faults new.link)
+  pub count : faults old.link ≤ faults new.link
+
+-- A call that waits for an event: the oldest of the ring, or where that is empty the next message.
+pub record Waited {L : Type 0} (left sent : L → Option (List ℕ)) (faults : L → ℕ) (old new : ConnState L) (result : Result Event ConnFault) : Type 0 where
+  -- Spent exactly where an earlier call answered a fault behind which the connection can be used no more: the first one
+  pub spent : (first : Cause) → (result ≡ Err (fault.Spent first)) ↔ (old.cause ≡ Some first)
+  -- and then nothing is read
+  pub untouched : IsSome old.cause → new ≡ old
+  -- the oldest event of the ring, and nothing is read
+  pub oldest : old.cause ≡ None → (e : Event) → slice_get old.ring.events 0 ≡ Some e →
+      (result ≡ Ok e) × (new ≡ record old { ring = record old.ring { events = drop 1 old.ring.events } })
+  -- exactly one message was taken
+  pub next : old.cause ≡ None → slice_get old.ring.events 0 ≡ None → result ≢ Err fault.LinkFault →
+      BothTold (left old.link) (left new.link) (λ b a. (result ≡ event_of b) × (a ≡ rest_of b))
+  pub keeps : old.cause ≡ None → slice_get old.ring.events 0 ≡ None →
+      new ≡ record { link = new.link; devices = old.devices; sequence = old.sequence; ring = new.ring; cause = cause_of result }
+  -- nothing is sent
+  pub sends : sent new.link ≡ sent old.link
+  -- LinkFault only where the link's count of faults rose
+  pub failed : result ≡ Err fault.LinkFault → Rose (faults old.link) (faults new.link)
+  pub count : faults old.link ≤ faults new.link
+
+-- A setup that was sent, and its answer.
+pub record IsSetUp {L : Type 0} (left sent : L → Option (List ℕ)) (faults : L → ℕ) (old new : L) (ring : RingState) (result : Result (List DeviceInfo) ConnFault) : Type 0 where
+  -- exactly the setup was sent
+  pub sends : Sends result (sent old) setup_bytes (sent new)
+  -- exactly its answer was taken
+  pub answers : Answers as_devices 0 0 result (record { events = []; lost = 0 }) ring (left old) (left new)
+  -- it is neither Spent nor want of memory
+  pub fresh : IsFresh result
+  -- LinkFault only where the link's count of faults rose
+  pub failed : result ≡ Err fault.LinkFault → Rose (faults old) (faults new)
+  pub count : faults old ≤ faults new
+
+-- a connection that was set up; or a fault, with the link, which is as it was where memory ran out
+abbrev pub Connects : {L : Type 0} → (L → Option (List ℕ)) → (L → Option (List ℕ)) → (L → ℕ) → L → Result (ConnState L) (ConnFault × L) → Type 0
+Connects left sent faults link (Ok conn) = (conn.sequence ≡ 0) × (conn.cause ≡ None) × IsSetUp left sent faults link conn.link conn.ring (Ok conn.devices)
+Connects left sent faults link (Err e) =
+    ((e.0 ≡ fault.OutOfMemory) × (e.1 ≡ link)) ⊎ ((ring : RingState) × IsSetUp left sent faults link e.1 ring (Err e.0))
+
+-- a call whose link tells its bytes is Ok where these hold the awaited reply and the link's count of faults did not rise
+abbrev pub Succeeds : {L X : Type 0} → (L → Option (List ℕ)) → (L → ℕ) → Asked → (Answer → Option X) → ConnState L → ConnState L → Result X ConnFault → Type 0
+Succeeds left faults asked value_of old new result =
+    old.cause ≡ None → ¬ (Rose (faults old.link) (faults new.link)) → BothTold (left old.link) (left new.link) (λ b a.
+    IsOk (answered value_of (opcode_of asked) (following old.sequence) (awaited 4096 old.ring b).found) → IsOk result)

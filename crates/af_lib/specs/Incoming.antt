@@ -1,0 +1,71 @@
+-- What a client takes off the bytes that a server sends, message by message.
+use Rattle.std.specs.Prelude.{ℕ, zero, suc, ◌-◌, ◌==◌, if◌then◌else◌, List, [], ◌++◌, length, take, drop, replicate, Option, Some, None, Result, Ok, Err}
+use Rattle.af_wire.specs.declared.event.Event.{Event}
+use Rattle.af_wire.specs.declared.message_front.MessageFront.{MessageFront}
+use Rattle.af_wire.specs.declared.message_front.MessageFront.TheVariants.{NeedMore, Message, BadMessage}
+use Rattle.af_wire.specs.Event.{event_in}
+use Rattle.af_wire.specs.MessageFront.{message_front}
+use Rattle.af_request.specs.Fields.{u8_at}
+use Rattle.af_lib.specs.declared.fault.ConnFault.{ConnFault}
+use Rattle.af_lib.specs.declared.fault.ConnFault.TheVariants as fault
+use Rattle.af_lib.specs.Ring.{RingState, noted}
+
+-- the first 8 bytes of a body, filled with zeros
+abbrev pub first_bytes : List ℕ → List ℕ
+first_bytes body = take 8 body ++ replicate (8 - length body) 0
+
+-- a message that does not answer, or a head that is none: it is shown by its first 8 bytes and those behind them
+abbrev pub bad_reply : List ℕ → ConnFault
+bad_reply bytes = fault.BadReply (take 8 bytes) (first_bytes (drop 8 bytes))
+
+-- a message: an event, or another one with all its bytes
+pub data Incoming : Type 0 where
+  event : Event → Incoming
+  other : (bytes : List ℕ) → Incoming
+
+-- an event's message whose body states none is a bad one
+abbrev pub event_or_bad : List ℕ → Option Event → Result Incoming ConnFault
+event_or_bad bytes (Some e) = Ok (event e)
+event_or_bad bytes None = Err (bad_reply bytes)
+
+-- what a whole message with a good head is; kind 2 is that of events
+abbrev pub message_in : List ℕ → Result Incoming ConnFault
+message_in bytes =
+    if u8_at 0 bytes == 2 then event_or_bad bytes (event_in (u8_at 1 bytes) (drop 8 bytes)) else Ok (other bytes)
+
+-- the message at such a front of the input; where the input is too short for it, the link has ended
+abbrev pub incoming_at : MessageFront → List ℕ → Result Incoming ConnFault
+incoming_at (NeedMore n) input = Err fault.LinkEnded
+incoming_at (Message kind detail sequence n) input = message_in (take n input)
+incoming_at BadMessage input = Err (bad_reply (take 8 input))
+
+-- the input behind that message: a bad head is taken alone, and of a message that is cut off all is taken
+abbrev pub rest_at : MessageFront → List ℕ → List ℕ
+rest_at (NeedMore n) input = []
+rest_at (Message kind detail sequence n) input = drop n input
+rest_at BadMessage input = drop 8 input
+
+-- the first message of an input, to its end
+unfoldable pub incoming : List ℕ → Result Incoming ConnFault
+incoming input = incoming_at (message_front input) input
+
+-- the input behind its first message
+unfoldable pub rest_of : List ℕ → List ℕ
+rest_of input = rest_at (message_front input) input
+
+-- where a client that awaits a message has come to: what it found, its ring of events, and the input that is left
+pub record Awaited : Type 0 where
+  pub found : Result (List ℕ) ConnFault
+  pub ring : RingState
+  pub rest : List ℕ
+
+-- an event goes into the ring, and the next message is looked at; anything else is found
+abbrev pub awaited_by : Result Incoming ConnFault → RingState → List ℕ → (RingState → Awaited) → Awaited
+awaited_by (Ok (event e)) ring rest more = more (noted e ring)
+awaited_by (Ok (other bytes)) ring rest more = record { found = Ok bytes; ring = ring; rest = rest }
+awaited_by (Err fault) ring rest more = record { found = Err fault; ring = ring; rest = rest }
+
+-- the first message of an input that is no event, where fewer than so many events come before it
+unfoldable pub awaited : ℕ → RingState → List ℕ → Awaited
+awaited zero ring input = record { found = Err fault.EventFlood; ring = ring; rest = input }
+awaited (suc n) ring input = awaited_by (incoming input) ring (rest_of input) (λ r. awaited n r (rest_of input))

@@ -1,0 +1,76 @@
+-- What the steps of receiving a message do to the bytes of a link, where it tells them.
+use Rattle.std.specs.Prelude.{◌≡◌, ◌<◌, ◌≤◌, ⊤, ℕ, List, [], ◌++◌, length, take, Result, Ok, Err}
+use Rattle.std.specs.declared.option.Option.{Option}
+use Rattle.af_outside.specs.Told.{Gave}
+use Rattle.af_wire.specs.declared.message_front.MessageFront.TheVariants.{NeedMore, Message, BadMessage}
+use Rattle.af_wire.specs.MessageFront.{message_front}
+use Rattle.af_lib.specs.declared.fault.ConnFault.{ConnFault}
+use Rattle.af_lib.specs.declared.receive.Filled.{Filled}
+use Rattle.af_lib.specs.declared.receive.Filled.TheVariants as filled
+use Rattle.af_lib.specs.declared.receive.Framed.{Framed}
+use Rattle.af_lib.specs.declared.receive.Framed.TheVariants as framed
+use Rattle.af_lib.specs.declared.receive.Taken.{Taken}
+use Rattle.af_lib.specs.declared.receive.Taken.TheVariants as taken
+use Rattle.af_lib.specs.Ring.{RingState}
+use Rattle.af_lib.specs.Incoming.{Incoming, event, other, incoming, rest_of, awaited}
+use Rattle.af_lib.specs.Told.{BothTold}
+
+-- a slice was filled; or fewer bytes than it has room for were left, and were all given
+abbrev pub Fills : Filled → List ℕ → Option (List ℕ) → Option (List ℕ) → Type 0
+Fills filled.Whole into before after = Gave before into after
+Fills filled.Ended into before after = BothTold before after (λ b a. (length b < length into) × (a ≡ []))
+Fills filled.Failed into before after = ⊤
+
+-- the front of an input states a whole message of so many bytes
+pub record IsWhole (input : List ℕ) (n : ℕ) : Type 0 where
+  pub kind : ℕ
+  pub detail : ℕ
+  pub sequence : ℕ
+  pub front : message_front input ≡ Message kind detail sequence n
+
+-- an input that is too short for its first message
+pub record IsCut (input : List ℕ) : Type 0 where
+  pub length : ℕ
+  pub front : message_front input ≡ NeedMore length
+
+-- one message was read, or a head that is none, or all of an input that is too short
+abbrev pub Frames : Framed → List ℕ → Option (List ℕ) → Option (List ℕ) → Type 0
+Frames (framed.Message n) into before after = BothTold before after (λ b a. IsWhole b n × (b ≡ take n into ++ a))
+Frames framed.BadHead into before after = BothTold before after (λ b a. (message_front b ≡ BadMessage) × (b ≡ take 8 into ++ a))
+Frames framed.Ended into before after = BothTold before after (λ b a. IsCut b × (a ≡ []))
+Frames framed.Failed into before after = ⊤
+
+-- a message has a head, and the buffer has room for it
+abbrev pub IsFramedWithin : Framed → Type 0
+IsFramedWithin (framed.Message n) = (8 ≤ n) × (n ≤ 16016)
+IsFramedWithin _ = ⊤
+
+-- a message as it is told of, which stands in a buffer
+abbrev pub taken_of : Taken → List ℕ → Incoming
+taken_of (taken.Event e) into = event e
+taken_of (taken.Other n) into = other (take n into)
+
+-- the same where there may be none
+abbrev pub taken_as : Result Taken ConnFault → List ℕ → Result Incoming ConnFault
+taken_as (Ok (taken.Event e)) into = Ok (event e)
+taken_as (Ok (taken.Other n)) into = Ok (other (take n into))
+taken_as (Err fault) into = Err fault
+
+-- another message than an event has a head, and stands in so many bytes
+abbrev pub IsTakenWithin : Result Taken ConnFault → ℕ → Type 0
+IsTakenWithin (Ok (taken.Other n)) most = (8 ≤ n) × (n ≤ most)
+IsTakenWithin _ most = ⊤
+
+-- the first message was taken, and nothing behind it
+abbrev pub Takes : Result Taken ConnFault → List ℕ → Option (List ℕ) → Option (List ℕ) → Type 0
+Takes result into before after = BothTold before after (λ b a. (taken_as result into ≡ incoming b) × (a ≡ rest_of b))
+
+-- the message that was found, which stands in a buffer
+abbrev pub found_as : Result ℕ ConnFault → List ℕ → Result (List ℕ) ConnFault
+found_as (Ok n) into = Ok (take n into)
+found_as (Err fault) into = Err fault
+
+-- the messages up to the first that is no event were taken, at most 4096 of them, and nothing behind them
+abbrev pub Awaits : Result ℕ ConnFault → List ℕ → RingState → RingState → Option (List ℕ) → Option (List ℕ) → Type 0
+Awaits result into ring ring' before after =
+    BothTold before after (λ b a. awaited 4096 ring b ≡ record { found = found_as result into; ring = ring'; rest = a })

@@ -1,0 +1,16 @@
+-- The ring of events that a client has not taken yet.
+use Rattle.std.specs.Prelude.{ℕ, ◌+◌, ◌-◌, ◌^◌, min, nat_lt, if◌then◌else◌, List, [], ◌∷◌, ◌++◌, length}
+use Rattle.circular_buffer.specs.Buffer.{keep_last}
+use Rattle.af_wire.specs.declared.event.Event.{Event}
+
+-- the events, the oldest first, and how many were lost since the ring was full
+pub record RingState : Type 0 where
+  pub events : List Event
+  pub lost : ℕ
+
+-- a ring with one event more: a full one, of 64, loses its oldest, which is counted up to the end of the count's type
+abbrev pub noted : Event → RingState → RingState
+noted e r = record {
+  events = keep_last 64 (r.events ++ e ∷ []);
+  lost = if nat_lt (length r.events) 64 then r.lost else min (r.lost + 1) (2 ^ 64 - 1);
+}

@@ -1,0 +1,354 @@
+// Replies as the values that they state, for each kind of request.
+ghost use Rattle.std.specs.Prelude.{◌≡◌, ◌≢◌, ◌≤◌, length, option_map, Err, IfOk, IfSome, IsTrue};
+ghost use Rattle.af_outside.specs.Told.{Rose};
+ghost use Rattle.af_request.specs.Answer.{meaning as answered_by, recorded, items_of};
+ghost use Rattle.af_request.specs.Asked.{meaning};
+ghost use Rattle.af_request.specs.Requests.{request_bytes, HasRoom};
+ghost use Rattle.af_lib.specs.Answers.{value_or_bad};
+ghost use Rattle.af_lib.specs.Calls.{as_controls, as_devices, as_done, as_phone, as_recorded, as_time, listed, opcode_of, recorded_in, setup_bytes, stored_in, value_in, Answers, IsFresh, IsKeptBehind, IsStoredIn, Sends};
+
+use crate::exchange::{ask, await_setup, opcode_of};
+use crate::fault::ConnFault;
+use crate::receive::bad_reply;
+use crate::ring::Ring;
+use af_outside::Link;
+use af_request::{Controls, Devices, Phone, Reply, Request, read_reply};
+use af_time::DevTime;
+
+// The value of a reply, or the fault of a message that states none.
+fn or_bad<T>(value: Option<T>, bytes: &[u8]) -> Result<T, ConnFault>
+    requires { 8 ≤ length bytes.now }
+    ensures value { result ≡ value_or_bad bytes.now value }
+    ensures fresh { IsFresh result }
+    ensures sound { result ≢ Err ConnFault.LinkFault }
+{
+    match value {
+        Some(value) => Ok(value),
+        None => Err(bad_reply(bytes)),
+    }
+}
+
+fn done_of(reply: &Reply<'_>) -> Option<()>
+    ensures { result ≡ as_done (answered_by reply.now) }
+{
+    match reply {
+        Reply::Plain => Some(()),
+        Reply::Setup { .. }
+        | Reply::Time { .. }
+        | Reply::Played { .. }
+        | Reply::Recorded { .. }
+        | Reply::Controls { .. }
+        | Reply::Phone { .. } => None,
+    }
+}
+
+fn done_in(opcode: u8, bytes: &[u8]) -> Result<(), ConnFault>
+    requires { 8 ≤ length bytes.now }
+    ensures value { result ≡ value_in as_done opcode bytes.now }
+    ensures fresh { IsFresh result }
+    ensures sound { result ≢ Err ConnFault.LinkFault }
+{
+    match read_reply(opcode, &bytes[8..]) {
+        Some(reply) => or_bad(done_of(&reply), bytes),
+        None => Err(bad_reply(bytes)),
+    }
+}
+
+/// Sends a request that is not answered with a value, and takes its answer.
+pub fn ask_done<L: Link>(
+    link: &mut L,
+    ring: &mut Ring,
+    input: &mut [u8],
+    output: &mut [u8],
+    request: &Request<'_>,
+    sequence: u16,
+) -> Result<(), ConnFault>
+    requires samples { HasRoom (meaning request.now) }
+    requires room { (16016 ≤ length input.old) × (16384 ≤ length output.old) }
+    ensures answers { Answers as_done (opcode_of (meaning request.now)) sequence result ring.old ring.new (L.left link.old) (L.left link.new) }
+    ensures fresh { IsFresh result }
+    ensures sends { Sends result (L.sent link.old) (request_bytes (meaning request.now)) (L.sent link.new) }
+    ensures count { L.faults link.old ≤ L.faults link.new }
+    ensures cause { result ≡ Err ConnFault.LinkFault → Rose (L.faults link.old) (L.faults link.new) }
+{
+    match ask(link, ring, input, output, request, sequence) {
+        Ok(length) => done_in(opcode_of(request), &input[..length]),
+        Err(fault) => Err(fault),
+    }
+}
+
+fn time_of(reply: &Reply<'_>) -> Option<DevTime>
+    ensures { result ≡ as_time (answered_by reply.now) }
+{
+    match reply {
+        Reply::Time { time } | Reply::Played { time } => Some(*time),
+        Reply::Setup { .. }
+        | Reply::Plain
+        | Reply::Recorded { .. }
+        | Reply::Controls { .. }
+        | Reply::Phone { .. } => None,
+    }
+}
+
+fn time_in(opcode: u8, bytes: &[u8]) -> Result<DevTime, ConnFault>
+    requires { 8 ≤ length bytes.now }
+    ensures value { result ≡ value_in as_time opcode bytes.now }
+    ensures fresh { IsFresh result }
+    ensures sound { result ≢ Err ConnFault.LinkFault }
+{
+    match read_reply(opcode, &bytes[8..]) {
+        Some(reply) => or_bad(time_of(&reply), bytes),
+        None => Err(bad_reply(bytes)),
+    }
+}
+
+/// Sends a request that is answered with a time, and takes its answer.
+pub fn ask_time<L: Link>(
+    link: &mut L,
+    ring: &mut Ring,
+    input: &mut [u8],
+    output: &mut [u8],
+    request: &Request<'_>,
+    sequence: u16,
+) -> Result<DevTime, ConnFault>
+    requires samples { HasRoom (meaning request.now) }
+    requires room { (16016 ≤ length input.old) × (16384 ≤ length output.old) }
+    ensures answers { Answers as_time (opcode_of (meaning request.now)) sequence result ring.old ring.new (L.left link.old) (L.left link.new) }
+    ensures fresh { IsFresh result }
+    ensures sends { Sends result (L.sent link.old) (request_bytes (meaning request.now)) (L.sent link.new) }
+    ensures count { L.faults link.old ≤ L.faults link.new }
+    ensures cause { result ≡ Err ConnFault.LinkFault → Rose (L.faults link.old) (L.faults link.new) }
+{
+    match ask(link, ring, input, output, request, sequence) {
+        Ok(length) => time_in(opcode_of(request), &input[..length]),
+        Err(fault) => Err(fault),
+    }
+}
+
+fn controls_of(reply: &Reply<'_>) -> Option<Controls>
+    ensures { result ≡ as_controls (answered_by reply.now) }
+{
+    match reply {
+        Reply::Controls { controls } => Some(*controls),
+        Reply::Setup { .. }
+        | Reply::Plain
+        | Reply::Time { .. }
+        | Reply::Played { .. }
+        | Reply::Recorded { .. }
+        | Reply::Phone { .. } => None,
+    }
+}
+
+fn controls_in(opcode: u8, bytes: &[u8]) -> Result<Controls, ConnFault>
+    requires { 8 ≤ length bytes.now }
+    ensures value { result ≡ value_in as_controls opcode bytes.now }
+    ensures fresh { IsFresh result }
+    ensures sound { result ≢ Err ConnFault.LinkFault }
+{
+    match read_reply(opcode, &bytes[8..]) {
+        Some(reply) => or_bad(controls_of(&reply), bytes),
+        None => Err(bad_reply(bytes)),
+    }
+}
+
+/// Sends a request that is answered with controls, and takes its answer.
+pub fn ask_controls<L: Link>(
+    link: &mut L,
+    ring: &mut Ring,
+    input: &mut [u8],
+    output: &mut [u8],
+    request: &Request<'_>,
+    sequence: u16,
+) -> Result<Controls, ConnFault>
+    requires samples { HasRoom (meaning request.now) }
+    requires room { (16016 ≤ length input.old) × (16384 ≤ length output.old) }
+    ensures answers { Answers as_controls (opcode_of (meaning request.now)) sequence result ring.old ring.new (L.left link.old) (L.left link.new) }
+    ensures fresh { IsFresh result }
+    ensures sends { Sends result (L.sent link.old) (request_bytes (meaning request.now)) (L.sent link.new) }
+    ensures count { L.faults link.old ≤ L.faults link.new }
+    ensures cause { result ≡ Err ConnFault.LinkFault → Rose (L.faults link.old) (L.faults link.new) }
+{
+    match ask(link, ring, input, output, request, sequence) {
+        Ok(length) => controls_in(opcode_of(request), &input[..length]),
+        Err(fault) => Err(fault),
+    }
+}
+
+fn phone_of(reply: &Reply<'_>) -> Option<Phone>
+    ensures { result ≡ as_phone (answered_by reply.now) }
+{
+    match reply {
+        Reply::Phone { phone } => Some(*phone),
+        Reply::Setup { .. }
+        | Reply::Plain
+        | Reply::Time { .. }
+        | Reply::Played { .. }
+        | Reply::Recorded { .. }
+        | Reply::Controls { .. } => None,
+    }
+}
+
+fn phone_in(opcode: u8, bytes: &[u8]) -> Result<Phone, ConnFault>
+    requires { 8 ≤ length bytes.now }
+    ensures value { result ≡ value_in as_phone opcode bytes.now }
+    ensures fresh { IsFresh result }
+    ensures sound { result ≢ Err ConnFault.LinkFault }
+{
+    match read_reply(opcode, &bytes[8..]) {
+        Some(reply) => or_bad(phone_of(&reply), bytes),
+        None => Err(bad_reply(bytes)),
+    }
+}
+
+/// Sends a request that is answered with the state of a telephone line, and takes its answer.
+pub fn ask_phone<L: Link>(
+    link: &mut L,
+    ring: &mut Ring,
+    input: &mut [u8],
+    output: &mut [u8],
+    request: &Request<'_>,
+    sequence: u16,
+) -> Result<Phone, ConnFault>
+    requires samples { HasRoom (meaning request.now) }
+    requires room { (16016 ≤ length input.old) × (16384 ≤ length output.old) }
+    ensures answers { Answers as_phone (opcode_of (meaning request.now)) sequence result ring.old ring.new (L.left link.old) (L.left link.new) }
+    ensures fresh { IsFresh result }
+    ensures sends { Sends result (L.sent link.old) (request_bytes (meaning request.now)) (L.sent link.new) }
+    ensures count { L.faults link.old ≤ L.faults link.new }
+    ensures cause { result ≡ Err ConnFault.LinkFault → Rose (L.faults link.old) (L.faults link.new) }
+{
+    match ask(link, ring, input, output, request, sequence) {
+        Ok(length) => phone_in(opcode_of(request), &input[..length]),
+        Err(fault) => Err(fault),
+    }
+}
+
+// Takes recorded samples, where they are as many as were asked for, or fewer where the request does not wait for all.
+fn stored(
+    time: DevTime,
+    samples: &[u8],
+    blocking: bool,
+    into: &mut [u8],
+) -> Option<(DevTime, usize)>
+    ensures value { stored_in result into.new ≡ as_recorded blocking (length into.old) (recorded time.0 samples.now) }
+    ensures kept { IsStoredIn result into.old into.new }
+    ensures within { IfSome result (λ r. r.1 ≤ length into.old) }
+    ensures all { IfSome result (λ r. IsTrue blocking → r.1 ≡ length into.old) }
+{
+    let count = samples.len();
+    if count > into.len() || blocking && count < into.len() {
+        return None;
+    }
+    into[..count].copy_from_slice(samples);
+    Some((time, count))
+}
+
+fn recorded_of(reply: &Reply<'_>, blocking: bool, into: &mut [u8]) -> Option<(DevTime, usize)>
+    ensures value { stored_in result into.new ≡ as_recorded blocking (length into.old) (answered_by reply.now) }
+    ensures kept { IsStoredIn result into.old into.new }
+    ensures within { IfSome result (λ r. r.1 ≤ length into.old) }
+    ensures all { IfSome result (λ r. IsTrue blocking → r.1 ≡ length into.old) }
+{
+    match reply {
+        Reply::Recorded { time, samples } => stored(*time, samples, blocking, into),
+        Reply::Setup { .. }
+        | Reply::Plain
+        | Reply::Time { .. }
+        | Reply::Played { .. }
+        | Reply::Controls { .. }
+        | Reply::Phone { .. } => None,
+    }
+}
+
+fn recorded_in(
+    opcode: u8,
+    bytes: &[u8],
+    blocking: bool,
+    into: &mut [u8],
+) -> Result<(DevTime, usize), ConnFault>
+    requires { 8 ≤ length bytes.now }
+    ensures value { recorded_in result into.new ≡ value_in (as_recorded blocking (length into.old)) opcode bytes.now }
+    ensures kept { IsKeptBehind result into.old into.new }
+    ensures within { IfOk result (λ r. r.1 ≤ length into.old) }
+    ensures all { IfOk result (λ r. IsTrue blocking → r.1 ≡ length into.old) }
+    ensures fresh { IsFresh result }
+    ensures sound { result ≢ Err ConnFault.LinkFault }
+{
+    match read_reply(opcode, &bytes[8..]) {
+        Some(reply) => or_bad(recorded_of(&reply, blocking, into), bytes),
+        None => Err(bad_reply(bytes)),
+    }
+}
+
+/// Sends a request for samples, and takes its answer.
+pub fn ask_recorded<L: Link>(
+    link: &mut L,
+    ring: &mut Ring,
+    input: &mut [u8],
+    output: &mut [u8],
+    request: &Request<'_>,
+    sequence: u16,
+    blocking: bool,
+    into: &mut [u8],
+) -> Result<(DevTime, usize), ConnFault>
+    requires samples { HasRoom (meaning request.now) }
+    requires room { (16016 ≤ length input.old) × (16384 ≤ length output.old) }
+    ensures answers { Answers (as_recorded blocking (length into.old)) (opcode_of (meaning request.now)) sequence (recorded_in result into.new) ring.old ring.new (L.left link.old) (L.left link.new) }
+    ensures kept { IsKeptBehind result into.old into.new }
+    ensures within { IfOk result (λ r. r.1 ≤ length into.old) }
+    ensures all { IfOk result (λ r. IsTrue blocking → r.1 ≡ length into.old) }
+    ensures fresh { IsFresh result }
+    ensures sends { Sends (recorded_in result into.new) (L.sent link.old) (request_bytes (meaning request.now)) (L.sent link.new) }
+    ensures count { L.faults link.old ≤ L.faults link.new }
+    ensures cause { result ≡ Err ConnFault.LinkFault → Rose (L.faults link.old) (L.faults link.new) }
+{
+    match ask(link, ring, input, output, request, sequence) {
+        Ok(length) => recorded_in(opcode_of(request), &input[..length], blocking, into),
+        Err(fault) => Err(fault),
+    }
+}
+
+fn devices_of(reply: Reply<'_>) -> Option<Devices>
+    ensures { option_map items_of result ≡ as_devices (answered_by reply.entry) }
+{
+    match reply {
+        Reply::Setup { devices } => Some(devices),
+        Reply::Plain
+        | Reply::Time { .. }
+        | Reply::Played { .. }
+        | Reply::Recorded { .. }
+        | Reply::Controls { .. }
+        | Reply::Phone { .. } => None,
+    }
+}
+
+fn devices_in(bytes: &[u8]) -> Result<Devices, ConnFault>
+    requires { 8 ≤ length bytes.now }
+    ensures value { listed result ≡ value_in as_devices 0 bytes.now }
+    ensures fresh { IsFresh result }
+    ensures sound { result ≢ Err ConnFault.LinkFault }
+{
+    match read_reply(0, &bytes[8..]) {
+        Some(reply) => or_bad(devices_of(reply), bytes),
+        None => Err(bad_reply(bytes)),
+    }
+}
+
+/// Sends the setup, and takes its answer.
+pub fn set_up<L: Link>(
+    link: &mut L,
+    ring: &mut Ring,
+    input: &mut [u8],
+) -> Result<Devices, ConnFault>
+    requires { 16016 ≤ length input.old }
+    ensures answers { Answers as_devices 0 0 (listed result) ring.old ring.new (L.left link.old) (L.left link.new) }
+    ensures fresh { IsFresh result }
+    ensures sends { Sends (listed result) (L.sent link.old) setup_bytes (L.sent link.new) }
+    ensures count { L.faults link.old ≤ L.faults link.new }
+    ensures cause { result ≡ Err ConnFault.LinkFault → Rose (L.faults link.old) (L.faults link.new) }
+{
+    match await_setup(link, ring, input) {
+        Ok(length) => devices_in(&input[..length]),
+        Err(fault) => Err(fault),
+    }
+}

@@ -1,0 +1,409 @@
+// A connection to a server.
+ghost use Rattle.std.specs.Prelude.{◌≡◌, ◌≤◌, false, [], drop, length, slice_get, IfOk, IsTrue};
+ghost use Rattle.af_sample.specs.SampleTypes.{code_of};
+ghost use Rattle.af_request.specs.Fields.{flag_byte};
+ghost use Rattle.af_request.specs.Asked.{meaning, create_ac, free_ac, get_time, hook_switch, play_run, query_controls, query_phone, record_run, select_events};
+ghost use Rattle.af_request.specs.Requests.{HasRoom};
+ghost use Rattle.af_lib.specs.Calls.{as_controls, as_done, as_phone, as_recorded, as_time, bit_if, controls_changed, flag_or_zero, gain_or_zero, recorded_in, settings_changed, Called, Connects, IsKeptBehind, Waited};
+
+use crate::asks::{ask_controls, ask_done, ask_phone, ask_recorded, ask_time, set_up};
+use crate::exchange::cause_of;
+use crate::fault::{Cause, ConnFault};
+use crate::receive::take_event;
+use crate::ring::Ring;
+use af_outside::Link;
+use af_request::{Controls, DeviceInfo, Devices, Phone, Request};
+use af_sample::{Gain, SampleType};
+use af_time::{DevTime, OutOfMemory};
+use af_wire::Event;
+use std::alloc::Global;
+use std::marker::Model;
+
+/// A connection that is set up. Each request that it sends has the next number, and it takes exactly the answer to it:
+/// events that come before go into a ring of 64. A call that answers a LinkFault, a LinkEnded, a BadReply or an EventFlood
+/// is the last that reads or writes. No call takes any memory.
+#[derive(Drop)]
+pub struct Conn<L: Link + Drop> {
+    link: L,
+    devices: Devices,
+    sequence: u16,
+    ring: Ring,
+    cause: Option<Cause>,
+    input: Vec<u8>,
+    output: Vec<u8>,
+}
+
+impl<L: Link + Drop> Model for Conn<L> {
+    ghost use Rattle.std.specs.Prelude.{◌≡◌, length};
+    ghost use Rattle.af_lib.specs.Calls.{ConnState};
+
+    ghost Value = { ConnState L };
+
+    ghost view = { λ a. record { link = a.link; devices = a.devices.items; sequence = a.sequence; ring = a.ring; cause = a.cause } };
+
+    ghost invariant = { λ a. (length a.input.items ≡ 16016) × (length a.output.items ≡ 16384) };
+}
+
+impl<L: Link + Drop> Conn<L> {
+    /// Sends the setup, and takes its answer. All memory that the connection needs is taken before anything is sent. The
+    /// link comes back with a fault.
+    pub fn connect(alloc: Global, link: L) -> Result<Conn<L>, (ConnFault, L)>
+        ensures { Connects L.left L.sent L.faults link result }
+    {
+        let mut link = link;
+        let Ok((mut ring, mut input, output)) = room(alloc) else {
+            return Err((ConnFault::OutOfMemory, link));
+        };
+        match set_up(&mut link, &mut ring, &mut input) {
+            Ok(devices) => Ok(Conn {
+                link,
+                devices,
+                sequence: 0,
+                ring,
+                cause: None,
+                input,
+                output,
+            }),
+            Err(fault) => Err((fault, link)),
+        }
+    }
+
+    /// The devices of the server, by rising number.
+    pub fn devices(&self) -> &[DeviceInfo]
+        ensures { result.now ≡ self.now.devices }
+    {
+        self.devices.as_slice()
+    }
+
+    /// How many events were lost since the ring was full, up to 2^64 - 1.
+    pub fn lost(&self) -> u64
+        ensures { result ≡ self.now.ring.lost }
+    {
+        self.ring.lost()
+    }
+
+    /// The link, at the end of the connection.
+    pub fn into_link(self) -> L
+        ensures { result ≡ self.link }
+    {
+        let Conn { link, .. } = self;
+        link
+    }
+
+    /// Takes the oldest event of the ring, also of a connection that can be used no more. None exactly where the ring is
+    /// empty. It does not read.
+    pub fn next_event(&mut self) -> Option<Event>
+        ensures oldest { result ≡ slice_get self.old.ring.events 0 }
+        ensures rest { self.new ≡ record self.old { ring = record self.old.ring { events = drop 1 self.old.ring.events } } }
+    {
+        self.ring.take()
+    }
+
+    /// Waits for an event: the oldest of the ring, or else the next message, which is to be one. Behind a fault of the
+    /// connection it answers Spent even where the ring holds events.
+    pub fn wait_event(&mut self) -> Result<Event, ConnFault>
+        ensures { Waited L.left L.sent L.faults self.old self.new result }
+    {
+        if let Some(first) = self.cause {
+            return Err(ConnFault::Spent { first });
+        }
+        if let Some(event) = self.ring.take() {
+            return Ok(event);
+        }
+        let answer = take_event(&mut self.link, &mut self.input);
+        self.cause = cause_of(&answer);
+        answer
+    }
+
+    /// Creates a context with a number of the client's choice, on a device, of one channel.
+    pub fn create_ac(
+        &mut self,
+        ac: u32,
+        device: u8,
+        ty: SampleType,
+        play: Gain,
+        record_by: Gain,
+        preempt: bool,
+    ) -> Result<(), ConnFault>
+        ensures { Called L.left L.sent L.faults (create_ac device ac (code_of ty) 1 (flag_byte preempt) play record_by) as_done self.old self.new result }
+    {
+        self.ask_done(&Request::CreateAc {
+            device,
+            ac,
+            ty: ty.code(),
+            channels: 1,
+            preempt: u8::from(preempt),
+            play_gain: decibels(play),
+            record_gain: decibels(record_by),
+        })
+    }
+
+    /// Changes the settings of a context that are stated.
+    pub fn change_ac(
+        &mut self,
+        ac: u32,
+        play: Option<Gain>,
+        record_by: Option<Gain>,
+        preempt: Option<bool>,
+    ) -> Result<(), ConnFault>
+        ensures { Called L.left L.sent L.faults (settings_changed ac play record_by preempt) as_done self.old self.new result }
+    {
+        self.ask_done(&Request::ChangeAc {
+            mask: bit_if(1, play.is_some())
+                + bit_if(2, record_by.is_some())
+                + bit_if(4, preempt.is_some()),
+            ac,
+            preempt: flag_or_zero(preempt),
+            play_gain: gain_or_zero(play),
+            record_gain: gain_or_zero(record_by),
+        })
+    }
+
+    /// Frees the number of a context.
+    pub fn free_ac(&mut self, ac: u32) -> Result<(), ConnFault>
+        ensures { Called L.left L.sent L.faults (free_ac ac) as_done self.old self.new result }
+    {
+        self.ask_done(&Request::FreeAc { ac })
+    }
+
+    /// The time of a device.
+    pub fn get_time(&mut self, device: u8) -> Result<DevTime, ConnFault>
+        ensures { Called L.left L.sent L.faults (get_time device) as_time self.old self.new result }
+    {
+        self.ask_time(&Request::GetTime { device })
+    }
+
+    /// Plays samples of a context from a time on: at most 16368 bytes. It answers the device's time, once they are taken.
+    pub fn play_run(&mut self, ac: u32, time: DevTime, samples: &[u8]) -> Result<DevTime, ConnFault>
+        requires { length samples.now ≤ 16368 }
+        ensures { Called L.left L.sent L.faults (play_run false ac time.0 samples.now) as_time self.old self.new result }
+    {
+        self.ask_time(&Request::PlayRun {
+            quiet: false,
+            ac,
+            time,
+            samples,
+        })
+    }
+
+    /// Records samples of a context from a time on: as many as there is room for, at most 16000 bytes. It answers the
+    /// device's time and how many bytes were recorded, which are all where it waits for them.
+    pub fn record_run(
+        &mut self,
+        ac: u32,
+        time: DevTime,
+        blocking: bool,
+        into: &mut [u8],
+    ) -> Result<(DevTime, usize), ConnFault>
+        requires { length into.old ≤ 16000 }
+        ensures called { Called L.left L.sent L.faults (record_run blocking ac time.0 (length into.old)) (as_recorded blocking (length into.old)) self.old self.new (recorded_in result into.new) }
+        ensures kept { IsKeptBehind result into.old into.new }
+        ensures within { IfOk result (λ r. r.1 ≤ length into.old) }
+        ensures all { IfOk result (λ r. IsTrue blocking → r.1 ≡ length into.old) }
+    {
+        if let Some(first) = self.cause {
+            return Err(ConnFault::Spent { first });
+        }
+        self.sequence = self.sequence.wrapping_add(1);
+        let request = Request::RecordRun {
+            blocking,
+            ac,
+            time,
+            nbytes: into.len() as u32,
+        };
+        let answer = ask_recorded(
+            &mut self.link,
+            &mut self.ring,
+            &mut self.input,
+            &mut self.output,
+            &request,
+            self.sequence,
+            blocking,
+            into,
+        );
+        self.cause = cause_of(&answer);
+        answer
+    }
+
+    /// Asks for events of a device's line: 1 Ring, 2 Hook, 4 Current, 8 Digit, or a sum of these.
+    pub fn select_events(&mut self, device: u8, mask: u32) -> Result<(), ConnFault>
+        ensures { Called L.left L.sent L.faults (select_events device mask) as_done self.old self.new result }
+    {
+        self.ask_done(&Request::SelectEvents { device, mask })
+    }
+
+    /// Changes the controls of a device that are stated.
+    pub fn set_controls(
+        &mut self,
+        device: u8,
+        input_gain: Option<Gain>,
+        output_gain: Option<Gain>,
+        input_on: Option<bool>,
+        output_on: Option<bool>,
+    ) -> Result<(), ConnFault>
+        ensures { Called L.left L.sent L.faults (controls_changed device input_gain output_gain input_on output_on) as_done self.old self.new result }
+    {
+        self.ask_done(&Request::SetControls {
+            device,
+            mask: bit_if(1, input_gain.is_some())
+                + bit_if(2, output_gain.is_some())
+                + bit_if(4, input_on.is_some())
+                + bit_if(8, output_on.is_some()),
+            input_on: flag_or_zero(input_on),
+            output_on: flag_or_zero(output_on),
+            input_gain: gain_or_zero(input_gain),
+            output_gain: gain_or_zero(output_gain),
+        })
+    }
+
+    /// The controls of a device.
+    pub fn query_controls(&mut self, device: u8) -> Result<Controls, ConnFault>
+        ensures { Called L.left L.sent L.faults (query_controls device) as_controls self.old self.new result }
+    {
+        self.ask_controls(&Request::QueryControls { device })
+    }
+
+    /// Takes the hook of a device's line off, or puts it on.
+    pub fn hook(&mut self, device: u8, off: bool) -> Result<(), ConnFault>
+        ensures { Called L.left L.sent L.faults (hook_switch device (flag_byte off)) as_done self.old self.new result }
+    {
+        self.ask_done(&Request::HookSwitch {
+            device,
+            off: u32::from(off),
+        })
+    }
+
+    /// The state of a device's line.
+    pub fn query_phone(&mut self, device: u8) -> Result<Phone, ConnFault>
+        ensures { Called L.left L.sent L.faults (query_phone device) as_phone self.old self.new result }
+    {
+        self.ask_phone(&Request::QueryPhone { device })
+    }
+
+    // Sends a request that is not answered with a value, and takes its answer.
+    fn ask_done(&mut self, request: &Request<'_>) -> Result<(), ConnFault>
+        requires { HasRoom (meaning request.now) }
+        ensures { Called L.left L.sent L.faults (meaning request.now) as_done self.old self.new result }
+    {
+        if let Some(first) = self.cause {
+            return Err(ConnFault::Spent { first });
+        }
+        self.sequence = self.sequence.wrapping_add(1);
+        let answer = ask_done(
+            &mut self.link,
+            &mut self.ring,
+            &mut self.input,
+            &mut self.output,
+            request,
+            self.sequence,
+        );
+        self.cause = cause_of(&answer);
+        answer
+    }
+
+    // Sends a request that is answered with a time, and takes its answer.
+    fn ask_time(&mut self, request: &Request<'_>) -> Result<DevTime, ConnFault>
+        requires { HasRoom (meaning request.now) }
+        ensures { Called L.left L.sent L.faults (meaning request.now) as_time self.old self.new result }
+    {
+        if let Some(first) = self.cause {
+            return Err(ConnFault::Spent { first });
+        }
+        self.sequence = self.sequence.wrapping_add(1);
+        let answer = ask_time(
+            &mut self.link,
+            &mut self.ring,
+            &mut self.input,
+            &mut self.output,
+            request,
+            self.sequence,
+        );
+        self.cause = cause_of(&answer);
+        answer
+    }
+
+    // Sends a request that is answered with controls, and takes its answer.
+    fn ask_controls(&mut self, request: &Request<'_>) -> Result<Controls, ConnFault>
+        requires { HasRoom (meaning request.now) }
+        ensures { Called L.left L.sent L.faults (meaning request.now) as_controls self.old self.new result }
+    {
+        if let Some(first) = self.cause {
+            return Err(ConnFault::Spent { first });
+        }
+        self.sequence = self.sequence.wrapping_add(1);
+        let answer = ask_controls(
+            &mut self.link,
+            &mut self.ring,
+            &mut self.input,
+            &mut self.output,
+            request,
+            self.sequence,
+        );
+        self.cause = cause_of(&answer);
+        answer
+    }
+
+    // Sends a request that is answered with the state of a telephone line, and takes its answer.
+    fn ask_phone(&mut self, request: &Request<'_>) -> Result<Phone, ConnFault>
+        requires { HasRoom (meaning request.now) }
+        ensures { Called L.left L.sent L.faults (meaning request.now) as_phone self.old self.new result }
+    {
+        if let Some(first) = self.cause {
+            return Err(ConnFault::Spent { first });
+        }
+        self.sequence = self.sequence.wrapping_add(1);
+        let answer = ask_phone(
+            &mut self.link,
+            &mut self.ring,
+            &mut self.input,
+            &mut self.output,
+            request,
+            self.sequence,
+        );
+        self.cause = cause_of(&answer);
+        answer
+    }
+}
+
+// A gain as a request states it.
+fn decibels(gain: Gain) -> i16
+    ensures { result ≡ gain }
+{
+    gain.db() as i16
+}
+
+fn gain_or_zero(gain: Option<Gain>) -> i16
+    ensures { result ≡ gain_or_zero gain }
+{
+    match gain {
+        Some(gain) => decibels(gain),
+        None => 0,
+    }
+}
+
+fn flag_or_zero(flag: Option<bool>) -> u8
+    ensures { result ≡ flag_or_zero flag }
+{
+    match flag {
+        Some(flag) => u8::from(flag),
+        None => 0,
+    }
+}
+
+// The bit of a field in the mask of those that a request changes.
+fn bit_if(bit: u8, there: bool) -> u8
+    ensures value { result ≡ bit_if bit there }
+    ensures most { result ≤ bit }
+{
+    if there { bit } else { 0 }
+}
+
+// A ring for events, and a buffer for one message each way.
+fn room(alloc: Global) -> Result<(Ring, Vec<u8>, Vec<u8>), OutOfMemory>
+    ensures { IfOk result (λ r. (r.0 ≡ record { events = []; lost = 0 }) × (length r.1.items ≡ 16016) × (length r.2.items ≡ 16384)) }
+{
+    let ring = Ring::new(alloc)?;
+    let input = vec![in alloc; 0u8; 16016]?;
+    let output = vec![in alloc; 0u8; 16384]?;
+    Ok((ring, input, output))
+}

@@ -1,0 +1,167 @@
+// Sending a request, and taking its answer.
+ghost use Rattle.std.specs.Prelude.{◌≡◌, ◌≢◌, ◌≤◌, length, IfOk, Ok, Err};
+ghost use Rattle.af_outside.specs.Told.{Rose};
+ghost use Rattle.af_outside.specs.Flow.{Written};
+ghost use Rattle.af_request.specs.Asked.{meaning};
+ghost use Rattle.af_request.specs.Requests.{request_bytes, HasRoom};
+ghost use Rattle.af_lib.specs.Answers.{answer_to, refused_in};
+ghost use Rattle.af_lib.specs.Calls.{cause_of, held_in, opcode_of, setup_bytes, IsFresh, Sends};
+ghost use Rattle.af_lib.specs.Exchange.{Finds};
+
+use crate::fault::{Cause, ConnFault};
+use crate::receive::{await_message, bad_reply};
+use crate::ring::Ring;
+use af_outside::{Link, Put};
+use af_request::{Request, write_request};
+
+/// The fault, if a connection can be used no more behind it.
+pub fn cause_of<T>(answer: &Result<T, ConnFault>) -> Option<Cause>
+    ensures { result ≡ cause_of answer.now }
+{
+    match answer {
+        Err(ConnFault::LinkFault) => Some(Cause::LinkFault),
+        Err(ConnFault::LinkEnded) => Some(Cause::LinkEnded),
+        Err(ConnFault::BadReply { .. }) => Some(Cause::BadReply),
+        Err(ConnFault::EventFlood) => Some(Cause::EventFlood),
+        _ => None,
+    }
+}
+
+/// The opcode of a request.
+pub fn opcode_of(request: &Request<'_>) -> u8
+    ensures { result ≡ opcode_of (meaning request.now) }
+{
+    match request {
+        Request::NoOp => 1,
+        Request::GetTime { .. } => 2,
+        Request::CreateAc { .. } => 3,
+        Request::ChangeAc { .. } => 4,
+        Request::FreeAc { .. } => 5,
+        Request::PlayRun { .. } => 6,
+        Request::RecordRun { .. } => 7,
+        Request::SelectEvents { .. } => 8,
+        Request::SetControls { .. } => 9,
+        Request::QueryControls { .. } => 10,
+        Request::HookSwitch { .. } => 11,
+        Request::QueryPhone { .. } => 12,
+    }
+}
+
+// The value that an error to a request of this opcode refuses.
+fn refused_in(opcode: u8, body: &[u8]) -> Option<u32>
+    ensures { result ≡ refused_in opcode body.now }
+{
+    let [a, b, c, d, asked, 0, 0, 0] = body else {
+        return None;
+    };
+    if *asked == opcode {
+        Some(u32::from_be_bytes([*a, *b, *c, *d]))
+    } else {
+        None
+    }
+}
+
+// Whether a message that is no event is a reply to a request of an opcode with a number, or what it is in its place.
+fn answer_to(opcode: u8, sequence: u16, bytes: &[u8]) -> Result<(), ConnFault>
+    requires { 8 ≤ length bytes.now }
+    ensures value { held_in result bytes.now ≡ answer_to opcode sequence bytes.now }
+    ensures fresh { IsFresh result }
+    ensures sound { result ≢ Err ConnFault.LinkFault }
+{
+    let answers = u16::from_be_bytes([bytes[2], bytes[3]]) == sequence;
+    if answers && bytes[0] == 1 && bytes[1] == opcode {
+        return Ok(());
+    }
+    if !answers || bytes[0] != 0 {
+        return Err(bad_reply(bytes));
+    }
+    match refused_in(opcode, &bytes[8..]) {
+        Some(value) => Err(ConnFault::ServerError {
+            code: bytes[1],
+            value,
+        }),
+        None => Err(bad_reply(bytes)),
+    }
+}
+
+/// Takes messages up to the answer to a request of an opcode with a number. A reply stands in the input then, and its
+/// length is answered.
+pub fn await_answer<L: Link>(
+    link: &mut L,
+    ring: &mut Ring,
+    input: &mut [u8],
+    opcode: u8,
+    sequence: u16,
+) -> Result<usize, ConnFault>
+    requires { 16016 ≤ length input.old }
+    ensures finds { result ≢ Err ConnFault.LinkFault → Finds opcode sequence result input.new ring.old ring.new (L.left link.old) (L.left link.new) }
+    ensures within { IfOk result (λ n. (8 ≤ n) × (n ≤ 16016)) }
+    ensures fresh { IsFresh result }
+    ensures sends { L.sent link.new ≡ L.sent link.old }
+    ensures count { L.faults link.old ≤ L.faults link.new }
+    ensures cause { result ≡ Err ConnFault.LinkFault → Rose (L.faults link.old) (L.faults link.new) }
+{
+    let length = await_message(link, input, ring)?;
+    match answer_to(opcode, sequence, &input[..length]) {
+        Ok(()) => Ok(length),
+        Err(fault) => Err(fault),
+    }
+}
+
+// Sends a request.
+fn send<L: Link>(link: &mut L, output: &mut [u8], request: &Request<'_>) -> Put
+    requires samples { HasRoom (meaning request.now) }
+    requires room { 16384 ≤ length output.old }
+    ensures written { Written result (L.sent link.old) (request_bytes (meaning request.now)) (L.sent link.new) }
+    ensures gives { L.left link.new ≡ L.left link.old }
+    ensures count { L.faults link.old ≤ L.faults link.new }
+    ensures cause { result ≡ Put.Failed → Rose (L.faults link.old) (L.faults link.new) }
+{
+    let length = write_request(request, output);
+    link.write(&output[..length])
+}
+
+/// Sends a request with a number, and takes messages up to its answer. A reply stands in the input then, and its length is
+/// answered.
+pub fn ask<L: Link>(
+    link: &mut L,
+    ring: &mut Ring,
+    input: &mut [u8],
+    output: &mut [u8],
+    request: &Request<'_>,
+    sequence: u16,
+) -> Result<usize, ConnFault>
+    requires samples { HasRoom (meaning request.now) }
+    requires room { (16016 ≤ length input.old) × (16384 ≤ length output.old) }
+    ensures finds { result ≢ Err ConnFault.LinkFault → Finds (opcode_of (meaning request.now)) sequence result input.new ring.old ring.new (L.left link.old) (L.left link.new) }
+    ensures within { IfOk result (λ n. (8 ≤ n) × (n ≤ 16016)) }
+    ensures fresh { IsFresh result }
+    ensures sends { Sends result (L.sent link.old) (request_bytes (meaning request.now)) (L.sent link.new) }
+    ensures count { L.faults link.old ≤ L.faults link.new }
+    ensures cause { result ≡ Err ConnFault.LinkFault → Rose (L.faults link.old) (L.faults link.new) }
+{
+    match send(link, output, request) {
+        Put::Done => await_answer(link, ring, input, opcode_of(request), sequence),
+        Put::Failed => Err(ConnFault::LinkFault),
+    }
+}
+
+/// Sends the setup, and takes messages up to its answer.
+pub fn await_setup<L: Link>(
+    link: &mut L,
+    ring: &mut Ring,
+    input: &mut [u8],
+) -> Result<usize, ConnFault>
+    requires { 16016 ≤ length input.old }
+    ensures finds { result ≢ Err ConnFault.LinkFault → Finds 0 0 result input.new ring.old ring.new (L.left link.old) (L.left link.new) }
+    ensures within { IfOk result (λ n. (8 ≤ n) × (n ≤ 16016)) }
+    ensures fresh { IsFresh result }
+    ensures sends { Sends result (L.sent link.old) setup_bytes (L.sent link.new) }
+    ensures count { L.faults link.old ≤ L.faults link.new }
+    ensures cause { result ≡ Err ConnFault.LinkFault → Rose (L.faults link.old) (L.faults link.new) }
+{
+    match link.write(&[0x41, 0x46, 0x42, 0, 0, 1, 0, 0]) {
+        Put::Done => await_answer(link, ring, input, 0, 0),
+        Put::Failed => Err(ConnFault::LinkFault),
+    }
+}

@@ -1,0 +1,34 @@
+//! Laws of connections, each the contract of a function that does nothing.
+ghost use Rattle.std.specs.Prelude.{◌≡◌, ◌<◌, ◌+◌, ◌*◌, ◌^◌, ◌++◌, Bool, ℕ, List, Result};
+ghost use Rattle.af_wire.specs.declared.message_front.MessageFront.TheVariants.{Message};
+ghost use Rattle.af_wire.specs.MessageFront.{message_front};
+ghost use Rattle.af_request.specs.Answer.{Answer};
+ghost use Rattle.af_request.specs.Replies.{body_words, reply_bytes, IsReplyTo};
+ghost use Rattle.af_request.specs.Asked.{Asked};
+ghost use Rattle.af_time.specs.declared.DevTime.{DevTime};
+ghost use Rattle.af_request.specs.declared.reply.Controls.{Controls};
+ghost use Rattle.af_request.specs.declared.reply.Phone.{Phone};
+ghost use Rattle.af_lib.specs.declared.fault.ConnFault.{ConnFault};
+ghost use Rattle.af_lib.specs.Calls.{as_controls, as_done, as_phone, as_recorded, as_time, Called, ConnState, Recorded, Succeeds};
+
+use af_outside::Link;
+
+/// With the awaited reply, and where the link's count of faults does not rise, each call of a connection is Ok.
+pub fn awaited_replies_are_ok<L: Link>()
+    ensures done { (asked : Asked) (old new : ConnState L) (answer : Result Unit ConnFault)
+        → Called L.left L.sent L.faults asked as_done old new answer → Succeeds L.left L.faults asked as_done old new answer }
+    ensures times { (asked : Asked) (old new : ConnState L) (answer : Result DevTime ConnFault)
+        → Called L.left L.sent L.faults asked as_time old new answer → Succeeds L.left L.faults asked as_time old new answer }
+    ensures controls { (asked : Asked) (old new : ConnState L) (answer : Result Controls ConnFault)
+        → Called L.left L.sent L.faults asked as_controls old new answer → Succeeds L.left L.faults asked as_controls old new answer }
+    ensures phones { (asked : Asked) (old new : ConnState L) (answer : Result Phone ConnFault)
+        → Called L.left L.sent L.faults asked as_phone old new answer → Succeeds L.left L.faults asked as_phone old new answer }
+    ensures records { (asked : Asked) (old new : ConnState L) (blocking : Bool) (room : ℕ) (answer : Result Recorded ConnFault)
+        → Called L.left L.sent L.faults asked (as_recorded blocking room) old new answer → Succeeds L.left L.faults asked (as_recorded blocking room) old new answer }
+{}
+
+/// A reply that is written is one message to a client, whatever follows it.
+pub fn replies_are_messages()
+    ensures { (opcode : ℕ) (a : Answer) (sequence : ℕ) (rest : List ℕ) → IsReplyTo opcode a → sequence < 2 ^ 16
+        → message_front (reply_bytes opcode a sequence ++ rest) ≡ Message 1 opcode sequence (8 + 4 * body_words a) }
+{}

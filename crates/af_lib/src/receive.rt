@@ -1,0 +1,193 @@
+// Receiving messages: bytes, one message, and the first message that is no event.
+ghost use Rattle.std.specs.Prelude.{◌≡◌, ◌≢◌, ◌≤◌, ◌<◌, ◌++◌, length, take, drop, IfOk, Ok, Err};
+ghost use Rattle.af_outside.specs.Told.{Rose};
+ghost use Rattle.af_request.specs.Fields.{u8_at};
+ghost use Rattle.af_lib.specs.Incoming.{bad_reply, first_bytes, message_in, rest_of};
+ghost use Rattle.af_lib.specs.Calls.{event_of, event_only, IsFresh};
+ghost use Rattle.af_lib.specs.Told.{BothTold};
+ghost use Rattle.af_lib.specs.Receive.{Fills, Frames, Takes, Awaits, taken_as, taken_of, IsFramedWithin, IsTakenWithin};
+
+use crate::fault::ConnFault;
+use crate::ring::Ring;
+use af_outside::{Got, Link};
+use af_wire::{Event, MessageFront, message_at, read_event};
+
+// The most events that a client lets by while it awaits a message.
+const MOST_EVENTS: u32 = 4096;
+
+/// How reading into a whole slice went.
+#[derive(Clone, Copy, Debug, PartialEq, Eq)]
+pub enum Filled {
+    Whole,
+    Ended,
+    Failed,
+}
+
+/// How reading one message went: it has so many bytes, or its head is none.
+#[derive(Clone, Copy, Debug, PartialEq, Eq)]
+pub enum Framed {
+    Message(usize),
+    BadHead,
+    Ended,
+    Failed,
+}
+
+/// A message: an event, or another one of so many bytes.
+#[derive(Clone, Copy, Debug, PartialEq, Eq)]
+pub enum Taken {
+    Event(Event),
+    Other(usize),
+}
+
+/// Reads until the slice is full.
+pub fn fill<L: Link>(link: &mut L, into: &mut [u8]) -> Filled
+    ensures fills { Fills result into.new (L.left link.old) (L.left link.new) }
+    ensures sends { L.sent link.new ≡ L.sent link.old }
+    ensures count { L.faults link.old ≤ L.faults link.new }
+    ensures cause { result ≡ Filled.Failed → Rose (L.faults link.old) (L.faults link.new) }
+{
+    let mut filled = 0;
+    while filled < into.len() {
+        match link.read(&mut into[filled..]) {
+            Got::Bytes(count) => filled += count,
+            Got::Ended => return Filled::Ended,
+            Got::Failed => return Filled::Failed,
+        }
+    }
+    Filled::Whole
+}
+
+/// Reads one message: a head, and where that is good the rest of its message.
+pub fn frame<L: Link>(link: &mut L, input: &mut [u8]) -> Framed
+    requires { 16016 ≤ length input.old }
+    ensures frames { Frames result input.new (L.left link.old) (L.left link.new) }
+    ensures within { IsFramedWithin result }
+    ensures sends { L.sent link.new ≡ L.sent link.old }
+    ensures count { L.faults link.old ≤ L.faults link.new }
+    ensures cause { result ≡ Framed.Failed → Rose (L.faults link.old) (L.faults link.new) }
+{
+    match fill(link, &mut input[..8]) {
+        Filled::Whole => {}
+        Filled::Ended => return Framed::Ended,
+        Filled::Failed => return Framed::Failed,
+    }
+    match message_at(&input[..8]) {
+        MessageFront::BadMessage => Framed::BadHead,
+        MessageFront::Message { length, .. } => Framed::Message(length),
+        MessageFront::NeedMore(length) => match fill(link, &mut input[8..length]) {
+            Filled::Whole => Framed::Message(length),
+            Filled::Ended => Framed::Ended,
+            Filled::Failed => Framed::Failed,
+        },
+    }
+}
+
+/// The fault of a message that does not answer.
+pub fn bad_reply(bytes: &[u8]) -> ConnFault
+    requires { 8 ≤ length bytes.now }
+    ensures { result ≡ bad_reply bytes.now }
+{
+    let mut header = [0; 8];
+    header.copy_from_slice(&bytes[..8]);
+    let first = first_bytes(&bytes[8..]);
+    ConnFault::BadReply { header, first }
+}
+
+// The first 8 bytes of a body, filled with zeros.
+fn first_bytes(body: &[u8]) -> [u8; 8]
+    ensures { result ≡ first_bytes body.now }
+{
+    let mut first = [0; 8];
+    let count = body.len().min(8);
+    first[..count].copy_from_slice(&body[..count]);
+    first
+}
+
+/// What a whole message is.
+pub fn message_in(bytes: &[u8]) -> Result<Taken, ConnFault>
+    requires { 8 ≤ length bytes.now }
+    ensures value { taken_as result bytes.now ≡ message_in bytes.now }
+    ensures within { IsTakenWithin result (length bytes.now) }
+    ensures fresh { IsFresh result }
+{
+    if bytes[0] != 2 {
+        return Ok(Taken::Other(bytes.len()));
+    }
+    match read_event(bytes[1], &bytes[8..]) {
+        Some(event) => Ok(Taken::Event(event)),
+        None => Err(bad_reply(bytes)),
+    }
+}
+
+/// Takes one message. One that is no event stands in the input then.
+pub fn take_message<L: Link>(link: &mut L, input: &mut [u8]) -> Result<Taken, ConnFault>
+    requires { 16016 ≤ length input.old }
+    ensures takes { result ≢ Err ConnFault.LinkFault → Takes result input.new (L.left link.old) (L.left link.new) }
+    ensures within { IsTakenWithin result 16016 }
+    ensures fresh { IsFresh result }
+    ensures sends { L.sent link.new ≡ L.sent link.old }
+    ensures count { L.faults link.old ≤ L.faults link.new }
+    ensures cause { result ≡ Err ConnFault.LinkFault → Rose (L.faults link.old) (L.faults link.new) }
+{
+    match frame(link, input) {
+        Framed::Message(length) => message_in(&input[..length]),
+        Framed::BadHead => Err(bad_reply(&input[..8])),
+        Framed::Ended => Err(ConnFault::LinkEnded),
+        Framed::Failed => Err(ConnFault::LinkFault),
+    }
+}
+
+/// Takes messages up to the first that is no event, which then stands in the input, and answers its length. Events go into
+/// the ring.
+pub fn await_message<L: Link>(
+    link: &mut L,
+    input: &mut [u8],
+    ring: &mut Ring,
+) -> Result<usize, ConnFault>
+    requires { 16016 ≤ length input.old }
+    ensures awaits { result ≢ Err ConnFault.LinkFault → Awaits result input.new ring.old ring.new (L.left link.old) (L.left link.new) }
+    ensures within { IfOk result (λ n. (8 ≤ n) × (n ≤ 16016)) }
+    ensures fresh { IsFresh result }
+    ensures sends { L.sent link.new ≡ L.sent link.old }
+    ensures count { L.faults link.old ≤ L.faults link.new }
+    ensures cause { result ≡ Err ConnFault.LinkFault → Rose (L.faults link.old) (L.faults link.new) }
+{
+    let mut allowed = MOST_EVENTS;
+    while allowed > 0 {
+        match take_message(link, input)? {
+            Taken::Event(event) => ring.note(event),
+            Taken::Other(length) => return Ok(length),
+        }
+        allowed -= 1;
+    }
+    Err(ConnFault::EventFlood)
+}
+
+/// Takes one message, which is to be an event.
+pub fn take_event<L: Link>(link: &mut L, input: &mut [u8]) -> Result<Event, ConnFault>
+    requires { 16016 ≤ length input.old }
+    ensures takes { result ≢ Err ConnFault.LinkFault → BothTold (L.left link.old) (L.left link.new) (λ b a. (result ≡ event_of b) × (a ≡ rest_of b)) }
+    ensures fresh { IsFresh result }
+    ensures sends { L.sent link.new ≡ L.sent link.old }
+    ensures count { L.faults link.old ≤ L.faults link.new }
+    ensures cause { result ≡ Err ConnFault.LinkFault → Rose (L.faults link.old) (L.faults link.new) }
+{
+    match take_message(link, input) {
+        Ok(taken) => event_in(taken, input),
+        Err(fault) => Err(fault),
+    }
+}
+
+// The event that was taken, or the fault of another message, which stands in the input.
+fn event_in(taken: Taken, input: &[u8]) -> Result<Event, ConnFault>
+    requires { IsTakenWithin (Ok taken) (length input.now) }
+    ensures value { Ok (taken_of taken input.now) ≡ taken_as (Ok taken) input.now }
+    ensures event { result ≡ event_only (taken_of taken input.now) }
+    ensures fresh { IsFresh result }
+    ensures sound { result ≢ Err ConnFault.LinkFault }
+{
+    match taken {
+        Taken::Event(event) => Ok(event),
+        Taken::Other(length) => Err(bad_reply(&input[..length])),
+    }
+}

@@ -1,0 +1,37 @@
+// A link to a server, as a client has it.
+ghost use Rattle.std.specs.Prelude.{◌≡◌, ◌≤◌, ◌<◌, ℕ, List, length};
+ghost use Rattle.std.specs.declared.option.Option.{Option};
+
+use crate::{Got, Put};
+
+/// Bytes come and go both ways.
+pub trait Link {
+    ghost use Rattle.af_outside.specs.Told.{Gave, Rose};
+    ghost use Rattle.af_outside.specs.Flow.{given_of, GotFits, Written};
+
+    /// The bytes that are left to give, where they are told.
+    ghost left: { Self → Option (List ℕ) };
+
+    /// The bytes that it was sent, where they are told.
+    ghost sent: { Self → Option (List ℕ) };
+
+    /// How often a read or a write has failed.
+    ghost faults: { Self → ℕ };
+
+    /// Reads at least one byte, or answers Ended exactly where none is left.
+    fn read(&mut self, into: &mut [u8]) -> Got
+        requires { 0 < length into.old }
+        ensures gave { Gave (left self.old) (given_of result into.new) (left self.new) }
+        ensures bound { GotFits result (length into.new) (left self.new) }
+        ensures sends { sent self.new ≡ sent self.old }
+        ensures count { faults self.old ≤ faults self.new }
+        ensures cause { result ≡ Got.Failed → Rose (faults self.old) (faults self.new) };
+
+    /// Sends the whole piece where it answers Done, and a prefix of it where it answers Failed.
+    fn write(&mut self, piece: &[u8]) -> Put
+        requires { 0 < length piece.now }
+        ensures written { Written result (sent self.old) piece.now (sent self.new) }
+        ensures gives { left self.new ≡ left self.old }
+        ensures count { faults self.old ≤ faults self.new }
+        ensures cause { result ≡ Put.Failed → Rose (faults self.old) (faults self.new) };
+}

@@ -1,0 +1,34 @@
+-- The front of the bytes that a server sends: whether they begin with a message, with part of one, or with none.
+use Rattle.std.specs.Prelude.{ℕ, ◌<◌, ◌≤◌, ◌+◌, ◌*◌, Bool, false, ◌==◌, ◌&&◌, ◌||◌, nat_le, nat_lt, if◌then◌else◌, List, [], ◌∷◌, length}
+use Rattle.std.specs.Int.{w16, w32, from_be_bytes}
+use Rattle.af_wire.specs.declared.message_front.MessageFront.{MessageFront}
+use Rattle.af_wire.specs.declared.message_front.MessageFront.TheVariants.{NeedMore, Message, BadMessage}
+
+-- whether a client takes this for the head of a message: an error of a known code, the reply to a setup or to a known
+-- opcode, or a known event, each with a length that such a message may have
+abbrev pub is_head : ℕ → ℕ → ℕ → Bool
+is_head kind detail words =
+    if kind == 0 then nat_le 1 detail && nat_le detail 8 && words == 2
+    else if kind == 1 then (detail == 0 || (nat_le 2 detail && nat_le detail 12)) && nat_le words 4002
+    else if kind == 2 then (detail == 1 || detail == 2 || detail == 4 || detail == 8) && words == 3
+    else false
+
+-- the front of so many bytes that begin with these fields of a head
+abbrev pub message_with : ℕ → ℕ → ℕ → ℕ → ℕ → MessageFront
+message_with kind detail sequence words there =
+    if is_head kind detail words
+    then (if nat_lt there (8 + 4 * words) then NeedMore (8 + 4 * words) else Message kind detail sequence (8 + 4 * words))
+    else BadMessage
+
+-- what the bytes begin with; where more are needed, the length to which they must grow
+abbrev pub message_front : List ℕ → MessageFront
+message_front (kind ∷ detail ∷ s0 ∷ s1 ∷ w0 ∷ w1 ∷ w2 ∷ w3 ∷ rest) =
+    message_with kind detail (from_be_bytes w16 (s0 ∷ s1 ∷ [])) (from_be_bytes w32 (w0 ∷ w1 ∷ w2 ∷ w3 ∷ []))
+    (length (kind ∷ detail ∷ s0 ∷ s1 ∷ w0 ∷ w1 ∷ w2 ∷ w3 ∷ rest))
+message_front _ = NeedMore 8
+
+-- more is needed than is there, and at most what the longest message has; a message is there; a bad head is there
+abbrev pub IsMessageWithin : MessageFront → ℕ → Type 0
+IsMessageWithin (NeedMore n) there = (there < n) × (8 ≤ n) × (n ≤ 16016)
+IsMessageWithin (Message kind detail sequence n) there = (8 ≤ n) × (n ≤ there) × (n ≤ 16016)
+IsMessageWithin BadMessage there = 8 ≤ there

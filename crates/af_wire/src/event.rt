@@ -1,0 +1,92 @@
+// Events of telephone lines, as messages.
+ghost use Rattle.std.specs.Prelude.{◌≡◌, length};
+ghost use Rattle.af_wire.specs.Event.{code_of, event_bytes, event_in, kind_of_code};
+
+use crate::write_head;
+use af_time::DevTime;
+
+/// What happened on a telephone line.
+#[derive(Clone, Copy, Debug, PartialEq, Eq)]
+pub enum EventKind {
+    /// Ringing began (value 1) or ended (0).
+    Ring,
+    /// The hook is off (1) or on (0).
+    Hook,
+    /// Current flows in the loop (1) or not (0).
+    Current,
+    /// A digit was dialled: its ASCII code is the value.
+    Digit,
+}
+
+impl EventKind {
+    /// The detail of such an event's message, which is also its bit in a mask of events.
+    pub fn code(self) -> u8
+        ensures { result ≡ code_of self }
+    {
+        match self {
+            EventKind::Ring => 1,
+            EventKind::Hook => 2,
+            EventKind::Current => 4,
+            EventKind::Digit => 8,
+        }
+    }
+
+    /// The kind that a detail stands for. None exactly where that is none of 1, 2, 4 and 8.
+    pub fn of_code(code: u8) -> Option<EventKind>
+        ensures { result ≡ kind_of_code code }
+    {
+        match code {
+            1 => Some(EventKind::Ring),
+            2 => Some(EventKind::Hook),
+            4 => Some(EventKind::Current),
+            8 => Some(EventKind::Digit),
+            _ => None,
+        }
+    }
+}
+
+/// An event: the device whose line it is of, 0..7, and the device's time.
+#[derive(Clone, Copy, Debug, PartialEq, Eq)]
+pub struct Event {
+    pub kind: EventKind,
+    pub device: u8,
+    pub time: DevTime,
+    pub value: u32,
+}
+
+/// Writes an event, with the number of the request that was performed or begun last.
+#[tactic(auto, unfolding(crate::specs::Event::event_bytes))]
+pub fn write_event(event: Event, sequence: u16, out: &mut [u8])
+    requires { length out.old ≡ 20 }
+    ensures { out.new ≡ event_bytes event sequence }
+{
+    let [d0, d1, d2, d3] = u32::from(event.device).to_be_bytes();
+    let [t0, t1, t2, t3] = event.time.0.to_be_bytes();
+    let [v0, v1, v2, v3] = event.value.to_be_bytes();
+    let (front, back) = out.split_at_mut(8);
+    write_head(2, event.kind.code(), sequence, 3, front);
+    back.copy_from_slice(&[d0, d1, d2, d3, t0, t1, t2, t3, v0, v1, v2, v3]);
+}
+
+/// Reads the event that a message of this detail and body states. None exactly where it states none: a detail that is no
+/// kind, a body of another length than 12, a device above 7, or a value above 1 of another event than a digit.
+pub fn read_event(detail: u8, body: &[u8]) -> Option<Event>
+    ensures { result ≡ event_in detail body.now }
+{
+    let [d0, d1, d2, d3, t0, t1, t2, t3, v0, v1, v2, v3] = body else {
+        return None;
+    };
+    let device = u32::from_be_bytes([*d0, *d1, *d2, *d3]);
+    let time = u32::from_be_bytes([*t0, *t1, *t2, *t3]);
+    let value = u32::from_be_bytes([*v0, *v1, *v2, *v3]);
+    let kind = EventKind::of_code(detail)?;
+    if device > 7 || value > 1 && kind != EventKind::Digit {
+        return None;
+    }
+    Some(Event {
+        kind,
+        device: device as u8,
+        time: DevTime(time),
+        value,
+    })
+}

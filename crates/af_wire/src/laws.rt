@@ -1,0 +1,18 @@
+//! Laws of messages, each the contract of a function that does nothing.
+ghost use Rattle.std.specs.Prelude.{◌≡◌, ◌<◌, ◌+◌, ◌*◌, ◌^◌, ◌++◌, ℕ, List, IsTrue, drop, length};
+ghost use Rattle.af_wire.specs.declared.event.Event.{Event};
+ghost use Rattle.af_wire.specs.declared.message_front.MessageFront.TheVariants.{Message};
+ghost use Rattle.af_wire.specs.Event.{code_of, event_bytes, event_in, IsStated};
+ghost use Rattle.af_wire.specs.Message.{head};
+ghost use Rattle.af_wire.specs.MessageFront.{is_head, message_front};
+
+/// A good head with the body that it states is one message, whatever follows it; so is an event, which is read again as
+/// the same event.
+pub fn messages_round_trip()
+    ensures heads { (kind detail sequence words : ℕ) (body rest : List ℕ) → IsTrue (is_head kind detail words)
+        → sequence < 2 ^ 16 → words < 2 ^ 32 → length body ≡ 4 * words
+        → message_front (head kind detail sequence words ++ body ++ rest) ≡ Message kind detail sequence (8 + 4 * words) }
+    ensures events { (e : Event) (sequence : ℕ) (rest : List ℕ) → sequence < 2 ^ 16
+        → message_front (event_bytes e sequence ++ rest) ≡ Message 2 (code_of e.kind) sequence 20 }
+    ensures again { (e : Event) (sequence : ℕ) → IsStated e → event_in (code_of e.kind) (drop 8 (event_bytes e sequence)) ≡ Some e }
+{}

@@ -31,59 +31,60 @@ frame_within (a ∷ b ∷ c ∷ d ∷ xs) = grind arith
 setup_within : (xs : List ℕ) → IsSetupWithin (setup_front xs) (length xs)
 setup_within xs = grind arith
 
--- performing leaves the input alone
-
--- what a request does leaves the input alone
+-- what a request does leaves the input alone, and does not close the link
 abbrev Leaves : (Place → Place) → Type 0
-Leaves f = (p : Place) → (f p).link.rest ≡ p.link.rest
+Leaves f = (p : Place) → ((f p).link.rest ≡ p.link.rest) × ((f p).link.closing ≡ p.link.closing)
 
-refused_or_rest : (opcode : ℕ) (r : Option Refusal) (f : Place → Place) → Leaves f → Leaves (refused_or opcode r f)
-refused_or_rest opcode None f h p = h p
-refused_or_rest opcode (Some r) f h p = refl
+refused_or_leaves : (opcode : ℕ) (r : Option Refusal) (f : Place → Place) → Leaves f → Leaves (refused_or opcode r f)
+refused_or_leaves opcode None f h p = h p
+refused_or_leaves opcode (Some r) f h p = (refl, refl)
 
-in_device_rest : (opcode d : ℕ) (f : DeviceState → Place → Place) (o : Option DeviceState) → ((device : DeviceState) → Leaves (f device)) → Leaves (in_device opcode d f o)
-in_device_rest opcode d f None h p = refl
-in_device_rest opcode d f (Some device) h p = h device p
+in_device_leaves : (opcode d : ℕ) (f : DeviceState → Place → Place) (o : Option DeviceState) → ((device : DeviceState) → Leaves (f device)) → Leaves (in_device opcode d f o)
+in_device_leaves opcode d f None h p = (refl, refl)
+in_device_leaves opcode d f (Some device) h p = h device p
 
-in_context_rest : (opcode ac : ℕ) (f : Context → DeviceState → Place → Place) (o : Option Context) → ((c : Context) (device : DeviceState) → Leaves (f c device)) → Leaves (in_context opcode ac f o)
-in_context_rest opcode ac f None h p = refl
-in_context_rest opcode ac f (Some c) h p = in_device_rest opcode c.device (f c) (slice_get p.around.devices c.device) (h c) p
+in_context_leaves : (opcode ac : ℕ) (f : Context → DeviceState → Place → Place) (o : Option Context) → ((c : Context) (device : DeviceState) → Leaves (f c device)) → Leaves (in_context opcode ac f o)
+in_context_leaves opcode ac f None h p = (refl, refl)
+in_context_leaves opcode ac f (Some c) h p = in_device_leaves opcode c.device (f c) (slice_get p.around.devices c.device) (h c) p
 
-create_rest : (c : Context) → Leaves (create c)
-create_rest c p = refused_or_rest 3 (context_refusal c.ac (creation p.link.contexts c.ac)) (λ q. replied 3 plain (with_contexts (q.link.contexts ++ c ∷ []) q)) (λ q. refl) p
+create_leaves : (c : Context) → Leaves (create c)
+create_leaves c p = refused_or_leaves 3 (context_refusal c.ac (creation p.link.contexts c.ac)) (λ q. replied 3 plain (with_contexts (q.link.contexts ++ c ∷ []) q)) (λ q. (refl, refl)) p
 
-free_rest : (ac : ℕ) → Leaves (free ac)
-free_rest ac p = refused_or_rest 5 (context_refusal ac (reference p.link.contexts ac)) (λ q. replied 5 plain (with_contexts (without_context q.link.contexts ac) q)) (λ q. refl) p
+free_leaves : (ac : ℕ) → Leaves (free ac)
+free_leaves ac p = refused_or_leaves 5 (context_refusal ac (reference p.link.contexts ac)) (λ q. replied 5 plain (with_contexts (without_context q.link.contexts ac) q)) (λ q. (refl, refl)) p
 
-tell_played_rest : (quiet : Bool) (device : DeviceState) → Leaves (tell_played quiet device)
-tell_played_rest true device p = refl
-tell_played_rest false device p = refl
+tell_played_leaves : (quiet : Bool) (device : DeviceState) → Leaves (tell_played quiet device)
+tell_played_leaves true device p = (refl, refl)
+tell_played_leaves false device p = (refl, refl)
 
-play_rest : (quiet : Bool) (c : Context) (start : ℕ) (bytes : List ℕ) (device : DeviceState) → Leaves (play quiet c start bytes device)
-play_rest quiet c start bytes device = refused_or_rest 6 (play_refusal c device start (length bytes)) (λ q. tell_played quiet device (accept c start bytes q))
-    (λ q. tell_played_rest quiet device (accept c start bytes q))
+play_leaves : (quiet : Bool) (c : Context) (start : ℕ) (bytes : List ℕ) (device : DeviceState) → Leaves (play quiet c start bytes device)
+play_leaves quiet c start bytes device = refused_or_leaves 6 (play_refusal c device start (length bytes)) (λ q. tell_played quiet device (accept c start bytes q))
+    (λ q. tell_played_leaves quiet device (accept c start bytes q))
 
-record_rest : (blocking : Bool) (c : Context) (start bytes : ℕ) (device : DeviceState) → Leaves (record_sound blocking c start bytes device)
-record_rest blocking c start bytes device = refused_or_rest 7 (record_refusal blocking c device start bytes) (give_record blocking c start bytes device) (λ q. refl)
+record_leaves : (blocking : Bool) (c : Context) (start bytes : ℕ) (device : DeviceState) → Leaves (record_sound blocking c start bytes device)
+record_leaves blocking c start bytes device = refused_or_leaves 7 (record_refusal blocking c device start bytes) (give_record blocking c start bytes device) (λ q. (refl, refl))
 
-done_rest : (request : Asked) → Leaves (done request)
-done_rest no_op p = refl
-done_rest (get_time d) p = in_device_rest 2 d tell_time (slice_get p.around.devices d) (λ device q. refl) p
-done_rest (create_ac d ac ty channels preempt play_gain record_gain) p =
-    refused_or_rest 3 (creation_refusal (length p.around.devices) d ty channels preempt play_gain record_gain) (create (described d ac ty preempt play_gain record_gain)) (create_rest (described d ac ty preempt play_gain record_gain)) p
-done_rest (change_ac mask ac preempt play_gain record_gain) p =
-    refused_or_rest 4 (change_refusal p.link.contexts mask ac preempt play_gain record_gain) (change mask ac preempt play_gain record_gain) (λ q. refl) p
-done_rest (free_ac ac) p = free_rest ac p
-done_rest (play_run quiet ac start bytes) p = in_context_rest 6 ac (λ c. play quiet c start bytes) (context_of p.link.contexts ac) (λ c device. play_rest quiet c start bytes device) p
-done_rest (record_run blocking ac start bytes) p = in_context_rest 7 ac (λ c. record_sound blocking c start bytes) (context_of p.link.contexts ac) (λ c device. record_rest blocking c start bytes device) p
-done_rest (select_events d mask) p = refl
-done_rest (set_controls d mask input_on output_on input_gain output_gain) p = refl
-done_rest (query_controls d) p = refl
-done_rest (hook_switch d off) p = refl
-done_rest (query_phone d) p = refl
+done_leaves : (request : Asked) → Leaves (done request)
+done_leaves no_op p = (refl, refl)
+done_leaves (get_time d) p = in_device_leaves 2 d tell_time (slice_get p.around.devices d) (λ device q. (refl, refl)) p
+done_leaves (create_ac d ac ty channels preempt play_gain record_gain) p =
+    refused_or_leaves 3 (creation_refusal (length p.around.devices) d ty channels preempt play_gain record_gain) (create (described d ac ty preempt play_gain record_gain)) (create_leaves (described d ac ty preempt play_gain record_gain)) p
+done_leaves (change_ac mask ac preempt play_gain record_gain) p =
+    refused_or_leaves 4 (change_refusal p.link.contexts mask ac preempt play_gain record_gain) (change mask ac preempt play_gain record_gain) (λ q. (refl, refl)) p
+done_leaves (free_ac ac) p = free_leaves ac p
+done_leaves (play_run quiet ac start bytes) p = in_context_leaves 6 ac (λ c. play quiet c start bytes) (context_of p.link.contexts ac) (λ c device. play_leaves quiet c start bytes device) p
+done_leaves (record_run blocking ac start bytes) p = in_context_leaves 7 ac (λ c. record_sound blocking c start bytes) (context_of p.link.contexts ac) (λ c device. record_leaves blocking c start bytes device) p
+done_leaves (select_events d mask) p = (refl, refl)
+done_leaves (set_controls d mask input_on output_on input_gain output_gain) p = (refl, refl)
+done_leaves (query_controls d) p = (refl, refl)
+done_leaves (hook_switch d off) p = (refl, refl)
+done_leaves (query_phone d) p = (refl, refl)
 
 pub perform_rest : (k : ℕ) (request : Asked) (p : Place) → (perform k request p).link.rest ≡ p.link.rest
-perform_rest k request p = done_rest request (place p.around (counted p.link))
+perform_rest k request p = (done_leaves request (place p.around (counted p.link))).0
+
+pub perform_closing : (k : ℕ) (request : Asked) (p : Place) → (perform k request p).link.closing ≡ p.link.closing
+perform_closing k request p = (done_leaves request (place p.around (counted p.link))).1
 
 requested_rest : (k : ℕ) (o : Option Asked) (p : Place) → length (requested k o p).link.rest ≤ length p.link.rest
 requested_rest k None p = omega arith

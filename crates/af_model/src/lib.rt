@@ -3,10 +3,15 @@
 
 mod refusal;
 
-ghost use Rattle.std.specs.Prelude.{◌≡◌, List};
+ghost use Rattle.std.specs.Prelude.{◌≡◌, ◌≢◌, ℕ, List, []};
+ghost use Rattle.std.specs.declared.option.Option.TheVariants.{Some};
+ghost use Rattle.af_outside.specs.declared.happening.Why.TheVariants as why;
 ghost use Rattle.af_outside.specs.declared.script.DeviceSpec.{DeviceSpec};
 ghost use Rattle.af_outside.specs.declared.script.Step.{Step};
 ghost use Rattle.af_outside.specs.Told.{Log};
+ghost use Rattle.af_model.specs.State.{Place, State, slot_at};
+ghost use Rattle.af_model.specs.Advance.{advance_step};
+ghost use Rattle.af_model.specs.Turn.{Behind, serve_at};
 ghost use Rattle.af_model.specs.Script.{ScriptLog};
 
 pub use refusal::{Cause, Refusal};
@@ -14,4 +19,13 @@ pub use refusal::{Cause, Refusal};
 /// A law of the definitions alone: a script has at most one log.
 pub fn one_log_law()
     ensures { (config : List DeviceSpec) (steps : List Step) (a b : Log) → ScriptLog config steps a → ScriptLog config steps b → a ≡ b }
+{}
+
+/// A law of the definitions alone: a malformed client closes itself alone. Where taking off what stands at the front of its
+/// input closes a link for it, nothing around the link changes, no device and no other request, all that the link is owed
+/// still waits to be sent, and no more of its input is read. Serving a link, that one or any other, changes no other link.
+pub fn malformed_alone_law()
+    ensures closes { (k : ℕ) (p q : Place) → advance_step k p ≡ Some q → q.link.closing ≡ Some why.Malformed →
+        (q.around ≡ p.around) × (q.link.pending ≡ p.link.pending) × (q.link.rest ≡ []) }
+    ensures others { (k j : ℕ) (s : State) (log : Log) (b : Behind State) → serve_at k s log ≡ Some b → j ≢ k → slot_at j b.state ≡ slot_at j s }
 {}

@@ -1,0 +1,8 @@
+use Rattle.af_model.proofs.Alone.{closes_alone, others_stay}
+use Rattle.af_model.proofs.malformed_alone_law.Goals as goal
+
+pub returns-clause-closes : goal.returns-clause-closes
+returns-clause-closes c = closes_alone
+
+pub returns-clause-others : goal.returns-clause-others
+returns-clause-others c = others_stay

@@ -3,7 +3,6 @@ use Rattle.std.proofs.Common.{◌≡◌, ℕ, ◌+◌, ◌*◌, ◌<◌, ◌≤�
 use Rattle.std.proofs.lemmas.Bool.Decides.{nat_tests}
 use Rattle.std.specs.Prelude.{if◌then◌else◌}
 use Rattle.std.specs.Int.{w16, w32, from_be_bytes}
-use Rattle.af_wire.specs.declared.message_front.MessageFront.{MessageFront}
 use Rattle.af_wire.specs.declared.message_front.MessageFront.TheVariants.{NeedMore, Message, BadMessage}
 use Rattle.af_wire.specs.MessageFront.{is_head, message_front}
 use Rattle.af_lib.specs.Receive.{IsWhole, IsCut}

@@ -148,7 +148,9 @@ fn only_stated_settings_are_sent(rt: HostRuntime) -> Result<(), Fail> {
         4, 6, 0, 4, 0, 0, 0, 7, 1, 0, 0, 0, 0, 0, 0xFF, 0xFA, 9, 1, 0, 3, 10, 0, 0, 0, 0, 0, 0xFF,
         0xFA, 11, 1, 0, 2, 0, 0, 0, 1,
     ];
-    assert_eq!(rt; &link.sent()[8..], requests.as_slice());
+    let sent = link.sent();
+    assert_eq!(rt; sent.len(), 44);
+    assert_eq!(rt; &sent[8..], requests.as_slice());
     Ok(())
 }
 

@@ -16,8 +16,8 @@ use Rattle.af_model.proofs.Running.{TurnsTo, joined, joined-more, turns_more, tu
 use Rattle.af_model.proofs.Alike.{Agree}
 use Rattle.af_model.proofs.Steps.{agree_start, step_fits}
 use Rattle.af_model.proofs.Unique.{turn_alike, one_log}
-use Rattle.af_core.specs.declared.device.Device.{Device}
-use Rattle.af_core.specs.Stands.{Kept, Stands, StandForDevices, Turns, outline_of}
+use Rattle.af_perform.proofs.Devices.{stands_length}
+use Rattle.af_core.specs.Stands.{Kept, Stands, Turns, outline_of}
 use Rattle.af_script.specs.Run.{HasOneLog}
 
 -- Of the steps of a script, those that were taken have had their turns.
@@ -33,12 +33,6 @@ pub record Plays (config : List DeviceSpec) (steps : List Step) (kept : Kept) (t
   pub agree : Agree state tape.outside
   pub devices : length kept.devices ≡ length config
   pub links : length kept.links ≡ 32
-
-stands_length : (ds : List Device) (ss : List DeviceState) → StandForDevices ds ss → length ss ≡ length ds
-stands_length [] [] h = refl
-stands_length [] (s ∷ ss) h = absurd h
-stands_length (d ∷ ds) [] h = absurd h
-stands_length (d ∷ ds) (s ∷ ss) h = ap suc (stands_length ds ss h.1)
 
 map_length : {A B : Type 0} (f : A → B) (xs : List A) → length (map f xs) ≡ length xs
 map_length f [] = refl

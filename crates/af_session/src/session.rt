@@ -1,0 +1,144 @@
+// The session of a link.
+ghost use Rattle.std.specs.Prelude.{◌≡◌, ◌+◌, ◌≤◌, [], ◌++◌, length, drop, vec_capacity, IfOk};
+ghost use Rattle.std.specs.Borrow.{sem};
+ghost use Rattle.af_session.specs.Flows.{no_flow, IsFlow};
+
+use crate::unread::Unread;
+use af_time::OutOfMemory;
+use circular_buffer::HeapCircularBuffer;
+use std::alloc::Global;
+use std::marker::Model;
+
+/// The most bytes that may wait to go out.
+pub const MOST_PENDING: usize = 65536;
+
+/// The bytes of a link. Clauses see two lists: the rest, at most 32768 bytes that came in and are not used yet, and what
+/// is pending, at most 65536 bytes that are to go out. All its memory is taken when it is made.
+#[derive(Drop)]
+pub struct Session {
+    input: Unread,
+    output: HeapCircularBuffer<u8>,
+    // what is pending, in one piece
+    piece: Vec<u8>,
+}
+
+impl Model for Session {
+    ghost use Rattle.std.specs.Prelude.{◌≡◌, ◌≤◌, vec_capacity};
+    ghost use Rattle.af_session.specs.Flows.{flow, Flow, IsFlow};
+
+    ghost Value = { Flow };
+
+    ghost view = { λ s. flow s.input s.output.items };
+
+    ghost invariant = { λ s. IsFlow (flow s.input s.output.items) × (s.output.capacity ≡ 65536) × (65536 ≤ vec_capacity s.piece) };
+}
+
+impl Session {
+    ghost use Rattle.af_session.specs.Lending.{keeps};
+
+    /// No bytes.
+    pub fn new(alloc: Global) -> Result<Session, OutOfMemory>
+        ensures { IfOk result (λ session. session ≡ no_flow) }
+    {
+        let input = Unread::new(alloc)?;
+        let output = HeapCircularBuffer::with_capacity(alloc, MOST_PENDING)?;
+        let piece = Vec::with_capacity(alloc, MOST_PENDING)?;
+        Ok(Session {
+            input,
+            output,
+            piece,
+        })
+    }
+
+    /// Bytes came in, behind those that are not used yet. There has to be room for them.
+    pub fn take_in(&mut self, bytes: &[u8])
+        requires { length self.old.rest + length bytes.now ≤ 32768 }
+        ensures taken { self.new ≡ record self.old { rest = self.old.rest ++ bytes.now } }
+        ensures bounds { IsFlow self.new }
+    {
+        self.input.append(bytes);
+    }
+
+    /// The bytes that came in and are not used yet.
+    pub fn rest(&self) -> &[u8]
+        ensures rest { result.now ≡ self.now.rest }
+        ensures bounds { IsFlow self.now }
+    {
+        self.input.as_slice()
+    }
+
+    /// The first n of the bytes that came in are used.
+    pub fn drop_front(&mut self, n: usize)
+        requires { n ≤ length self.old.rest }
+        ensures dropped { self.new ≡ record self.old { rest = drop n self.old.rest } }
+        ensures bounds { IsFlow self.new }
+    {
+        self.input.drop_front(n);
+    }
+
+    /// More bytes are to go out, behind those that are. There has to be room for them.
+    pub fn push_out(&mut self, bytes: &[u8])
+        requires { length self.old.pending + length bytes.now ≤ 65536 }
+        ensures pushed { self.new ≡ record self.old { pending = self.old.pending ++ bytes.now } }
+        ensures bounds { IsFlow self.new }
+    {
+        self.output.fill_from_slice(bytes);
+    }
+
+    /// How many bytes are to go out.
+    pub fn pending_len(&self) -> usize
+        ensures len { result ≡ length self.now.pending }
+        ensures bounds { IsFlow self.now }
+    {
+        self.output.len()
+    }
+
+    /// The bytes that are to go out, in one piece. It copies them, and changes nothing.
+    pub fn pending(&mut self) -> &[u8]
+        ensures* kept { sem 𝓛 (keeps self.entry) }
+        ensures pending { result.now ≡ self.old.pending }
+        ensures bounds { IsFlow self.old }
+    {
+        copy_all(&self.output, &mut self.piece);
+        self.piece.as_slice()
+    }
+
+    /// The first n of the bytes that are to go out went.
+    pub fn took(&mut self, n: usize)
+        requires { n ≤ length self.old.pending }
+        ensures went { self.new ≡ record self.old { pending = drop n self.old.pending } }
+        ensures bounds { IsFlow self.new }
+    {
+        let left = self.output.len() - n;
+        self.output.truncate_front(left);
+    }
+
+    /// No bytes any more, as of a link that is dropped or opened again.
+    pub fn clear(&mut self)
+        ensures { self.new ≡ no_flow }
+    {
+        self.input.clear();
+        self.output.clear();
+    }
+}
+
+// Bytes more, for which there is room.
+fn append(onto: &mut Vec<u8>, bytes: &[u8])
+    requires { length onto.old.items + length bytes.now ≤ vec_capacity onto.old }
+    ensures items { onto.new.items ≡ onto.old.items ++ bytes.now }
+    ensures capacity { vec_capacity onto.old ≤ vec_capacity onto.new }
+{
+    let _ = onto.extend_from_slice(bytes);
+}
+
+// The bytes of a ring in one piece, for which there is room.
+fn copy_all(from: &HeapCircularBuffer<u8>, to: &mut Vec<u8>)
+    requires { length from.now.items ≤ vec_capacity to.old }
+    ensures items { to.new.items ≡ from.now.items }
+    ensures capacity { vec_capacity to.old ≤ vec_capacity to.new }
+{
+    to.clear();
+    let (first, second) = from.as_slices();
+    append(to, first);
+    append(to, second);
+}

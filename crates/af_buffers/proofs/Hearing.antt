@@ -9,7 +9,7 @@ use Rattle.af_time.specs.DeviceTime.{unwrap}
 use Rattle.af_sample.specs.Heard.{Entry, heard, with_entry}
 use Rattle.af_sample.proofs.Hearing.{heard-push}
 use Rattle.af_buffers.specs.Horizons.{whole_time}
-use Rattle.af_buffers.specs.PlayBuffer.{Next, accepted_at, accepted_by, frames_within, EndsWithin, Plays, HandsOut, Hears}
+use Rattle.af_buffers.specs.PlayBuffer.{Next, accepted_at, accepted_by, frames_beyond, frames_within, EndsWithin, Plays, HandsOut, Hears}
 use Rattle.af_buffers.proofs.Rooms.{get_or-silence}
 use Rattle.af_buffers.proofs.Entries.{covers_past, not_covered, with_entry-later, unwrap-same}
 
@@ -61,6 +61,10 @@ hears_play b c accepted now start samples preempt h word within p =
 -- how many frames end within the horizon is the same in whole times
 pub frames_within-same : (b : Next) (accepted : List Entry) (now start : ℕ) → Hears b accepted now → start < 2 ^ 32 → frames_within b start ≡ now + length b.next - unwrap now start
 frames_within-same b accepted now start h word = let same = same_start b accepted now start h word in omega arith
+
+-- how long it takes until frames end within the horizon is the same in whole times
+pub frames_beyond-same : (b : Next) (accepted : List Entry) (now start n : ℕ) → Hears b accepted now → start < 2 ^ 32 → frames_beyond b start n ≡ unwrap now start + n - (now + length b.next)
+frames_beyond-same b accepted now start n h word = let same = same_start b accepted now start h word in omega arith
 
 -- no more is given than is next
 given_few : (b c : Next) (given : List ℤ) → HandsOut b c given → length given ≤ length b.next

@@ -8,7 +8,7 @@ use Rattle.af_time.specs.DeviceTime.{unwrap}
 use Rattle.af_sample.specs.Window.{recorded, window}
 use Rattle.af_sample.proofs.Hearing.{recorded_within, recorded_before, recorded-append}
 use Rattle.af_buffers.specs.Horizons.{whole_time}
-use Rattle.af_buffers.specs.RecordBuffer.{Last, Captures, frames_before, sample_at, samples_from, Keeps}
+use Rattle.af_buffers.specs.RecordBuffer.{Last, Captures, frames_before, frames_beyond, sample_at, samples_from, Keeps}
 use Rattle.af_buffers.proofs.Entries.{unwrap-same}
 use Rattle.af_buffers.proofs.Recording.{sample_before, sample_within, sample_after}
 
@@ -51,6 +51,15 @@ keeps_silence b now n late short time last =
 -- how many frames are before now is the same in whole times
 pub frames_before-same : (b : Last) (captured : List ℤ) (begin now start : ℕ) → Keeps b captured begin now → start < 2 ^ 32 → frames_before b start ≡ now - unwrap now start
 frames_before-same b captured begin now start k word =
+    let late : 2 ^ 32 ≤ begin = k.late in
+    let now_is : now ≡ begin + length captured = k.all in
+    let time : b.time ≡ now % 2 ^ 32 = k.time in
+    let same = unwrap-same (whole_time b.time) now start (omega arith) (omega arith) (omega arith) word in
+    omega arith
+
+-- how long it takes until frames are before now is the same in whole times
+pub frames_beyond-same : (b : Last) (captured : List ℤ) (begin now start n : ℕ) → Keeps b captured begin now → start < 2 ^ 32 → frames_beyond b start n ≡ unwrap now start + n - now
+frames_beyond-same b captured begin now start n k word =
     let late : 2 ^ 32 ≤ begin = k.late in
     let now_is : now ≡ begin + length captured = k.all in
     let time : b.time ≡ now % 2 ^ 32 = k.time in

@@ -25,6 +25,10 @@ accepted_by b start samples preempt = accepted_at (whole_time b.time) start samp
 abbrev pub frames_within : Next → ℕ → ℕ
 frames_within b start = whole_time b.time + length b.next - unwrap (whole_time b.time) start
 
+-- how long it takes until so many frames from a word on end at most a horizon after a buffer's time
+abbrev pub frames_beyond : Next → ℕ → ℕ → ℕ
+frames_beyond b start n = unwrap (whole_time b.time) start + n - (whole_time b.time + length b.next)
+
 -- so many samples from a word on end at most a horizon after a buffer's time
 abbrev pub EndsWithin : Next → ℕ → ℕ → Type 0
 EndsWithin b start n = unwrap (whole_time b.time) start + n ≤ whole_time b.time + length b.next

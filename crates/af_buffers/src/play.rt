@@ -2,7 +2,7 @@
 ghost use Rattle.std.specs.Prelude.{◌≡◌, ◌≤◌, length, IfOk, pos, replicate};
 ghost use Rattle.af_ring.specs.Cells.{ClearsRun};
 ghost use Rattle.af_buffers.specs.Horizons.{IsHorizon};
-ghost use Rattle.af_buffers.specs.PlayBuffer.{accepted_by, frames_within, ChangesCovered, EndsWithin, HandsOut, HoldsNext, LaysRun, Plays};
+ghost use Rattle.af_buffers.specs.PlayBuffer.{accepted_by, frames_beyond, frames_within, ChangesCovered, EndsWithin, HandsOut, HoldsNext, LaysRun, Plays};
 
 use crate::room::bits_for;
 use af_ring::TimeRing;
@@ -63,6 +63,20 @@ impl PlayBuffer {
         } else {
             self.horizon
                 .saturating_sub(start.0.wrapping_sub(self.time.0))
+        }
+    }
+
+    /// How many sample periods go by until so many frames from a time on, at most 16368, end within
+    /// the horizon: none where they do.
+    pub fn frames_beyond(&self, start: DevTime, frames: u32) -> u32
+        requires { frames ≤ 16368 }
+        ensures { result ≡ frames_beyond self.now start.0 frames }
+    {
+        let ahead = start.0.wrapping_sub(self.time.0);
+        if start.is_before(self.time) {
+            0
+        } else {
+            (ahead + frames).saturating_sub(self.horizon)
         }
     }
 

@@ -1,6 +1,8 @@
 -- What each phase of a link's turn takes off a log.
-use Rattle.std.proofs.Common.{◌≡◌, ℕ, zero, suc, ◌≤◌, ◌<◌, ◌+◌, ◌-◌, Bool, true, false, not, ◌&&◌, nat_le, is_none, cond, List, [], ◌∷◌, ◌++◌, length, take, slice_get, slice_set, get_or, refl, sym, ap, ◌∙◌, subst, arith, length-take-le}
+use Rattle.std.proofs.Common.{◌≡◌, ◌≢◌, ◌==◌, eqb-true, ℕ, zero, suc, ◌≤◌, ◌<◌, ◌+◌, ◌-◌, Bool, true, false, not, ◌&&◌, nat_le, is_none, cond, List, [], ◌∷◌, ◌++◌, length, take, slice_get, slice_set, get_or, refl, sym, ap, ◌∙◌, subst, arith, length-take-le}
 use Rattle.std.proofs.Math.Seq.{take-length}
+use Rattle.std.proofs.lemmas.Option.{slice_get-get_or}
+use Rattle.std.proofs.lemmas.Bool.Decides.{nat_tests}
 use Rattle.std.specs.declared.option.Option.{Option}
 use Rattle.std.specs.declared.option.Option.TheVariants.{None, Some}
 use Rattle.af_outside.specs.declared.happening.Happening.TheVariants.{Read, Wrote, Closed}
@@ -13,51 +15,57 @@ use Rattle.af_outside.specs.declared.world.LinkTook.TheVariants.{Took}
 use Rattle.af_outside.specs.World.{TookFits, took_of, taken_count}
 use Rattle.af_outside.specs.Told.{Log, Grew}
 use Rattle.af_outside.proofs.Outsides.{same_bytes-refl, eq-refl}
-use Rattle.af_model.specs.State.{Place, Around, LinkState, place}
-use Rattle.af_model.specs.Advance.{absorb, advance}
-use Rattle.af_model.specs.Turn.{behind, and_then, then_go, take_one, door, wants_read, is_read, read_by, read_phase, after_read, wants_write, write_by, write_phase, after_write, same_why, close_due, close_for, close_phase, serve_link, serve_open, serve_door, door_at, with_door, serve_from, serve_all}
+use Rattle.af_model.specs.State.{Place, Around, LinkState, place, opened, door, door_at, with_door}
+use Rattle.af_model.specs.Waiting.{is_waiting}
+use Rattle.af_model.specs.Advance.{absorb, advance, takes_more}
+use Rattle.af_model.specs.Turn.{behind, and_then, then_go, take_one, wants_read, is_read, read_by, read_phase, after_read, wants_write, write_by, write_phase, after_write, same_why, close_due, close_for, close_phase, serve_link, serve_open, serve_door, serve_from, serve_all, ready, in_open}
 use Rattle.af_model.proofs.Tests.{both-true}
 use Rattle.af_model.proofs.Slots.{some_link, slot_link, links_of-set, length-links_of}
 use Rattle.af_perform.specs.Kept.{KeptDevice}
+use Rattle.af_perform.specs.Waits.{KeptWait, has_waiting, AreLater, Grows}
 use Rattle.af_perform.specs.Places.{At, StandAround}
-use Rattle.af_core.specs.Stands.{AtDoor, StandsFor}
+use Rattle.af_perform.proofs.Keeping.{same_waiting, grows_others}
+use Rattle.af_core.specs.Stands.{AreSettled, AtDoor, IsSettled, StandsFor}
 use Rattle.af_core.specs.Does.{Does}
 use Rattle.af_core.proofs.Doing.{does_nothing, does_one, does_more, does_then}
 
 -- what holds whatever is around a link holds at each place
-pub at_place : (ds ds' : List KeptDevice) (l l' : LinkState) (f : Place → Place) → ((a : Around) → StandAround ds a → At ds' l' (f (place a l))) → (p : Place) → At ds l p → At ds' l' (f p)
-at_place ds ds' l l' f h p s = subst (λ m. At ds' l' (f (place p.around m))) (sym s.1) (h p.around s.0)
+pub at_place : (ds ds' : List KeptDevice) (ks ks' : List KeptWait) (l l' : LinkState) (f : Place → Place) → ((a : Around) → StandAround ds ks a → At ds' ks' l' (f (place a l))) → (p : Place) → At ds ks l p → At ds' ks' l' (f p)
+at_place ds ds' ks ks' l l' f h p s = subst (λ m. At ds' ks' l' (f (place p.around m))) (sym s.1) (h p.around s.0)
 
-pub at_update : (ds : List KeptDevice) (l l' : LinkState) (f : LinkState → LinkState) → l' ≡ f l → (p : Place) → At ds l p → At ds l' (place p.around (f p.link))
-at_update ds l l' f e p s = (s.0, ap f s.1 ∙ sym e)
+pub at_update : (ds : List KeptDevice) (ks : List KeptWait) (l l' : LinkState) (f : LinkState → LinkState) → l' ≡ f l → (p : Place) → At ds ks l p → At ds ks l' (place p.around (f p.link))
+at_update ds ks l l' f e p s = (s.0, ap f s.1 ∙ sym e)
 
 -- Reads
 
-pub reads_nothing : (t : Option Log) (k : ℕ) (ds : List KeptDevice) (l : LinkState) → wants_read l ≡ false → Does t t (At ds l) (At ds l) (read_phase k) behind
-unfolding read_phase
-reads_nothing t k ds l idle =
-    does_nothing t (At ds l) (At ds l) (read_phase k) behind (λ p. p) (λ p s. s)
-    (λ p s log. let e : wants_read p.link ≡ false = ap wants_read s.1 ∙ idle in ap (λ b. cond b (take_one (read_by k p) log) (behind p log)) e)
+-- whether a link is to be read is what the state says
+reads_same : (ds : List KeptDevice) (ks : List KeptWait) (k : ℕ) (l : LinkState) (p : Place) → At ds ks l p → wants_read (is_waiting p.around.waiting k) p.link ≡ wants_read (has_waiting ks k) l
+reads_same ds ks k l p s = ap (λ b. wants_read b p.link) (sym (same_waiting p.around.devices ks p.around.waiting k s.0.1)) ∙ ap (wants_read (has_waiting ks k)) s.1
 
-pub reads : (a b : Option Log) (k : ℕ) (ds ds' : List KeptDevice) (l l' : LinkState) (got : ReadGot) → wants_read l ≡ true → is_read got ≡ true → Grew a (Read k got ∷ []) b →
-    ((p : Place) → At ds l p → At ds' l' (after_read k got p)) → Does a b (At ds l) (At ds' l') (read_phase k) behind
+pub reads_nothing : (t : Option Log) (k : ℕ) (ds : List KeptDevice) (ks : List KeptWait) (l : LinkState) → wants_read (has_waiting ks k) l ≡ false → Does t t (At ds ks l) (At ds ks l) (read_phase k) behind
 unfolding read_phase
-reads a b k ds ds' l l' got wants fits told step =
-    does_one (Read k got) (At ds l) (At ds' l') (read_phase k) behind (λ p. after_read k got p) refl told step
-    (λ p s log.
-    let e : wants_read p.link ≡ true = ap wants_read s.1 ∙ wants in
-    ap (λ b. cond b (take_one (read_by k p) (Read k got ∷ log)) (behind p (Read k got ∷ log))) e ∙ rw (eq-refl k, fits))
+reads_nothing t k ds ks l idle =
+    does_nothing t (At ds ks l) (At ds ks l) (read_phase k) behind (λ p. p) (λ p s. s)
+    (λ p s log. ap (λ b. cond b (take_one (read_by k p) log) (behind p log)) (reads_same ds ks k l p s ∙ idle))
+
+pub reads : (a b : Option Log) (k : ℕ) (ds ds' : List KeptDevice) (ks ks' : List KeptWait) (l l' : LinkState) (got : ReadGot) → wants_read (has_waiting ks k) l ≡ true → is_read got ≡ true → Grew a (Read k got ∷ []) b →
+    ((p : Place) → At ds ks l p → At ds' ks' l' (after_read k got p)) → Does a b (At ds ks l) (At ds' ks' l') (read_phase k) behind
+unfolding read_phase
+reads a b k ds ds' ks ks' l l' got wants fits told step =
+    does_one (Read k got) (At ds ks l) (At ds' ks' l') (read_phase k) behind (λ p. after_read k got p) refl told step
+    (λ p s log. ap (λ b. cond b (take_one (read_by k p) (Read k got ∷ log)) (behind p (Read k got ∷ log))) (reads_same ds ks k l p s ∙ wants) ∙ rw (eq-refl k, fits))
 
 pub given_fits : (n : ℕ) (xs : List ℕ) → 1 ≤ n → n ≤ length xs → length xs ≡ 16384 → is_read (Given (take n xs)) ≡ true
 given_fits n xs some within room = let e : length (take n xs) ≡ n = length-take-le n xs within in rw e (grind arith)
 
 -- bytes that come are taken in and then what they complete is taken off
-pub absorbed : (k : ℕ) (ds ds' : List KeptDevice) (l l1 l' : LinkState) (bytes : List ℕ) → wants_read l ≡ true → l1 ≡ record l { rest = l.rest ++ bytes } →
-    ((a : Around) → StandAround ds a → At ds' l' (advance k (place a l1))) → (a : Around) → StandAround ds a → At ds' l' (absorb k bytes (place a l))
-absorbed k ds ds' l l1 l' bytes wants e step a h =
-    let open_to : is_none l.closing ≡ true = (both-true l.is_ready (is_none l.closing) (both-true (l.is_ready && is_none l.closing) (nat_le (length l.pending) 16384) wants).0).1 in
-    subst (λ b. At ds' l' (cond b (advance k (place a (record l { rest = l.rest ++ bytes }))) (place a l))) (sym open_to)
-    (subst (λ m. At ds' l' (advance k (place a m))) e (step a h))
+pub absorbed : (k : ℕ) (ds ds' : List KeptDevice) (ks ks' : List KeptWait) (l l1 l' : LinkState) (bytes : List ℕ) → wants_read (has_waiting ks k) l ≡ true → l1 ≡ record l { rest = l.rest ++ bytes } →
+    ((a : Around) → StandAround ds ks a → At ds' ks' l' (advance k (place a l1))) → (a : Around) → StandAround ds ks a → At ds' ks' l' (absorb k bytes (place a l))
+absorbed k ds ds' ks ks' l l1 l' bytes wants e step a h =
+    let waits = has_waiting ks k in
+    let open_to : is_none l.closing ≡ true = (both-true (is_none l.closing) (nat_le (length l.pending) 16384) (both-true (not waits) (is_none l.closing && nat_le (length l.pending) 16384) (both-true l.is_ready (takes_more waits l) wants).1).1).0 in
+    subst (λ b. At ds' ks' l' (cond b (advance k (place a (record l { rest = l.rest ++ bytes }))) (place a l))) (sym open_to)
+    (subst (λ m. At ds' ks' l' (advance k (place a m))) e (step a h))
 
 -- Writes
 
@@ -66,14 +74,14 @@ pub write_phase-idle : (k : ℕ) (p : Place) (log : Log) → wants_write p.link 
 write_phase-idle k p [] e = rw e
 write_phase-idle k p (h ∷ log) e = rw e
 
-pub writes_nothing : (t : Option Log) (k : ℕ) (ds : List KeptDevice) (l : LinkState) → wants_write l ≡ false → Does t t (At ds l) (At ds l) (write_phase k) behind
-writes_nothing t k ds l idle =
-    does_nothing t (At ds l) (At ds l) (write_phase k) behind (λ p. p) (λ p s. s) (λ p s log. write_phase-idle k p log (ap wants_write s.1 ∙ idle))
+pub writes_nothing : (t : Option Log) (k : ℕ) (ds : List KeptDevice) (ks : List KeptWait) (l : LinkState) → wants_write l ≡ false → Does t t (At ds ks l) (At ds ks l) (write_phase k) behind
+writes_nothing t k ds ks l idle =
+    does_nothing t (At ds ks l) (At ds ks l) (write_phase k) behind (λ p. p) (λ p s. s) (λ p s log. write_phase-idle k p log (ap wants_write s.1 ∙ idle))
 
-pub writes : (a b : Option Log) (k : ℕ) (ds ds' : List KeptDevice) (l l' : LinkState) → wants_write l ≡ true → Grew a (Wrote k (length l.pending) (Some l.pending) ∷ []) b →
-    ((p : Place) → At ds l p → At ds' l' (after_write k l.pending p)) → Does a b (At ds l) (At ds' l') (write_phase k) (write_phase k)
-writes a b k ds ds' l l' wants told step =
-    does_one (Wrote k (length l.pending) (Some l.pending)) (At ds l) (At ds' l') (write_phase k) (write_phase k) (λ p. after_write k l.pending p) refl told step
+pub writes : (a b : Option Log) (k : ℕ) (ds ds' : List KeptDevice) (ks ks' : List KeptWait) (l l' : LinkState) → wants_write l ≡ true → Grew a (Wrote k (length l.pending) (Some l.pending) ∷ []) b →
+    ((p : Place) → At ds ks l p → At ds' ks' l' (after_write k l.pending p)) → Does a b (At ds ks l) (At ds' ks' l') (write_phase k) (write_phase k)
+writes a b k ds ds' ks ks' l l' wants told step =
+    does_one (Wrote k (length l.pending) (Some l.pending)) (At ds ks l) (At ds' ks' l') (write_phase k) (write_phase k) (λ p. after_write k l.pending p) refl told step
     (λ p s log.
     let e : wants_write p.link ≡ true = ap wants_write s.1 ∙ wants in
     let here : write_by k p (Wrote k (length l.pending) (Some l.pending)) ≡ Some (after_write k l.pending p) =
@@ -91,38 +99,38 @@ whole_taken (Took n) xs e = ap (λ m. Some (take m xs)) e ∙ ap (λ l. Some l) 
 
 -- Closes
 
-pub closes_nothing : (t : Option Log) (k : ℕ) (ds : List KeptDevice) (l : LinkState) → close_due l ≡ None → Does t t (At ds l) (AtDoor ds (Some l)) (close_phase k) behind
+pub closes_nothing : (t : Option Log) (k : ℕ) (ds : List KeptDevice) (ks : List KeptWait) (l : LinkState) → close_due l ≡ None → Does t t (At ds ks l) (AtDoor ds ks (Some l)) (close_phase k) behind
 unfolding close_phase
-closes_nothing t k ds l idle =
-    does_nothing t (At ds l) (AtDoor ds (Some l)) (close_phase k) behind (λ p. door p.around (Some p.link)) (λ p s. (s.0, ap (λ m. Some m) s.1))
+closes_nothing t k ds ks l idle =
+    does_nothing t (At ds ks l) (AtDoor ds ks (Some l)) (close_phase k) behind (λ p. door p.around (Some p.link)) (λ p s. (s.0, ap (λ m. Some m) s.1))
     (λ p s log. ap (λ o. close_for k p o log) (ap close_due s.1 ∙ idle))
 
 same_why-refl : (cause : Why) → same_why cause cause ≡ true
 same_why-refl why.BadSetup = refl
 same_why-refl why.Malformed = refl
 
-pub closes : (a b : Option Log) (k : ℕ) (ds : List KeptDevice) (l : LinkState) (cause : Why) → close_due l ≡ Some cause → Grew a (Closed k cause ∷ []) b → Does a b (At ds l) (AtDoor ds None) (close_phase k) behind
+pub closes : (a b : Option Log) (k : ℕ) (ds : List KeptDevice) (ks : List KeptWait) (l : LinkState) (cause : Why) → close_due l ≡ Some cause → Grew a (Closed k cause ∷ []) b → Does a b (At ds ks l) (AtDoor ds ks None) (close_phase k) behind
 unfolding close_phase
-closes a b k ds l cause due told =
-    does_one (Closed k cause) (At ds l) (AtDoor ds None) (close_phase k) behind (λ p. door p.around None) refl told (λ p s. (s.0, refl))
+closes a b k ds ks l cause due told =
+    does_one (Closed k cause) (At ds ks l) (AtDoor ds ks None) (close_phase k) behind (λ p. door p.around None) refl told (λ p s. (s.0, refl))
     (λ p s log. ap (λ o. close_for k p o (Closed k cause ∷ log)) (ap close_due s.1 ∙ due) ∙ rw (eq-refl k, same_why-refl cause))
 
 -- A link, and all links
 
-pub serves : (a b c d : Option Log) (k : ℕ) (ds ds' ds'' : List KeptDevice) (l l' l'' : LinkState) (link : Option LinkState) →
-    Does a b (At ds l) (At ds' l') (read_phase k) behind → Does b c (At ds' l') (At ds'' l'') (write_phase k) behind → Does c d (At ds'' l'') (AtDoor ds'' link) (close_phase k) behind →
-    Does a d (At ds l) (AtDoor ds'' link) (serve_link k) behind
+pub serves : (a b c d : Option Log) (k : ℕ) (ds ds' ds'' : List KeptDevice) (ks ks' ks'' : List KeptWait) (l l' l'' : LinkState) (link : Option LinkState) →
+    Does a b (At ds ks l) (At ds' ks' l') (read_phase k) behind → Does b c (At ds' ks' l') (At ds'' ks'' l'') (write_phase k) behind → Does c d (At ds'' ks'' l'') (AtDoor ds'' ks'' link) (close_phase k) behind →
+    Does a d (At ds ks l) (AtDoor ds'' ks'' link) (serve_link k) behind
 unfolding serve_link
-serves a b c d k ds ds' ds'' l l' l'' link read write close =
+serves a b c d k ds ds' ds'' ks ks' ks'' l l' l'' link read write close =
     does_more (does_then (λ p log. and_then (write_phase k p log) (close_phase k)) read) (does_more (does_then (close_phase k) write) close)
 
-pub door_idle : (t : Option Log) (k : ℕ) (ds : List KeptDevice) → Does t t (AtDoor ds None) (AtDoor ds None) (serve_door k) behind
-door_idle t k ds =
-    does_nothing t (AtDoor ds None) (AtDoor ds None) (serve_door k) behind (λ s. door s.around None) (λ s h. (h.0, refl)) (λ s h log. ap (λ o. serve_open k s.around o log) h.1)
+pub door_idle : (t : Option Log) (k : ℕ) (ds : List KeptDevice) (ks : List KeptWait) → Does t t (AtDoor ds ks None) (AtDoor ds ks None) (serve_door k) behind
+door_idle t k ds ks =
+    does_nothing t (AtDoor ds ks None) (AtDoor ds ks None) (serve_door k) behind (λ s. door s.around None) (λ s h. (h.0, refl)) (λ s h log. ap (λ o. serve_open k s.around o log) h.1)
 
-door_serves : (a b : Option Log) (k : ℕ) (ds ds' : List KeptDevice) (l : LinkState) (link : Option LinkState) →
-    Does a b (At ds l) (AtDoor ds' link) (serve_link k) behind → Does a b (AtDoor ds (Some l)) (AtDoor ds' link) (serve_door k) behind
-door_serves a b k ds ds' l link d = record {
+door_serves : (a b : Option Log) (k : ℕ) (ds ds' : List KeptDevice) (ks ks' : List KeptWait) (l : LinkState) (link : Option LinkState) →
+    Does a b (At ds ks l) (AtDoor ds' ks' link) (serve_link k) behind → Does a b (AtDoor ds ks (Some l)) (AtDoor ds' ks' link) (serve_door k) behind
+door_serves a b k ds ds' ks ks' l link d = record {
   part = d.part;
   told = d.told;
   quiet = d.quiet;
@@ -132,45 +140,45 @@ door_serves a b k ds ds' l link d = record {
 }
 
 -- the same, as a slot shows it
-pub door_shows : (a b : Option Log) (k : ℕ) (ds ds' : List KeptDevice) (old : Option LinkState) (l l' : LinkState) (is_closed : Bool) → old ≡ Some l →
-    Does a b (At ds l) (AtDoor ds' (cond is_closed None (Some l'))) (serve_link k) behind →
-    Does a b (AtDoor ds old) (AtDoor ds' (cond (not is_closed) (Some l') None)) (serve_door k) behind
-door_shows a b k ds ds' old l l' true e d = subst (λ o. Does a b (AtDoor ds o) (AtDoor ds' None) (serve_door k) behind) (sym e) (door_serves a b k ds ds' l None d)
-door_shows a b k ds ds' old l l' false e d = subst (λ o. Does a b (AtDoor ds o) (AtDoor ds' (Some l')) (serve_door k) behind) (sym e) (door_serves a b k ds ds' l (Some l') d)
+pub door_shows : (a b : Option Log) (k : ℕ) (ds ds' : List KeptDevice) (ks ks' : List KeptWait) (old : Option LinkState) (l l' : LinkState) (is_closed : Bool) → old ≡ Some l →
+    Does a b (At ds ks l) (AtDoor ds' ks' (cond is_closed None (Some l'))) (serve_link k) behind →
+    Does a b (AtDoor ds ks old) (AtDoor ds' ks' (cond (not is_closed) (Some l') None)) (serve_door k) behind
+door_shows a b k ds ds' ks ks' old l l' true e d = subst (λ o. Does a b (AtDoor ds ks o) (AtDoor ds' ks' None) (serve_door k) behind) (sym e) (door_serves a b k ds ds' ks ks' l None d)
+door_shows a b k ds ds' ks ks' old l l' false e d = subst (λ o. Does a b (AtDoor ds ks o) (AtDoor ds' ks' (Some l')) (serve_door k) behind) (sym e) (door_serves a b k ds ds' ks ks' l (Some l') d)
 
 -- one link of all
-one_served : (a b : Option Log) (n k : ℕ) (ds ds' : List KeptDevice) (links : List (Option LinkState)) (link link' : Option LinkState) →
-    some_link (slice_get links k) ≡ link → Does a b (AtDoor ds link) (AtDoor ds' link') (serve_door k) behind →
-    Does a b (StandsFor ds links) (StandsFor ds' (slice_set links k link')) (serve_from (suc n) k) (serve_from n (k + 1))
+one_served : (a b : Option Log) (n k : ℕ) (ds ds' : List KeptDevice) (ks ks' : List KeptWait) (links : List (Option LinkState)) (link link' : Option LinkState) →
+    some_link (slice_get links k) ≡ link → Does a b (AtDoor ds ks link) (AtDoor ds' ks' link') (serve_door k) behind →
+    Does a b (StandsFor ds ks links) (StandsFor ds' ks' (slice_set links k link')) (serve_from (suc n) k) (serve_from n (k + 1))
 unfolding serve_from
-one_served a b n k ds ds' links link link' here d = record {
+one_served a b n k ds ds' ks ks' links link link' here d = record {
   part = d.part;
   told = d.told;
   quiet = d.quiet;
   each = λ s h.
-      let r = d.each (door_at k s) (h.devices, slot_link s.slots k ∙ ap (λ ls. some_link (slice_get ls k)) h.links ∙ here) in
+      let r = d.each (door_at k s) ((h.devices, h.waiting), slot_link s.slots k ∙ ap (λ ls. some_link (slice_get ls k)) h.links ∙ here) in
       record {
         state = with_door k s r.state;
-        stands = record { devices = r.stands.0; links = links_of-set s.slots k (record { link = r.state.link; said = r.state.around.said }) ∙ ap (λ ls. slice_set ls k r.state.link) h.links ∙ ap (λ o. slice_set links k o) r.stands.1 };
+        stands = record { devices = r.stands.0.0; waiting = r.stands.0.1; links = links_of-set s.slots k (record { link = r.state.link; said = r.state.around.said }) ∙ ap (λ ls. slice_set ls k r.state.link) h.links ∙ ap (λ o. slice_set links k o) r.stands.1 };
         same = λ more. ap (λ o. and_then (and_then o (λ d log. behind (with_door k s d) log)) (serve_from n (k + 1))) (r.same more);
       };
 }
 
-pub none_served : (t : Option Log) (n m : ℕ) (ds : List KeptDevice) (links : List (Option LinkState)) → n ≡ m → Does t t (StandsFor ds links) (StandsFor ds links) (serve_from n 0) (serve_from m 0)
-none_served t n m ds links e = does_nothing t (StandsFor ds links) (StandsFor ds links) (serve_from n 0) (serve_from m 0) (λ s. s) (λ s h. h) (λ s h log. ap (λ x. serve_from x 0 s log) e)
+pub none_served : (t : Option Log) (n m : ℕ) (ds : List KeptDevice) (ks : List KeptWait) (links : List (Option LinkState)) → n ≡ m → Does t t (StandsFor ds ks links) (StandsFor ds ks links) (serve_from n 0) (serve_from m 0)
+none_served t n m ds ks links e = does_nothing t (StandsFor ds ks links) (StandsFor ds ks links) (serve_from n 0) (serve_from m 0) (λ s. s) (λ s h. h) (λ s h log. ap (λ x. serve_from x 0 s log) e)
 
-pub next_served : (a b c : Option Log) (count n k : ℕ) (ds ds' ds'' : List KeptDevice) (links links' : List (Option LinkState)) (link link' : Option LinkState) →
+pub next_served : (a b c : Option Log) (count n k : ℕ) (ds ds' ds'' : List KeptDevice) (ks ks' ks'' : List KeptWait) (links links' : List (Option LinkState)) (link link' : Option LinkState) →
     n ≡ suc (count - (k + 1)) → some_link (slice_get links' k) ≡ link →
-    Does a b (StandsFor ds links) (StandsFor ds' links') (serve_from count 0) (serve_from n k) →
-    Does b c (AtDoor ds' link) (AtDoor ds'' link') (serve_door k) behind →
-    Does a c (StandsFor ds links) (StandsFor ds'' (slice_set links' k link')) (serve_from count 0) (serve_from (count - (k + 1)) (k + 1))
-next_served a b c count n k ds ds' ds'' links links' link link' e here d one =
-    does_more d (subst (λ m. Does b c (StandsFor ds' links') (StandsFor ds'' (slice_set links' k link')) (serve_from m k) (serve_from (count - (k + 1)) (k + 1))) (sym e) (one_served b c (count - (k + 1)) k ds' ds'' links' link link' here one))
+    Does a b (StandsFor ds ks links) (StandsFor ds' ks' links') (serve_from count 0) (serve_from n k) →
+    Does b c (AtDoor ds' ks' link) (AtDoor ds'' ks'' link') (serve_door k) behind →
+    Does a c (StandsFor ds ks links) (StandsFor ds'' ks'' (slice_set links' k link')) (serve_from count 0) (serve_from (count - (k + 1)) (k + 1))
+next_served a b c count n k ds ds' ds'' ks ks' ks'' links links' link link' e here d one =
+    does_more d (subst (λ m. Does b c (StandsFor ds' ks' links') (StandsFor ds'' ks'' (slice_set links' k link')) (serve_from m k) (serve_from (count - (k + 1)) (k + 1))) (sym e) (one_served b c (count - (k + 1)) k ds' ds'' ks' ks'' links' link link' here one))
 
-pub all_served : (a b : Option Log) (m k : ℕ) (ds ds' : List KeptDevice) (links links' : List (Option LinkState)) → m ≡ 0 →
-    Does a b (StandsFor ds links) (StandsFor ds' links') (serve_from (length links) 0) (serve_from m k) → Does a b (StandsFor ds links) (StandsFor ds' links') serve_all behind
+pub all_served : (a b : Option Log) (m k : ℕ) (ds ds' : List KeptDevice) (ks ks' : List KeptWait) (links links' : List (Option LinkState)) → m ≡ 0 →
+    Does a b (StandsFor ds ks links) (StandsFor ds' ks' links') (serve_from (length links) 0) (serve_from m k) → Does a b (StandsFor ds ks links) (StandsFor ds' ks' links') serve_all behind
 unfolding serve_from
-all_served a b m k ds ds' links links' e d = record {
+all_served a b m k ds ds' ks ks' links links' e d = record {
   part = d.part;
   told = d.told;
   quiet = d.quiet;
@@ -183,3 +191,46 @@ pub link_here : (links : List (Option LinkState)) (i : ℕ) (d : Option LinkStat
 link_here [] i d h = absurd (omega arith)
 link_here (x ∷ links) zero d h = refl
 link_here (x ∷ links) (suc i) d h = link_here links i d (omega arith)
+
+-- Links that are settled
+
+settled_other : (links : List (Option LinkState)) (k j : ℕ) (link : Option LinkState) → j ≢ k → slice_get (slice_set links k link) j ≡ slice_get links j
+settled_other [] k j link apart = refl
+settled_other (x ∷ links) zero zero link apart = absurd (apart refl)
+settled_other (x ∷ links) zero (suc j) link apart = refl
+settled_other (x ∷ links) (suc k) zero link apart = refl
+settled_other (x ∷ links) (suc k) (suc j) link apart = settled_other links k j link (λ e. apart (ap suc e))
+
+set_here : (links : List (Option LinkState)) (k : ℕ) (link : Option LinkState) (l : LinkState) → slice_get (slice_set links k link) k ≡ Some (Some l) → link ≡ Some l
+set_here [] k link l e = absurd cc
+set_here (x ∷ links) zero link l e = cc
+set_here (x ∷ links) (suc k) link l e = set_here links k link l e
+
+-- one link changes, and no other begins to wait or ends it
+pub settled_set : (ks ks' : List KeptWait) (links : List (Option LinkState)) (k : ℕ) (link : Option LinkState) → AreSettled ks links → ((j : ℕ) → j ≢ k → has_waiting ks' j ≡ has_waiting ks j) →
+    ((l : LinkState) → link ≡ Some l → IsSettled (has_waiting ks' k) l) → AreSettled ks' (slice_set links k link)
+settled_set ks ks' links k link h others one j l e =
+    elim (j == k) as (λ b. (j == k) ≡ b → IsSettled (has_waiting ks' j) l) [
+      | true ↦ λ t.
+          let same : j ≡ k = eqb-true j k t in
+          subst (λ i. IsSettled (has_waiting ks' i) l) (sym same) (one l (set_here links k link l (subst (λ i. slice_get (slice_set links k link) i ≡ Some (Some l)) same e)))
+      | false ↦ λ t.
+          let apart : j ≢ k = grind (arith, nat_tests) in
+          subst (λ b. IsSettled b l) (sym (others j apart)) (h j l (sym (settled_other links k j link apart) ∙ e))
+    ] refl
+
+pub settled_here : (ks : List KeptWait) (links : List (Option LinkState)) (k n : ℕ) (d link : Option LinkState) → AreSettled ks links → n ≡ k → link ≡ get_or links k d → k < length links → (l : LinkState) → link ≡ Some l → IsSettled (has_waiting ks n) l
+settled_here ks links k n d link h number is low l e =
+    subst (λ i. IsSettled (has_waiting ks i) l) (sym number) (h k l (slice_get-get_or links k d low ∙ ap (λ x. Some x) (sym is ∙ e)))
+
+pub opened_settled : (waits : Bool) (link : Option LinkState) → link ≡ Some opened → (l : LinkState) → link ≡ Some l → IsSettled waits l
+opened_settled waits link is l e =
+    let same : opened ≡ l = let both : Some opened ≡ Some l = sym is ∙ e in cc in
+    subst (IsSettled waits) same (record { short = λ t. omega arith; room = λ t. omega arith })
+
+pub ready_settled : (waits : Bool) (old link : Option LinkState) → ((l : LinkState) → old ≡ Some l → IsSettled waits l) → link ≡ in_open ready old → (l : LinkState) → link ≡ Some l → IsSettled waits l
+ready_settled waits None link h is l e = let both : None ≡ Some l = sym is ∙ e in absurd cc
+ready_settled waits (Some m) link h is l e =
+    let same : ready m ≡ l = let both : Some (ready m) ≡ Some l = sym is ∙ e in cc in
+    let s = h m refl in
+    subst (IsSettled waits) same (record { short = s.short; room = s.room })

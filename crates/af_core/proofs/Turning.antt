@@ -1,6 +1,8 @@
 -- A wake and then all links are a turn.
-use Rattle.std.proofs.Common.{◌≡◌, ℕ, zero, suc, Bool, ℤ, true, false, not, cond, ◌==◌, ◌<◌, ◌+◌, ◌*◌, List, [], ◌∷◌, ◌++◌, length, map, take, get_or, slice_get, slice_set, is_some, refl, sym, ap, ◌∙◌, subst, arith, append_assoc}
-use Rattle.std.proofs.lemmas.List.{take_more}
+use Rattle.std.proofs.Common.{◌≡◌, ℕ, zero, suc, Bool, ℤ, pos, true, false, not, cond, ◌==◌, ◌<◌, ◌≤◌, ◌+◌, ◌*◌, List, [], ◌∷◌, ◌++◌, length, map, take, get_or, slice_get, slice_set, replicate, is_some, IfSome, IsSomeAnd, refl, sym, ap, ◌∙◌, subst, arith, append_assoc}
+use Rattle.std.proofs.lemmas.List.{length-replicate, take_more}
+use Rattle.std.proofs.lemmas.List.Elements.{All-cons}
+use Rattle.std.specs.List.{All}
 use Rattle.std.specs.declared.option.Option.{Option}
 use Rattle.std.specs.declared.option.Option.TheVariants.{None, Some}
 use Rattle.af_outside.specs.declared.happening.Happening.TheVariants.{Woke, Captured, Emitted}
@@ -9,26 +11,82 @@ use Rattle.af_outside.specs.declared.happening.Wake.TheVariants.{Opened, Readabl
 use Rattle.af_outside.specs.declared.script.DeviceSpec.{DeviceSpec}
 use Rattle.af_outside.specs.Told.{Log, Grew}
 use Rattle.af_outside.proofs.Outsides.{same_bytes-refl, eq-refl}
-use Rattle.af_model.specs.State.{State, DeviceState, LinkState, opening_device, opened, links_of, outline, outline_with, with_slot, slot_at, device_set}
-use Rattle.af_model.specs.Tick.{sound, tick, later, capture_of}
-use Rattle.af_model.specs.Turn.{behind, and_then, then_go, take_one, turn, fits, is_open_at, wake_phase, tick_phase, is_capture, capture_by, after_capture, emit_by, serve_all, ready, in_open, in_slot}
+use Rattle.af_model.specs.State.{State, DeviceState, LinkState, Waiter, opening, opening_device, opened, links_of, outline, outline_with, with_slot, slot_at, with_device, device_set}
+use Rattle.af_model.specs.Reply.{horizon_of}
+use Rattle.af_model.specs.Waiting.{due, AreDueLater}
+use Rattle.af_model.specs.NoLoss.{LosesNone}
+use Rattle.af_model.specs.Tick.{sound, tick, later, capture_of, complete_due}
+use Rattle.af_model.specs.Turn.{Behind, behind, and_then, then_go, take_one, turn, fits, is_open_at, wake_phase, tick_phase, is_capture, capture_by, after_capture, emit_by, serve_all, ready, in_open, in_slot}
+use Rattle.af_model.specs.Run.{wakes}
 use Rattle.af_model.proofs.Running.{wakes-append-none}
 use Rattle.af_model.proofs.Slots.{slot_link, links_of-set, some_link}
 use Rattle.af_perform.specs.Kept.{KeptDevice, StandsForDevice}
+use Rattle.af_perform.specs.Waits.{KeptWait, kept_passed, waits_of, AreLater, StandForWaits}
 use Rattle.af_perform.specs.Places.{StandForDevices}
-use Rattle.af_core.specs.Stands.{StandsFor, Turns, outline_of}
+use Rattle.af_core.specs.Stands.{AreSettled, Stands, StandsFor, StandForWaiting, Turns, outline_of}
 use Rattle.af_sample.specs.SampleTypes.{width_of}
+use Rattle.af_sample.proofs.RunLemmas.{length-samples}
 use Rattle.af_core.specs.Does.{Does}
 use Rattle.af_core.specs.Live.{Passes, Ticks, TicksLive}
 use Rattle.af_core.proofs.Doing.{grew_nothing, grew_more, does_nothing}
-use Rattle.af_perform.proofs.Devices.{found, stands_length, stands_set, stands_with}
+use Rattle.af_perform.proofs.Devices.{found, stands_length, stands_set}
+use Rattle.af_perform.proofs.Keeping.{waits_passed}
+use Rattle.af_perform.proofs.Sounding.{horizon_bounds}
 
-pub turns : (a b c d : Option Log) (wake : Wake) (ds ds' ds'' : List KeptDevice) (links links' links'' : List (Option LinkState)) →
-    fits (outline_of (record { devices = ds; links = links })) wake ≡ true → length ds'' ≡ length ds → length links'' ≡ length links → Grew a (Woke wake ∷ []) b →
-    Does b c (StandsFor ds links) (StandsFor ds' links') (wake_phase wake) behind → Does c d (StandsFor ds' links') (StandsFor ds'' links'') serve_all behind →
-    Turns a d wake (record { devices = ds; links = links }) (record { devices = ds''; links = links'' })
+-- what waits a frame or more is due later
+due_later : (devices : List DeviceState) (ks : List KeptWait) (waiting : List Waiter) → AreLater ks → StandForWaits devices ks waiting → AreDueLater devices waiting
+due_later devices [] [] l h = tt
+due_later devices [] (w ∷ waiting) l h = absurd h
+due_later devices (k ∷ ks) [] l h = absurd h
+due_later devices (k ∷ ks) (w ∷ waiting) l h =
+    let some = l.0 in
+    let left = h.0.left in
+    (subst (λ o. IfSome o (λ s. s.now < due (horizon_of s) w.held)) (sym h.0.here) (omega (arith, some, left)), due_later devices ks waiting l.1 h.1)
+
+-- what is shown of the links that wait stands for them
+pub shown : (devices : List DeviceState) (ks : List KeptWait) (waiting : List Waiter) → AreLater ks → StandForWaits devices ks waiting → StandForWaiting devices (waits_of ks) waiting
+shown devices [] [] l h = tt
+shown devices [] (w ∷ waiting) l h = absurd h
+shown devices (k ∷ ks) [] l h = absurd h
+shown devices (k ∷ ks) (w ∷ waiting) l h =
+    let some = l.0 in
+    let left = h.0.left in
+    (h.0.link, h.0.device, subst (λ o. IsSomeAnd o (λ s. s.now + k.wait.left ≡ due (horizon_of s) w.held)) (sym h.0.here) (omega (arith, some, left)), shown devices ks waiting l.1 h.1)
+
+pub all_wait : (ks : List KeptWait) → AreLater ks → All (λ w. 0 < w.left) (waits_of ks)
+all_wait [] l = λ k d low. absurd (omega arith)
+all_wait (k ∷ ks) l = All-cons (λ w. 0 < w.left) k.wait (waits_of ks) l.0 (all_wait ks l.1)
+
+-- no link is open
+pub none_open : (n k : ℕ) (l : LinkState) → slice_get (replicate n None) k ≡ Some (Some l) → ⊥
+none_open zero k l e = cc
+none_open (suc n) zero l e = cc
+none_open (suc n) (suc k) l e = none_open n k l e
+
+-- a core at its start
+pub starts_settled : (ks : List KeptWait) (links : List (Option LinkState)) → links ≡ replicate 32 None → AreSettled ks links
+starts_settled ks links e k l is = absurd (none_open 32 k l (subst (λ (xs : List (Option LinkState)). slice_get xs k ≡ Some (Some l)) e is))
+
+pub starts_standing : (ds : List KeptDevice) (ks : List KeptWait) (links : List (Option LinkState)) (config : List DeviceSpec) → StandForDevices ds (opening config).devices → ks ≡ [] → links ≡ replicate 32 None → (s : State) × StandsFor ds ks links s
+starts_standing ds ks links config h waits e =
+    (opening config, record { devices = h; waiting = subst (λ (qs : List KeptWait). StandForWaits (opening config).devices qs []) (sym waits) tt; links = sym e })
+
+-- of no request that had waited a sample is lost
+none_lost : (ds : List KeptDevice) (ss : List DeviceState) → StandForDevices ds ss → All (λ s. LosesNone s) ss
+none_lost [] [] h = λ k d low. absurd (omega arith)
+none_lost [] (s ∷ ss) h = absurd h
+none_lost (d ∷ ds) [] h = absurd h
+none_lost (d ∷ ds) (s ∷ ss) h = All-cons (λ s. LosesNone s) s ss h.0.whole (none_lost ds ss h.1)
+
+pub stands_now : (ds : List KeptDevice) (ks : List KeptWait) (links : List (Option LinkState)) (s : State) → AreLater ks → StandsFor ds ks links s → Stands (record { devices = ds; waits = ks; links = links }) s
+stands_now ds ks links s l h = record { kept = h; later = due_later s.devices ks s.waiting l h.waiting }
+
+pub turns : (a b c d : Option Log) (wake : Wake) (ds ds' ds'' : List KeptDevice) (ks ks' ks'' : List KeptWait) (links links' links'' : List (Option LinkState)) →
+    fits (outline_of (record { devices = ds; waits = ks; links = links })) wake ≡ true → length ds'' ≡ length ds → length links'' ≡ length links → AreLater ks'' → Grew a (Woke wake ∷ []) b →
+    Does b c (StandsFor ds ks links) (StandsFor ds' ks' links') (wake_phase wake) behind → Does c d (StandsFor ds' ks' links') (StandsFor ds'' ks'' links'') serve_all behind →
+    Turns a d wake (record { devices = ds; waits = ks; links = links }) (record { devices = ds''; waits = ks''; links = links'' })
 unfolding turn
-turns a b c d wake ds ds' ds'' links links' links'' fit devices_stay links_stay told w e = record {
+turns a b c d wake ds ds' ds'' ks ks' ks'' links links' links'' fit devices_stay links_stay later told w e = record {
   devices = devices_stay;
   links = links_stay;
   part = Woke wake ∷ (w.part ++ e.part);
@@ -37,28 +95,42 @@ turns a b c d wake ds ds' ds'' links links' links'' fit devices_stay links_stay 
   begins = refl;
   only = wakes-append-none w.part e.part w.quiet e.quiet;
   each = λ s h.
-      let first = w.each s h in
+      let first = w.each s h.kept in
       let second = e.each first.state first.stands in
-      let open_to : fits (outline s) wake ≡ true = ap (λ o. fits o wake) (same_outline ds links s h) ∙ fit in
+      let open_to : fits (outline s) wake ≡ true = ap (λ o. fits o wake) (same_outline ds ks links s h.kept) ∙ fit in
       record {
         next = second.state;
-        stands = second.stands;
+        stands = stands_now ds'' ks'' links'' second.state later second.stands;
+        lossless = none_lost ds'' second.state.devices second.stands.devices;
         is_turn = λ more. ap (λ b. cond b (and_then (wake_phase wake s ((w.part ++ e.part) ++ more)) serve_all) None) open_to
             ∙ rw append_assoc (ap (λ o. and_then o serve_all) (first.same (e.part ++ more)) ∙ second.same more);
       };
 }
   where
-    same_outline : (ds : List KeptDevice) (links : List (Option LinkState)) (s : State) → StandsFor ds links s → outline s ≡ outline_of (record { devices = ds; links = links })
-    same_outline ds links s h = ap (λ n. outline_with n (links_of s.slots)) (stands_length ds s.devices h.devices) ∙ ap (λ l. outline_with (length ds) l) h.links
+    same_outline : (ds : List KeptDevice) (ks : List KeptWait) (links : List (Option LinkState)) (s : State) → StandsFor ds ks links s → outline s ≡ outline_of (record { devices = ds; waits = ks; links = links })
+    same_outline ds ks links s h = ap (λ n. outline_with n (links_of s.slots)) (stands_length ds s.devices h.devices) ∙ ap (λ l. outline_with (length ds) l) h.links
+
+-- the state that is stood for behind a part
+pub does_leave : {a b : Option Log} (ds ds' : List KeptDevice) (ks ks' : List KeptWait) (links links' : List (Option LinkState)) {f : State → Log → Option (Behind State)} {g : State → Log → Option (Behind State)} → Does a b (StandsFor ds ks links) (StandsFor ds' ks' links') f g →
+    ((s : State) × StandsFor ds ks links s) → (s : State) × StandsFor ds' ks' links' s
+does_leave ds ds' ks ks' links links' d h = let r = d.each h.0 h.1 in (r.state, r.stands)
+
+-- what is written back over a list of as many
+pub written : {A : Type 0} (n : ℕ) (xs ys : List A) → length xs ≡ n → take n (xs ++ ys) ≡ xs
+written zero [] [] e = refl
+written zero [] (y ∷ ys) e = refl
+written zero (x ∷ xs) ys e = absurd cc
+written (suc n) [] ys e = absurd cc
+written (suc n) (x ∷ xs) ys e = ap (λ l. x ∷ l) (written n xs ys (let s : length xs ≡ n = cc in s))
 
 -- Wakes of links
 
-pub opens : (t : Option Log) (k : ℕ) (ds : List KeptDevice) (links links' : List (Option LinkState)) → links' ≡ slice_set links k (Some opened) →
-    Does t t (StandsFor ds links) (StandsFor ds links') (wake_phase (Opened k)) behind
+pub opens : (t : Option Log) (k : ℕ) (ds : List KeptDevice) (ks : List KeptWait) (links links' : List (Option LinkState)) → links' ≡ slice_set links k (Some opened) →
+    Does t t (StandsFor ds ks links) (StandsFor ds ks links') (wake_phase (Opened k)) behind
 unfolding wake_phase
-opens t k ds links links' e =
-    does_nothing t (StandsFor ds links) (StandsFor ds links') (wake_phase (Opened k)) behind (λ s. with_slot k (record { link = Some opened; said = [] }) s)
-    (λ s h. record { devices = h.devices; links = links_of-set s.slots k (record { link = Some opened; said = [] }) ∙ ap (λ l. slice_set l k (Some opened)) h.links ∙ sym e })
+opens t k ds ks links links' e =
+    does_nothing t (StandsFor ds ks links) (StandsFor ds ks links') (wake_phase (Opened k)) behind (λ s. with_slot k (record { link = Some opened; said = [] }) s)
+    (λ s h. record { devices = h.devices; waiting = h.waiting; links = links_of-set s.slots k (record { link = Some opened; said = [] }) ∙ ap (λ l. slice_set l k (Some opened)) h.links ∙ sym e })
     (λ s h log. refl)
 
 -- a link that may be read is one of the links
@@ -70,88 +142,120 @@ read_below n k links wake e fit = below links k (subst (λ w. fits (outline_with
     below (x ∷ links) zero e = omega arith
     below (x ∷ links) (suc k) e = let lt = below links k e in omega arith
 
-pub readies : (t : Option Log) (k : ℕ) (ds : List KeptDevice) (links links' : List (Option LinkState)) (link : Option LinkState) → some_link (slice_get links k) ≡ link → links' ≡ slice_set links k (in_open ready link) →
-    Does t t (StandsFor ds links) (StandsFor ds links') (wake_phase (Readable k)) behind
+pub readies : (t : Option Log) (k : ℕ) (ds : List KeptDevice) (ks : List KeptWait) (links links' : List (Option LinkState)) (link : Option LinkState) → some_link (slice_get links k) ≡ link → links' ≡ slice_set links k (in_open ready link) →
+    Does t t (StandsFor ds ks links) (StandsFor ds ks links') (wake_phase (Readable k)) behind
 unfolding wake_phase
-readies t k ds links links' link here e =
-    does_nothing t (StandsFor ds links) (StandsFor ds links') (wake_phase (Readable k)) behind (λ s. with_slot k (in_slot ready (slot_at k s)) s)
+readies t k ds ks links links' link here e =
+    does_nothing t (StandsFor ds ks links) (StandsFor ds ks links') (wake_phase (Readable k)) behind (λ s. with_slot k (in_slot ready (slot_at k s)) s)
     (λ s h.
     let same : (slot_at k s).link ≡ link = slot_link s.slots k ∙ ap (λ l. some_link (slice_get l k)) h.links ∙ here in
-    record { devices = h.devices; links = links_of-set s.slots k (in_slot ready (slot_at k s)) ∙ ap (λ l. slice_set l k (in_open ready (slot_at k s).link)) h.links ∙ ap (λ o. slice_set links k (in_open ready o)) same ∙ sym e })
+    record { devices = h.devices; waiting = h.waiting; links = links_of-set s.slots k (in_slot ready (slot_at k s)) ∙ ap (λ l. slice_set l k (in_open ready (slot_at k s).link)) h.links ∙ ap (λ o. slice_set links k (in_open ready o)) same ∙ sym e })
     (λ s h log. refl)
 
-pub stays_idle : (t : Option Log) (ds : List KeptDevice) (links : List (Option LinkState)) → Does t t (StandsFor ds links) (StandsFor ds links) (wake_phase Idle) behind
+pub stays_idle : (t : Option Log) (ds : List KeptDevice) (ks : List KeptWait) (links : List (Option LinkState)) → Does t t (StandsFor ds ks links) (StandsFor ds ks links) (wake_phase Idle) behind
 unfolding wake_phase
-stays_idle t ds links = does_nothing t (StandsFor ds links) (StandsFor ds links) (wake_phase Idle) behind (λ s. s) (λ s h. h) (λ s h log. refl)
+stays_idle t ds ks links = does_nothing t (StandsFor ds ks links) (StandsFor ds ks links) (wake_phase Idle) behind (λ s. s) (λ s h. h) (λ s h log. refl)
 
-pub stays_stop : (t : Option Log) (ds : List KeptDevice) (links : List (Option LinkState)) → Does t t (StandsFor ds links) (StandsFor ds links) (wake_phase Stop) behind
+pub stays_stop : (t : Option Log) (ds : List KeptDevice) (ks : List KeptWait) (links : List (Option LinkState)) → Does t t (StandsFor ds ks links) (StandsFor ds ks links) (wake_phase Stop) behind
 unfolding wake_phase
-stays_stop t ds links = does_nothing t (StandsFor ds links) (StandsFor ds links) (wake_phase Stop) behind (λ s. s) (λ s h. h) (λ s h log. refl)
+stays_stop t ds ks links = does_nothing t (StandsFor ds ks links) (StandsFor ds ks links) (wake_phase Stop) behind (λ s. s) (λ s h. h) (λ s h log. refl)
 
 -- the same of a wake by another name
-pub at_wake : {a b : Option Log} {ds ds' : List KeptDevice} {links links' : List (Option LinkState)} {wake wake' : Wake} → wake ≡ wake' →
-    Does a b (StandsFor ds links) (StandsFor ds' links') (wake_phase wake') behind → Does a b (StandsFor ds links) (StandsFor ds' links') (wake_phase wake) behind
-at_wake {a} {b} {ds} {ds'} {links} {links'} {wake} {wake'} e d = subst (λ w. Does a b (StandsFor ds links) (StandsFor ds' links') (wake_phase w) behind) (sym e) d
+pub at_wake : {a b : Option Log} {ds ds' : List KeptDevice} {ks ks' : List KeptWait} {links links' : List (Option LinkState)} {wake wake' : Wake} → wake ≡ wake' →
+    Does a b (StandsFor ds ks links) (StandsFor ds' ks' links') (wake_phase wake') behind → Does a b (StandsFor ds ks links) (StandsFor ds' ks' links') (wake_phase wake) behind
+at_wake {a} {b} {ds} {ds'} {ks} {ks'} {links} {links'} {wake} {wake'} e d = subst (λ w. Does a b (StandsFor ds ks links) (StandsFor ds' ks' links') (wake_phase w) behind) (sym e) d
 
 -- Ticks
 
 -- a device that failed
 pub fails : (d : KeptDevice) (captured : List ℤ) (b : Bool) (s : DeviceState) → StandsForDevice d (later captured b s) → StandsForDevice (record d { is_dead = true }) (later captured true s)
-fails d captured b s h = record { ty = h.ty; rate = h.rate; ahead = h.ahead; back = h.back; hears = h.hears; keeps = h.keeps; dead = refl }
+fails d captured b s h = record { ty = h.ty; rate = h.rate; listed = h.listed; ahead = h.ahead; back = h.back; hears = h.hears; keeps = h.keeps; whole = h.whole; dead = refl }
+
+-- where a tick leads before requests complete
+record Passed (k n : ℕ) (ds : List KeptDevice) (d' : KeptDevice) (ks : List KeptWait) (links : List (Option LinkState)) (part : Log) (s : State) : Type 0 where
+  captured : List ℤ
+  is_dead : Bool
+  stands : StandsFor (slice_set ds k d') (map (kept_passed k n) ks) links (record s { devices = with_device k (later captured is_dead) s.devices })
+  same : (more : Log) → wake_phase (Ticked k n) s (part ++ more) ≡ behind (tick k captured is_dead s) more
+
+-- a device has passed over sample periods, and those that wait for it have
+passed_on : (k n : ℕ) (ds : List KeptDevice) (d d' : KeptDevice) (ks : List KeptWait) (links : List (Option LinkState)) (s : State) (captured : List ℤ) (is_dead : Bool) (device : DeviceState) → n ≤ 4096 → AreLater ks → StandsFor ds ks links s →
+    slice_get s.devices k ≡ Some device → StandsForDevice d device → length captured ≡ n → StandsForDevice d' (later captured is_dead device) →
+    StandsFor (slice_set ds k d') (map (kept_passed k n) ks) links (record s { devices = with_device k (later captured is_dead) s.devices })
+passed_on k n ds d d' ks links s captured is_dead device few l h here stands size one = record {
+  devices = subst (λ o. StandForDevices (slice_set ds k d') (device_set k (later captured is_dead) s.devices o)) (sym here) (stands_set ds s.devices k d' (later captured is_dead device) h.devices one);
+  waiting = subst (λ o. StandForWaits (device_set k (later captured is_dead) s.devices o) (map (kept_passed k n) ks) s.waiting) (sym here)
+      (waits_passed s.devices k n device captured is_dead ks s.waiting here size few (horizon_bounds device d stands).0 l h.waiting);
+  links = h.links;
+}
 
 -- a dead device
-pub ticks_dead : (t : Option Log) (k n : ℕ) (ds : List KeptDevice) (d d' : KeptDevice) (given : List ℕ) (links : List (Option LinkState)) → slice_get ds k ≡ Some d → d.is_dead ≡ true →
-    Passes d d' n None given → Does t t (StandsFor ds links) (StandsFor (slice_set ds k d') links) (wake_phase (Ticked k n)) behind
+passes_dead : (k n : ℕ) (ds : List KeptDevice) (d d' : KeptDevice) (given : List ℕ) (ks : List KeptWait) (links : List (Option LinkState)) → n ≤ 4096 → AreLater ks → slice_get ds k ≡ Some d → d.is_dead ≡ true →
+    Passes d d' n None given → (s : State) → StandsFor ds ks links s → Passed k n ds d' ks links [] s
 unfolding wake_phase
-ticks_dead t k n ds d d' given links here dead p = record {
-  part = [];
-  told = grew_nothing t;
-  quiet = refl;
-  each = λ s h.
-      let r = found ds s.devices k d here h.devices in
-      let silent = capture_of r.state.ty n None in
-      let gone : StandsForDevice d' (later silent true r.state) =
-      subst (λ b. StandsForDevice d' (later silent b r.state)) (sym r.stands.dead ∙ dead) (subst (λ ty. StandsForDevice d' (later (capture_of ty n None) r.state.is_dead r.state)) r.stands.ty (p.stands r.state r.stands)) in
-      record {
-        state = tick k silent true s;
-        stands = record {
-          devices = subst (λ o. StandForDevices (slice_set ds k d') (device_set k (later silent true) s.devices o)) (sym r.here) (stands_set ds s.devices k d' (later silent true r.state) h.devices gone);
-          links = h.links;
-        };
-        same = λ more.
-            subst (λ o. tick_phase k n o s more ≡ behind (tick k silent true s) more) (sym r.here)
-            (ap (λ b. cond b (behind (tick k silent true s) more) (and_then (take_one (capture_by k n r.state) more) (after_capture k n r.state s))) (sym r.stands.dead ∙ dead));
-      };
-}
+passes_dead k n ds d d' given ks links few l here dead p s h =
+    let r = found ds s.devices k d here h.devices in
+    let silent = capture_of r.state.ty n None in
+    let gone : StandsForDevice d' (later silent true r.state) =
+    subst (λ b. StandsForDevice d' (later silent b r.state)) (sym r.stands.dead ∙ dead) (subst (λ ty. StandsForDevice d' (later (capture_of ty n None) r.state.is_dead r.state)) r.stands.ty (p.stands r.state r.stands)) in
+    record {
+      captured = silent;
+      is_dead = true;
+      stands = passed_on k n ds d d' ks links s silent true r.state few l h r.here r.stands (length-replicate n (pos 0)) gone;
+      same = λ more.
+          subst (λ o. tick_phase k n o s more ≡ behind (tick k silent true s) more) (sym r.here)
+          (ap (λ b. cond b (behind (tick k silent true s) more) (and_then (take_one (capture_by k n r.state) more) (after_capture k n r.state s))) (sym r.stands.dead ∙ dead));
+    }
 
 -- a live device
-pub ticks_live : (a b : Option Log) (k n : ℕ) (ds : List KeptDevice) (d d' : KeptDevice) (links : List (Option LinkState)) → slice_get ds k ≡ Some d → d.is_dead ≡ false →
-    TicksLive k n d d' a b → Does a b (StandsFor ds links) (StandsFor (slice_set ds k d') links) (wake_phase (Ticked k n)) behind
+passes_live : (a b : Option Log) (k n : ℕ) (ds : List KeptDevice) (d d' : KeptDevice) (ks : List KeptWait) (links : List (Option LinkState)) → n ≤ 4096 → AreLater ks → slice_get ds k ≡ Some d → d.is_dead ≡ false →
+    (t : TicksLive k n d d' a b) → (s : State) → StandsFor ds ks links s → Passed k n ds d' ks links t.part s
 unfolding wake_phase
-ticks_live a b k n ds d d' links here live t = record {
-  part = t.part;
-  told = t.told;
-  quiet = t.quiet;
-  each = λ s h.
-      let r = found ds s.devices k d here h.devices in
-      record {
-        state = tick k t.captured t.is_dead s;
-        stands = record { devices = stands_with ds s.devices k d d' (later t.captured t.is_dead) here h.devices t.stands; links = h.links };
-        same = λ more.
-            subst (λ o. tick_phase k n o s (t.part ++ more) ≡ behind (tick k t.captured t.is_dead s) more) (sym r.here)
-            (ap (λ b. cond b (behind (tick k (capture_of r.state.ty n None) true s) (t.part ++ more)) (and_then (take_one (capture_by k n r.state) (t.part ++ more)) (after_capture k n r.state s))) (sym r.stands.dead ∙ live)
-            ∙ t.goes r.state r.stands s more);
-      };
-}
+passes_live a b k n ds d d' ks links few l here live t s h =
+    let r = found ds s.devices k d here h.devices in
+    record {
+      captured = t.captured;
+      is_dead = t.is_dead;
+      stands = passed_on k n ds d d' ks links s t.captured t.is_dead r.state few l h r.here r.stands t.size (t.stands r.state r.stands);
+      same = λ more.
+          subst (λ o. tick_phase k n o s (t.part ++ more) ≡ behind (tick k t.captured t.is_dead s) more) (sym r.here)
+          (ap (λ b. cond b (behind (tick k (capture_of r.state.ty n None) true s) (t.part ++ more)) (and_then (take_one (capture_by k n r.state) (t.part ++ more)) (after_capture k n r.state s))) (sym r.stands.dead ∙ live)
+          ∙ t.goes r.state r.stands s more);
+    }
 
--- either
-pub ticks : (a b : Option Log) (k n : ℕ) (ds : List KeptDevice) (d d' : KeptDevice) (links : List (Option LinkState)) → slice_get ds k ≡ Some d → Ticks d.is_dead k n d d' a b →
-    Does a b (StandsFor ds links) (StandsFor (slice_set ds k d') links) (wake_phase (Ticked k n)) behind
-ticks a b k n ds d d' links here t =
-    elim d.is_dead as (λ dead. d.is_dead ≡ dead → Ticks dead k n d d' a b → Does a b (StandsFor ds links) (StandsFor (slice_set ds k d') links) (wake_phase (Ticked k n)) behind) [
-      | true ↦ λ e t. subst (λ y. Does a y (StandsFor ds links) (StandsFor (slice_set ds k d') links) (wake_phase (Ticked k n)) behind) t.2 (ticks_dead a k n ds d d' t.0 links here e t.1)
-      | false ↦ λ e t. ticks_live a b k n ds d d' links here e t
+-- either, with the part that was added to the log
+record PassesAll (a b : Option Log) (k n : ℕ) (ds : List KeptDevice) (d' : KeptDevice) (ks : List KeptWait) (links : List (Option LinkState)) : Type 0 where
+  part : Log
+  told : Grew a part b
+  quiet : wakes part ≡ 0
+  each : (s : State) → StandsFor ds ks links s → Passed k n ds d' ks links part s
+
+passes_all : (a b : Option Log) (k n : ℕ) (ds : List KeptDevice) (d d' : KeptDevice) (ks : List KeptWait) (links : List (Option LinkState)) → n ≤ 4096 → AreLater ks → slice_get ds k ≡ Some d → Ticks d.is_dead k n d d' a b → PassesAll a b k n ds d' ks links
+passes_all a b k n ds d d' ks links few l here t =
+    elim d.is_dead as (λ dead. d.is_dead ≡ dead → Ticks dead k n d d' a b → PassesAll a b k n ds d' ks links) [
+      | true ↦ λ e t. subst (λ y. PassesAll a y k n ds d' ks links) t.2 (record { part = []; told = grew_nothing a; quiet = refl; each = passes_dead k n ds d d' t.0 ks links few l here e t.1 })
+      | false ↦ λ e t. record { part = t.part; told = t.told; quiet = t.quiet; each = passes_live a b k n ds d d' ks links few l here e t }
     ] refl t
+
+-- the state that is stood for before requests complete
+pub passed_state : (a b : Option Log) (k n : ℕ) (ds : List KeptDevice) (d d' : KeptDevice) (ks : List KeptWait) (links : List (Option LinkState)) → n ≤ 4096 → AreLater ks → slice_get ds k ≡ Some d → Ticks d.is_dead k n d d' a b →
+    ((s : State) × StandsFor ds ks links s) → (s : State) × StandsFor (slice_set ds k d') (map (kept_passed k n) ks) links s
+passed_state a b k n ds d d' ks links few l here t h =
+    let p = (passes_all a b k n ds d d' ks links few l here t).each h.0 h.1 in (record h.0 { devices = with_device k (later p.captured p.is_dead) h.0.devices }, p.stands)
+
+-- a tick, behind which requests complete
+pub ticks : (a b : Option Log) (k n : ℕ) (ds ds' : List KeptDevice) (d d' : KeptDevice) (ks ks' : List KeptWait) (links links' : List (Option LinkState)) → n ≤ 4096 → AreLater ks → slice_get ds k ≡ Some d → Ticks d.is_dead k n d d' a b →
+    ((s : State) → StandsFor (slice_set ds k d') (map (kept_passed k n) ks) links s → StandsFor ds' ks' links' (complete_due k s)) → Does a b (StandsFor ds ks links) (StandsFor ds' ks' links') (wake_phase (Ticked k n)) behind
+ticks a b k n ds ds' d d' ks ks' links links' few l here t complete =
+    let all = passes_all a b k n ds d d' ks links few l here t in
+    record {
+      part = all.part;
+      told = all.told;
+      quiet = all.quiet;
+      each = λ s h.
+          let p = all.each s h in
+          record { state = tick k p.captured p.is_dead s; stands = complete (record s { devices = with_device k (later p.captured p.is_dead) s.devices }) p.stands; same = p.same };
+    }
 
 -- what a live device does by its calls
 
@@ -169,6 +273,7 @@ capture_failed a b k n d d' e false bytes given f p told is = record {
   told = told;
   quiet = refl;
   captured = capture_of d.ty n None;
+  size = length-replicate n (pos 0);
   is_dead = true;
   stands = λ device h. subst (λ x. StandsForDevice x (later (capture_of d.ty n None) true device)) (sym is) (fails d' (capture_of d.ty n None) device.is_dead device (p.stands device h));
   goes = λ device h s more. ap (λ x. and_then x (after_capture k n device s)) (capture_taken k n device None refl more);
@@ -183,6 +288,7 @@ capture_emitted a b c k n d d' e bytes given done size p told told' stands = rec
   told = grew_more a b c (Captured k n (Some bytes) ∷ []) (Emitted k given done ∷ []) told told';
   quiet = refl;
   captured = capture_of d.ty n (Some bytes);
+  size = length-samples d.ty bytes n size;
   is_dead = not done;
   stands = stands;
   goes = λ device h s more.

@@ -1,5 +1,5 @@
 -- What a live device adds to a log when it ticks.
-use Rattle.std.specs.Prelude.{◌≡◌, ℕ, ℤ, Bool, List, ◌++◌, true, false}
+use Rattle.std.specs.Prelude.{◌≡◌, ℕ, ℤ, Bool, List, ◌++◌, length, true, false}
 use Rattle.std.specs.declared.option.Option.{Option}
 use Rattle.std.specs.declared.option.Option.TheVariants.{None}
 use Rattle.af_outside.specs.Told.{Log, Grew}
@@ -21,6 +21,7 @@ pub record TicksLive (d n : ℕ) (old new : KeptDevice) (before after : Option L
   pub told : Grew before part after
   pub quiet : wakes part ≡ 0
   pub captured : List ℤ
+  pub size : length captured ≡ n
   pub is_dead : Bool
   pub stands : (device : DeviceState) → StandsForDevice old device → StandsForDevice new (later captured is_dead device)
   pub goes : (device : DeviceState) → StandsForDevice old device → (s : State) (more : Log) →

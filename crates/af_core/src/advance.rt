@@ -1,5 +1,5 @@
 // Advancing a link: what stands whole at the front of its input is taken off and answered.
-ghost use Rattle.std.specs.Prelude.{◌≡◌, ◌⊎◌, ◌≤◌, ◌<◌, ◌++◌, length, map, IsTrue, IsFalse, true};
+ghost use Rattle.std.specs.Prelude.{◌≡◌, ◌⊎◌, ◌≤◌, ◌<◌, ◌++◌, List, length, map, IsTrue, IsFalse, true, false};
 ghost use Rattle.af_outside.specs.declared.happening.Why.TheVariants as why;
 ghost use Rattle.af_wire.specs.declared.front.Front.TheVariants.{Frame};
 ghost use Rattle.af_wire.specs.Front.{setup_front, frame_front};
@@ -7,13 +7,14 @@ ghost use Rattle.af_wire.specs.Message.{error};
 ghost use Rattle.af_request.specs.Answer.{setup};
 ghost use Rattle.af_model.specs.State.{Around, place, stopped};
 ghost use Rattle.af_model.specs.Reply.{reply_message};
-ghost use Rattle.af_model.specs.Advance.{after_setup, after_frame, advance_step, advance};
+ghost use Rattle.af_model.specs.Advance.{after_setup, after_frame, advance_step, advance, takes_more};
 ghost use Rattle.af_perform.specs.Kept.{kept_info};
+ghost use Rattle.af_perform.specs.Waits.{has_waiting, Grows, KeptWait};
 ghost use Rattle.af_perform.specs.Places.{StandAround, At};
 ghost use Rattle.af_core.specs.Stands.{StepsTo, IsSettled};
 
 use af_outside::Why;
-use af_perform::{Device, Link, Work, perform, request_in};
+use af_perform::{Device, Link, Waits, Work, perform, request_in};
 use af_request::{Devices, Reply, write_reply};
 use af_wire::{Front, SetupFront, frame_at, setup_of, write_error};
 
@@ -61,7 +62,7 @@ fn setup_once(devices: &[Device], link: &mut Link, message: &mut [u8]) -> bool
     requires count { length devices.now ≤ 8 }
     requires room { length link.old.pending ≤ 16384 }
     requires size { length message.old ≡ 16016 }
-    ensures step { (a : Around) → StandAround devices.now a → StepsTo result (after_setup (setup_front link.old.rest) (place a link.old)) devices.now link.new }
+    ensures step { (ks : List KeptWait) (a : Around) → StandAround devices.now ks a → StepsTo result (after_setup (setup_front link.old.rest) (place a link.old)) devices.now ks link.new }
     ensures same { IsFalse result → link.new ≡ link.old }
     ensures shorter { IsTrue result → length link.new.rest < length link.old.rest }
     ensures short { IsFalse result → length link.new.rest < 16384 }
@@ -84,20 +85,25 @@ fn setup_once(devices: &[Device], link: &mut Link, message: &mut [u8]) -> bool
 fn perform_front(
     number: u8,
     devices: &mut [Device],
+    waits: &mut Waits,
     link: &mut Link,
     frame: &mut [u8],
     work: &mut Work,
 )
+    requires number { number < 32 }
+    requires free { has_waiting waits.old number ≡ false }
     requires there { length frame.old ≤ length link.old.rest }
     requires some { 0 < length frame.old }
     requires few { length frame.old ≤ 16384 }
     requires room { length link.old.pending ≤ 16384 }
-    ensures step { (a : Around) → StandAround devices.old a → StepsTo true (after_frame number (Frame (length frame.old)) (place a link.old)) devices.new link.new }
+    ensures step { (a : Around) → StandAround devices.old waits.old a → StepsTo true (after_frame number (Frame (length frame.old)) (place a link.old)) devices.new waits.new link.new }
     ensures shorter { length link.new.rest < length link.old.rest }
+    ensures grows { Grows number waits.old waits.new }
+    ensures calm { IsTrue (has_waiting waits.new number) → length link.new.pending ≤ 16384 }
 {
     link.take_front(frame);
     match request_in(frame) {
-        Some(request) => perform(number, &request, devices, link, work),
+        Some(request) => perform(number, &request, devices, waits, link, work),
         None => link.stop(Why::Malformed),
     }
 }
@@ -106,16 +112,21 @@ fn perform_front(
 fn frame_once(
     number: u8,
     devices: &mut [Device],
+    waits: &mut Waits,
     link: &mut Link,
     input: &mut [u8],
     work: &mut Work,
 ) -> bool
+    requires number { number < 32 }
+    requires free { has_waiting waits.old number ≡ false }
     requires room { length link.old.pending ≤ 16384 }
     requires size { length input.old ≡ 16384 }
-    ensures step { (a : Around) → StandAround devices.old a → StepsTo result (after_frame number (frame_front link.old.rest) (place a link.old)) devices.new link.new }
-    ensures same { IsFalse result → (devices.new ≡ devices.old) × (link.new ≡ link.old) }
+    ensures step { (a : Around) → StandAround devices.old waits.old a → StepsTo result (after_frame number (frame_front link.old.rest) (place a link.old)) devices.new waits.new link.new }
+    ensures same { IsFalse result → (devices.new ≡ devices.old) × (waits.new ≡ waits.old) × (link.new ≡ link.old) }
     ensures shorter { IsTrue result → length link.new.rest < length link.old.rest }
     ensures short { IsFalse result → length link.new.rest < 16384 }
+    ensures grows { Grows number waits.old waits.new }
+    ensures calm { IsTrue (has_waiting waits.new number) → length link.new.pending ≤ 16384 }
 {
     match frame_at(link.rest()) {
         Front::NeedMore => false,
@@ -124,7 +135,7 @@ fn frame_once(
             true
         }
         Front::Frame(n) => {
-            perform_front(number, devices, link, &mut input[..n], work);
+            perform_front(number, devices, waits, link, &mut input[..n], work);
             true
         }
     }
@@ -134,22 +145,26 @@ fn frame_once(
 fn advance_once(
     number: u8,
     devices: &mut [Device],
+    waits: &mut Waits,
     link: &mut Link,
     input: &mut [u8],
     work: &mut Work,
 ) -> bool
+    requires number { number < 32 }
     requires count { length devices.old ≤ 8 }
     requires size { length input.old ≡ 16384 }
-    ensures step { (a : Around) → StandAround devices.old a → StepsTo result (advance_step number (place a link.old)) devices.new link.new }
-    ensures same { IsFalse result → (devices.new ≡ devices.old) × (link.new ≡ link.old) }
+    ensures step { (a : Around) → StandAround devices.old waits.old a → StepsTo result (advance_step number (place a link.old)) devices.new waits.new link.new }
+    ensures same { IsFalse result → (devices.new ≡ devices.old) × (waits.new ≡ waits.old) × (link.new ≡ link.old) }
     ensures shorter { IsTrue result → length link.new.rest < length link.old.rest }
-    ensures settled { IsFalse result → IsSettled link.new }
+    ensures short { IsFalse result → IsTrue (takes_more (has_waiting waits.new number) link.new) → length link.new.rest < 16384 }
+    ensures grows { Grows number waits.old waits.new }
+    ensures calm { IsTrue result → IsTrue (has_waiting waits.new number) → length link.new.pending ≤ 16384 }
 {
-    if !link.takes_more() {
+    if !link.takes_more(waits.is_waiting(number)) {
         return false;
     }
     if link.is_set_up() {
-        frame_once(number, devices, link, input, work)
+        frame_once(number, devices, waits, link, input, work)
     } else {
         setup_once(devices, link, &mut work.message)
     }
@@ -159,15 +174,19 @@ fn advance_once(
 pub fn advance(
     number: u8,
     devices: &mut [Device],
+    waits: &mut Waits,
     link: &mut Link,
     input: &mut [u8],
     work: &mut Work,
 )
+    requires number { number < 32 }
     requires count { length devices.old ≤ 8 }
     requires size { length input.old ≡ 16384 }
-    ensures step { (a : Around) → StandAround devices.old a → At devices.new link.new (advance number (place a link.old)) }
-    ensures settled { IsSettled link.new }
+    requires room { IsTrue (has_waiting waits.old number) → length link.old.pending ≤ 49152 }
+    ensures step { (a : Around) → StandAround devices.old waits.old a → At devices.new waits.new link.new (advance number (place a link.old)) }
+    ensures settled { IsSettled (has_waiting waits.new number) link.new }
     ensures answered { (link.new ≡ link.old) ⊎ (length link.new.rest < length link.old.rest) }
+    ensures grows { Grows number waits.old waits.new }
 {
-    while advance_once(number, devices, link, input, work) {}
+    while advance_once(number, devices, waits, link, input, work) {}
 }

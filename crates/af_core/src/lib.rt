@@ -2,6 +2,7 @@
 #![tactic(auto)]
 
 mod advance;
+mod complete;
 mod serve;
 mod server;
 mod slot;

@@ -8,16 +8,18 @@ ghost use Rattle.af_buffers.specs.RecordBuffer.{Last, Keeps};
 ghost use Rattle.af_model.specs.State.{State, LinkState, opening, slot_at};
 ghost use Rattle.af_model.specs.Turn.{behind, fits, wake_phase};
 ghost use Rattle.af_core.specs.Does.{Does};
+ghost use Rattle.af_perform.specs.Waits.{waits_of, AreLater};
 ghost use Rattle.af_perform.specs.Places.{StandForDevices};
-ghost use Rattle.af_core.specs.Stands.{Stands, StandsFor, Turns, link_kept, outline_of};
+ghost use Rattle.af_core.specs.Stands.{AreSettled, Stands, StandsFor, StandForWaiting, Turns, link_kept, outline_of};
 
 use crate::slot::{Slot, serve_slots};
 use crate::tick::{TICK, tick};
 use af_buffers::{PlayBuffer, RecordBuffer};
 use af_context::Contexts;
 use af_outside::{Config, DeviceSpec, Wake, World};
-use af_perform::{Device, Scratch};
+use af_perform::{Device, Scratch, Waits};
 use af_time::OutOfMemory;
+use af_wait::Waiting;
 use std::alloc::Global;
 use std::marker::Model;
 
@@ -25,19 +27,24 @@ use std::marker::Model;
 #[derive(Drop)]
 pub struct Core {
     devices: Vec<Device>,
+    waits: Waits,
     slots: Vec<Slot>,
     scratch: Scratch,
 }
 
 impl Model for Core {
     ghost use Rattle.std.specs.Prelude.{◌≡◌, ◌≤◌, ◌<◌, length};
-    ghost use Rattle.af_core.specs.Stands.{Kept};
+    ghost use Rattle.af_model.specs.State.{State};
+    ghost use Rattle.af_perform.specs.Waits.{AreLater};
+    ghost use Rattle.af_core.specs.Stands.{AreSettled, Kept, StandsFor};
 
     ghost Value = { Kept };
 
-    ghost view = { λ a. record { devices = a.devices.items; links = a.slots.items } };
+    ghost view = { λ a. record { devices = a.devices.items; waits = a.waits; links = a.slots.items } };
 
-    ghost invariant = { λ a. (length a.devices.items ≤ 8) × (length a.slots.items ≡ 32) };
+    // There is a state that it stands for.
+    ghost invariant = { λ a. (length a.devices.items ≤ 8) × (length a.slots.items ≡ 32) × AreSettled a.waits a.slots.items × AreLater a.waits
+        × ((s : State) × StandsFor a.devices.items a.waits a.slots.items s) };
 }
 
 // The devices at their starts.
@@ -70,18 +77,28 @@ fn make_slots(alloc: Global) -> Result<Vec<Slot>, OutOfMemory>
 fn wake_up<W: World>(
     wake: Wake,
     devices: &mut [Device],
+    waits: &mut Waits,
     slots: &mut [Slot],
     scratch: &mut Scratch,
     world: &mut W,
 )
-    requires fits { IsTrue (fits (outline_of (record { devices = devices.old; links = slots.old })) wake) }
-    ensures does { Does (W.log world.old) (W.log world.new) (StandsFor devices.old slots.old) (StandsFor devices.new slots.new) (wake_phase wake) behind }
+    requires count { length devices.old ≤ 8 }
+    requires links { length slots.old ≡ 32 }
+    requires fits { IsTrue (fits (outline_of (record { devices = devices.old; waits = waits.old; links = slots.old })) wake) }
+    requires settled { AreSettled waits.old slots.old }
+    requires later { AreLater waits.old }
+    requires stands { (s : State) × StandsFor devices.old waits.old slots.old s }
+    ensures does { Does (W.log world.old) (W.log world.new) (StandsFor devices.old waits.old slots.old) (StandsFor devices.new waits.new slots.new) (wake_phase wake) behind }
+    ensures settled { AreSettled waits.new slots.new }
+    ensures later { AreLater waits.new }
     ensures leads { W.leads_to world.old world.new }
 {
     match wake {
         Wake::Opened(number) => slots[number as usize].open(),
         Wake::Readable(number) => slots[number as usize].set_ready(),
-        Wake::Ticked(number, frames) => tick(number, frames, devices, scratch, world),
+        Wake::Ticked(number, frames) => {
+            tick(number, frames, devices, waits, slots, scratch, world)
+        }
         Wake::Idle | Wake::Stop => {}
     }
 }
@@ -90,19 +107,26 @@ fn wake_up<W: World>(
 fn turn_parts<W: World>(
     wake: Wake,
     devices: &mut [Device],
+    waits: &mut Waits,
     slots: &mut [Slot],
     scratch: &mut Scratch,
     world: &mut W,
 )
     requires count { length devices.old ≤ 8 }
-    requires links { length slots.old ≤ 32 }
-    requires fits { IsTrue (fits (outline_of (record { devices = devices.old; links = slots.old })) wake) }
-    ensures turns { Turns (W.log world.old) (W.log world.new) wake (record { devices = devices.old; links = slots.old }) (record { devices = devices.new; links = slots.new }) }
+    requires links { length slots.old ≡ 32 }
+    requires fits { IsTrue (fits (outline_of (record { devices = devices.old; waits = waits.old; links = slots.old })) wake) }
+    requires settled { AreSettled waits.old slots.old }
+    requires later { AreLater waits.old }
+    requires stands { (s : State) × StandsFor devices.old waits.old slots.old s }
+    ensures turns { Turns (W.log world.old) (W.log world.new) wake (record { devices = devices.old; waits = waits.old; links = slots.old }) (record { devices = devices.new; waits = waits.new; links = slots.new }) }
+    ensures settled { AreSettled waits.new slots.new }
+    ensures later { AreLater waits.new }
+    ensures stands { (s : State) × StandsFor devices.new waits.new slots.new s }
     ensures leads { W.leads_to world.old world.new }
 {
     world.woke(wake);
-    wake_up(wake, devices, slots, scratch, world);
-    serve_slots(devices, slots, scratch, world);
+    wake_up(wake, devices, waits, slots, scratch, world);
+    serve_slots(devices, waits, slots, scratch, world);
 }
 
 impl Core {
@@ -113,10 +137,12 @@ impl Core {
         ensures { IfOk result (λ core. Stands core (opening config.now.items)) }
     {
         let devices = start_devices(alloc, config.as_slice())?;
+        let waits = Waits::new(alloc)?;
         let slots = make_slots(alloc)?;
         let scratch = Scratch::new(alloc)?;
         Ok(Core {
             devices,
+            waits,
             slots,
             scratch,
         })
@@ -169,6 +195,15 @@ impl Core {
         self.slots.get(usize::from(link))?.contexts()
     }
 
+    /// The links that wait, in the order in which they began to, with the frames that are left until each is due: 1 or more.
+    pub fn waiting(&self) -> &Waiting
+        ensures kept { result.now ≡ waits_of self.now.waits }
+        ensures waits { (s : State) → Stands self.now s → StandForWaiting s.devices result.now s.waiting }
+        ensures later { All (λ w. 0 < w.left) result.now }
+    {
+        self.waits.order()
+    }
+
     /// One turn: the wake with its effect, and then each open link by rising number. It answers nothing and takes no
     /// memory.
     pub fn turn<W: World>(&mut self, wake: Wake, world: &mut W)
@@ -179,6 +214,7 @@ impl Core {
         turn_parts(
             wake,
             &mut self.devices,
+            &mut self.waits,
             &mut self.slots,
             &mut self.scratch,
             world,

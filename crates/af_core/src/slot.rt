@@ -1,15 +1,21 @@
 // A number for a link, which keeps its memory while no link is open there.
-ghost use Rattle.std.specs.Prelude.{◌≡◌, ◌≤◌, length, IfOk, IsSomeAnd, MatchOption, is_some};
+ghost use Rattle.std.specs.Prelude.{◌≡◌, ◌≤◌, ◌<◌, find, length, option_map, slice_get, IfOk, IsSomeAnd, MatchOption, is_some};
 ghost use Rattle.std.specs.declared.option.Option.TheVariants.{None, Some};
-ghost use Rattle.af_model.specs.State.{opened};
+ghost use Rattle.af_wait.specs.Waits.{without_first};
+ghost use Rattle.af_model.specs.State.{Around, DeviceState, LinkState, Waiter, opened};
+ghost use Rattle.af_model.specs.Waiting.{is_due};
+ghost use Rattle.af_model.specs.Tick.{complete_at};
 ghost use Rattle.af_model.specs.Turn.{behind, serve_door, serve_all, ready, in_open};
+ghost use Rattle.af_perform.specs.Waits.{has_waiting, kept_due, AreLater, Grows};
+ghost use Rattle.af_perform.specs.Places.{StandAround};
 ghost use Rattle.af_core.specs.Does.{Does};
-ghost use Rattle.af_core.specs.Stands.{AtDoor, StandsFor};
+ghost use Rattle.af_core.specs.Stands.{AreSettled, AtDoor, IsSettled, StandsFor};
 
+use crate::complete::complete_link;
 use crate::serve::serve_link;
 use af_context::Contexts;
 use af_outside::World;
-use af_perform::{Device, Link, Scratch};
+use af_perform::{Device, Link, Scratch, Waits};
 use af_time::OutOfMemory;
 use std::alloc::Global;
 use std::marker::Model;
@@ -25,13 +31,10 @@ impl Model for Slot {
     ghost use Rattle.std.specs.declared.option.Option.{Option};
     ghost use Rattle.std.specs.declared.option.Option.TheVariants.{None, Some};
     ghost use Rattle.af_model.specs.State.{LinkState};
-    ghost use Rattle.af_core.specs.Stands.{IsSettled};
 
     ghost Value = { Option LinkState };
 
     ghost view = { λ a. if a.is_open then Some a.link else None };
-
-    ghost invariant = { λ a. IsSettled a.link };
 }
 
 impl Slot {
@@ -75,22 +78,63 @@ impl Slot {
         }
     }
 
+    /// The first request that is due of a device, which is this number's, completes, and then those that the link may then make.
+    pub fn complete(
+        &mut self,
+        number: u8,
+        device: u8,
+        devices: &mut [Device],
+        waits: &mut Waits,
+        scratch: &mut Scratch,
+    )
+        requires number { number < 32 }
+        requires due { option_map (λ k. k.wait.link) (find (kept_due device) waits.old) ≡ Some number }
+        requires there { device < length devices.old }
+        requires count { length devices.old ≤ 8 }
+        requires settled { (l : LinkState) → self.old ≡ Some l → IsSettled (has_waiting waits.old number) l }
+        requires stands { (a : Around) × StandAround devices.old waits.old a }
+        ensures step { (a : Around) (s : DeviceState) (w : Waiter) → StandAround devices.old waits.old a → slice_get a.devices device ≡ Some s → find (is_due device s) a.waiting ≡ Some w →
+            AtDoor devices.new waits.new self.new (complete_at w (record a { waiting = without_first (is_due device s) a.waiting }) self.old) }
+        ensures settled { (l : LinkState) → self.new ≡ Some l → IsSettled (has_waiting waits.new number) l }
+        ensures grows { Grows number (without_first (kept_due device) waits.old) waits.new }
+    {
+        if self.is_open {
+            complete_link(
+                number,
+                device,
+                devices,
+                waits,
+                &mut self.link,
+                &mut scratch.input,
+                &mut scratch.work,
+            );
+        } else {
+            waits.take_due(device);
+        }
+    }
+
     /// The part of a turn of the link that is open here.
     pub fn serve<W: World>(
         &mut self,
         number: u8,
         devices: &mut [Device],
+        waits: &mut Waits,
         scratch: &mut Scratch,
         world: &mut W,
     )
+        requires number { number < 32 }
         requires count { length devices.old ≤ 8 }
-        ensures does { Does (W.log world.old) (W.log world.new) (AtDoor devices.old self.old) (AtDoor devices.new self.new) (serve_door number) behind }
+        requires settled { (l : LinkState) → self.old ≡ Some l → IsSettled (has_waiting waits.old number) l }
+        ensures does { Does (W.log world.old) (W.log world.new) (AtDoor devices.old waits.old self.old) (AtDoor devices.new waits.new self.new) (serve_door number) behind }
+        ensures settled { (l : LinkState) → self.new ≡ Some l → IsSettled (has_waiting waits.new number) l }
+        ensures grows { Grows number waits.old waits.new }
         ensures leads { W.leads_to world.old world.new }
     {
         if self.is_open {
             let is_closed = serve_link(
                 number,
                 devices,
+                waits,
                 &mut self.link,
                 &mut scratch.input,
                 &mut scratch.work,
@@ -104,17 +148,22 @@ impl Slot {
 /// The part of a turn of all links, by rising number.
 pub fn serve_slots<W: World>(
     devices: &mut [Device],
+    waits: &mut Waits,
     slots: &mut [Slot],
     scratch: &mut Scratch,
     world: &mut W,
 )
     requires count { length devices.old ≤ 8 }
     requires links { length slots.old ≤ 32 }
-    ensures does { Does (W.log world.old) (W.log world.new) (StandsFor devices.old slots.old) (StandsFor devices.new slots.new) serve_all behind }
+    requires settled { AreSettled waits.old slots.old }
+    requires later { AreLater waits.old }
+    ensures does { Does (W.log world.old) (W.log world.new) (StandsFor devices.old waits.old slots.old) (StandsFor devices.new waits.new slots.new) serve_all behind }
+    ensures settled { AreSettled waits.new slots.new }
+    ensures later { AreLater waits.new }
     ensures leads { W.leads_to world.old world.new }
 {
     for number in 0..slots.len() {
         let slot = &mut slots[number];
-        slot.serve(number as u8, devices, scratch, world);
+        slot.serve(number as u8, devices, waits, scratch, world);
     }
 }

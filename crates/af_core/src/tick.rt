@@ -1,20 +1,22 @@
 // Sample periods of a device go by: it captures, hands its sound out, and its time rises.
 ghost use Rattle.std.specs.Prelude.{◌≡◌, ◌≤◌, ◌<◌, ◌*◌, [], ◌∷◌, List, length, pos, replicate, if◌then◌else◌, false};
-ghost use Rattle.std.specs.declared.option.Option.{Option};
 ghost use Rattle.std.specs.declared.option.Option.TheVariants.{None, Some};
 ghost use Rattle.af_sample.specs.SampleTypes.{width_of};
 ghost use Rattle.af_outside.specs.declared.happening.Happening.TheVariants.{Captured, Emitted};
 ghost use Rattle.af_outside.specs.declared.happening.Wake.TheVariants.{Ticked};
 ghost use Rattle.af_outside.specs.Told.{Grew};
-ghost use Rattle.af_model.specs.State.{LinkState};
+ghost use Rattle.af_model.specs.State.{State};
 ghost use Rattle.af_model.specs.Tick.{capture_of};
 ghost use Rattle.af_model.specs.Turn.{behind, wake_phase};
+ghost use Rattle.af_perform.specs.Waits.{AreLater};
 ghost use Rattle.af_core.specs.Does.{Does};
 ghost use Rattle.af_core.specs.Live.{Passes, Ticks, TicksLive};
-ghost use Rattle.af_core.specs.Stands.{StandsFor};
+ghost use Rattle.af_core.specs.Stands.{AreSettled, StandsFor};
 
+use crate::complete::complete_due;
+use crate::slot::Slot;
 use af_outside::{Put, World};
-use af_perform::{Device, Scratch, Work};
+use af_perform::{Device, Scratch, Waits, Work};
 use af_sample::{SampleType, convert_in, convert_out};
 
 /// How many frames a tick may have.
@@ -130,18 +132,27 @@ fn tick_device<W: World>(
     }
 }
 
-/// The sample periods of device `number` go by, so many frames. The links stay as they are.
+/// The sample periods of device `number` go by, so many frames, and the requests that are due then complete.
 pub fn tick<W: World>(
     number: u8,
     frames: u32,
     devices: &mut [Device],
+    waits: &mut Waits,
+    slots: &mut [Slot],
     scratch: &mut Scratch,
     world: &mut W,
 )
     requires there { number < length devices.old }
     requires some { 1 ≤ frames }
     requires bound { frames ≤ 4096 }
-    ensures does { (links : List (Option LinkState)) → Does (W.log world.old) (W.log world.new) (StandsFor devices.old links) (StandsFor devices.new links) (wake_phase (Ticked number frames)) behind }
+    requires count { length devices.old ≤ 8 }
+    requires links { length slots.old ≡ 32 }
+    requires settled { AreSettled waits.old slots.old }
+    requires later { AreLater waits.old }
+    requires stands { (s : State) × StandsFor devices.old waits.old slots.old s }
+    ensures does { Does (W.log world.old) (W.log world.new) (StandsFor devices.old waits.old slots.old) (StandsFor devices.new waits.new slots.new) (wake_phase (Ticked number frames)) behind }
+    ensures settled { AreSettled waits.new slots.new }
+    ensures later { AreLater waits.new }
     ensures leads { W.leads_to world.old world.new }
 {
     let device = &mut devices[number as usize];
@@ -153,4 +164,6 @@ pub fn tick<W: World>(
         &mut scratch.work,
         world,
     );
+    waits.pass(number, frames);
+    complete_due(number, devices, waits, slots, scratch);
 }

@@ -1,5 +1,5 @@
 -- Advancing a link comes to an end, and goes on from each step.
-use Rattle.std.proofs.Common.{◌≡◌, ℕ, zero, suc, ◌≤◌, ◌<◌, Bool, true, false, List, [], ◌∷◌, ◌++◌, length, take, refl, ◌∙◌, ap, subst, arith, length-drop, cond, slice_get}
+use Rattle.std.proofs.Common.{◌≡◌, ℕ, zero, suc, ◌≤◌, ◌<◌, Bool, true, false, List, [], ◌∷◌, ◌++◌, length, take, refl, ◌∙◌, ap, subst, arith, length-drop, cond, nat_le, slice_get}
 use Rattle.std.specs.declared.option.Option.{Option}
 use Rattle.std.specs.declared.option.Option.TheVariants.{None, Some}
 use Rattle.af_wire.specs.declared.front.Front.{Front}
@@ -7,7 +7,8 @@ use Rattle.af_wire.specs.declared.front.Front.TheVariants.{NeedMore, Frame, Malf
 use Rattle.af_wire.specs.declared.front.SetupFront.{SetupFront}
 use Rattle.af_wire.specs.declared.front.SetupFront.TheVariants as front
 use Rattle.af_wire.specs.Front.{setup_front, frame_front, IsFrameWithin, IsSetupWithin}
-use Rattle.af_model.specs.State.{Place, DeviceState, place}
+use Rattle.af_model.specs.State.{Place, DeviceState, place, held_play, held_record}
+use Rattle.af_time.specs.DeviceTime.{unwrap}
 use Rattle.af_context.specs.declared.Context.{Context}
 use Rattle.af_context.specs.Contexts.{creation, reference, context_of, without_context}
 use Rattle.af_request.specs.Asked.{Asked, no_op, get_time, create_ac, change_ac, free_ac, play_run, record_run, select_events, set_controls, query_controls, hook_switch, query_phone}
@@ -16,8 +17,9 @@ use Rattle.af_model.specs.declared.refusal.Refusal.{Refusal}
 use Rattle.af_model.specs.Reply.{replied}
 use Rattle.af_model.specs.Checks.{refused_or, in_device, context_refusal}
 use Rattle.af_model.specs.ContextRequests.{creation_refusal, described, create, change_refusal, change, free, with_contexts}
-use Rattle.af_model.specs.Play.{play, play_refusal, tell_played, accept}
-use Rattle.af_model.specs.Record.{record_sound, record_refusal, give_record}
+use Rattle.af_model.specs.Waiting.{wait, is_waiting}
+use Rattle.af_model.specs.Play.{play, play_refusal, start_play, tell_played, accepting, entry_now, in_devices, frames_of, frames_within, sent_sound}
+use Rattle.af_model.specs.Record.{record_sound, record_refusal, start_record, give_record, given_frames, is_to_wait}
 use Rattle.af_model.specs.Perform.{request_in, perform, done, tell_time, in_context, counted}
 use Rattle.af_model.specs.Advance.{advance, advance_by, advance_step, after_frame, after_setup, after_front, takes_more, requested, without_front, or_else}
 
@@ -39,6 +41,10 @@ refused_or_leaves : (opcode : ℕ) (r : Option Refusal) (f : Place → Place) �
 refused_or_leaves opcode None f h p = h p
 refused_or_leaves opcode (Some r) f h p = (refl, refl)
 
+either_leaves : (b : Bool) (f g : Place → Place) → Leaves f → Leaves g → (p : Place) → ((cond b (f p) (g p)).link.rest ≡ p.link.rest) × ((cond b (f p) (g p)).link.closing ≡ p.link.closing)
+either_leaves true f g h i p = h p
+either_leaves false f g h i p = i p
+
 in_device_leaves : (opcode d : ℕ) (f : DeviceState → Place → Place) (o : Option DeviceState) → ((device : DeviceState) → Leaves (f device)) → Leaves (in_device opcode d f o)
 in_device_leaves opcode d f None h p = (refl, refl)
 in_device_leaves opcode d f (Some device) h p = h device p
@@ -57,34 +63,45 @@ tell_played_leaves : (quiet : Bool) (device : DeviceState) → Leaves (tell_play
 tell_played_leaves true device p = (refl, refl)
 tell_played_leaves false device p = (refl, refl)
 
-play_leaves : (quiet : Bool) (c : Context) (start : ℕ) (bytes : List ℕ) (device : DeviceState) → Leaves (play quiet c start bytes device)
-play_leaves quiet c start bytes device = refused_or_leaves 6 (play_refusal c device start (length bytes)) (λ q. tell_played quiet device (accept c start bytes q))
-    (λ q. tell_played_leaves quiet device (accept c start bytes q))
+start_play_leaves : (k : ℕ) (quiet : Bool) (c : Context) (start : ℕ) (bytes : List ℕ) (device : DeviceState) → Leaves (start_play k quiet c start bytes device)
+start_play_leaves k quiet c start bytes device p =
+    let entry = entry_now c device start bytes in
+    let held = held_play quiet (unwrap device.now start) (sent_sound c bytes) c.preempt in
+    either_leaves (nat_le (frames_of c (length bytes)) (frames_within device start)) (λ q. tell_played quiet device (in_devices c.device (accepting entry) q)) (wait k c.device held)
+    (λ q. tell_played_leaves quiet device (in_devices c.device (accepting entry) q)) (λ q. (refl, refl)) p
 
-record_leaves : (blocking : Bool) (c : Context) (start bytes : ℕ) (device : DeviceState) → Leaves (record_sound blocking c start bytes device)
-record_leaves blocking c start bytes device = refused_or_leaves 7 (record_refusal blocking c device start bytes) (give_record blocking c start bytes device) (λ q. (refl, refl))
+play_leaves : (k : ℕ) (quiet : Bool) (c : Context) (start : ℕ) (bytes : List ℕ) (device : DeviceState) → Leaves (play k quiet c start bytes device)
+play_leaves k quiet c start bytes device = refused_or_leaves 6 (play_refusal c (length bytes)) (start_play k quiet c start bytes device) (start_play_leaves k quiet c start bytes device)
 
-done_leaves : (request : Asked) → Leaves (done request)
-done_leaves no_op p = (refl, refl)
-done_leaves (get_time d) p = in_device_leaves 2 d tell_time (slice_get p.around.devices d) (λ device q. (refl, refl)) p
-done_leaves (create_ac d ac ty channels preempt play_gain record_gain) p =
+start_record_leaves : (k : ℕ) (blocking : Bool) (c : Context) (start bytes : ℕ) (device : DeviceState) → Leaves (start_record k blocking c start bytes device)
+start_record_leaves k blocking c start bytes device p =
+    either_leaves (is_to_wait blocking device start (frames_of c bytes)) (wait k c.device (held_record c (unwrap device.now start) (frames_of c bytes)))
+    (give_record c (unwrap device.now start) (given_frames blocking device start (frames_of c bytes)) device) (λ q. (refl, refl)) (λ q. (refl, refl)) p
+
+record_leaves : (k : ℕ) (blocking : Bool) (c : Context) (start bytes : ℕ) (device : DeviceState) → Leaves (record_sound k blocking c start bytes device)
+record_leaves k blocking c start bytes device = refused_or_leaves 7 (record_refusal c bytes) (start_record k blocking c start bytes device) (start_record_leaves k blocking c start bytes device)
+
+done_leaves : (k : ℕ) (request : Asked) → Leaves (done k request)
+done_leaves k no_op p = (refl, refl)
+done_leaves k (get_time d) p = in_device_leaves 2 d tell_time (slice_get p.around.devices d) (λ device q. (refl, refl)) p
+done_leaves k (create_ac d ac ty channels preempt play_gain record_gain) p =
     refused_or_leaves 3 (creation_refusal (length p.around.devices) d ty channels preempt play_gain record_gain) (create (described d ac ty preempt play_gain record_gain)) (create_leaves (described d ac ty preempt play_gain record_gain)) p
-done_leaves (change_ac mask ac preempt play_gain record_gain) p =
+done_leaves k (change_ac mask ac preempt play_gain record_gain) p =
     refused_or_leaves 4 (change_refusal p.link.contexts mask ac preempt play_gain record_gain) (change mask ac preempt play_gain record_gain) (λ q. (refl, refl)) p
-done_leaves (free_ac ac) p = free_leaves ac p
-done_leaves (play_run quiet ac start bytes) p = in_context_leaves 6 ac (λ c. play quiet c start bytes) (context_of p.link.contexts ac) (λ c device. play_leaves quiet c start bytes device) p
-done_leaves (record_run blocking ac start bytes) p = in_context_leaves 7 ac (λ c. record_sound blocking c start bytes) (context_of p.link.contexts ac) (λ c device. record_leaves blocking c start bytes device) p
-done_leaves (select_events d mask) p = (refl, refl)
-done_leaves (set_controls d mask input_on output_on input_gain output_gain) p = (refl, refl)
-done_leaves (query_controls d) p = (refl, refl)
-done_leaves (hook_switch d off) p = (refl, refl)
-done_leaves (query_phone d) p = (refl, refl)
+done_leaves k (free_ac ac) p = free_leaves ac p
+done_leaves k (play_run quiet ac start bytes) p = in_context_leaves 6 ac (λ c. play k quiet c start bytes) (context_of p.link.contexts ac) (λ c device. play_leaves k quiet c start bytes device) p
+done_leaves k (record_run blocking ac start bytes) p = in_context_leaves 7 ac (λ c. record_sound k blocking c start bytes) (context_of p.link.contexts ac) (λ c device. record_leaves k blocking c start bytes device) p
+done_leaves k (select_events d mask) p = (refl, refl)
+done_leaves k (set_controls d mask input_on output_on input_gain output_gain) p = (refl, refl)
+done_leaves k (query_controls d) p = (refl, refl)
+done_leaves k (hook_switch d off) p = (refl, refl)
+done_leaves k (query_phone d) p = (refl, refl)
 
 pub perform_rest : (k : ℕ) (request : Asked) (p : Place) → (perform k request p).link.rest ≡ p.link.rest
-perform_rest k request p = (done_leaves request (place p.around (counted p.link))).0
+perform_rest k request p = (done_leaves k request (place p.around (counted p.link))).0
 
 pub perform_closing : (k : ℕ) (request : Asked) (p : Place) → (perform k request p).link.closing ≡ p.link.closing
-perform_closing k request p = (done_leaves request (place p.around (counted p.link))).1
+perform_closing k request p = (done_leaves k request (place p.around (counted p.link))).1
 
 requested_rest : (k : ℕ) (o : Option Asked) (p : Place) → length (requested k o p).link.rest ≤ length p.link.rest
 requested_rest k None p = omega arith
@@ -117,7 +134,7 @@ taken_shorter false k p = tt
 
 -- each step takes at least one byte off
 pub step_shorter : (k : ℕ) (p : Place) → IsShorter (length p.link.rest) (advance_step k p)
-step_shorter k p = taken_shorter (takes_more p.link) k p
+step_shorter k p = taken_shorter (takes_more (is_waiting p.around.waiting k) p.link) k p
 
 -- any bound on the steps that is large enough serves
 same_by : (n m k : ℕ) (p : Place) → length p.link.rest ≤ n → length p.link.rest ≤ m → advance_by n k p ≡ advance_by m k p

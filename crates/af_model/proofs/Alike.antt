@@ -1,6 +1,6 @@
 -- Two logs that go through a phase from one state, and are answered by one outside, go through it alike: their happenings
 -- and the states behind them are the same, and the links that are open inside stay those that are open outside.
-use Rattle.std.proofs.Common.{◌≡◌, ℕ, ℤ, zero, suc, ◌+◌, ◌*◌, Bool, true, false, not, cond, ◌&&◌, ◌==◌, List, [], ◌∷◌, length, take, drop, map, slice_get, slice_set, is_some, refl, sym, ap, ◌∙◌, subst, eqb-true, IsSomeAnd, IfSome}
+use Rattle.std.proofs.Common.{◌≡◌, ℕ, ℤ, zero, suc, ◌+◌, ◌*◌, Bool, true, false, not, cond, ◌&&◌, ◌==◌, List, [], ◌∷◌, length, take, drop, map, find, option_map, option_and_then, slice_get, slice_set, is_some, refl, sym, ap, ◌∙◌, subst, eqb-true, IsSomeAnd, IfSome}
 use Rattle.std.proofs.lemmas.List.{map-set}
 use Rattle.std.specs.declared.option.Option.{Option}
 use Rattle.std.specs.declared.option.Option.TheVariants.{None, Some}
@@ -16,9 +16,12 @@ use Rattle.af_outside.specs.declared.script.Step.{Step}
 use Rattle.af_outside.specs.Told.{Log}
 use Rattle.af_outside.specs.Outside.{Outside, Peer, Station, answered, read_answered, write_answered, capture_answered, emit_answered, captured, station_at, with_station, peer_at, with_peer, gives_of, same_bytes}
 use Rattle.af_sample.specs.SampleTypes.{width_of}
-use Rattle.af_model.specs.State.{State, Slot, Around, Place, LinkState, DeviceState, place, opened, slot_at, some_slot, with_slot, links_of}
-use Rattle.af_model.specs.Tick.{sound, capture_of, tick}
-use Rattle.af_model.specs.Turn.{Behind, behind, and_then, then_go, take_one, Door, door, wants_read, is_read, read_by, read_phase, after_read, wants_write, write_by, write_taken, write_phase, after_write, same_why, close_due, close_by, close_for, close_phase, serve_link, serve_open, serve_door, door_at, with_door, serve_at, serve_from, serve_all, ready, in_open, in_slot, is_capture, capture_by, emit_by, after_capture, tick_phase, wake_phase}
+use Rattle.af_model.specs.State.{State, Slot, Around, Place, Waiter, Door, with_device, LinkState, DeviceState, door, door_at, with_door, place, opened, slot_at, some_slot, with_slot, links_of}
+use Rattle.af_wait.specs.Waits.{without_first}
+use Rattle.af_model.specs.Waiting.{is_due, is_waiting}
+use Rattle.af_model.specs.Advance.{or_else}
+use Rattle.af_model.specs.Tick.{sound, capture_of, complete, complete_at, complete_by, complete_due, complete_first, complete_step, later, tick}
+use Rattle.af_model.specs.Turn.{Behind, behind, and_then, then_go, take_one, wants_read, is_read, read_by, read_phase, after_read, wants_write, write_by, write_taken, write_phase, after_write, same_why, close_due, close_by, close_for, close_phase, serve_link, serve_open, serve_door, serve_at, serve_from, serve_all, ready, in_open, in_slot, is_capture, capture_by, emit_by, after_capture, tick_phase, wake_phase}
 use Rattle.af_model.specs.Script.{AnswersTo}
 use Rattle.af_model.proofs.Tests.{cond-some, cond-true, both-true, not_true, none_some, same_bytes-true}
 use Rattle.af_model.proofs.Slots.{links_of-set}
@@ -223,7 +226,7 @@ read_one w k p o (Read j got) t e =
 read_alike : (w : List Bool) (k : ℕ) → GoesAlike (read_phase k) (AtPlace w k) (AtPlace w k)
 unfolding read_phase
 read_alike w k steps p o log1 log2 b1 b2 e1 e2 at f1 f2 r1 r2 =
-    elim (wants_read p.link) as (λ t. cond t (take_one (read_by k p) log1) (behind p log1) ≡ Some b1 → cond t (take_one (read_by k p) log2) (behind p log2) ≡ Some b2 → Agreed steps (AtPlace w k) log1 log2 e1 e2 b1 b2) [
+    elim (wants_read (is_waiting p.around.waiting k) p.link) as (λ t. cond t (take_one (read_by k p) log1) (behind p log1) ≡ Some b1 → cond t (take_one (read_by k p) log2) (behind p log2) ≡ Some b2 → Agreed steps (AtPlace w k) log1 log2 e1 e2 b1 b2) [
       | true ↦ λ f1 f2. alike_one (read_by k) (AtPlace w k) (AtPlace w k) (λ p o. Read k (expected (gives_of (peer_at o k)))) (read_one w k) steps p o log1 log2 b1 b2 e1 e2 at f1 f2 r1 r2
       | false ↦ λ f1 f2. alike_nothing (λ (p : Place). p) (AtPlace w k) (AtPlace w k) (λ p o at. at) steps p o log1 log2 b1 b2 e1 e2 at f1 f2 r1 r2
     ] f1 f2
@@ -368,6 +371,42 @@ open_links-same [] k = refl
 open_links-same (x ∷ slots) zero = refl
 open_links-same (x ∷ slots) (suc k) = ap (λ v. is_some x.link ∷ v) (open_links-same slots k)
 
+-- Requests that complete leave the links as open as they are
+
+complete_at-some : (w : Waiter) (a : Around) (link : Option LinkState) → is_some (complete_at w a link).link ≡ is_some link
+complete_at-some w a None = refl
+complete_at-some w a (Some l) = refl
+
+complete_opens : (w : Waiter) (s : State) → open_links (complete w s).slots ≡ open_links s.slots
+complete_opens w s =
+    let here = door_at w.link s in
+    let there = complete_at w here.around here.link in
+    open_links-set s.slots w.link (record { link = there.link; said = there.around.said })
+    ∙ ap (λ b. slice_set (open_links s.slots) w.link b) (complete_at-some w here.around here.link) ∙ open_links-same s.slots w.link
+
+abbrev OpensStay : State → Option State → Type 0
+OpensStay s o = IfSome o (λ t. open_links t.slots ≡ open_links s.slots)
+
+complete_first-opens : (d : ℕ) (s : State) (device : DeviceState) (o : Option Waiter) → OpensStay s (option_map (λ w. complete w (record s { waiting = without_first (is_due d device) s.waiting })) o)
+complete_first-opens d s device None = tt
+complete_first-opens d s device (Some w) = complete_opens w (record s { waiting = without_first (is_due d device) s.waiting })
+
+complete_step-opens : (d : ℕ) (s : State) (o : Option DeviceState) → OpensStay s (option_and_then (complete_first d s) o)
+complete_step-opens d s None = tt
+complete_step-opens d s (Some device) = complete_first-opens d s device (find (is_due d device) s.waiting)
+
+complete_by-opens : (n d : ℕ) (s : State) → open_links (complete_by n d s).slots ≡ open_links s.slots
+complete_by-opens zero d s = refl
+complete_by-opens (suc n) d s =
+    elim (complete_step d s) as (λ o. OpensStay s o → open_links (or_else s (complete_by n d) o).slots ≡ open_links s.slots) [
+      | None ↦ λ h. refl
+      | Some t ↦ λ h. complete_by-opens n d t ∙ h
+    ] (complete_step-opens d s (slice_get s.devices d))
+
+tick-opens : (d : ℕ) (captured : List ℤ) (is_dead : Bool) (s : State) → open_links (tick d captured is_dead s).slots ≡ open_links s.slots
+unfolding complete_due
+tick-opens d captured is_dead s = complete_by-opens (length s.waiting) d (record s { devices = with_device d (later captured is_dead) s.devices })
+
 at_alike : (k : ℕ) → GoesAlike (serve_at k) Agree Agree
 at_alike k steps s o log1 log2 b1 b2 e1 e2 at f1 f2 r1 r2 =
     alike_then (λ (u : State) log. serve_door k (door_at k s) log) (λ d log. behind (with_door k s d) log) (λ u o. Agree s o) (AtDoor (open_links s.slots) k) Agree
@@ -493,14 +532,14 @@ emit_one d n device heard s o (Emitted j bytes done) t e =
       stands = λ t o' p f a.
           let g : Some (tick d heard (not done) s) ≡ Some t = (cond-some (j == d && same_bytes bytes (sound device n)) (Some (tick d heard (not done) s)) t f).1 in
           let next : tick d heard (not done) s ≡ t = cc in
-          subst (λ x. Agree x o') next ((emit_answer (open_links s.slots) o o' d (station_at o d) done (here o' a)).1 p);
+          subst (λ x. Agree x o') next ((emit_answer (open_links s.slots) o o' d (station_at o d) done (here o' a)).1 p ∙ sym (tick-opens d heard (not done) s));
     }
 
 -- Ticks
 
 after_capture_alike : (d n : ℕ) (device : DeviceState) (s : State) → GoesAlike (after_capture d n device s) (λ (t : Option (List ℕ)) o. opens o ≡ open_links s.slots) Agree
 after_capture_alike d n device s steps None o log1 log2 b1 b2 e1 e2 at f1 f2 r1 r2 =
-    alike_nothing (λ (t : Option (List ℕ)). tick d (capture_of device.ty n None) true s) (λ t o. opens o ≡ open_links s.slots) Agree (λ t o at. at) steps None o log1 log2 b1 b2 e1 e2 at f1 f2 r1 r2
+    alike_nothing (λ (t : Option (List ℕ)). tick d (capture_of device.ty n None) true s) (λ t o. opens o ≡ open_links s.slots) Agree (λ t o at. at ∙ sym (tick-opens d (capture_of device.ty n None) true s)) steps None o log1 log2 b1 b2 e1 e2 at f1 f2 r1 r2
 after_capture_alike d n device s steps (Some bytes) o log1 log2 b1 b2 e1 e2 at f1 f2 r1 r2 =
     alike_one (λ s. emit_by d n device (capture_of device.ty n (Some bytes)) s) Agree Agree (λ s o. Emitted d (sound device n) (not (station_at o d).fails_emit)) (emit_one d n device (capture_of device.ty n (Some bytes))) steps s o log1 log2 b1 b2 e1 e2 at f1 f2 r1 r2
 
@@ -520,7 +559,7 @@ tick_alike d n None steps s o log1 log2 b1 b2 e1 e2 at f1 f2 r1 r2 = absurd (non
 tick_alike d n (Some device) steps s o log1 log2 b1 b2 e1 e2 at f1 f2 r1 r2 =
     elim device.is_dead as (λ t. cond t (behind (tick d (capture_of device.ty n None) true s) log1) (and_then (take_one (capture_by d n device) log1) (after_capture d n device s)) ≡ Some b1 →
     cond t (behind (tick d (capture_of device.ty n None) true s) log2) (and_then (take_one (capture_by d n device) log2) (after_capture d n device s)) ≡ Some b2 → Agreed steps Agree log1 log2 e1 e2 b1 b2) [
-      | true ↦ λ f1 f2. alike_nothing (λ s. tick d (capture_of device.ty n None) true s) Agree Agree (λ s o at. at) steps s o log1 log2 b1 b2 e1 e2 at f1 f2 r1 r2
+      | true ↦ λ f1 f2. alike_nothing (λ s. tick d (capture_of device.ty n None) true s) Agree Agree (λ s o at. at ∙ sym (tick-opens d (capture_of device.ty n None) true s)) steps s o log1 log2 b1 b2 e1 e2 at f1 f2 r1 r2
       | false ↦ λ f1 f2. live_alike d n device steps s o log1 log2 b1 b2 e1 e2 at f1 f2 r1 r2
     ] f1 f2
 

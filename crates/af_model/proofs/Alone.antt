@@ -1,5 +1,5 @@
 -- A malformed client closes itself alone.
-use Rattle.std.proofs.Common.{◌≡◌, ◌≢◌, ℕ, zero, suc, Bool, true, false, cond, ◌&&◌, nat_le, List, [], ◌∷◌, length, take, is_none, slice_get, slice_set, refl, sym, ap, ◌∙◌, subst}
+use Rattle.std.proofs.Common.{◌≡◌, ◌≢◌, ℕ, zero, suc, Bool, true, false, not, cond, ◌&&◌, nat_le, List, [], ◌∷◌, length, take, is_none, slice_get, slice_set, refl, sym, ap, ◌∙◌, subst}
 use Rattle.std.specs.declared.option.Option.{Option}
 use Rattle.std.specs.declared.option.Option.TheVariants.{None, Some}
 use Rattle.af_outside.specs.declared.happening.Why.{Why}
@@ -13,11 +13,12 @@ use Rattle.af_wire.specs.Front.{setup_front, frame_front}
 use Rattle.af_wire.specs.Message.{error}
 use Rattle.af_request.specs.Asked.{Asked}
 use Rattle.af_request.specs.Answer.{setup}
-use Rattle.af_model.specs.State.{State, Slot, Place, place, say, stopped, some_slot, slot_at}
+use Rattle.af_model.specs.State.{State, Slot, Place, Door, place, say, stopped, some_slot, slot_at, door_at, with_door}
+use Rattle.af_model.specs.Waiting.{is_waiting}
 use Rattle.af_model.specs.Reply.{infos_of, reply_message}
 use Rattle.af_model.specs.Perform.{request_in}
 use Rattle.af_model.specs.Advance.{advance_step, after_front, after_frame, after_setup, requested, takes_more, without_front}
-use Rattle.af_model.specs.Turn.{Behind, Door, behind, and_then, serve_at, serve_door, door_at, with_door}
+use Rattle.af_model.specs.Turn.{Behind, behind, and_then, serve_at, serve_door}
 use Rattle.af_model.proofs.Tests.{both-true, cond-some, none_some}
 use Rattle.af_model.proofs.Advancing.{perform_closing}
 
@@ -61,8 +62,10 @@ front_alone false k p q none e = setup_alone (setup_front p.link.rest) p q none 
 
 pub closes_alone : (k : ℕ) (p q : Place) → advance_step k p ≡ Some q → ClosesAlone p q
 closes_alone k p q e =
-    let i = cond-some (takes_more p.link) (after_front k p) q e in
-    let none = is_none-none p.link.closing (both-true (is_none p.link.closing) (nat_le (length p.link.pending) 16384) i.0).0 in
+    let waits = is_waiting p.around.waiting k in
+    let i = cond-some (takes_more waits p.link) (after_front k p) q e in
+    let open_to = (both-true (not waits) (is_none p.link.closing && nat_le (length p.link.pending) 16384) i.0).1 in
+    let none = is_none-none p.link.closing (both-true (is_none p.link.closing) (nat_le (length p.link.pending) 16384) open_to).0 in
     front_alone p.link.is_set_up k p q none i.1
 
 -- Serving a link changes no other

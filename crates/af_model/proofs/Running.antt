@@ -55,6 +55,10 @@ turns_end : (s end : State) (parts : List Log) → TurnsTo s parts end → end_b
 turns_end s end [] h = ap (λ t. Some t) (sym h)
 turns_end s end (p ∷ parts) h = ap (λ x. then_end x (end_by (length parts))) (h.1.is_turn (joined parts)) ∙ turns_end h.0 end parts h.2
 
+pub turns_end_state : (config : List DeviceSpec) (end : State) (parts : List Log) → TurnsTo (opening config) parts end → end_state config (joined parts) ≡ Some end
+unfolding end_state
+turns_end_state config end parts h = ap (λ n. end_by n (opening config) (joined parts)) (wakes-joined (opening config) end parts h) ∙ turns_end (opening config) end parts h
+
 -- they are a run
 pub turns_run : (config : List DeviceSpec) (end : State) (parts : List Log) → TurnsTo (opening config) parts end → IsRun config (joined parts)
 unfolding end_state

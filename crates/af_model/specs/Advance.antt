@@ -1,5 +1,5 @@
 -- Advancing a link: what stands whole at the front of its input is taken off and answered.
-use Rattle.std.specs.Prelude.{ℕ, zero, suc, Bool, true, List, ◌++◌, length, take, drop, if◌then◌else◌, ◌&&◌, nat_le, is_none}
+use Rattle.std.specs.Prelude.{ℕ, zero, suc, Bool, not, true, List, ◌++◌, length, take, drop, if◌then◌else◌, ◌&&◌, nat_le, is_none}
 use Rattle.std.specs.declared.option.Option.{Option}
 use Rattle.std.specs.declared.option.Option.TheVariants.{None, Some}
 use Rattle.af_outside.specs.declared.happening.Why.TheVariants as why
@@ -12,6 +12,7 @@ use Rattle.af_wire.specs.Message.{error}
 use Rattle.af_request.specs.Asked.{Asked}
 use Rattle.af_request.specs.Answer.{setup}
 use Rattle.af_model.specs.State.{LinkState, Place, place, say, stopped}
+use Rattle.af_model.specs.Waiting.{is_waiting}
 use Rattle.af_model.specs.Reply.{reply_message, infos_of}
 use Rattle.af_model.specs.Perform.{request_in, perform}
 
@@ -38,9 +39,9 @@ after_setup front.Setup p =
     Some (say (place p.around (record (without_front 8 p.link) { is_set_up = true })) (reply_message 0 (setup (infos_of p.around.devices)) 0))
 after_setup (front.BadSetup value) p = Some (say (place p.around (stopped why.BadSetup p.link)) (error 1 value 0 0))
 
--- nothing is taken off while a link is closing, or while more than 16384 bytes wait to be sent to it
-abbrev pub takes_more : LinkState → Bool
-takes_more l = is_none l.closing && nat_le (length l.pending) 16384
+-- nothing is taken off while a link waits or is closing, or while more than 16384 bytes wait to be sent to it
+abbrev pub takes_more : Bool → LinkState → Bool
+takes_more waits l = not waits && (is_none l.closing && nat_le (length l.pending) 16384)
 
 abbrev pub after_front : ℕ → Place → Option Place
 after_front k p =
@@ -48,7 +49,7 @@ after_front k p =
 
 -- one setup or frame is taken off; None where there is none to take
 abbrev pub advance_step : ℕ → Place → Option Place
-advance_step k p = if takes_more p.link then after_front k p else None
+advance_step k p = if takes_more (is_waiting p.around.waiting k) p.link then after_front k p else None
 
 abbrev pub or_else : {A : Type 0} → A → (A → A) → Option A → A
 or_else x f None = x

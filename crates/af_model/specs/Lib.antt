@@ -2,6 +2,7 @@ pub mod State
 pub mod Reply
 pub mod Checks
 pub mod ContextRequests
+pub mod Waiting
 pub mod Play
 pub mod Record
 pub mod Perform
@@ -9,4 +10,5 @@ pub mod Advance
 pub mod Tick
 pub mod Turn
 pub mod Run
+pub mod NoLoss
 pub mod Script

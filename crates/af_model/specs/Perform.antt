@@ -43,20 +43,20 @@ abbrev pub in_context : ℕ → ℕ → (Context → DeviceState → Place → P
 in_context opcode ac f None p = refused opcode (refusal BadAc ac) p
 in_context opcode ac f (Some c) p = in_device opcode c.device (f c) (slice_get p.around.devices c.device) p
 
--- what a request does
-abbrev pub done : Asked → Place → Place
-done no_op p = p
-done (get_time d) p = in_device 2 d tell_time (slice_get p.around.devices d) p
-done (create_ac d ac ty channels preempt play_gain record_gain) p =
+-- what a request of link k does
+abbrev pub done : ℕ → Asked → Place → Place
+done k no_op p = p
+done k (get_time d) p = in_device 2 d tell_time (slice_get p.around.devices d) p
+done k (create_ac d ac ty channels preempt play_gain record_gain) p =
     refused_or 3 (creation_refusal (length p.around.devices) d ty channels preempt play_gain record_gain)
     (create (described d ac ty preempt play_gain record_gain)) p
-done (change_ac mask ac preempt play_gain record_gain) p =
+done k (change_ac mask ac preempt play_gain record_gain) p =
     refused_or 4 (change_refusal p.link.contexts mask ac preempt play_gain record_gain) (change mask ac preempt play_gain record_gain) p
-done (free_ac ac) p = free ac p
-done (play_run quiet ac start bytes) p = in_context 6 ac (λ c. play quiet c start bytes) (context_of p.link.contexts ac) p
-done (record_run blocking ac start bytes) p = in_context 7 ac (λ c. record_sound blocking c start bytes) (context_of p.link.contexts ac) p
-done _ p = p
+done k (free_ac ac) p = free ac p
+done k (play_run quiet ac start bytes) p = in_context 6 ac (λ c. play k quiet c start bytes) (context_of p.link.contexts ac) p
+done k (record_run blocking ac start bytes) p = in_context 7 ac (λ c. record_sound k blocking c start bytes) (context_of p.link.contexts ac) p
+done k _ p = p
 
 -- link k makes a request
 abbrev pub perform : ℕ → Asked → Place → Place
-perform k request p = done request (place p.around (counted p.link))
+perform k request p = done k request (place p.around (counted p.link))

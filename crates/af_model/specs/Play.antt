@@ -1,5 +1,5 @@
 -- Play: sound of a client from a time on.
-use Rattle.std.specs.Prelude.{ℕ, ◌+◌, ◌-◌, ◌/◌, ◌%◌, ◌^◌, ◌==◌, nat_lt, not, Bool, ℤ, List, [], ◌∷◌, ◌++◌, length, map, if◌then◌else◌}
+use Rattle.std.specs.Prelude.{ℕ, ◌+◌, ◌-◌, ◌/◌, ◌%◌, ◌^◌, ◌==◌, nat_le, not, Bool, ℤ, List, [], ◌∷◌, ◌++◌, length, map, if◌then◌else◌}
 use Rattle.std.specs.declared.option.Option.{Option}
 use Rattle.std.specs.declared.option.Option.TheVariants.{None, Some}
 use Rattle.af_time.specs.DeviceTime.{unwrap}
@@ -11,9 +11,10 @@ use Rattle.af_context.specs.declared.Context.{Context}
 use Rattle.af_request.specs.Answer.{played}
 use Rattle.af_model.specs.declared.refusal.Cause.TheVariants.{BadValue}
 use Rattle.af_model.specs.declared.refusal.Refusal.{Refusal}
-use Rattle.af_model.specs.State.{DeviceState, Place, place, with_device}
+use Rattle.af_model.specs.State.{DeviceState, Place, place, with_device, held_play}
 use Rattle.af_model.specs.Reply.{replied, horizon_of}
-use Rattle.af_model.specs.Checks.{check, first_refusal, refused_or}
+use Rattle.af_model.specs.Checks.{check, refused_or}
+use Rattle.af_model.specs.Waiting.{wait}
 
 -- how many frames so many bytes of a context are
 abbrev pub frames_of : Context → ℕ → ℕ
@@ -31,29 +32,37 @@ sent_sound c bytes = map (λ x. gained x c.play_gain) (samples c.ty bytes)
 abbrev pub frames_within : DeviceState → ℕ → ℕ
 frames_within device time = device.now + horizon_of device - unwrap device.now time
 
--- A play has whole frames. As long as no request can wait, one that ends past the horizon is refused with its time.
-unfoldable pub play_refusal : Context → DeviceState → ℕ → ℕ → Option Refusal
-play_refusal c device time bytes = first_refusal
-    (check (not (are_frames c bytes)) BadValue bytes
-    ∷ check (nat_lt (frames_within device time) (frames_of c bytes)) BadValue time ∷ [])
+-- a play has whole frames
+abbrev pub play_refusal : Context → ℕ → Option Refusal
+play_refusal c bytes = check (not (are_frames c bytes)) BadValue bytes
 
 -- a play that is accepted now
 abbrev pub entry_now : Context → DeviceState → ℕ → List ℕ → Entry
 entry_now c device time bytes =
     record { start = unwrap device.now time; samples = sent_sound c bytes; preempt = c.preempt; at = device.now }
 
--- A device accepts a play, behind all others. One without a frame says nothing.
-abbrev pub accepting : Context → ℕ → List ℕ → DeviceState → DeviceState
-accepting c time bytes device =
-    if length bytes == 0 then device else record device { accepted = device.accepted ++ entry_now c device time bytes ∷ [] }
+-- a play is accepted behind all others; one without a frame says nothing
+abbrev pub with_play : Entry → List Entry → List Entry
+with_play e accepted = if length e.samples == 0 then accepted else accepted ++ e ∷ []
 
-abbrev pub accept : Context → ℕ → List ℕ → Place → Place
-accept c time bytes p = place (record p.around { devices = with_device c.device (accepting c time bytes) p.around.devices }) p.link
+-- a device accepts a play
+abbrev pub accepting : Entry → DeviceState → DeviceState
+accepting e device = record device { accepted = with_play e device.accepted }
+
+-- something becomes of a device around a link
+abbrev pub in_devices : ℕ → (DeviceState → DeviceState) → Place → Place
+in_devices d f p = place (record p.around { devices = with_device d f p.around.devices }) p.link
 
 -- it is replied to with the device's time, unless it is quiet
 abbrev pub tell_played : Bool → DeviceState → Place → Place
 tell_played quiet device p = if quiet then p else replied 6 (played (device.now % 2 ^ 32)) p
 
-abbrev pub play : Bool → Context → ℕ → List ℕ → DeviceState → Place → Place
-play quiet c time bytes device p =
-    refused_or 6 (play_refusal c device time (length bytes)) (λ q. tell_played quiet device (accept c time bytes q)) p
+-- A play that ends within the horizon is accepted now, and so is one without a frame; any other waits, whole.
+abbrev pub start_play : ℕ → Bool → Context → ℕ → List ℕ → DeviceState → Place → Place
+start_play k quiet c time bytes device p =
+    if nat_le (frames_of c (length bytes)) (frames_within device time)
+    then tell_played quiet device (in_devices c.device (accepting (entry_now c device time bytes)) p)
+    else wait k c.device (held_play quiet (unwrap device.now time) (sent_sound c bytes) c.preempt) p
+
+abbrev pub play : ℕ → Bool → Context → ℕ → List ℕ → DeviceState → Place → Place
+play k quiet c time bytes device p = refused_or 6 (play_refusal c (length bytes)) (start_play k quiet c time bytes device) p

@@ -9,36 +9,42 @@ use Rattle.af_context.specs.declared.Context.{Context}
 use Rattle.af_request.specs.Answer.{recorded}
 use Rattle.af_model.specs.declared.refusal.Cause.TheVariants.{BadValue}
 use Rattle.af_model.specs.declared.refusal.Refusal.{Refusal}
-use Rattle.af_model.specs.State.{DeviceState, Place}
+use Rattle.af_model.specs.State.{DeviceState, Place, held_record}
 use Rattle.af_model.specs.Reply.{replied, horizon_of}
 use Rattle.af_model.specs.Checks.{check, first_refusal, refused_or}
+use Rattle.af_model.specs.Waiting.{wait}
 use Rattle.af_model.specs.Play.{frames_of, are_frames}
 
 -- how many frames from a time on are before now
 abbrev pub frames_before : DeviceState → ℕ → ℕ
 frames_before device time = device.now - unwrap device.now time
 
--- A record has at most 16000 bytes, in whole frames. As long as no request can wait, a blocking one that ends past now is
--- refused with its time.
-unfoldable pub record_refusal : Bool → Context → DeviceState → ℕ → ℕ → Option Refusal
-record_refusal blocking c device time bytes = first_refusal
-    (check (nat_lt 16000 bytes) BadValue bytes
-    ∷ check (not (are_frames c bytes)) BadValue bytes
-    ∷ check (blocking && nat_lt (frames_before device time) (frames_of c bytes)) BadValue time ∷ [])
+-- a record has at most 16000 bytes, in whole frames
+unfoldable pub record_refusal : Context → ℕ → Option Refusal
+record_refusal c bytes = first_refusal (check (nat_lt 16000 bytes) BadValue bytes ∷ check (not (are_frames c bytes)) BadValue bytes ∷ [])
 
 -- how many of the frames from a time on are given: all, or, of a record that does not block, those before now
 abbrev pub given_frames : Bool → DeviceState → ℕ → ℕ → ℕ
 given_frames blocking device time frames = if blocking then frames else min (frames_before device time) frames
 
--- n frames that a device recorded from a time on, as a context takes them
+-- n frames that a device recorded from a whole time on, as a context takes them
 unfoldable pub recorded_bytes : Context → DeviceState → ℕ → ℕ → List ℕ
-recorded_bytes c device time n = bytes_of c.ty (map (λ x. gained x c.record_gain)
-    (window device.captured device.begin device.now (horizon_of device) (unwrap device.now time) n))
+recorded_bytes c device start n = bytes_of c.ty (map (λ x. gained x c.record_gain)
+    (window device.captured device.begin device.now (horizon_of device) start n))
 
-abbrev pub give_record : Bool → Context → ℕ → ℕ → DeviceState → Place → Place
-give_record blocking c time bytes device p = replied 7
-    (recorded (device.now % 2 ^ 32) (recorded_bytes c device time (given_frames blocking device time (frames_of c bytes)))) p
+-- a record is answered with n frames
+abbrev pub give_record : Context → ℕ → ℕ → DeviceState → Place → Place
+give_record c start n device p = replied 7 (recorded (device.now % 2 ^ 32) (recorded_bytes c device start n)) p
 
-abbrev pub record_sound : Bool → Context → ℕ → ℕ → DeviceState → Place → Place
-record_sound blocking c time bytes device p =
-    refused_or 7 (record_refusal blocking c device time bytes) (give_record blocking c time bytes device) p
+-- a record waits where it blocks and has a frame that is not before now
+abbrev pub is_to_wait : Bool → DeviceState → ℕ → ℕ → Bool
+is_to_wait blocking device time frames = blocking && nat_lt (frames_before device time) frames
+
+abbrev pub start_record : ℕ → Bool → Context → ℕ → ℕ → DeviceState → Place → Place
+start_record k blocking c time bytes device p =
+    if is_to_wait blocking device time (frames_of c bytes)
+    then wait k c.device (held_record c (unwrap device.now time) (frames_of c bytes)) p
+    else give_record c (unwrap device.now time) (given_frames blocking device time (frames_of c bytes)) device p
+
+abbrev pub record_sound : ℕ → Bool → Context → ℕ → ℕ → DeviceState → Place → Place
+record_sound k blocking c time bytes device p = refused_or 7 (record_refusal c bytes) (start_record k blocking c time bytes device) p

@@ -1,4 +1,4 @@
--- The state of the abstract server: its devices, its links, and what was ever said to each link.
+-- The state of the abstract server: its devices, its links, what was ever said to each link, and the requests that wait.
 use Rattle.std.specs.Prelude.{ℕ, ◌+◌, ◌^◌, ℤ, Bool, false, List, [], ◌++◌, map, replicate, slice_get, slice_set, is_some, length}
 use Rattle.std.specs.declared.option.Option.{Option}
 use Rattle.std.specs.declared.option.Option.TheVariants.{None, Some}
@@ -8,10 +8,27 @@ use Rattle.af_context.specs.declared.Context.{Context}
 use Rattle.af_outside.specs.declared.happening.Why.{Why}
 use Rattle.af_outside.specs.declared.script.DeviceSpec.{DeviceSpec}
 
+-- A request that waits: a play, whose sound has the gain that its context had, and which is replied to unless it is quiet; or
+-- a record, with its context as it was. Starts are whole times.
+pub data Held : Type 0 where
+  held_play : (quiet : Bool) (start : ℕ) (sound : List ℤ) (preempt : Bool) → Held
+  held_record : (context : Context) (start frames : ℕ) → Held
+
+-- a link that waits for a device's time, with its request
+pub record Waiter : Type 0 where
+  pub link : ℕ
+  pub device : ℕ
+  pub held : Held
+
+-- a request that had waited, and the device's time when it was completed
+pub record Completion : Type 0 where
+  pub held : Held
+  pub at : ℕ
+
 -- A device. Its time is unbounded, and begins 2^32 above the stated start, so that times before the start are natural
 -- numbers too: only differences of times, and times modulo 2^32, are ever seen.
--- What was accepted and what was captured are history: all plays in the order of their acceptance, and all samples since
--- the begin.
+-- What was accepted, captured and completed is history: all plays in the order of their acceptance, all samples since the
+-- begin, and all requests that had waited.
 -- A device is dead once a capture or an emit of it has failed.
 pub record DeviceState : Type 0 where
   pub ty : SampleType
@@ -20,6 +37,7 @@ pub record DeviceState : Type 0 where
   pub now : ℕ
   pub accepted : List Entry
   pub captured : List ℤ
+  pub completed : List Completion
   pub is_dead : Bool
 
 -- An open link: its unread input, its unsent output, whether it may have something to read, why it is to be closed, how
@@ -39,13 +57,16 @@ pub record Slot : Type 0 where
   pub link : Option LinkState
   pub said : List ℕ
 
+-- The requests that wait are in the order in which they began to. A link has one at most.
 pub record State : Type 0 where
   pub devices : List DeviceState
   pub slots : List Slot
+  pub waiting : List Waiter
 
 -- What is around a link: what all links share, and the link's own history.
 pub record Around : Type 0 where
   pub devices : List DeviceState
+  pub waiting : List Waiter
   pub said : List ℕ
 
 -- an open link with what is around it
@@ -86,6 +107,7 @@ opening_device d = record {
   now = d.start + 2 ^ 32;
   accepted = [];
   captured = [];
+  completed = [];
   is_dead = false;
 }
 
@@ -94,7 +116,7 @@ closed_slot = record { link = None; said = [] }
 
 -- no link is open, and each device stands at its start
 abbrev pub opening : List DeviceSpec → State
-opening config = record { devices = map opening_device config; slots = replicate 32 closed_slot }
+opening config = record { devices = map opening_device config; slots = replicate 32 closed_slot; waiting = [] }
 
 -- the slot of a link's number
 abbrev pub some_slot : Option Slot → Slot
@@ -106,6 +128,20 @@ slot_at k s = some_slot (slice_get s.slots k)
 
 abbrev pub with_slot : ℕ → Slot → State → State
 with_slot k slot s = record s { slots = slice_set s.slots k slot }
+
+-- what is around a link's number, and the link that is open there
+pub record Door : Type 0 where
+  pub around : Around
+  pub link : Option LinkState
+
+abbrev pub door : Around → Option LinkState → Door
+door a link = record { around = a; link = link }
+
+abbrev pub door_at : ℕ → State → Door
+door_at k s = door (record { devices = s.devices; waiting = s.waiting; said = (slot_at k s).said }) (slot_at k s).link
+
+abbrev pub with_door : ℕ → State → Door → State
+with_door k s d = with_slot k (record { link = d.link; said = d.around.said }) (record s { devices = d.around.devices; waiting = d.around.waiting })
 
 -- the links at their numbers
 abbrev pub links_of : List Slot → List (Option LinkState)

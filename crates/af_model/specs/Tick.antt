@@ -1,12 +1,17 @@
--- Sample periods of a device go by: it captures, hands its sound out, and its time rises.
-use Rattle.std.specs.Prelude.{ℕ, ◌+◌, Bool, pos, ℤ, List, ◌++◌, length, map, replicate}
+-- Sample periods of a device go by: it captures, hands its sound out, its time rises, and requests that waited for it complete.
+use Rattle.std.specs.Prelude.{ℕ, zero, suc, ◌+◌, Bool, pos, ℤ, List, [], ◌∷◌, ◌++◌, length, map, replicate, find, option_map, option_and_then, slice_get}
 use Rattle.std.specs.List.{range_with_len}
 use Rattle.std.specs.declared.option.Option.{Option}
 use Rattle.std.specs.declared.option.Option.TheVariants.{None, Some}
 use Rattle.af_sample.specs.declared.sample_type.SampleType.{SampleType}
-use Rattle.af_sample.specs.Heard.{heard}
+use Rattle.af_sample.specs.Heard.{Entry, heard}
 use Rattle.af_sample.specs.Samples.{bytes_of, samples}
-use Rattle.af_model.specs.State.{DeviceState, State, with_device}
+use Rattle.af_wait.specs.Waits.{without_first}
+use Rattle.af_model.specs.State.{DeviceState, Held, held_play, held_record, LinkState, State, Waiter, Around, Place, place, Door, door, door_at, with_door, with_device}
+use Rattle.af_model.specs.Waiting.{is_due}
+use Rattle.af_model.specs.Play.{in_devices, tell_played, with_play}
+use Rattle.af_model.specs.Record.{give_record}
+use Rattle.af_model.specs.Advance.{advance, or_else}
 
 -- the samples of the next n sample periods: what is heard of all that was accepted
 abbrev pub next_sound : DeviceState → ℕ → List ℤ
@@ -26,6 +31,55 @@ abbrev pub later : List ℤ → Bool → DeviceState → DeviceState
 later captured is_dead device =
     record device { now = device.now + length captured; captured = device.captured ++ captured; is_dead = is_dead }
 
--- the sample periods of device d in which it captured these samples go by, behind which it is dead or not
+-- what a device has accepted when it has completed a request that had waited: a play is accepted now
+abbrev pub with_held : Held → ℕ → List Entry → List Entry
+with_held (held_play quiet start sound preempt) now accepted = with_play (record { start = start; samples = sound; preempt = preempt; at = now }) accepted
+with_held (held_record c start frames) now accepted = accepted
+
+abbrev pub completing : Held → DeviceState → DeviceState
+completing held device = record device {
+  accepted = with_held held device.now device.accepted;
+  completed = device.completed ++ record { held = held; at = device.now } ∷ [];
+}
+
+-- what a link is answered then
+abbrev pub answer_held : Held → DeviceState → Place → Place
+answer_held (held_play quiet start sound preempt) device p = tell_played quiet device p
+answer_held (held_record c start frames) device p = give_record c start frames device p
+
+-- a link's request completes, and then those that the link may then make
+abbrev pub complete_for : Waiter → Option DeviceState → Place → Place
+complete_for w None p = p
+complete_for w (Some device) p = advance w.link (answer_held w.held device (in_devices w.device (completing w.held) p))
+
+abbrev pub enter : Place → Door
+enter p = door p.around (Some p.link)
+
+abbrev pub complete_at : Waiter → Around → Option LinkState → Door
+complete_at w a None = door a None
+complete_at w a (Some l) = enter (complete_for w (slice_get a.devices w.device) (place a l))
+
+abbrev pub complete : Waiter → State → State
+complete w s = with_door w.link s (complete_at w (door_at w.link s).around (door_at w.link s).link)
+
+-- the first request that waits for device d and is due leaves the list and completes; None where none is due
+abbrev pub complete_first : ℕ → State → DeviceState → Option State
+complete_first d s device =
+    option_map (λ w. complete w (record s { waiting = without_first (is_due d device) s.waiting })) (find (is_due d device) s.waiting)
+
+abbrev pub complete_step : ℕ → State → Option State
+complete_step d s = option_and_then (complete_first d s) (slice_get s.devices d)
+
+-- as long as one is due, n of them at most
+abbrev pub complete_by : ℕ → ℕ → State → State
+complete_by zero d s = s
+complete_by (suc n) d s = or_else s (complete_by n d) (complete_step d s)
+
+-- As long as one is due. What begins to wait behind a completion is not due yet, so that there are no more than the list has.
+unfoldable pub complete_due : ℕ → State → State
+complete_due d s = complete_by (length s.waiting) d s
+
+-- The sample periods of device d in which it captured these samples go by, behind which it is dead or not. Then the requests
+-- that are due complete, in the order in which they began to wait.
 abbrev pub tick : ℕ → List ℤ → Bool → State → State
-tick d captured is_dead s = record s { devices = with_device d (later captured is_dead) s.devices }
+tick d captured is_dead s = complete_due d (record s { devices = with_device d (later captured is_dead) s.devices })

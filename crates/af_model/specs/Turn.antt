@@ -15,8 +15,9 @@ use Rattle.af_outside.specs.declared.happening.Why.TheVariants as why
 use Rattle.af_sample.specs.SampleTypes.{width_of}
 use Rattle.af_outside.specs.Told.{Log}
 use Rattle.af_outside.specs.Outside.{same_bytes}
-use Rattle.af_model.specs.State.{State, DeviceState, Slot, LinkState, Around, Place, Outline, place, opened, slot_at, with_slot, outline}
-use Rattle.af_model.specs.Advance.{advance, absorb}
+use Rattle.af_model.specs.State.{State, DeviceState, Slot, LinkState, Around, Place, Door, door, door_at, with_door, Outline, place, opened, slot_at, with_slot, outline}
+use Rattle.af_model.specs.Waiting.{is_waiting}
+use Rattle.af_model.specs.Advance.{advance, absorb, takes_more}
 use Rattle.af_model.specs.Tick.{sound, capture_of, tick}
 
 -- a state, and the log that is left behind it
@@ -41,10 +42,11 @@ abbrev pub take_one : {S : Type 0} → (Happening → Option S) → Log → Opti
 take_one f [] = None
 take_one f (h ∷ log) = then_go (f h) (λ s. behind s log)
 
--- Reads: one, where the link may have something to read, is not closing, and at most 16384 bytes wait to be sent to it
+-- Reads: one, where the link may have something to read, does not wait, is not closing, and at most 16384 bytes wait to be sent
+-- to it
 
-abbrev pub wants_read : LinkState → Bool
-wants_read l = l.is_ready && is_none l.closing && nat_le (length l.pending) 16384
+abbrev pub wants_read : Bool → LinkState → Bool
+wants_read waits l = l.is_ready && takes_more waits l
 
 -- a read gives 1 to 16384 bytes
 abbrev pub is_read : ReadGot → Bool
@@ -60,7 +62,7 @@ read_by k p (Read link got) = if link == k && is_read got then Some (after_read 
 read_by k p _ = None
 
 unfoldable pub read_phase : ℕ → Place → Log → Option (Behind Place)
-read_phase k p log = if wants_read p.link then take_one (read_by k p) log else behind p log
+read_phase k p log = if wants_read (is_waiting p.around.waiting k) p.link then take_one (read_by k p) log else behind p log
 
 -- Writes: of all that waits to be sent, as long as anything does
 
@@ -87,14 +89,6 @@ write_phase k p (h ∷ log) =
     if wants_write p.link then then_go (write_by k p h) (λ q. write_phase k q log) else behind p (h ∷ log)
 
 -- Closes: one, where the link is closing and nothing waits to be sent to it
-
--- what is around a link's number, and the link that is open there
-pub record Door : Type 0 where
-  pub around : Around
-  pub link : Option LinkState
-
-abbrev pub door : Around → Option LinkState → Door
-door a link = record { around = a; link = link }
 
 abbrev pub same_why : Why → Why → Bool
 same_why why.BadSetup why.BadSetup = true
@@ -128,12 +122,6 @@ serve_open k a (Some l) log = serve_link k (place a l) log
 
 abbrev pub serve_door : ℕ → Door → Log → Option (Behind Door)
 serve_door k d log = serve_open k d.around d.link log
-
-abbrev pub door_at : ℕ → State → Door
-door_at k s = door (record { devices = s.devices; said = (slot_at k s).said }) (slot_at k s).link
-
-abbrev pub with_door : ℕ → State → Door → State
-with_door k s d = with_slot k (record { link = d.link; said = d.around.said }) (record s { devices = d.around.devices })
 
 abbrev pub serve_at : ℕ → State → Log → Option (Behind State)
 serve_at k s log = and_then (serve_door k (door_at k s) log) (λ d log. behind (with_door k s d) log)

@@ -1,12 +1,33 @@
 -- A request that a frame of at most 16384 bytes asks has at most 16368 bytes of samples.
-use Rattle.std.proofs.Common.{◌≡◌, ℕ, ◌+◌, ◌*◌, ◌-◌, ◌≤◌, ◌==◌, Bool, true, false, cond, List, length, drop, take, option_and_then, IfSome, sym, subst, arith, length-drop}
+use Rattle.std.proofs.Common.{◌≡◌, ℕ, ◌+◌, ◌*◌, ◌-◌, ◌≤◌, ◌==◌, Bool, true, false, cond, List, length, drop, take, option_and_then, IfSome, refl, sym, subst, arith, length-drop}
 use Rattle.std.proofs.lemmas.List.{length-take}
 use Rattle.std.specs.declared.option.Option.{Option}
 use Rattle.std.specs.declared.option.Option.TheVariants.{None, Some}
-use Rattle.af_request.specs.Asked.{Asked, no_op, get_time, create_ac, change_ac, free_ac, play_run, record_run, select_events, set_controls, query_controls, hook_switch, query_phone}
+use Rattle.af_time.specs.declared.DevTime.{DevTime}
+use Rattle.af_request.specs.declared.request.Request.{Request}
+use Rattle.af_request.specs.declared.request.Request.TheVariants as code
+use Rattle.af_request.specs.Asked.{Asked, meaning, no_op, get_time, create_ac, change_ac, free_ac, play_run, record_run, select_events, set_controls, query_controls, hook_switch, query_phone}
 use Rattle.af_request.specs.Fields.{u8_at, u32_at}
 use Rattle.af_request.specs.Requests.{Row, row_of, asked_by, asked_in, HasRoom, low_bit, no_op_row, get_time_row, create_ac_row, change_ac_row, free_ac_row, play_run_row, record_run_row, select_events_row, set_controls_row, query_controls_row, hook_switch_row, query_phone_row}
 use Rattle.af_model.specs.Perform.{performed, request_in}
+use Rattle.af_perform.specs.Waits.{is_done_at_once}
+use denote.Bor.{Bor}
+
+-- a request that is no play and no record
+pub at_once : (r : Request) → ((quiet : Bool) (ac : ℕ) (time : DevTime) (samples : Bor (List ℕ)) → r ≡ code.PlayRun quiet ac time samples → ⊥) →
+    ((blocking : Bool) (ac : ℕ) (time : DevTime) (nbytes : ℕ) → r ≡ code.RecordRun blocking ac time nbytes → ⊥) → is_done_at_once (meaning r) ≡ true
+at_once code.NoOp p q = refl
+at_once (code.GetTime device) p q = refl
+at_once (code.CreateAc device ac ty channels preempt play_gain record_gain) p q = refl
+at_once (code.ChangeAc mask ac preempt play_gain record_gain) p q = refl
+at_once (code.FreeAc ac) p q = refl
+at_once (code.PlayRun quiet ac time samples) p q = absurd (p quiet ac time samples refl)
+at_once (code.RecordRun blocking ac time nbytes) p q = absurd (q blocking ac time nbytes refl)
+at_once (code.SelectEvents device mask) p q = refl
+at_once (code.SetControls device mask input_on output_on input_gain output_gain) p q = refl
+at_once (code.QueryControls device) p q = refl
+at_once (code.HookSwitch device off) p q = refl
+at_once (code.QueryPhone device) p q = refl
 
 -- what a frame asks by a row, where it is one, has room
 abbrev Fits : List ℕ → Option Row → Type 0

@@ -48,12 +48,25 @@ not_found (y ∷ ds) [] d past h = absurd h
 not_found (y ∷ ds) (s ∷ ss) zero past h = absurd (omega arith)
 not_found (y ∷ ds) (s ∷ ss) (suc d) past h = not_found ds ss d (omega arith) h.1
 
+-- a device that is kept stands for a state
+pub state_there : (ds : List KeptDevice) (ss : List DeviceState) (d : ℕ) → d < length ds → StandForDevices ds ss → (s : DeviceState) × (slice_get ss d ≡ Some s)
+state_there [] ss d there h = absurd (omega arith)
+state_there (y ∷ ds) [] d there h = absurd h
+state_there (y ∷ ds) (s ∷ ss) zero there h = (s, refl)
+state_there (y ∷ ds) (s ∷ ss) (suc d) there h = state_there ds ss d (omega arith) h.1
+
 -- the device at a number
 pub device_at : (ds : List KeptDevice) (i k : ℕ) (d : KeptDevice) → i ≡ k → i < length ds → slice_get ds k ≡ Some (get_or ds i d)
 device_at ds i k d e lt = subst (λ j. slice_get ds j ≡ Some (get_or ds i d)) e (slice_get-get_or ds i d lt)
 
 pub device_is : (ds : List KeptDevice) (i k : ℕ) (fallback d : KeptDevice) → i ≡ k → i < length ds → slice_get ds k ≡ Some d → get_or ds i fallback ≡ d
 device_is ds i k fallback d e lt here = let both : Some (get_or ds i fallback) ≡ Some d = sym (device_at ds i k fallback e lt) ∙ here in cc
+
+-- a device that stays
+pub same_set : (ds : List KeptDevice) (k : ℕ) (d : KeptDevice) → slice_get ds k ≡ Some d → slice_set ds k d ≡ ds
+same_set [] k d here = refl
+same_set (x ∷ ds) zero d here = let same : x ≡ d = cc in ap (λ y. y ∷ ds) (sym same)
+same_set (x ∷ ds) (suc k) d here = ap (λ l. x ∷ l) (same_set ds k d here)
 
 -- one device changes with the state that it stands for
 pub stands_set : (ds : List KeptDevice) (ss : List DeviceState) (k : ℕ) (d : KeptDevice) (s : DeviceState) → StandForDevices ds ss → StandsForDevice d s → StandForDevices (slice_set ds k d) (slice_set ss k s)

@@ -1,3 +1,5 @@
+pub mod Keeping
+pub mod Holding
 pub mod Devices
 pub mod Sounding
 pub mod Requests

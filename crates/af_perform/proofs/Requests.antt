@@ -1,75 +1,98 @@
 -- Requests of a link, at whatever place it is.
-use Rattle.std.proofs.Common.{◌≡◌, ℕ, ℤ, Bool, true, false, not, nat_lt, cond, min, Result, Ok, Err, [], ◌∷◌, ◌-◌, ◌%◌, ◌^◌, ◌<◌, ◌≤◌, List, ◌++◌, length, slice_get, slice_set, refl, sym, ap, ◌∙◌, subst, arith}
+use Rattle.std.proofs.Common.{◌≡◌, ℕ, ℤ, Bool, true, false, not, nat_lt, nat_le, ◌&&◌, cond, min, Result, Ok, Err, [], ◌∷◌, ◌+◌, ◌-◌, ◌*◌, ◌%◌, ◌^◌, ◌<◌, ◌≤◌, List, ◌++◌, length, slice_get, slice_set, refl, sym, ap, ◌∙◌, subst, arith}
+use Rattle.std.proofs.lemmas.Bool.Decides.{nat_tests}
 use Rattle.std.specs.declared.option.Option.{Option}
 use Rattle.std.specs.declared.option.Option.TheVariants.{None, Some}
 use Rattle.af_time.specs.DeviceTime.{unwrap}
+use Rattle.af_sample.specs.Heard.{Entry}
 use Rattle.af_context.specs.declared.Context.{Context}
 use Rattle.af_context.specs.declared.ContextFault.TheVariants.{BadAc as BadAc'}
 use Rattle.af_context.specs.Contexts.{is_in_use, reference, with_changed, with_settings}
 use Rattle.af_wire.specs.Message.{error}
 use Rattle.af_request.specs.Answer.{plain, time, played, recorded}
-use Rattle.af_buffers.specs.RecordBuffer.{frames_before}
+use Rattle.af_buffers.specs.PlayBuffer.{accepted_at, frames_beyond as play_beyond, frames_within}
+use Rattle.af_buffers.specs.RecordBuffer.{frames_before, frames_beyond as record_beyond}
 use Rattle.af_model.specs.declared.refusal.Cause.TheVariants.{BadAc, BadValue}
 use Rattle.af_model.specs.declared.refusal.Refusal.{Refusal}
-use Rattle.af_model.specs.State.{DeviceState, LinkState, Around, Place, place}
-use Rattle.af_model.specs.Reply.{code_of_cause, reply_message, replied}
+use Rattle.af_model.specs.State.{DeviceState, Held, held_play, held_record, LinkState, Around, Place, place, with_device, device_set}
+use Rattle.af_model.specs.Reply.{code_of_cause, reply_message}
 use Rattle.af_model.specs.Checks.{check, check_gain, where_named, refused_or, in_device}
 use Rattle.af_model.specs.ContextRequests.{change, change_refusal, named_gain, named_preempt}
-use Rattle.af_model.specs.Play.{accept, accepting, frames_of, play, play_refusal, tell_played}
-use Rattle.af_model.specs.Record.{give_record, record_sound, record_refusal, recorded_bytes}
+use Rattle.af_model.specs.Waiting.{wait}
+use Rattle.af_model.specs.Play.{accepting, entry_now, frames_of, in_devices, sent_sound, start_play, tell_played}
+use Rattle.af_model.specs.Record.{give_record, given_frames, recorded_bytes, start_record}
+use Rattle.af_model.specs.Tick.{answer_held, completing}
 use Rattle.af_model.specs.Perform.{tell_time}
+use Rattle.af_model.proofs.Tests.{both-true}
 use Rattle.af_perform.specs.Kept.{KeptDevice, StandsForDevice}
-use Rattle.af_perform.specs.Sounds.{kept_play_refusal, kept_record_refusal}
-use Rattle.af_perform.specs.Places.{StandForDevices, StandAround, At, LeadsLink}
-use Rattle.af_perform.proofs.Devices.{Found, found, not_found, stands_length, stands_with}
-use Rattle.af_perform.proofs.Sounding.{pass_first, not_false, before-same, play_refusal-same, record_refusal-same, accepting-now}
+use Rattle.af_perform.specs.Waits.{KeptWait, IsNear, StandsForWait, StandForWaits}
+use Rattle.af_perform.specs.Places.{StandForDevices, StandAround, At, LeadsAt, LeadsLink}
+use Rattle.af_perform.proofs.Devices.{Found, found, not_found, same_set, state_there, stands_length, stands_set}
+use Rattle.af_perform.proofs.Keeping.{waits_push, waits_set}
+use Rattle.af_perform.proofs.Sounding.{pass_first, not_false, before-same, within-same, play_beyond-same, record_beyond-same, near_start, start_meant, horizon_bounds, completes}
 
 -- what leads a link, leads it at each place
-pub leads_at : (ds : List KeptDevice) (l l' : LinkState) (f : Place → Place) → LeadsLink f l l' → (a : Around) → StandAround ds a → At ds l' (f (place a l))
-leads_at ds l l' f leads a h = (subst (StandForDevices ds) (sym (leads a).1) h, (leads a).0)
+pub leads_at : (ds : List KeptDevice) (ks : List KeptWait) (l l' : LinkState) (f : Place → Place) (a : Around) → LeadsAt a f l l' → StandAround ds ks a → At ds ks l' (f (place a l))
+leads_at ds ks l l' f a leads h =
+    ((subst (StandForDevices ds) (sym leads.1) h.0, subst (λ ws. StandForWaits (f (place a l)).around.devices ks ws) (sym leads.2) (subst (λ devices. StandForWaits devices ks a.waiting) (sym leads.1) h.1)), leads.0)
 
 -- a link that is refused
 abbrev pub with_error : ℕ → Refusal → LinkState → LinkState
 with_error opcode r l = record l { pending = l.pending ++ error (code_of_cause r.cause) r.value opcode l.sequence }
 
 pub leads_refused : (l l' : LinkState) (opcode : ℕ) (o : Option Refusal) (r : Refusal) (f : Place → Place) → o ≡ Some r → l' ≡ with_error opcode r l → LeadsLink (refused_or opcode o f) l l'
-leads_refused l l' opcode o r f is e = subst (λ o. LeadsLink (refused_or opcode o f) l l') (sym is) (λ a. (sym e, refl))
+leads_refused l l' opcode o r f is e = subst (λ o. LeadsLink (refused_or opcode o f) l l') (sym is) (λ a. (sym e, refl, refl))
 
 pub leads_passed : (l l' : LinkState) (opcode : ℕ) (o : Option Refusal) (f : Place → Place) → o ≡ None → LeadsLink f l l' → LeadsLink (refused_or opcode o f) l l'
 leads_passed l l' opcode o f is leads = subst (λ o. LeadsLink (refused_or opcode o f) l l') (sym is) leads
 
 -- the same of checks that look at how many devices there are
-pub counts_refused : (ds : List KeptDevice) (l l' : LinkState) (opcode : ℕ) (check : ℕ → Option Refusal) (r : Refusal) (f : Place → Place) → check (length ds) ≡ Some r → l' ≡ with_error opcode r l →
-    (a : Around) → StandAround ds a → At ds l' (refused_or opcode (check (length a.devices)) f (place a l))
-counts_refused ds l l' opcode check r f is e a h =
-    leads_at ds l l' (refused_or opcode (check (length a.devices)) f) (leads_refused l l' opcode (check (length a.devices)) r f (ap check (stands_length ds a.devices h) ∙ is) e) a h
+pub counts_refused : (ds : List KeptDevice) (ks : List KeptWait) (l l' : LinkState) (opcode : ℕ) (check : ℕ → Option Refusal) (r : Refusal) (f : Place → Place) → check (length ds) ≡ Some r → l' ≡ with_error opcode r l →
+    (a : Around) → StandAround ds ks a → At ds ks l' (refused_or opcode (check (length a.devices)) f (place a l))
+counts_refused ds ks l l' opcode check r f is e a h =
+    leads_at ds ks l l' (refused_or opcode (check (length a.devices)) f) a (leads_refused l l' opcode (check (length a.devices)) r f (ap check (stands_length ds a.devices h.0) ∙ is) e a) h
 
-pub counts_passed : (ds : List KeptDevice) (l l' : LinkState) (opcode : ℕ) (check : ℕ → Option Refusal) (f : Place → Place) → check (length ds) ≡ None → LeadsLink f l l' →
-    (a : Around) → StandAround ds a → At ds l' (refused_or opcode (check (length a.devices)) f (place a l))
-counts_passed ds l l' opcode check f is leads a h =
-    leads_at ds l l' (refused_or opcode (check (length a.devices)) f) (leads_passed l l' opcode (check (length a.devices)) f (ap check (stands_length ds a.devices h) ∙ is) leads) a h
+pub counts_passed : (ds : List KeptDevice) (ks : List KeptWait) (l l' : LinkState) (opcode : ℕ) (check : ℕ → Option Refusal) (f : Place → Place) → check (length ds) ≡ None → LeadsLink f l l' →
+    (a : Around) → StandAround ds ks a → At ds ks l' (refused_or opcode (check (length a.devices)) f (place a l))
+counts_passed ds ks l l' opcode check f is leads a h =
+    leads_at ds ks l l' (refused_or opcode (check (length a.devices)) f) a (leads_passed l l' opcode (check (length a.devices)) f (ap check (stands_length ds a.devices h.0) ∙ is) leads a) h
 
 -- a request that names a device
 
-pub device_missing : (ds : List KeptDevice) (l l' : LinkState) (opcode d value : ℕ) (f : DeviceState → Place → Place) → length ds ≤ d → value ≡ d → l' ≡ record l { pending = l.pending ++ error 3 value opcode l.sequence } →
-    (a : Around) → StandAround ds a → At ds l' (in_device opcode d f (slice_get a.devices d) (place a l))
-device_missing ds l l' opcode d value f past v e a h =
+pub device_missing : (ds : List KeptDevice) (ks : List KeptWait) (l l' : LinkState) (opcode d value : ℕ) (f : DeviceState → Place → Place) → length ds ≤ d → value ≡ d → l' ≡ record l { pending = l.pending ++ error 3 value opcode l.sequence } →
+    (a : Around) → StandAround ds ks a → At ds ks l' (in_device opcode d f (slice_get a.devices d) (place a l))
+device_missing ds ks l l' opcode d value f past v e a h =
     let refused : ℕ → LinkState = λ t. record l { pending = l.pending ++ error 3 t opcode l.sequence } in
-    subst (λ o. At ds l' (in_device opcode d f o (place a l))) (sym (not_found ds a.devices d past h)) (h, ap refused (sym v) ∙ sym e)
+    subst (λ o. At ds ks l' (in_device opcode d f o (place a l))) (sym (not_found ds a.devices d past h.0)) (h, ap refused (sym v) ∙ sym e)
 
-pub device_found : (ds ds' : List KeptDevice) (l l' : LinkState) (opcode d : ℕ) (x : KeptDevice) (f : DeviceState → Place → Place) → slice_get ds d ≡ Some x →
-    ((a : Around) (s : DeviceState) → StandAround ds a → slice_get a.devices d ≡ Some s → StandsForDevice x s → At ds' l' (f s (place a l))) →
-    (a : Around) → StandAround ds a → At ds' l' (in_device opcode d f (slice_get a.devices d) (place a l))
-device_found ds ds' l l' opcode d x f here step a h =
-    let r : Found a.devices d x = found ds a.devices d x here h in
-    subst (λ o. At ds' l' (in_device opcode d f o (place a l))) (sym r.here) (step a r.state h r.here r.stands)
+pub device_found : (ds ds' : List KeptDevice) (ks ks' : List KeptWait) (l l' : LinkState) (opcode d : ℕ) (x : KeptDevice) (f : DeviceState → Place → Place) → slice_get ds d ≡ Some x →
+    ((a : Around) (s : DeviceState) → StandAround ds ks a → slice_get a.devices d ≡ Some s → StandsForDevice x s → At ds' ks' l' (f s (place a l))) →
+    (a : Around) → StandAround ds ks a → At ds' ks' l' (in_device opcode d f (slice_get a.devices d) (place a l))
+device_found ds ds' ks ks' l l' opcode d x f here step a h =
+    let r : Found a.devices d x = found ds a.devices d x here h.0 in
+    subst (λ o. At ds' ks' l' (in_device opcode d f o (place a l))) (sym r.here) (step a r.state h r.here r.stands)
+
+-- what a device at a number stands for
+pub stands_here : (ds : List KeptDevice) (ks : List KeptWait) (a : Around) (d : ℕ) (x : KeptDevice) (s : DeviceState) → StandAround ds ks a → slice_get ds d ≡ Some x → slice_get a.devices d ≡ Some s → StandsForDevice x s
+stands_here ds ks a d x s h here there =
+    let r : Found a.devices d x = found ds a.devices d x here h.0 in
+    let same : r.state ≡ s = let both : Some r.state ≡ Some s = sym r.here ∙ there in cc in
+    subst (StandsForDevice x) same r.stands
+
+-- a device that is there
+pub any_device : (ds ds' : List KeptDevice) (ks ks' : List KeptWait) (l l' : LinkState) (opcode d : ℕ) (f : DeviceState → Place → Place) → d < length ds →
+    ((a : Around) (s : DeviceState) → StandAround ds ks a → slice_get a.devices d ≡ Some s → At ds' ks' l' (f s (place a l))) →
+    (a : Around) → StandAround ds ks a → At ds' ks' l' (in_device opcode d f (slice_get a.devices d) (place a l))
+any_device ds ds' ks ks' l l' opcode d f there step a h =
+    let r = state_there ds a.devices d there h.0 in
+    subst (λ o. At ds' ks' l' (in_device opcode d f o (place a l))) (sym r.1) (step a r.0 h r.1)
 
 -- the time that is kept is the time that is told
 pub time_told : (l l' : LinkState) (x : KeptDevice) (t : ℕ) → t ≡ x.next.time → l' ≡ record l { pending = l.pending ++ reply_message 2 (time t) l.sequence } →
     (s : DeviceState) → StandsForDevice x s → LeadsLink (tell_time s) l l'
 time_told l l' x t is e s h a =
     let said : ℕ → LinkState = λ t. record l { pending = l.pending ++ reply_message 2 (time t) l.sequence } in
-    (ap said (sym h.hears.time ∙ sym is) ∙ sym e, refl)
+    (ap said (sym h.hears.time ∙ sym is) ∙ sym e, refl, refl)
 
 -- ChangeAC
 
@@ -78,7 +101,7 @@ pub changed : (l l1 l2 : LinkState) (mask ac preempt : ℕ) (play_gain record_ga
 changed l l1 l2 mask ac preempt play_gain record_gain p r b e1 e2 e3 e4 e5 a =
     let told : LinkState → LinkState = λ m. record m { pending = m.pending ++ reply_message 4 plain m.sequence } in
     let set : Option ℤ → Option ℤ → Option Bool → LinkState = λ p r b. record l { contexts = with_changed l.contexts ac (with_settings p r b) } in
-    (sym (e5 ∙ ap told (e4 ∙ ap (λ p. set p r b) e1 ∙ ap (λ r. set (named_gain mask 1 play_gain) r b) e2 ∙ ap (set (named_gain mask 1 play_gain) (named_gain mask 2 record_gain)) e3)), refl)
+    (sym (e5 ∙ ap told (e4 ∙ ap (λ p. set p r b) e1 ∙ ap (λ r. set (named_gain mask 1 play_gain) r b) e2 ∙ ap (set (named_gain mask 1 play_gain) (named_gain mask 2 record_gain)) e3)), refl, refl)
 
 -- a context that is changed is in use
 pub change_in_use : (contexts : List Context) (mask ac preempt : ℕ) (play_gain record_gain : ℤ) → change_refusal contexts mask ac preempt play_gain record_gain ≡ None → reference contexts ac ≡ Ok tt
@@ -88,57 +111,162 @@ change_in_use contexts mask ac preempt play_gain record_gain e =
     (where_named mask 1 (check_gain play_gain) ∷ where_named mask 2 (check_gain record_gain) ∷ where_named mask 4 (check (nat_lt 1 preempt) BadValue preempt) ∷ []) refl e in
     ap (λ b. cond b (Ok tt) (Err BadAc')) (not_false (is_in_use contexts ac) one.0)
 
--- Play
+-- A request that is refused, or is done where its checks pass
 
-pub play_refused : (l l' : LinkState) (quiet : Bool) (c : Context) (start : ℕ) (bytes : List ℕ) (x : KeptDevice) (r : Refusal) → start < 2 ^ 32 → kept_play_refusal c x start (length bytes) ≡ Some r → l' ≡ with_error 6 r l →
-    (s : DeviceState) → StandsForDevice x s → LeadsLink (play quiet c start bytes s) l l'
-play_refused l l' quiet c start bytes x r word is e s h =
-    leads_refused l l' 6 (play_refusal c s start (length bytes)) r (λ q. tell_played quiet s (accept c start bytes q)) (sym (play_refusal-same c x s start (length bytes) word h) ∙ is) e
+pub at_refused : (ds : List KeptDevice) (ks : List KeptWait) (l l' : LinkState) (opcode : ℕ) (o : Option Refusal) (r : Refusal) (f : Place → Place) (a : Around) → o ≡ Some r → l' ≡ with_error opcode r l → StandAround ds ks a →
+    At ds ks l' (refused_or opcode o f (place a l))
+at_refused ds ks l l' opcode o r f a is e h = leads_at ds ks l l' (refused_or opcode o f) a (leads_refused l l' opcode o r f is e a) h
 
-pub play_passed : (ds : List KeptDevice) (l l' : LinkState) (quiet : Bool) (c : Context) (start : ℕ) (bytes : List ℕ) (x : KeptDevice) (s : DeviceState) (a : Around) → start < 2 ^ 32 → kept_play_refusal c x start (length bytes) ≡ None → StandsForDevice x s →
-    At ds l' (tell_played quiet s (accept c start bytes (place a l))) → At ds l' (play quiet c start bytes s (place a l))
-play_passed ds l l' quiet c start bytes x s a word is h at =
-    subst (λ o. At ds l' (refused_or 6 o (λ q. tell_played quiet s (accept c start bytes q)) (place a l))) (sym (sym (play_refusal-same c x s start (length bytes) word h) ∙ is)) at
+pub at_passed : (ds : List KeptDevice) (ks : List KeptWait) (l l' : LinkState) (opcode : ℕ) (o : Option Refusal) (f : Place → Place) (a : Around) → o ≡ None → At ds ks l' (f (place a l)) → At ds ks l' (refused_or opcode o f (place a l))
+at_passed ds ks l l' opcode o f a is at = subst (λ o. At ds ks l' (refused_or opcode o f (place a l))) (sym is) at
+
+pub either_at : (ds : List KeptDevice) (ks : List KeptWait) (l : LinkState) (test b : Bool) (p q : Place) → test ≡ b → At ds ks l (cond b p q) → At ds ks l (cond test p q)
+either_at ds ks l test b p q is at = subst (λ t. At ds ks l (cond t p q)) (sym is) at
+
+-- Plays
 
 -- what a play that is accepted is told
-told_at : (ds : List KeptDevice) (a : Around) (l l' : LinkState) (quiet : Bool) (s : DeviceState) (t : ℕ) → StandAround ds a → t ≡ s.now % 2 ^ 32 →
-    l' ≡ cond quiet l (record l { pending = l.pending ++ reply_message 6 (played t) l.sequence }) → At ds l' (tell_played quiet s (place a l))
-told_at ds a l l' true s t h is e = (h, sym e)
-told_at ds a l l' false s t h is e = (h, ap (λ t. record l { pending = l.pending ++ reply_message 6 (played t) l.sequence }) (sym is) ∙ sym e)
+told_at : (ds : List KeptDevice) (ks : List KeptWait) (a : Around) (l l' : LinkState) (quiet : Bool) (s : DeviceState) (t : ℕ) → StandAround ds ks a → t ≡ s.now % 2 ^ 32 →
+    l' ≡ cond quiet l (record l { pending = l.pending ++ reply_message 6 (played t) l.sequence }) → At ds ks l' (tell_played quiet s (place a l))
+told_at ds ks a l l' true s t h is e = (h, sym e)
+told_at ds ks a l l' false s t h is e = (h, ap (λ t. record l { pending = l.pending ++ reply_message 6 (played t) l.sequence }) (sym is) ∙ sym e)
 
-pub play_accepted : (ds : List KeptDevice) (i : ℕ) (x x' : KeptDevice) (l l' : LinkState) (quiet : Bool) (c : Context) (start : ℕ) (bytes : List ℕ) (t : ℕ) → i ≡ c.device → slice_get ds i ≡ Some x →
-    ((s : DeviceState) → StandsForDevice x s → StandsForDevice x' (accepting c start bytes s)) → t ≡ x'.next.time → l' ≡ cond quiet l (record l { pending = l.pending ++ reply_message 6 (played t) l.sequence }) →
-    (a : Around) (s : DeviceState) → StandAround ds a → slice_get a.devices c.device ≡ Some s → At (slice_set ds i x') l' (tell_played quiet s (accept c start bytes (place a l)))
-play_accepted ds i x x' l l' quiet c start bytes t number here step is e a s h there =
-    let here' : slice_get ds c.device ≡ Some x = subst (λ i. slice_get ds i ≡ Some x) number here in
-    let r : Found a.devices c.device x = found ds a.devices c.device x here' h in
-    let same : r.state ≡ s = let both : Some r.state ≡ Some s = sym r.here ∙ there in cc in
-    let time : t ≡ s.now % 2 ^ 32 = is ∙ (step r.state r.stands).hears.time ∙ ap (λ n. n % 2 ^ 32) (accepting-now c start bytes r.state) ∙ ap (λ s. s.now % 2 ^ 32) same in
-    subst (λ i. At (slice_set ds i x') l' (tell_played quiet s (accept c start bytes (place a l)))) (sym number)
-    (told_at (slice_set ds c.device x') (accept c start bytes (place a l)).around l l' quiet s t (stands_with ds a.devices c.device x x' (accepting c start bytes) here' h step) time e)
+-- one device changes, but not its time and its rate
+device_changes : (ds : List KeptDevice) (ks : List KeptWait) (d : ℕ) (x' : KeptDevice) (a : Around) (s : DeviceState) (f : DeviceState → DeviceState) → StandAround ds ks a → slice_get a.devices d ≡ Some s →
+    StandsForDevice x' (f s) → (f s).now ≡ s.now → (f s).rate ≡ s.rate → StandForDevices (slice_set ds d x') (with_device d f a.devices) × StandForWaits (with_device d f a.devices) ks a.waiting
+device_changes ds ks d x' a s f h there stands now rate =
+    subst (λ o. StandForDevices (slice_set ds d x') (device_set d f a.devices o) × StandForWaits (device_set d f a.devices o) ks a.waiting) (sym there)
+    (stands_set ds a.devices d x' (f s) h.0 stands, waits_set a.devices d s (f s) ks a.waiting there now rate h.1)
 
--- Record
+-- a device that changed in answer to a play, of which the link is told
+pub play_told : (ds : List KeptDevice) (ks : List KeptWait) (i : ℕ) (x' : KeptDevice) (l l' : LinkState) (quiet : Bool) (d t : ℕ) (f : DeviceState → DeviceState) (a : Around) (s : DeviceState) → i ≡ d → StandAround ds ks a →
+    slice_get a.devices d ≡ Some s → StandsForDevice x' (f s) → (f s).now ≡ s.now → (f s).rate ≡ s.rate → t ≡ x'.next.time → l' ≡ cond quiet l (record l { pending = l.pending ++ reply_message 6 (played t) l.sequence }) →
+    At (slice_set ds i x') ks l' (tell_played quiet s (in_devices d f (place a l)))
+play_told ds ks i x' l l' quiet d t f a s number h there stands now rate is e =
+    let time : t ≡ s.now % 2 ^ 32 = is ∙ stands.hears.time ∙ ap (λ n. n % 2 ^ 32) now in
+    subst (λ i. At (slice_set ds i x') ks l' (tell_played quiet s (in_devices d f (place a l)))) (sym number)
+    (told_at (slice_set ds d x') ks (in_devices d f (place a l)).around l l' quiet s t (device_changes ds ks d x' a s f h there stands now rate) time e)
 
-pub record_refused : (l l' : LinkState) (blocking : Bool) (c : Context) (start bytes : ℕ) (x : KeptDevice) (r : Refusal) → start < 2 ^ 32 → kept_record_refusal blocking c x start bytes ≡ Some r → l' ≡ with_error 7 r l →
-    (s : DeviceState) → StandsForDevice x s → LeadsLink (record_sound blocking c start bytes s) l l'
-record_refused l l' blocking c start bytes x r word is e s h =
-    leads_refused l l' 7 (record_refusal blocking c s start bytes) r (give_record blocking c start bytes s) (sym (record_refusal-same blocking c x s start bytes word h) ∙ is) e
+-- a play that ends within the horizon is accepted
+pub play_started : (ds ds' : List KeptDevice) (ks : List KeptWait) (x : KeptDevice) (l l' : LinkState) (k : ℕ) (quiet : Bool) (c : Context) (start : ℕ) (bytes : List ℕ) (sound : List ℤ) (a : Around) (s : DeviceState) → start < 2 ^ 32 → StandsForDevice x s →
+    sound ≡ sent_sound c bytes → length sound ≡ frames_of c (length bytes) → length sound ≤ frames_within x.next start →
+    At ds' ks l' (tell_played quiet s (in_devices c.device (accepting (accepted_at s.now start sound c.preempt)) (place a l))) → At ds' ks l' (start_play k quiet c start bytes s (place a l))
+play_started ds ds' ks x l l' k quiet c start bytes sound a s word h is size within at =
+    let same = within-same x s start word h in
+    let test : nat_le (frames_of c (length bytes)) (s.now + s.rate * 4 - unwrap s.now start) ≡ true = grind (arith, nat_tests) in
+    either_at ds' ks l' (nat_le (frames_of c (length bytes)) (s.now + s.rate * 4 - unwrap s.now start)) true (tell_played quiet s (in_devices c.device (accepting (entry_now c s start bytes)) (place a l)))
+    (wait k c.device (held_play quiet (unwrap s.now start) (sent_sound c bytes) c.preempt) (place a l)) test
+    (subst (λ xs. At ds' ks l' (tell_played quiet s (in_devices c.device (accepting (accepted_at s.now start xs c.preempt)) (place a l)))) is at)
 
-pub record_passed : (l l' : LinkState) (blocking : Bool) (c : Context) (start bytes : ℕ) (x : KeptDevice) → start < 2 ^ 32 → kept_record_refusal blocking c x start bytes ≡ None →
-    ((s : DeviceState) → StandsForDevice x s → LeadsLink (give_record blocking c start bytes s) l l') → (s : DeviceState) → StandsForDevice x s → LeadsLink (record_sound blocking c start bytes s) l l'
-record_passed l l' blocking c start bytes x word is leads s h =
-    leads_passed l l' 7 (record_refusal blocking c s start bytes) (give_record blocking c start bytes s) (sym (record_refusal-same blocking c x s start bytes word h) ∙ is) (leads s h)
+-- and any other waits
+pub play_waits : (ds : List KeptDevice) (ks ks' : List KeptWait) (x : KeptDevice) (l : LinkState) (k : ℕ) (quiet : Bool) (c : Context) (start : ℕ) (bytes : List ℕ) (sound : List ℤ) (left : ℕ) (a : Around) (s : DeviceState) → start < 2 ^ 32 → StandAround ds ks a →
+    slice_get a.devices c.device ≡ Some s → StandsForDevice x s → sound ≡ sent_sound c bytes → length sound ≡ frames_of c (length bytes) → length sound ≤ 16368 → frames_within x.next start < length sound → left ≡ play_beyond x.next start (length sound) →
+    ks' ≡ ks ++ record { wait = record { link = k; device = c.device; left = left }; held = held_play quiet start sound c.preempt } ∷ [] → At ds ks' l (start_play k quiet c start bytes s (place a l))
+play_waits ds ks ks' x l k quiet c start bytes sound left a s word h there stands is size few past count e =
+    let same = within-same x s start word stands in
+    let meant = start_meant x s start word stands in
+    let bounds = horizon_bounds s x stands in
+    let far = bounds.0 in
+    let late = meant.late in
+    let beyond = play_beyond-same x s start (length sound) word stands in
+    let test : nat_le (frames_of c (length bytes)) (s.now + s.rate * 4 - unwrap s.now start) ≡ false = grind (arith, nat_tests) in
+    let held : ℕ → List ℤ → Held = λ w xs. held_play quiet w xs c.preempt in
+    let one : StandsForWait a.devices (record { wait = record { link = k; device = c.device; left = left }; held = held_play quiet start sound c.preempt }) (record { link = k; device = c.device; held = held_play quiet (unwrap s.now start) sound c.preempt }) = record {
+      link = refl;
+      device = refl;
+      held = ap (λ w. held w sound) (sym meant.word);
+      state = s;
+      here = there;
+      left = omega arith;
+      near = (omega arith, late, few);
+    } in
+    either_at ds ks' l (nat_le (frames_of c (length bytes)) (s.now + s.rate * 4 - unwrap s.now start)) false (tell_played quiet s (in_devices c.device (accepting (entry_now c s start bytes)) (place a l)))
+    (wait k c.device (held_play quiet (unwrap s.now start) (sent_sound c bytes) c.preempt) (place a l)) test
+    (subst (λ xs. At ds ks' l (wait k c.device (held_play quiet (unwrap s.now start) xs c.preempt) (place a l))) is
+    (subst (λ qs. At ds qs l (wait k c.device (held_play quiet (unwrap s.now start) sound c.preempt) (place a l))) (sym e)
+    ((h.0, waits_push a.devices ks a.waiting (record { wait = record { link = k; device = c.device; left = left }; held = held_play quiet start sound c.preempt }) (record { link = k; device = c.device; held = held_play quiet (unwrap s.now start) sound c.preempt }) h.1 one), refl)))
 
-pub frames_given : (l l' : LinkState) (c : Context) (start : ℕ) (x : KeptDevice) (t n : ℕ) (given : List ℕ) → t ≡ x.next.time → ((s : DeviceState) → StandsForDevice x s → given ≡ recorded_bytes c s start n) →
-    l' ≡ record l { pending = l.pending ++ reply_message 7 (recorded t given) l.sequence } → (s : DeviceState) → StandsForDevice x s → LeadsLink (replied 7 (recorded (s.now % 2 ^ 32) (recorded_bytes c s start n))) l l'
+-- a play that had waited
+pub play_completed : (ds : List KeptDevice) (ks : List KeptWait) (i : ℕ) (x' : KeptDevice) (x : KeptDevice) (l l' : LinkState) (quiet : Bool) (d start t : ℕ) (sound : List ℤ) (preempt : Bool) (a : Around) (s : DeviceState) (whole : ℕ) → i ≡ d → StandAround ds ks a →
+    slice_get a.devices d ≡ Some s → StandsForDevice x s → start ≡ whole % 2 ^ 32 → IsNear (s.rate * 4) s.now (held_play quiet whole sound preempt) → StandsForDevice x' (accepting (accepted_at s.now start sound preempt) s) → t ≡ x'.next.time →
+    l' ≡ cond quiet l (record l { pending = l.pending ++ reply_message 6 (played t) l.sequence }) → At (slice_set ds i x') ks l' (answer_held (held_play quiet whole sound preempt) s (in_devices d (completing (held_play quiet whole sound preempt)) (place a l)))
+play_completed ds ks i x' x l l' quiet d start t sound preempt a s whole number h there stands word near accepted is e =
+    let held : Held = held_play quiet whole sound preempt in
+    let early = near.0 in
+    let means : unwrap s.now start ≡ whole = near_start x s start whole stands word (omega arith) near.1 in
+    let entry : ℕ → Entry = λ w. record { start = w; samples = sound; preempt = preempt; at = s.now } in
+    play_told ds ks i x' l l' quiet d t (completing held) a s number h there
+    (completes x' s held (subst (λ w. StandsForDevice x' (accepting (entry w) s)) means accepted) early) refl refl is e
+
+-- Records
+
+pub frames_given : (l l' : LinkState) (c : Context) (start : ℕ) (x : KeptDevice) (t n : ℕ) (given : List ℕ) → t ≡ x.next.time → ((s : DeviceState) → StandsForDevice x s → given ≡ recorded_bytes c s (unwrap s.now start) n) →
+    l' ≡ record l { pending = l.pending ++ reply_message 7 (recorded t given) l.sequence } → (s : DeviceState) → StandsForDevice x s → LeadsLink (give_record c (unwrap s.now start) n s) l l'
 frames_given l l' c start x t n given is gives e s h a =
     let said : ℕ → List ℕ → LinkState = λ t given. record l { pending = l.pending ++ reply_message 7 (recorded t given) l.sequence } in
-    (sym (e ∙ ap (λ t. said t given) (is ∙ h.hears.time) ∙ ap (said (s.now % 2 ^ 32)) (gives s h)), refl)
+    (sym (e ∙ ap (λ t. said t given) (is ∙ h.hears.time) ∙ ap (said (s.now % 2 ^ 32)) (gives s h)), refl, refl)
 
 pub record_given : (l l' : LinkState) (blocking : Bool) (c : Context) (start bytes : ℕ) (x : KeptDevice) (n frames : ℕ) → start < 2 ^ 32 → frames ≡ frames_of c bytes →
     n ≡ cond blocking frames (min (frames_before x.last start) frames) →
-    ((s : DeviceState) → StandsForDevice x s → LeadsLink (replied 7 (recorded (s.now % 2 ^ 32) (recorded_bytes c s start n))) l l') → (s : DeviceState) → StandsForDevice x s → LeadsLink (give_record blocking c start bytes s) l l'
+    ((s : DeviceState) → StandsForDevice x s → LeadsLink (give_record c (unwrap s.now start) n s) l l') → (s : DeviceState) → StandsForDevice x s → LeadsLink (give_record c (unwrap s.now start) (given_frames blocking s start (frames_of c bytes)) s) l l'
 record_given l l' blocking c start bytes x n frames word all few leads s h =
     let count : n ≡ cond blocking (frames_of c bytes) (min (s.now - unwrap s.now start) (frames_of c bytes)) =
     few ∙ ap (λ m. cond blocking m (min (frames_before x.last start) m)) all ∙ ap (λ m. cond blocking (frames_of c bytes) (min m (frames_of c bytes))) (before-same x s start word h) in
-    subst (λ m. LeadsLink (replied 7 (recorded (s.now % 2 ^ 32) (recorded_bytes c s start m))) l l') count (leads s h)
+    subst (λ m. LeadsLink (give_record c (unwrap s.now start) m s) l l') count (leads s h)
+
+-- a record that is answered now
+pub record_started : (ds : List KeptDevice) (ks : List KeptWait) (x : KeptDevice) (l l' : LinkState) (k : ℕ) (blocking : Bool) (c : Context) (start bytes frames : ℕ) (a : Around) (s : DeviceState) → start < 2 ^ 32 → StandAround ds ks a → StandsForDevice x s →
+    frames ≡ frames_of c bytes → (blocking && nat_lt (frames_before x.last start) frames) ≡ false → LeadsLink (give_record c (unwrap s.now start) (given_frames blocking s start (frames_of c bytes)) s) l l' →
+    At ds ks l' (start_record k blocking c start bytes s (place a l))
+record_started ds ks x l l' k blocking c start bytes frames a s word h stands all now leads =
+    let test : (blocking && nat_lt (s.now - unwrap s.now start) (frames_of c bytes)) ≡ false =
+    sym (ap (λ m. blocking && nat_lt m frames) (before-same x s start word stands) ∙ ap (λ m. blocking && nat_lt (s.now - unwrap s.now start) m) all) ∙ now in
+    either_at ds ks l' (blocking && nat_lt (s.now - unwrap s.now start) (frames_of c bytes)) false (wait k c.device (held_record c (unwrap s.now start) (frames_of c bytes)) (place a l))
+    (give_record c (unwrap s.now start) (given_frames blocking s start (frames_of c bytes)) s (place a l)) test
+    (leads_at ds ks l l' (give_record c (unwrap s.now start) (given_frames blocking s start (frames_of c bytes)) s) a (leads a) h)
+
+-- and one that waits
+pub record_waits : (ds : List KeptDevice) (ks ks' : List KeptWait) (x : KeptDevice) (l : LinkState) (k : ℕ) (blocking : Bool) (c : Context) (start bytes frames left : ℕ) (a : Around) (s : DeviceState) → start < 2 ^ 32 → StandAround ds ks a →
+    slice_get a.devices c.device ≡ Some s → StandsForDevice x s → frames ≡ frames_of c bytes → frames ≤ 16000 → (blocking && nat_lt (frames_before x.last start) frames) ≡ true → left ≡ record_beyond x.last start frames →
+    ks' ≡ ks ++ record { wait = record { link = k; device = c.device; left = left }; held = held_record c start frames } ∷ [] → At ds ks' l (start_record k blocking c start bytes s (place a l))
+record_waits ds ks ks' x l k blocking c start bytes frames left a s word h there stands all few waits count e =
+    let before = before-same x s start word stands in
+    let test : (blocking && nat_lt (s.now - unwrap s.now start) (frames_of c bytes)) ≡ true =
+    sym (ap (λ m. blocking && nat_lt m frames) before ∙ ap (λ m. blocking && nat_lt (s.now - unwrap s.now start) m) all) ∙ waits in
+    let past : nat_lt (frames_before x.last start) frames ≡ true = (both-true blocking (nat_lt (frames_before x.last start) frames) waits).1 in
+    let meant = start_meant x s start word stands in
+    let late = meant.late in
+    let bounds = horizon_bounds s x stands in
+    let far = bounds.0 in
+    let beyond = record_beyond-same x s start frames word stands in
+    let not_before : s.now < unwrap s.now start + frames = let lt : frames_before x.last start < frames = grind (arith, nat_tests) in omega (arith, lt, before) in
+    let one : StandsForWait a.devices (record { wait = record { link = k; device = c.device; left = left }; held = held_record c start frames }) (record { link = k; device = c.device; held = held_record c (unwrap s.now start) frames }) = record {
+      link = refl;
+      device = refl;
+      held = ap (λ w. held_record c w frames) (sym meant.word);
+      state = s;
+      here = there;
+      left = count ∙ beyond;
+      near = (omega arith, late, few);
+    } in
+    either_at ds ks' l (blocking && nat_lt (s.now - unwrap s.now start) (frames_of c bytes)) true (wait k c.device (held_record c (unwrap s.now start) (frames_of c bytes)) (place a l))
+    (give_record c (unwrap s.now start) (given_frames blocking s start (frames_of c bytes)) s (place a l)) test
+    (subst (λ m. At ds ks' l (wait k c.device (held_record c (unwrap s.now start) m) (place a l))) all
+    (subst (λ qs. At ds qs l (wait k c.device (held_record c (unwrap s.now start) frames) (place a l))) (sym e)
+    ((h.0, waits_push a.devices ks a.waiting (record { wait = record { link = k; device = c.device; left = left }; held = held_record c start frames }) (record { link = k; device = c.device; held = held_record c (unwrap s.now start) frames }) h.1 one), refl)))
+
+-- a record that had waited
+pub record_completed : (ds : List KeptDevice) (ks : List KeptWait) (x : KeptDevice) (l l' : LinkState) (c : Context) (d start frames : ℕ) (a : Around) (s : DeviceState) (whole : ℕ) → slice_get ds d ≡ Some x → StandAround ds ks a →
+    slice_get a.devices d ≡ Some s → StandsForDevice x s → start ≡ whole % 2 ^ 32 → IsNear (s.rate * 4) s.now (held_record c whole frames) → LeadsLink (give_record c (unwrap s.now start) frames s) l l' →
+    At ds ks l' (answer_held (held_record c whole frames) s (in_devices d (completing (held_record c whole frames)) (place a l)))
+record_completed ds ks x l l' c d start frames a s whole here h there stands word near leads =
+    let held : Held = held_record c whole frames in
+    let bounds = horizon_bounds s x stands in
+    let wide = bounds.1 in
+    let early = near.0 in
+    let means : unwrap s.now start ≡ whole = near_start x s start whole stands word (omega arith) near.1 in
+    let around = (in_devices d (completing held) (place a l)).around in
+    let gives : LeadsLink (give_record c whole frames s) l l' = subst (λ w. LeadsLink (give_record c w frames s) l l') means leads in
+    let changed = device_changes ds ks d x a s (completing held) h there (completes x s held stands early) refl refl in
+    leads_at ds ks l l' (give_record c whole frames s) around (gives around)
+    (subst (λ xs. StandForDevices xs around.devices × StandForWaits around.devices ks a.waiting) (same_set ds d x here) changed)

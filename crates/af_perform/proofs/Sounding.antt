@@ -3,11 +3,13 @@ use Rattle.std.proofs.Common.{◌≡◌, ℕ, ℤ, pos, suc, true, false, not, c
 use Rattle.std.specs.List.{range_with_len}
 use Rattle.std.specs.declared.option.Option.{Option}
 use Rattle.std.specs.declared.option.Option.TheVariants.{None, Some}
+use Rattle.std.proofs.lemmas.List.Elements.{All-push}
 use Rattle.std.proofs.lemmas.Bool.Decides.{nat_tests}
 use Rattle.af_model.specs.declared.refusal.Refusal.{Refusal}
 use Rattle.std.proofs.lemmas.List.{ext_get_or, length-replicate}
 use Rattle.std.proofs.lemmas.List.FromFn.{length-map-range_with_len, get_or-map-range_with_len}
-use Rattle.af_time.specs.DeviceTime.{unwrap}
+use Rattle.af_time.specs.DeviceTime.{unwrap, IsMeant}
+use Rattle.af_time.proofs.WholeTimes.{meant_unwrap, unwrap_meant}
 use Rattle.af_sample.specs.declared.sample_type.SampleType.{SampleType}
 use Rattle.af_sample.specs.declared.sample_type.SampleType.TheVariants.{Mu255, Alaw, Lin16, Lin32}
 use Rattle.af_sample.specs.SampleTypes.{width_of}
@@ -18,20 +20,20 @@ use Rattle.af_sample.specs.Window.{window}
 use Rattle.af_context.specs.declared.Context.{Context}
 use Rattle.af_outside.specs.declared.script.DeviceSpec.{DeviceSpec}
 use Rattle.af_buffers.specs.Horizons.{IsListedRate}
-use Rattle.af_buffers.specs.PlayBuffer.{Next, accepted_by, frames_within, HandsOut, Hears, Plays}
-use Rattle.af_buffers.specs.RecordBuffer.{Last, Captures, Keeps, frames_before, samples_from}
+use Rattle.af_buffers.specs.PlayBuffer.{Next, accepted_at, accepted_by, frames_beyond as play_beyond, frames_within, HandsOut, Hears, Plays}
+use Rattle.af_buffers.specs.RecordBuffer.{Last, Captures, Keeps, frames_before, frames_beyond as record_beyond, samples_from}
 use Rattle.af_buffers.proofs.Rooms.{horizon_of_rate, horizon_within}
-use Rattle.af_buffers.proofs.Hearing.{hears_silence, hears_play, hears_hand_out, gives_heard, frames_within-same, size_hand_out}
-use Rattle.af_buffers.proofs.Windows.{keeps_silence, keeps_capture, reads_window, frames_before-same, size_capture}
+use Rattle.af_buffers.proofs.Hearing.{hears_silence, hears_play, hears_hand_out, gives_heard, frames_beyond-same as play_later, frames_within-same, size_hand_out}
+use Rattle.af_buffers.proofs.Windows.{keeps_silence, keeps_capture, reads_window, frames_before-same, frames_beyond-same as record_later, size_capture}
 use Rattle.af_model.specs.declared.refusal.Cause.{Cause}
 use Rattle.af_model.specs.declared.refusal.Cause.TheVariants.{BadValue}
-use Rattle.af_model.specs.State.{DeviceState, opening_device}
+use Rattle.af_model.specs.State.{DeviceState, Held, opening_device}
 use Rattle.af_model.specs.Checks.{check, first_refusal}
-use Rattle.af_model.specs.Play.{accepting, are_frames, frames_of, play_refusal, sent_sound, entry_now}
+use Rattle.af_model.specs.Play.{accepting, are_frames}
 use Rattle.af_model.specs.Record.{recorded_bytes, record_refusal}
-use Rattle.af_model.specs.Tick.{later, next_sound}
+use Rattle.af_model.specs.Tick.{completing, later, next_sound, with_held}
+use Rattle.af_model.specs.NoLoss.{IsWholeAt}
 use Rattle.af_perform.specs.Kept.{KeptDevice, StandsForDevice}
-use Rattle.af_perform.specs.Sounds.{kept_play_refusal, kept_record_refusal}
 
 -- a device at its start
 pub starts : (spec : DeviceSpec) (next : Next) (last : Last) → IsListedRate spec.rate → spec.start < 2 ^ 32 → next.time ≡ spec.start → next.next ≡ replicate (spec.rate * 4) (pos 0) →
@@ -42,10 +44,12 @@ starts spec next last listed word t1 n1 t2 n2 =
     record {
       ty = refl;
       rate = refl;
+      listed = listed;
       ahead = ap length n1 ∙ length-replicate (spec.rate * 4) (pos 0);
       back = ap length n2 ∙ length-replicate (spec.rate * 4) (pos 0);
       hears = hears_silence next (spec.start + 2 ^ 32) (spec.rate * 4) (omega arith) (t1 ∙ time) n1;
       keeps = keeps_silence last (spec.start + 2 ^ 32) (spec.rate * 4) (omega arith) (omega arith) (t2 ∙ time) n2;
+      whole = λ k d low. absurd (omega arith);
       dead = refl;
     }
 
@@ -56,16 +60,24 @@ within-same d s start word h = frames_within-same d.next s.accepted s.now start 
 pub before-same : (d : KeptDevice) (s : DeviceState) (start : ℕ) → start < 2 ^ 32 → StandsForDevice d s → frames_before d.last start ≡ s.now - unwrap s.now start
 before-same d s start word h = frames_before-same d.last s.captured s.begin s.now start h.keeps word
 
--- why requests are refused is what the state says
-pub play_refusal-same : (c : Context) (d : KeptDevice) (s : DeviceState) (start bytes : ℕ) → start < 2 ^ 32 → StandsForDevice d s → kept_play_refusal c d start bytes ≡ play_refusal c s start bytes
-unfolding kept_play_refusal play_refusal
-play_refusal-same c d s start bytes word h =
-    ap (λ n. first_refusal (check (not (are_frames c bytes)) BadValue bytes ∷ check (nat_lt n (frames_of c bytes)) BadValue start ∷ [])) (within-same d s start word h)
+-- how long it takes until frames end within the horizon, and until they are before now
+pub play_beyond-same : (d : KeptDevice) (s : DeviceState) (start n : ℕ) → start < 2 ^ 32 → StandsForDevice d s → play_beyond d.next start n ≡ unwrap s.now start + n - (s.now + s.rate * 4)
+play_beyond-same d s start n word h = play_later d.next s.accepted s.now start n h.hears word ∙ ap (λ m. unwrap s.now start + n - (s.now + m)) h.ahead
 
-pub record_refusal-same : (blocking : Bool) (c : Context) (d : KeptDevice) (s : DeviceState) (start bytes : ℕ) → start < 2 ^ 32 → StandsForDevice d s → kept_record_refusal blocking c d start bytes ≡ record_refusal blocking c s start bytes
-unfolding kept_record_refusal record_refusal
-record_refusal-same blocking c d s start bytes word h =
-    ap (λ n. first_refusal (check (nat_lt 16000 bytes) BadValue bytes ∷ check (not (are_frames c bytes)) BadValue bytes ∷ check (blocking && nat_lt n (frames_of c bytes)) BadValue start ∷ [])) (before-same d s start word h)
+pub record_beyond-same : (d : KeptDevice) (s : DeviceState) (start n : ℕ) → start < 2 ^ 32 → StandsForDevice d s → record_beyond d.last start n ≡ unwrap s.now start + n - s.now
+record_beyond-same d s start n word h = record_later d.last s.captured s.begin s.now start n h.keeps word
+
+-- a word means a near whole time
+pub near_start : (d : KeptDevice) (s : DeviceState) (start whole : ℕ) → StandsForDevice d s → start ≡ whole % 2 ^ 32 → s.now ≤ whole + 192000 → whole < s.now + 2 ^ 31 → unwrap s.now start ≡ whole
+near_start d s start whole h word early late =
+    let begun : 2 ^ 32 ≤ s.now = h.hears.late in
+    sym (meant_unwrap s.now start whole begun (record { word = sym word; early = omega arith; late = late }))
+
+pub start_meant : (d : KeptDevice) (s : DeviceState) (start : ℕ) → start < 2 ^ 32 → StandsForDevice d s → IsMeant s.now start (unwrap s.now start)
+start_meant d s start word h = unwrap_meant s.now start h.hears.late word
+
+pub horizon_bounds : (s : DeviceState) (d : KeptDevice) → StandsForDevice d s → (32000 ≤ s.rate * 4) × (s.rate * 4 ≤ 192000)
+horizon_bounds s d h = horizon_within (s.rate * 4) (horizon_of_rate s.rate h.listed)
 
 -- checks that pass
 
@@ -84,18 +96,10 @@ not_false false e = absurd cc
 not_lt : (a b : ℕ) → nat_lt a b ≡ false → b ≤ a
 not_lt a b e = grind (arith, nat_tests)
 
-pub play_passes : (c : Context) (d : KeptDevice) (start bytes : ℕ) → kept_play_refusal c d start bytes ≡ None → (bytes % width_of c.ty ≡ 0) × (bytes / width_of c.ty ≤ frames_within d.next start)
-unfolding kept_play_refusal
-play_passes c d start bytes e =
-    let one = pass_first (not (are_frames c bytes)) BadValue bytes (check (not (are_frames c bytes)) BadValue bytes) (check (nat_lt (frames_within d.next start) (frames_of c bytes)) BadValue start ∷ []) refl e in
-    let two = pass_first (nat_lt (frames_within d.next start) (frames_of c bytes)) BadValue start (check (nat_lt (frames_within d.next start) (frames_of c bytes)) BadValue start) [] refl one.1 in
-    (eqb-true (bytes % width_of c.ty) 0 (not_false (are_frames c bytes) one.0), not_lt (frames_within d.next start) (frames_of c bytes) two.0)
-
-pub record_passes : (blocking : Bool) (c : Context) (d : KeptDevice) (start bytes : ℕ) → kept_record_refusal blocking c d start bytes ≡ None → bytes ≤ 16000
-unfolding kept_record_refusal
-record_passes blocking c d start bytes e =
-    let one = pass_first (nat_lt 16000 bytes) BadValue bytes (check (nat_lt 16000 bytes) BadValue bytes)
-    (check (not (are_frames c bytes)) BadValue bytes ∷ check (blocking && nat_lt (frames_before d.last start) (frames_of c bytes)) BadValue start ∷ []) refl e in
+pub record_passes : (c : Context) (bytes : ℕ) → record_refusal c bytes ≡ None → bytes ≤ 16000
+unfolding record_refusal
+record_passes c bytes e =
+    let one = pass_first (nat_lt 16000 bytes) BadValue bytes (check (nat_lt 16000 bytes) BadValue bytes) (check (not (are_frames c bytes)) BadValue bytes ∷ []) refl e in
     not_lt 16000 bytes one.0
 
 -- bytes that are whole frames
@@ -129,35 +133,48 @@ some_samples Alaw bytes samples e some = omega arith
 some_samples Lin16 bytes samples e some = omega arith
 some_samples Lin32 bytes samples e some = omega arith
 
--- a play without a byte is none
-pub accepts_nothing : (d : KeptDevice) (c : Context) (start : ℕ) (bytes : List ℕ) (s : DeviceState) → length bytes ≡ 0 → StandsForDevice d s → StandsForDevice d (accepting c start bytes s)
-accepts_nothing d c start bytes s none h = subst (λ n. StandsForDevice d (cond (n == 0) s (record s { accepted = s.accepted ++ entry_now c s start bytes ∷ [] }))) (sym none) h
+-- a play without a sample is none
+pub accepts_nothing : (d : KeptDevice) (start : ℕ) (sound : List ℤ) (preempt : Bool) (s : DeviceState) → length sound ≡ 0 → StandsForDevice d s → StandsForDevice d (accepting (accepted_at s.now start sound preempt) s)
+accepts_nothing d start sound preempt s none h =
+    subst (λ n. StandsForDevice d (record s { accepted = cond (n == 0) s.accepted (s.accepted ++ accepted_at s.now start sound preempt ∷ []) })) (sym none) h
 
 -- a play
-pub accepts : (d : KeptDevice) (next : Next) (c : Context) (start : ℕ) (bytes : List ℕ) (sound : List ℤ) → start < 2 ^ 32 → sound ≡ sent_sound c bytes → 0 < length bytes → 0 < length sound → length sound ≤ frames_within d.next start →
-    Plays d.next next (accepted_by d.next start sound c.preempt) → (s : DeviceState) → StandsForDevice d s → StandsForDevice (record d { next = next }) (accepting c start bytes s)
-accepts d next c start bytes sound word is some some' few p s h =
-    let within : unwrap s.now start + length sound ≤ s.now + length d.next.next = let e = frames_within-same d.next s.accepted s.now start h.hears word in omega (arith, e, few, some') in
-    let heard = hears_play d.next next s.accepted s.now start sound c.preempt h.hears word within p in
-    let not_none : (length bytes == 0) ≡ false = grind (arith, nat_tests) in
-    subst (λ b. StandsForDevice (record d { next = next }) (cond b s (record s { accepted = s.accepted ++ entry_now c s start bytes ∷ [] }))) (sym not_none)
+pub accepts : (d : KeptDevice) (next : Next) (start : ℕ) (sound : List ℤ) (preempt : Bool) → start < 2 ^ 32 → 0 < length sound → length sound ≤ frames_within d.next start →
+    Plays d.next next (accepted_by d.next start sound preempt) → (s : DeviceState) → StandsForDevice d s → StandsForDevice (record d { next = next }) (accepting (accepted_at s.now start sound preempt) s)
+accepts d next start sound preempt word some few p s h =
+    let within : unwrap s.now start + length sound ≤ s.now + length d.next.next = let e = frames_within-same d.next s.accepted s.now start h.hears word in omega (arith, e, few, some) in
+    let heard = hears_play d.next next s.accepted s.now start sound preempt h.hears word within p in
+    let not_none : (length sound == 0) ≡ false = grind (arith, nat_tests) in
+    subst (λ b. StandsForDevice (record d { next = next }) (record s { accepted = cond b s.accepted (s.accepted ++ accepted_at s.now start sound preempt ∷ []) })) (sym not_none)
     (record {
       ty = h.ty;
       rate = h.rate;
+      listed = h.listed;
       ahead = p.size ∙ h.ahead;
       back = h.back;
-      hears = subst (λ xs. Hears next (s.accepted ++ record { start = unwrap s.now start; samples = xs; preempt = c.preempt; at = s.now } ∷ []) s.now) is heard;
+      hears = heard;
       keeps = h.keeps;
+      whole = h.whole;
       dead = h.dead;
     })
 
--- accepting leaves the time
-pub accepting-now : (c : Context) (start : ℕ) (bytes : List ℕ) (s : DeviceState) → (accepting c start bytes s).now ≡ s.now
-accepting-now c start bytes s = elim (length bytes == 0) as (λ b. (cond b s (record s { accepted = s.accepted ++ entry_now c s start bytes ∷ [] })).now ≡ s.now) [ true ↦ refl | false ↦ refl ]
+-- a request that had waited, of which nothing is lost
+pub completes : (d : KeptDevice) (s : DeviceState) (held : Held) → StandsForDevice d (record s { accepted = with_held held s.now s.accepted }) → IsWholeAt (s.rate * 4) s.now held → StandsForDevice d (completing held s)
+completes d s held h whole = record {
+  ty = h.ty;
+  rate = h.rate;
+  listed = h.listed;
+  ahead = h.ahead;
+  back = h.back;
+  hears = h.hears;
+  keeps = h.keeps;
+  whole = All-push (λ c. IsWholeAt (s.rate * 4) c.at c.held) s.completed (record { held = held; at = s.now }) h.whole whole;
+  dead = h.dead;
+}
 
 -- a record
 pub records : (d : KeptDevice) (c : Context) (start n : ℕ) (s : DeviceState) → start < 2 ^ 32 → StandsForDevice d s →
-    bytes_of c.ty (map (λ x. gained x c.record_gain) (samples_from d.last start n)) ≡ recorded_bytes c s start n
+    bytes_of c.ty (map (λ x. gained x c.record_gain) (samples_from d.last start n)) ≡ recorded_bytes c s (unwrap s.now start) n
 unfolding recorded_bytes
 records d c start n s word h =
     ap (λ xs. bytes_of c.ty (map (λ x. gained x c.record_gain) xs))
@@ -169,10 +186,12 @@ pub passes : (d : KeptDevice) (next : Next) (last : Last) (captured given : List
 passes d next last captured given same o more s h = record {
   ty = h.ty;
   rate = h.rate;
+  listed = h.listed;
   ahead = size_hand_out d.next next given o ∙ h.ahead;
   back = size_capture d.last last captured more ∙ h.back;
   hears = subst (λ n. Hears next s.accepted (s.now + n)) same (hears_hand_out d.next next s.accepted s.now given h.hears o);
   keeps = keeps_capture d.last last s.captured captured s.begin s.now h.keeps more;
+  whole = h.whole;
   dead = h.dead;
 }
 

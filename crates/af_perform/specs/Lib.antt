@@ -1,3 +1,3 @@
 pub mod Kept
+pub mod Waits
 pub mod Places
-pub mod Sounds

@@ -1,11 +1,12 @@
 // CreateAC, ChangeAC and FreeAC: the link's contexts are created, changed and freed.
-ghost use Rattle.std.specs.Prelude.{◌≡◌, ◌≤◌, length, pos, unwrap_or};
+ghost use Rattle.std.specs.Prelude.{◌≡◌, ℕ, ◌≤◌, List, length, pos, unwrap_or};
 ghost use Rattle.std.specs.declared.option.Option.TheVariants.{None};
 ghost use Rattle.af_sample.specs.Gains.{gain_of};
 ghost use Rattle.af_request.specs.Asked.{create_ac, change_ac, free_ac};
 ghost use Rattle.af_model.specs.State.{Around, place};
 ghost use Rattle.af_model.specs.ContextRequests.{creation_refusal, described, create, change_refusal, change, named_gain, named_preempt};
 ghost use Rattle.af_model.specs.Perform.{done};
+ghost use Rattle.af_perform.specs.Waits.{KeptWait};
 ghost use Rattle.af_perform.specs.Places.{At, LeadsLink, StandAround};
 
 use crate::checks::{check, check_gain, context_refusal, first_refusal, names, where_named};
@@ -98,8 +99,8 @@ fn create(context: Context, link: &mut Link, work: &mut Work)
 /// CreateAC.
 pub fn create_ac(asked: NewContext, devices: &[Device], link: &mut Link, work: &mut Work)
     requires room { length link.old.pending ≤ 16384 }
-    ensures step { (a : Around) → StandAround devices.now a → At devices.now link.new
-        (done (create_ac asked.device asked.ac asked.ty asked.channels asked.preempt asked.play_gain asked.record_gain) (place a link.old)) }
+    ensures step { (k : ℕ) (ks : List KeptWait) (a : Around) → StandAround devices.now ks a → At devices.now ks link.new
+        (done k (create_ac asked.device asked.ac asked.ty asked.channels asked.preempt asked.play_gain asked.record_gain) (place a link.old)) }
     ensures rest { link.new.rest ≡ link.old.rest }
 {
     match creation_refusal(devices.len(), asked) {
@@ -161,7 +162,7 @@ fn change(asked: NewSettings, link: &mut Link, work: &mut Work)
 /// ChangeAC.
 pub fn change_ac(asked: NewSettings, link: &mut Link, work: &mut Work)
     requires room { length link.old.pending ≤ 16384 }
-    ensures step { LeadsLink (done (change_ac asked.mask asked.ac asked.preempt asked.play_gain asked.record_gain)) link.old link.new }
+    ensures step { (k : ℕ) → LeadsLink (done k (change_ac asked.mask asked.ac asked.preempt asked.play_gain asked.record_gain)) link.old link.new }
     ensures rest { link.new.rest ≡ link.old.rest }
 {
     match change_refusal(link, asked) {
@@ -173,7 +174,7 @@ pub fn change_ac(asked: NewSettings, link: &mut Link, work: &mut Work)
 /// FreeAC.
 pub fn free_ac(ac: u32, link: &mut Link, work: &mut Work)
     requires room { length link.old.pending ≤ 16384 }
-    ensures step { LeadsLink (done (free_ac ac)) link.old link.new }
+    ensures step { (k : ℕ) → LeadsLink (done k (free_ac ac)) link.old link.new }
     ensures rest { link.new.rest ≡ link.old.rest }
 {
     match link.free(ac) {

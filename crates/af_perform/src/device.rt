@@ -1,9 +1,10 @@
 // A device, as the core keeps it.
 ghost use Rattle.std.specs.Prelude.{◌≡◌, ◌*◌, ◌≤◌, length, IfOk, true};
+ghost use Rattle.af_time.specs.DeviceTime.{unwrap};
 ghost use Rattle.af_sample.specs.SampleTypes.{width_of};
 ghost use Rattle.af_buffers.specs.Horizons.{IsListedRate};
-ghost use Rattle.af_buffers.specs.PlayBuffer.{frames_within};
-ghost use Rattle.af_buffers.specs.RecordBuffer.{frames_before};
+ghost use Rattle.af_buffers.specs.PlayBuffer.{accepted_at, frames_beyond as play_beyond, frames_within};
+ghost use Rattle.af_buffers.specs.RecordBuffer.{frames_before, frames_beyond as record_beyond};
 ghost use Rattle.af_model.specs.State.{DeviceState, opening_device};
 ghost use Rattle.af_model.specs.Play.{accepting};
 ghost use Rattle.af_model.specs.Record.{recorded_bytes};
@@ -14,7 +15,7 @@ use af_buffers::{PlayBuffer, RecordBuffer};
 use af_context::Context;
 use af_outside::DeviceSpec;
 use af_request::DeviceInfo;
-use af_sample::{SampleType, convert_in, convert_out, gain_run};
+use af_sample::{SampleType, convert_out, gain_run};
 use af_time::{DevTime, OutOfMemory};
 use std::alloc::Global;
 use std::marker::Model;
@@ -117,27 +118,40 @@ impl Device {
         self.last.frames_before(start)
     }
 
-    /// Accepts a play by a context: whole frames, which end within the horizon. Their samples come to stand in `samples`, with
-    /// the gain that the context has now.
-    pub fn accept(&mut self, context: &Context, start: DevTime, bytes: &[u8], samples: &mut [i16])
-        requires count { length bytes.now ≡ length samples.old * width_of context.now.ty }
-        requires few { length samples.old ≤ 16368 }
-        requires within { length samples.old ≤ frames_within self.old.next start.0 }
-        ensures { (s : DeviceState) → StandsForDevice self.old s → StandsForDevice self.new (accepting context.now start.0 bytes.now s) }
+    /// How many sample periods go by until so many frames from a time on, at most 16368, end within the horizon.
+    pub fn play_due_in(&self, start: DevTime, frames: u32) -> u32
+        requires { frames ≤ 16368 }
+        ensures { result ≡ play_beyond self.now.next start.0 frames }
     {
-        if samples.is_empty() {
+        self.next.frames_beyond(start, frames)
+    }
+
+    /// How many sample periods go by until so many frames from a time on, at most 16000, are before now.
+    pub fn record_due_in(&self, start: DevTime, frames: u32) -> u32
+        requires { frames ≤ 16000 }
+        ensures { result ≡ record_beyond self.now.last start.0 frames }
+    {
+        self.last.frames_beyond(start, frames)
+    }
+
+    /// Accepts a play, which ends within the horizon.
+    pub fn accept(&mut self, start: DevTime, sound: &[i16], preempt: bool)
+        requires few { length sound.now ≤ 16368 }
+        requires within { length sound.now ≤ frames_within self.old.next start.0 }
+        ensures { (s : DeviceState) → StandsForDevice self.old s →
+            StandsForDevice self.new (accepting (accepted_at s.now start.0 sound.now preempt) s) }
+    {
+        if sound.is_empty() {
             return;
         }
-        convert_in(context.ty, bytes, samples);
-        gain_run(samples, context.play_gain);
-        self.next.play(start, samples, context.preempt);
+        self.next.play(start, sound, preempt);
     }
 
     /// The frames that were recorded from a time on, as a context takes them.
     pub fn record(&self, context: &Context, start: DevTime, samples: &mut [i16], bytes: &mut [u8])
         requires count { length bytes.old ≡ length samples.old * width_of context.now.ty }
         requires few { length samples.old ≤ 16000 }
-        ensures { (s : DeviceState) → StandsForDevice self.now s → bytes.new ≡ recorded_bytes context.now s start.0 (length samples.old) }
+        ensures { (s : DeviceState) → StandsForDevice self.now s → bytes.new ≡ recorded_bytes context.now s (unwrap s.now start.0) (length samples.old) }
     {
         self.last.read(start, samples);
         gain_run(samples, context.record_gain);

@@ -1,9 +1,10 @@
 // Performing a request: one function for each opcode.
-ghost use Rattle.std.specs.Prelude.{◌≡◌, ◌≤◌, length};
+ghost use Rattle.std.specs.Prelude.{◌≡◌, ℕ, ◌≤◌, ◌<◌, false, List, IsTrue, length};
 ghost use Rattle.af_request.specs.Asked.{get_time, meaning};
 ghost use Rattle.af_request.specs.Requests.{HasRoom};
 ghost use Rattle.af_model.specs.State.{Around, place};
 ghost use Rattle.af_model.specs.Perform.{done, perform};
+ghost use Rattle.af_perform.specs.Waits.{has_waiting, is_done_at_once, Grows, KeptWait};
 ghost use Rattle.af_perform.specs.Places.{At, StandAround};
 
 use crate::context_requests::{NewContext, NewSettings, change_ac, create_ac, free_ac};
@@ -12,13 +13,14 @@ use crate::link::Link;
 use crate::play::play_run;
 use crate::record::record_run;
 use crate::scratch::Work;
+use crate::waits::Waits;
 use af_model::{Cause, Refusal};
 use af_request::{Reply, Request};
 
 // The time of a device is replied, or the device is not there.
 fn get_time(device: u8, devices: &[Device], link: &mut Link, work: &mut Work)
     requires room { length link.old.pending ≤ 16384 }
-    ensures step { (a : Around) → StandAround devices.now a → At devices.now link.new (done (get_time device) (place a link.old)) }
+    ensures step { (k : ℕ) (ks : List KeptWait) (a : Around) → StandAround devices.now ks a → At devices.now ks link.new (done k (get_time device) (place a link.old)) }
     ensures rest { link.new.rest ≡ link.old.rest }
 {
     if usize::from(device) >= devices.len() {
@@ -35,11 +37,10 @@ fn get_time(device: u8, devices: &[Device], link: &mut Link, work: &mut Work)
     link.reply(2, &Reply::Time { time }, &mut work.message);
 }
 
-// What a request does.
-fn done(request: &Request<'_>, devices: &mut [Device], link: &mut Link, work: &mut Work)
+// What a request does that is no play and no record.
+fn done_at_once(request: &Request<'_>, devices: &[Device], link: &mut Link, work: &mut Work)
     requires room { length link.old.pending ≤ 16384 }
-    requires samples { HasRoom (meaning request.now) }
-    ensures step { (a : Around) → StandAround devices.old a → At devices.new link.new (done (meaning request.now) (place a link.old)) }
+    ensures step { (k : ℕ) (ks : List KeptWait) (a : Around) → IsTrue (is_done_at_once (meaning request.now)) → StandAround devices.now ks a → At devices.now ks link.new (done k (meaning request.now) (place a link.old)) }
     ensures rest { link.new.rest ≡ link.old.rest }
 {
     match *request {
@@ -82,20 +83,10 @@ fn done(request: &Request<'_>, devices: &mut [Device], link: &mut Link, work: &m
             change_ac(asked, link, work)
         }
         Request::FreeAc { ac } => free_ac(ac, link, work),
-        Request::PlayRun {
-            quiet,
-            ac,
-            time,
-            samples,
-        } => play_run(quiet, ac, time, samples, devices, link, work),
-        Request::RecordRun {
-            blocking,
-            ac,
-            time,
-            nbytes,
-        } => record_run(blocking, ac, time, nbytes, devices, link, work),
-        // These are not performed yet.
-        Request::SelectEvents { .. }
+        // Plays and records may wait. The others are not performed yet.
+        Request::PlayRun { .. }
+        | Request::RecordRun { .. }
+        | Request::SelectEvents { .. }
         | Request::SetControls { .. }
         | Request::QueryControls { .. }
         | Request::HookSwitch { .. }
@@ -103,19 +94,63 @@ fn done(request: &Request<'_>, devices: &mut [Device], link: &mut Link, work: &m
     }
 }
 
-/// Link `number` makes a request.
+// What a request does.
+fn done(
+    number: u8,
+    request: &Request<'_>,
+    devices: &mut [Device],
+    waits: &mut Waits,
+    link: &mut Link,
+    work: &mut Work,
+)
+    requires number { number < 32 }
+    requires free { has_waiting waits.old number ≡ false }
+    requires room { length link.old.pending ≤ 16384 }
+    requires samples { HasRoom (meaning request.now) }
+    ensures step { (a : Around) → StandAround devices.old waits.old a → At devices.new waits.new link.new (done number (meaning request.now) (place a link.old)) }
+    ensures rest { link.new.rest ≡ link.old.rest }
+    ensures grows { Grows number waits.old waits.new }
+    ensures calm { IsTrue (has_waiting waits.new number) → length link.new.pending ≤ 16384 }
+{
+    match *request {
+        Request::PlayRun {
+            quiet,
+            ac,
+            time,
+            samples,
+        } => play_run(
+            number, quiet, ac, time, samples, devices, waits, link, work,
+        ),
+        Request::RecordRun {
+            blocking,
+            ac,
+            time,
+            nbytes,
+        } => record_run(
+            number, blocking, ac, time, nbytes, devices, waits, link, work,
+        ),
+        _ => done_at_once(request, devices, link, work),
+    }
+}
+
+/// Link `number`, which does not wait, makes a request.
 pub fn perform(
     number: u8,
     request: &Request<'_>,
     devices: &mut [Device],
+    waits: &mut Waits,
     link: &mut Link,
     work: &mut Work,
 )
+    requires number { number < 32 }
+    requires free { has_waiting waits.old number ≡ false }
     requires room { length link.old.pending ≤ 16384 }
     requires samples { HasRoom (meaning request.now) }
-    ensures step { (a : Around) → StandAround devices.old a → At devices.new link.new (perform number (meaning request.now) (place a link.old)) }
+    ensures step { (a : Around) → StandAround devices.old waits.old a → At devices.new waits.new link.new (perform number (meaning request.now) (place a link.old)) }
     ensures rest { link.new.rest ≡ link.old.rest }
+    ensures grows { Grows number waits.old waits.new }
+    ensures calm { IsTrue (has_waiting waits.new number) → length link.new.pending ≤ 16384 }
 {
     link.count();
-    done(request, devices, link, work);
+    done(number, request, devices, waits, link, work);
 }

@@ -79,10 +79,11 @@ impl Link {
         self.pending.as_slice()
     }
 
-    pub fn wants_read(&self) -> bool
-        ensures { result ≡ wants_read self.now }
+    /// Whether it is to be read, where it waits or not.
+    pub fn wants_read(&self, waits: bool) -> bool
+        ensures { result ≡ wants_read waits self.now }
     {
-        self.is_ready && self.closing.is_none() && self.pending.as_slice().len() <= 16384
+        self.is_ready && self.takes_more(waits)
     }
 
     pub fn wants_write(&self) -> bool
@@ -91,10 +92,11 @@ impl Link {
         !self.pending.as_slice().is_empty()
     }
 
-    pub fn takes_more(&self) -> bool
-        ensures { result ≡ takes_more self.now }
+    /// Whether more of its input is taken off, where it waits or not.
+    pub fn takes_more(&self, waits: bool) -> bool
+        ensures { result ≡ takes_more waits self.now }
     {
-        self.closing.is_none() && self.pending.as_slice().len() <= 16384
+        !waits && self.closing.is_none() && self.pending.as_slice().len() <= 16384
     }
 
     /// The cause of a link that is to be closed now.
@@ -161,7 +163,7 @@ impl Link {
 
     /// The request with this opcode is replied to. The message comes to stand in `message`.
     pub fn reply(&mut self, opcode: u8, reply: &Reply<'_>, message: &mut [u8])
-        requires room { length self.old.pending ≤ 16384 }
+        requires room { length self.old.pending ≤ 49152 }
         requires samples { HasRoom (meaning reply.now) }
         requires size { length message.old ≡ 16016 }
         ensures { self.new ≡ record self.old { pending = self.old.pending ++ reply_message opcode (meaning reply.now) self.old.sequence } }
@@ -172,7 +174,7 @@ impl Link {
 
     /// The request with this opcode is refused.
     pub fn refuse(&mut self, opcode: u8, refusal: Refusal)
-        requires { length self.old.pending ≤ 16384 }
+        requires { length self.old.pending ≤ 49152 }
         ensures { self.new ≡ record self.old { pending = self.old.pending ++ error (code_of_cause refusal.cause) refusal.value opcode self.old.sequence } }
     {
         let mut message = [0; 16];

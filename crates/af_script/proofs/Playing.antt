@@ -1,5 +1,6 @@
 -- A tape that is being run: the turns so far are a run, and their answers are those that the steps so far give.
-use Rattle.std.proofs.Common.{◌≡◌, suc, ◌<◌, true, List, [], ◌∷◌, ◌++◌, length, map, is_some, All, refl, sym, ap, ◌∙◌, subst, append_assoc, append-nil, arith}
+use Rattle.std.proofs.Common.{◌≡◌, suc, ◌<◌, true, List, [], ◌∷◌, ◌++◌, length, map, is_some, IfSome, All, refl, sym, ap, ◌∙◌, subst, append_assoc, append-nil, arith}
+use Rattle.std.proofs.lemmas.List.Elements.{All-cons}
 use Rattle.std.specs.declared.option.Option.{Option}
 use Rattle.std.specs.declared.option.Option.TheVariants.{None, Some}
 use Rattle.af_outside.specs.declared.happening.Happening.TheVariants.{Woke}
@@ -8,11 +9,12 @@ use Rattle.af_outside.specs.declared.script.DeviceSpec.{DeviceSpec}
 use Rattle.af_outside.specs.declared.script.Step.{Step}
 use Rattle.af_outside.specs.Told.{Log, Grew}
 use Rattle.af_outside.specs.Outside.{Outside, Peer, outside_start, TapeState, fresh, TakesStep, TapeLeadsTo, Answered, IsStep, stepped, wake_of, replayed}
-use Rattle.af_model.specs.State.{State, LinkState, DeviceState, opening, links_of, outline, outline_with}
+use Rattle.af_model.specs.State.{State, LinkState, DeviceState, opening, opening_device, links_of, outline, outline_with}
 use Rattle.af_model.specs.Turn.{behind, turn, fits}
 use Rattle.af_model.specs.Run.{wakes}
+use Rattle.af_model.specs.NoLoss.{LosesNone, RunLosesNone, StateLosesNone}
 use Rattle.af_model.specs.Script.{AnswersTo, ScriptLog, OneLog}
-use Rattle.af_model.proofs.Running.{TurnsTo, joined, joined-more, turns_more, turns_run, answers_more, replayed_answers}
+use Rattle.af_model.proofs.Running.{TurnsTo, turns_end_state, joined, joined-more, turns_more, turns_run, answers_more, replayed_answers}
 use Rattle.af_model.proofs.Alike.{Agree}
 use Rattle.af_model.proofs.Steps.{agree_start, step_fits}
 use Rattle.af_model.proofs.Unique.{turn_alike, one_log}
@@ -30,9 +32,15 @@ pub record Plays (config : List DeviceSpec) (steps : List Step) (kept : Kept) (t
   pub turns : TurnsTo (opening config) parts state
   pub answers : AnswersTo (outside_start config) (joined parts) taken tape.outside
   pub stands : Stands kept state
+  pub lossless : StateLosesNone state
   pub agree : Agree state tape.outside
   pub devices : length kept.devices ≡ length config
   pub links : length kept.links ≡ 32
+
+-- no device has completed a request at its start
+opening_loses_none : (config : List DeviceSpec) → All (λ device. LosesNone device) (map opening_device config)
+opening_loses_none [] = λ k d low. absurd (omega arith)
+opening_loses_none (c ∷ config) = All-cons (λ device. LosesNone device) (opening_device c) (map opening_device config) (λ k d low. absurd (omega arith)) (opening_loses_none config)
 
 map_length : {A B : Type 0} (f : A → B) (xs : List A) → length (map f xs) ≡ length xs
 map_length f [] = refl
@@ -48,9 +56,10 @@ plays_start config steps kept tape stands e = subst (λ t. Plays config steps ke
   turns = refl;
   answers = refl;
   stands = stands;
+  lossless = opening_loses_none config;
   agree = agree_start config;
-  devices = sym (stands_length kept.devices (opening config).devices stands.devices) ∙ map_length _ config;
-  links = ap length (sym stands.links);
+  devices = sym (stands_length kept.devices (opening config).devices stands.kept.devices) ∙ map_length _ config;
+  links = ap length (sym stands.kept.links);
 })
 
 -- the step that a wake is of
@@ -77,13 +86,13 @@ pub wake_fits : (config : List DeviceSpec) (steps : List Step) (kept : Kept) (ta
     All (IsStep config) steps → fits (outline_of kept) wake ≡ true
 wake_fits config steps kept tape after wake p t all =
     let s = step_taken tape wake after t in
-    let count : length p.state.devices ≡ length config = stands_length kept.devices p.state.devices p.stands.devices ∙ p.devices in
+    let count : length p.state.devices ≡ length config = stands_length kept.devices p.state.devices p.stands.kept.devices ∙ p.devices in
     let whole : steps ≡ p.taken ++ s.step ∷ s.left = p.whole ∙ ap (λ l. p.taken ++ l) s.next in
     let allowed : IsStep config s.step = all_last (IsStep config) p.taken s.left s.step (subst (All (IsStep config)) whole all) in
-    let peers : length tape.outside.peers ≡ 32 = sym (map_length {A = Option Peer} is_some tape.outside.peers) ∙ ap length p.agree ∙ map_length {A = Option LinkState} is_some (links_of p.state.slots) ∙ ap length p.stands.links ∙ p.links in
+    let peers : length tape.outside.peers ≡ 32 = sym (map_length {A = Option Peer} is_some tape.outside.peers) ∙ ap length p.agree ∙ map_length {A = Option LinkState} is_some (links_of p.state.slots) ∙ ap length p.stands.kept.links ∙ p.links in
     let fit = step_fits config p.state tape.outside s.step p.agree peers count allowed in
-    let devices : length p.state.devices ≡ length kept.devices = stands_length kept.devices p.state.devices p.stands.devices in
-    let same : outline p.state ≡ outline_of kept = ap (λ n. outline_with n (links_of p.state.slots)) devices ∙ ap (λ l. outline_with (length kept.devices) l) p.stands.links in
+    let devices : length p.state.devices ≡ length kept.devices = stands_length kept.devices p.state.devices p.stands.kept.devices in
+    let same : outline p.state ≡ outline_of kept = ap (λ n. outline_with n (links_of p.state.slots)) devices ∙ ap (λ l. outline_with (length kept.devices) l) p.stands.kept.links in
     subst (λ o. fits o wake ≡ true) same (subst (λ w. fits (outline p.state) w ≡ true) (sym s.is) fit)
 
 -- a log that is told grew from one that was told
@@ -139,6 +148,7 @@ plays_more config steps kept kept' tape mid after wake p t turns leads told =
       turns = turns_more (opening config) p.state from.next p.parts turns.part p.turns (record { is_turn = from.is_turn; one = one });
       answers = subst (λ l. AnswersTo (outside_start config) l (p.taken ++ s.step ∷ []) after.outside) (sym (joined-more p.parts turns.part)) (answers_more (outside_start config) tape.outside after.outside (joined p.parts) turns.part p.taken (s.step ∷ []) p.answers answers);
       stands = from.stands;
+      lossless = from.lossless;
       agree = agree_turn p.state from.next tape.outside after.outside s.step turns.part p.agree from.is_turn answers;
       devices = turns.devices ∙ p.devices;
       links = turns.links ∙ p.links;
@@ -164,4 +174,5 @@ plays_end config steps kept tape after p t =
     let log = joined p.parts in
     let is_log : ScriptLog config steps log = record { is_run = turns_run config p.state p.parts p.turns; end = tape.outside; answers = subst (λ l. AnswersTo (outside_start config) log l tape.outside) all p.answers } in
     let one : OneLog config steps log = record { is_log = is_log; only = λ other o. one_log config steps other log o is_log } in
-    subst (λ l. HasOneLog config steps l) (sym (ap (λ (x : TapeState). x.log) none.1 ∙ p.told)) one
+    let lossless : RunLosesNone config log = subst (λ o. IfSome o StateLosesNone) (sym (turns_end_state config p.state p.parts p.turns)) p.lossless in
+    subst (λ l. HasOneLog config steps l) (sym (ap (λ (x : TapeState). x.log) none.1 ∙ p.told)) (record { one = one; lossless = lossless })

@@ -1,5 +1,5 @@
 -- Lists of waits in which each link stands once.
-use Rattle.std.proofs.Common.{◌≡◌, ◌≢◌, ℕ, zero, suc, ◌+◌, ◌-◌, ◌<◌, ◌≤◌, ◌==◌, ◌||◌, Bool, true, false, cond, not, eqb, List, [], ◌∷◌, ◌++◌, length, map, filter, find, get_or, option_map, Option, Some, None, refl, sym, ap, ◌∙◌, subst, arith, rules}
+use Rattle.std.proofs.Common.{◌≡◌, ◌≢◌, ℕ, zero, suc, ◌+◌, ◌-◌, ◌<◌, ◌≤◌, ◌==◌, ◌||◌, Bool, true, false, cond, not, eqb, List, [], ◌∷◌, ◌++◌, length, map, filter, find, get_or, option_map, IfSome, Option, Some, None, refl, sym, ap, ◌∙◌, subst, arith, rules}
 use Rattle.std.proofs.lemmas.Bool.Decides.{nat_tests}
 use Rattle.std.specs.List.{list_any, All, AllPairs}
 use Rattle.std.proofs.lemmas.List.{length_push, length-map, get_or-map}
@@ -111,7 +111,7 @@ without_taken-find p (w ∷ ws) h =
       | false ↦ later_kept p w ws (find p ws) refl head ∙ ap (λ l. w ∷ l) (without_taken-find p ws tail)
     ]
 
-passed-link : (device n : ℕ) (w : Wait) → (passed device n w).link ≡ w.link
+pub passed-link : (device n : ℕ) (w : Wait) → (passed device n w).link ≡ w.link
 passed-link device n w = elim (w.device == device) as (λ b. (cond b (record w { left = w.left - n }) w).link ≡ w.link) [ true ↦ refl | false ↦ refl ]
 
 link_at : (ws : List Wait) (device n k : ℕ) (d : Wait) → k < length ws → (get_or (map (passed device n) ws) k d).link ≡ (get_or ws k d).link
@@ -127,3 +127,10 @@ AreWaits-passed ws device n h = record {
       (sym (link_at ws device n i d (omega arith)) ∙ same ∙ link_at ws device n j d (omega arith));
   links = All-map (λ w. w.link < 32) (passed device n) ws (All-weaker (λ w. w.link < 32) (λ w. (passed device n w).link < 32) (λ w low. subst (λ k. k < 32) (sym (passed-link device n w)) low) ws h.links);
 }
+
+-- the link of one that is found is a link's number
+pub find-below : (p : Wait → Bool) (ws : List Wait) → All (λ w. w.link < 32) ws → IfSome (option_map (λ w. w.link) (find p ws)) (λ link. link < 32)
+find-below p [] h = tt
+find-below p (w ∷ ws) h =
+    elim (p w) as (λ b. IfSome (option_map (λ (w : Wait). w.link) (cond b (Some w) (find p ws))) (λ link. link < 32))
+    [ true ↦ h 0 w (omega arith) | false ↦ find-below p ws (All-tail (λ w. w.link < 32) w ws h) ]

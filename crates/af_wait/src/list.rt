@@ -1,5 +1,5 @@
 // The list of requests that wait.
-ghost use Rattle.std.specs.Prelude.{◌≡◌, ◌↔◌, ◌<◌, false, [], ◌∷◌, ◌++◌, length, map, option_map, IsNone};
+ghost use Rattle.std.specs.Prelude.{◌≡◌, ◌↔◌, ◌<◌, false, [], ◌∷◌, ◌++◌, length, map, option_map, IfSome, IsNone};
 ghost use Rattle.std.specs.List.{All};
 ghost use Rattle.af_wait.specs.Waits.{first_due, is_due, is_waiting, passed, without_first, without_link, without_taken, AreWaits};
 
@@ -35,6 +35,20 @@ impl Waiting {
         }
     }
 
+    /// How many requests wait.
+    pub fn len(&self) -> usize
+        ensures { result ≡ length self.now }
+    {
+        self.waits.len()
+    }
+
+    /// Whether a link waits.
+    pub fn is_waiting(&self, link: u8) -> bool
+        ensures { result ≡ is_waiting self.now link }
+    {
+        self.waits.iter().any(|wait| wait.link == link)
+    }
+
     /// A link, 0..31, begins to wait until `left` frames of a device have passed, at least 1. It may not wait already.
     pub fn add(&mut self, link: u8, device: u8, left: u32)
         requires link { link < 32 }
@@ -60,6 +74,14 @@ impl Waiting {
         ensures list { AreWaits self.new }
     {
         pass_all(&mut self.waits, device, n);
+    }
+
+    /// The link of the earliest of the requests that wait for a device and are due. None where none is due.
+    pub fn first_due(&self, device: u8) -> Option<u8>
+        ensures earliest { result ≡ option_map (λ w. w.link) (first_due device self.now) }
+        ensures bound { IfSome result (λ link. link < 32) }
+    {
+        first_due_link(&self.waits, device)
     }
 
     /// Takes out the earliest of the requests that wait for a device and are due, and gives its link. None where none is

@@ -11,5 +11,5 @@ pub returns-in-Frame-clause-step : goal.returns-in-Frame-clause-step
 returns-in-Frame-clause-step c = λ a h.
     let front : frame_front c.args.link.now.rest ≡ Frame c.in-Frame.n = ap frame_front (sym c.rest.ensures.bytes) ∙ sym c.frame_at.ensures.value ∙ c.in-Frame.is in
     let size : length (take c.in-Frame.n c.args.input.now) ≡ c.in-Frame.n = length-take-le c.in-Frame.n c.args.input.now (search rules) in
-    subst (λ f. StepsTo true (after_frame c.args.number f (place a c.args.link.now)) c.perform_front.new.devices c.perform_front.new.link) (sym front)
-    (subst (λ m. StepsTo true (after_frame c.args.number (Frame m) (place a c.args.link.now)) c.perform_front.new.devices c.perform_front.new.link) size (c.perform_front.ensures.step a h))
+    subst (λ f. StepsTo true (after_frame c.args.number f (place a c.args.link.now)) c.perform_front.new.devices c.perform_front.new.waits c.perform_front.new.link) (sym front)
+    (subst (λ m. StepsTo true (after_frame c.args.number (Frame m) (place a c.args.link.now)) c.perform_front.new.devices c.perform_front.new.waits c.perform_front.new.link) size (c.perform_front.ensures.step a h))

@@ -1,14 +1,23 @@
-use Rattle.std.proofs.Common.{ap, slice_set, ⊎_elim}
-use Rattle.af_core.proofs.Serving.{link_here}
+use Rattle.std.proofs.Common.{ap, refl, slice_set, ⊎_elim}
+use Rattle.af_core.proofs.Serving.{link_here, opened_settled, ready_settled, settled_here, settled_set}
 use Rattle.af_core.proofs.Turning.{opens, readies, read_below, stays_idle, stays_stop, at_wake}
 use Rattle.af_core.proofs.server.wake_up.Goals as goal
 
 pub returns-in-Opened-clause-does : goal.returns-in-Opened-clause-does
-returns-in-Opened-clause-does g c = at_wake c.in-Opened.is (opens _ c.in-Opened.number _ _ _ (ap (λ o. slice_set c.args.slots.now c.in-Opened.number o) c.open.ensures))
+returns-in-Opened-clause-does g c = at_wake c.in-Opened.is (opens _ c.in-Opened.number _ _ _ _ (ap (λ o. slice_set c.args.slots.now c.in-Opened.number o) c.open.ensures))
 
 pub returns-in-Readable-clause-does : goal.returns-in-Readable-clause-does
 returns-in-Readable-clause-does g c =
-    at_wake c.in-Readable.is (readies _ c.in-Readable.number _ _ _ _ (link_here c.args.slots.now c.in-Readable.number _ (read_below _ c.in-Readable.number c.args.slots.now c.args.wake c.in-Readable.is c.requires.fits)) (ap (λ o. slice_set c.args.slots.now c.in-Readable.number o) c.set_ready.ensures))
+    at_wake c.in-Readable.is (readies _ c.in-Readable.number _ _ _ _ _ (link_here c.args.slots.now c.in-Readable.number _ (read_below _ c.in-Readable.number c.args.slots.now c.args.wake c.in-Readable.is c.requires.fits)) (ap (λ o. slice_set c.args.slots.now c.in-Readable.number o) c.set_ready.ensures))
 
 pub returns-in-Idle-clause-does : goal.returns-in-Idle-clause-does
-returns-in-Idle-clause-does g c = ⊎_elim (λ e. at_wake e (stays_idle _ _ _)) (λ e. at_wake e (stays_stop _ _ _)) c.in-Idle.is
+returns-in-Idle-clause-does g c = ⊎_elim (λ e. at_wake e (stays_idle _ _ _ _)) (λ e. at_wake e (stays_stop _ _ _ _)) c.in-Idle.is
+
+pub returns-in-Opened-clause-settled : goal.returns-in-Opened-clause-settled
+returns-in-Opened-clause-settled g c =
+    settled_set c.args.waits.now c.args.waits.now c.args.slots.now c.in-Opened.number _ c.requires.settled (λ j apart. refl) (opened_settled _ _ c.open.ensures)
+
+pub returns-in-Readable-clause-settled : goal.returns-in-Readable-clause-settled
+returns-in-Readable-clause-settled g c =
+    settled_set c.args.waits.now c.args.waits.now c.args.slots.now c.in-Readable.number _ c.requires.settled (λ j apart. refl)
+    (ready_settled _ _ _ (settled_here c.args.waits.now c.args.slots.now c.in-Readable.number c.in-Readable.number _ _ c.requires.settled refl refl (read_below _ c.in-Readable.number c.args.slots.now c.args.wake c.in-Readable.is c.requires.fits)) c.set_ready.ensures)

@@ -4,13 +4,13 @@ use Rattle.af_perform.proofs.Requests.{leads_refused, leads_passed}
 use Rattle.af_perform.proofs.context_requests.change_ac.Goals as goal
 
 pub returns-in-Some-clause-step : goal.returns-in-Some-clause-step
-returns-in-Some-clause-step c =
+returns-in-Some-clause-step c = λ k.
     leads_refused c.args.link.now _ 4 (change_refusal c.args.link.now.contexts c.args.asked.mask c.args.asked.ac c.args.asked.preempt c.args.asked.play_gain c.args.asked.record_gain)
     c.in-Some.refusal (change c.args.asked.mask c.args.asked.ac c.args.asked.preempt c.args.asked.play_gain c.args.asked.record_gain)
     (sym c.change_refusal.ensures ∙ c.in-Some.is) c.refuse.ensures
 
 pub returns-in-None-clause-step : goal.returns-in-None-clause-step
-returns-in-None-clause-step c =
+returns-in-None-clause-step c = λ k.
     leads_passed c.args.link.now _ 4 (change_refusal c.args.link.now.contexts c.args.asked.mask c.args.asked.ac c.args.asked.preempt c.args.asked.play_gain c.args.asked.record_gain)
     (change c.args.asked.mask c.args.asked.ac c.args.asked.preempt c.args.asked.play_gain c.args.asked.record_gain)
     (sym c.change_refusal.ensures ∙ c.in-None.is) c.change.ensures.step

@@ -6,15 +6,15 @@ use Rattle.af_perform.proofs.Requests.{counts_refused, counts_passed}
 use Rattle.af_perform.proofs.context_requests.create_ac.Goals as goal
 
 pub returns-in-Some-clause-step : goal.returns-in-Some-clause-step
-returns-in-Some-clause-step c =
-    counts_refused c.args.devices.now c.args.link.now _ 3
+returns-in-Some-clause-step c = λ k ks.
+    counts_refused c.args.devices.now ks c.args.link.now _ 3
     (λ n. creation_refusal n c.args.asked.device c.args.asked.ty c.args.asked.channels c.args.asked.preempt c.args.asked.play_gain c.args.asked.record_gain)
     c.in-Some.refusal (create (described c.args.asked.device c.args.asked.ac c.args.asked.ty c.args.asked.preempt c.args.asked.play_gain c.args.asked.record_gain))
     (sym c.creation_refusal.ensures ∙ c.in-Some.is) c.refuse.ensures
 
 pub returns-in-None-clause-step : goal.returns-in-None-clause-step
-returns-in-None-clause-step c =
-    counts_passed c.args.devices.now c.args.link.now _ 3
+returns-in-None-clause-step c = λ k ks.
+    counts_passed c.args.devices.now ks c.args.link.now _ 3
     (λ n. creation_refusal n c.args.asked.device c.args.asked.ty c.args.asked.channels c.args.asked.preempt c.args.asked.play_gain c.args.asked.record_gain)
     (create (described c.args.asked.device c.args.asked.ac c.args.asked.ty c.args.asked.preempt c.args.asked.play_gain c.args.asked.record_gain))
     (sym c.creation_refusal.ensures ∙ c.in-None.is)

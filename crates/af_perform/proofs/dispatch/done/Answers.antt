@@ -1,12 +1,12 @@
-use Rattle.std.proofs.Common.{subst, rules, to_z, of_z, to_z-of_z, w16}
-use Rattle.af_request.specs.Asked.{meaning, change_ac}
-use Rattle.af_model.specs.Perform.{done}
-use Rattle.af_perform.specs.Places.{LeadsLink}
-use Rattle.af_perform.proofs.Requests.{leads_at}
+use Rattle.std.proofs.Common.{rules}
+use Rattle.af_perform.proofs.Asking.{at_once}
+use Rattle.af_perform.proofs.Keeping.{grows_nothing}
 use Rattle.af_perform.proofs.dispatch.done.Goals as goal
 
-pub returns-in-ChangeAc-clause-step : goal.returns-in-ChangeAc-clause-step
-returns-in-ChangeAc-clause-step c =
-    let first = subst (λ g. LeadsLink (done (change_ac c.in-ChangeAc.mask c.in-ChangeAc.ac c.in-ChangeAc.preempt g (to_z w16 (of_z w16 c.in-ChangeAc.record_gain)))) c.args.link.now c.change_ac.new.link) (to_z-of_z {w = w16} (search rules)) c.change_ac.ensures.step in
-    let leads = subst (λ g. LeadsLink (done (change_ac c.in-ChangeAc.mask c.in-ChangeAc.ac c.in-ChangeAc.preempt c.in-ChangeAc.play_gain g)) c.args.link.now c.change_ac.new.link) (to_z-of_z {w = w16} (search rules)) first in
-    leads_at c.args.devices.now c.args.link.now _ (done (meaning c.args.request.now)) (rw c.in-ChangeAc.is leads)
+pub returns-in_default : goal.returns-in_default
+returns-in_default c = record {
+  step = λ a h. c.done_at_once.ensures.step c.args.number c.args.waits.now a (at_once c.args.request.now c.in_default.not-PlayRun c.in_default.not-RecordRun) h;
+  rest = c.done_at_once.ensures.rest;
+  grows = grows_nothing c.args.number c.args.waits.now;
+  calm = λ w. let free = c.requires.free in absurd cc;
+}

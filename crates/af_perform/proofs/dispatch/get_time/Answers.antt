@@ -6,11 +6,11 @@ use Rattle.af_perform.proofs.Requests.{device_missing, device_found, leads_at, t
 use Rattle.af_perform.proofs.dispatch.get_time.Goals as goal
 
 pub returns-then-from-devices-clause-step : goal.returns-then-from-devices-clause-step
-returns-then-from-devices-clause-step c =
-    device_missing c.args.devices.now c.args.link.now _ 2 c.args.device _ tell_time (omega (arith, c.if-from-devices.true, c.from.ensures)) c.from-then-from-devices.ensures c.refuse.ensures
+returns-then-from-devices-clause-step c = λ k ks.
+    device_missing c.args.devices.now ks c.args.link.now _ 2 c.args.device _ tell_time (omega (arith, c.if-from-devices.true, c.from.ensures)) c.from-then-from-devices.ensures c.refuse.ensures
 
 pub returns-clause-step : goal.returns-clause-step
-returns-clause-step c =
-    device_found c.args.devices.now c.args.devices.now c.args.link.now _ 2 c.args.device _ tell_time
+returns-clause-step c = λ k ks.
+    device_found c.args.devices.now c.args.devices.now ks ks c.args.link.now _ 2 c.args.device _ tell_time
     (device_at c.args.devices.now _ _ c.index-devices-from.result c.from-2.ensures (search rules) ∙ ap (λ x. Some x) (sym c.index-devices-from.is))
-    (λ a s h here st. leads_at c.args.devices.now c.args.link.now _ (tell_time s) (time_told c.args.link.now _ c.index-devices-from.result _ c.time-time.ensures c.reply.ensures s st) a h)
+    (λ a s h here st. leads_at c.args.devices.now ks c.args.link.now _ (tell_time s) a (time_told c.args.link.now _ c.index-devices-from.result _ c.time-time.ensures c.reply.ensures s st a) h)

@@ -1,7 +1,7 @@
 use Rattle.std.proofs.Common.{rules}
-use Rattle.af_perform.specs.Sounds.{kept_record_refusal}
+use Rattle.af_model.specs.Record.{record_refusal}
 use Rattle.af_perform.proofs.record.record_refusal.Goals as goal
 
 pub returns : goal.returns
-unfolding kept_record_refusal
+unfolding record_refusal
 returns c = search rules

@@ -8,6 +8,6 @@ use Rattle.af_core.proofs.server.Core.play_buffer.Goals as goal
 pub returns-clause-hears : goal.returns-clause-hears
 returns-clause-hears c = λ s st.
     let stands = subst (λ (k : Kept). Stands k s) (sym c.self.view_is) st in
-    let r = found c.self.inside.devices.items s.devices c.args.device _ (device_at c.self.inside.devices.items _ _ c.index.result.now c.from.ensures (search rules)) stands.devices in
+    let r = found c.self.inside.devices.items s.devices c.args.device _ (device_at c.self.inside.devices.items _ _ c.index.result.now c.from.ensures (search rules)) stands.kept.devices in
     let same = c.next.ensures ∙ ap (λ (d : KeptDevice). d.next) c.index.ensures in
     subst (λ o. IsSomeAnd o (λ d. Hears c.next.result.now d.accepted d.now)) (sym r.here) (subst (λ (v : Next). Hears v r.state.accepted r.state.now) (sym same) r.stands.hears)

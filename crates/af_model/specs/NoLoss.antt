@@ -1,0 +1,26 @@
+-- That no sample of a request that waited is lost.
+use Rattle.std.specs.Prelude.{ℕ, ◌+◌, ◌≤◌, List, IfSome}
+use Rattle.std.specs.List.{All}
+use Rattle.af_outside.specs.declared.script.DeviceSpec.{DeviceSpec}
+use Rattle.af_outside.specs.Told.{Log}
+use Rattle.af_model.specs.State.{DeviceState, Held, held_play, held_record, State}
+use Rattle.af_model.specs.Reply.{horizon_of}
+use Rattle.af_model.specs.Run.{end_state}
+
+-- of a request that is completed at a time nothing is lost: a play is accepted no later than its start, and no time of a record
+-- has gone further back than the horizon
+abbrev pub IsWholeAt : ℕ → ℕ → Held → Type 0
+IsWholeAt horizon now (held_play quiet start sound preempt) = now ≤ start
+IsWholeAt horizon now (held_record c start frames) = now ≤ start + horizon
+
+-- nor of any that a device completed
+abbrev pub LosesNone : DeviceState → Type 0
+LosesNone device = All (λ c. IsWholeAt (horizon_of device) c.at c.held) device.completed
+
+-- nor of any in a state
+abbrev pub StateLosesNone : State → Type 0
+StateLosesNone s = All (λ device. LosesNone device) s.devices
+
+-- nor of any in a run
+abbrev pub RunLosesNone : List DeviceSpec → Log → Type 0
+RunLosesNone config log = IfSome (end_state config log) StateLosesNone

@@ -1,0 +1,129 @@
+-- Requests that are held, and the room that they are held in.
+use Rattle.std.proofs.Common.{◌≡◌, ◌≢◌, ℕ, ℤ, zero, suc, ◌+◌, ◌-◌, ◌%◌, ◌^◌, ◌<◌, ◌≤◌, ◌==◌, ◌||◌, Bool, true, false, not, cond, List, [], ◌∷◌, ◌++◌, length, map, find, get_or, slice_set, option_map, IfSome, refl, sym, ap, ◌∙◌, subst, arith}
+use Rattle.std.proofs.lemmas.Bool.Decides.{nat_tests}
+use Rattle.std.specs.declared.option.Option.{Option}
+use Rattle.std.specs.declared.option.Option.TheVariants.{None, Some}
+use Rattle.af_context.specs.declared.Context.{Context}
+use Rattle.af_wait.specs.declared.Wait.{Wait}
+use Rattle.af_wait.specs.Waits.{first_due, is_due, is_waiting, passed, without_first, without_link, without_taken}
+use Rattle.af_wait.proofs.WaitLemmas.{passed-link}
+use Rattle.af_model.specs.State.{Held, held_play, held_record}
+use Rattle.af_perform.specs.Waits.{KeptWait, has_waiting, kept_due, kept_passed, kept_wait, waits_of, worded}
+
+-- what is held is of one kind
+pub play_is : (held : Held) (quiet : Bool) (start : ℕ) (sound : List ℤ) (preempt : Bool) → held_play quiet start sound preempt ≡ worded held → (whole : ℕ) × (held ≡ held_play quiet whole sound preempt) × (start ≡ whole % 2 ^ 32)
+play_is (held_play q whole xs p) quiet start sound preempt e = (whole, cc, cc)
+play_is (held_record c whole n) quiet start sound preempt e = absurd cc
+
+pub record_is : (held : Held) (c : Context) (start frames : ℕ) → held_record c start frames ≡ worded held → (whole : ℕ) × (held ≡ held_record c whole frames) × (start ≡ whole % 2 ^ 32)
+record_is (held_play q whole xs p) c start frames e = absurd cc
+record_is (held_record d whole n) c start frames e = (whole, cc, cc)
+
+-- the order is that of what is kept
+pub waits_of-kept : (room : List Held) (order : List Wait) → waits_of (map (kept_wait room) order) ≡ order
+waits_of-kept room [] = refl
+waits_of-kept room (w ∷ order) = ap (λ l. w ∷ l) (waits_of-kept room order)
+
+-- the room of a link is of that link alone
+other_room : (room : List Held) (i j : ℕ) (h d : Held) → i ≢ j → get_or (slice_set room i h) j d ≡ get_or room j d
+other_room [] i j h d apart = refl
+other_room (x ∷ room) zero zero h d apart = absurd (apart refl)
+other_room (x ∷ room) zero (suc j) h d apart = refl
+other_room (x ∷ room) (suc i) zero h d apart = refl
+other_room (x ∷ room) (suc i) (suc j) h d apart = other_room room i j h d (λ e. apart (ap suc e))
+
+own_room : (room : List Held) (i : ℕ) (h d : Held) → i < length room → get_or (slice_set room i h) i d ≡ h
+own_room [] i h d low = absurd (omega arith)
+own_room (x ∷ room) zero h d low = refl
+own_room (x ∷ room) (suc i) h d low = own_room room i h d (omega arith)
+
+others_kept : (room : List Held) (order : List Wait) (link : ℕ) (h : Held) → is_waiting order link ≡ false → map (kept_wait (slice_set room link h)) order ≡ map (kept_wait room) order
+others_kept room [] link h free = refl
+others_kept room (w ∷ order) link h free =
+    elim (w.link == link) as (λ b. (w.link == link) ≡ b → (b || is_waiting order link) ≡ false → map (kept_wait (slice_set room link h)) (w ∷ order) ≡ map (kept_wait room) (w ∷ order)) [
+      | true ↦ λ t f. absurd cc
+      | false ↦ λ t f.
+          let apart : link ≢ w.link = grind (arith, nat_tests) in
+          let one : kept_wait (slice_set room link h) w ≡ kept_wait room w = ap (λ x. record { wait = w; held = x }) (other_room room link w.link h (held_play false 0 [] false) apart) in
+          ap (λ x. x ∷ map (kept_wait (slice_set room link h)) order) one ∙ ap (λ l. kept_wait room w ∷ l) (others_kept room order link h f)
+    ] refl free
+
+kept_push : (room : List Held) (order : List Wait) (w : Wait) → map (kept_wait room) (order ++ w ∷ []) ≡ map (kept_wait room) order ++ kept_wait room w ∷ []
+kept_push room [] w = refl
+kept_push room (x ∷ order) w = ap (λ l. kept_wait room x ∷ l) (kept_push room order w)
+
+-- a link begins to wait
+pub begins : (room : List Held) (order order' : List Wait) (w : Wait) (h : Held) → w.link < length room → is_waiting order w.link ≡ false → order' ≡ order ++ w ∷ [] →
+    map (kept_wait (slice_set room w.link h)) order' ≡ map (kept_wait room) order ++ record { wait = w; held = h } ∷ []
+begins room order order' w h low free is =
+    ap (map (kept_wait (slice_set room w.link h))) is ∙ kept_push (slice_set room w.link h) order w
+    ∙ ap (λ l. l ++ kept_wait (slice_set room w.link h) w ∷ []) (others_kept room order w.link h free)
+    ∙ ap (λ x. map (kept_wait room) order ++ record { wait = w; held = x } ∷ []) (own_room room w.link h (held_play false 0 [] false) low)
+
+-- frames pass
+pub kept_pass : (room : List Held) (order : List Wait) (d n : ℕ) → map (kept_wait room) (map (passed d n) order) ≡ map (kept_passed d n) (map (kept_wait room) order)
+kept_pass room [] d n = refl
+kept_pass room (w ∷ order) d n =
+    let one : kept_wait room (passed d n w) ≡ kept_passed d n (kept_wait room w) = ap (λ i. record { wait = passed d n w; held = get_or room i (held_play false 0 [] false) }) (passed-link d n w) in
+    ap (λ x. x ∷ map (kept_wait room) (map (passed d n) order)) one ∙ ap (λ l. kept_passed d n (kept_wait room w) ∷ l) (kept_pass room order d n)
+
+-- what is due
+pub kept_first : (room : List Held) (order : List Wait) (d : ℕ) → option_map (λ w. w.link) (first_due d order) ≡ option_map (λ k. k.wait.link) (find (kept_due d) (map (kept_wait room) order))
+kept_first room [] d = refl
+kept_first room (w ∷ order) d =
+    elim (is_due d w) as (λ b. option_map (λ (w : Wait). w.link) (cond b (Some w) (first_due d order)) ≡ option_map (λ (k : KeptWait). k.wait.link) (cond b (Some (kept_wait room w)) (find (kept_due d) (map (kept_wait room) order)))) [
+      | true ↦ refl
+      | false ↦ kept_first room order d
+    ]
+
+pub kept_taken : (room : List Held) (order : List Wait) (d : ℕ) → map (kept_wait room) (without_first (is_due d) order) ≡ without_first (kept_due d) (map (kept_wait room) order)
+kept_taken room [] d = refl
+kept_taken room (w ∷ order) d =
+    elim (is_due d w) as (λ b. map (kept_wait room) (cond b order (w ∷ without_first (is_due d) order)) ≡ cond b (map (kept_wait room) order) (kept_wait room w ∷ without_first (kept_due d) (map (kept_wait room) order))) [
+      | true ↦ refl
+      | false ↦ ap (λ l. kept_wait room w ∷ l) (kept_taken room order d)
+    ]
+
+-- a room that is there
+pub same_room : (room : List Held) (i : ℕ) (d e : Held) → i < length room → get_or room i d ≡ get_or room i e
+same_room [] i d e low = absurd (omega arith)
+same_room (x ∷ room) zero d e low = refl
+same_room (x ∷ room) (suc i) d e low = same_room room i d e (omega arith)
+
+-- what the room of a link holds is its request
+pub room_of : (room : List Held) (order : List Wait) (link : ℕ) (h : Held) → h ≡ get_or room link (held_play false 0 [] false) → (k : ℕ) (d : KeptWait) → k < length (map (kept_wait room) order) →
+    (get_or (map (kept_wait room) order) k d).wait.link ≡ link → h ≡ (get_or (map (kept_wait room) order) k d).held
+room_of room [] link h is k d low e = absurd (omega arith)
+room_of room (w ∷ order) link h is zero d low e = is ∙ ap (λ i. get_or room i (held_play false 0 [] false)) (sym e)
+room_of room (w ∷ order) link h is (suc k) d low e = room_of room order link h is k d (omega arith) e
+
+-- a link that is taken out waits no more
+without_gone : (order : List Wait) (link : ℕ) → is_waiting (without_link order link) link ≡ false
+without_gone [] link = refl
+without_gone (w ∷ order) link =
+    elim (w.link == link) as (λ b. (w.link == link) ≡ b → is_waiting (cond (not b) (w ∷ without_link order link) (without_link order link)) link ≡ false) [
+      | true ↦ λ e. without_gone order link
+      | false ↦ λ e. ap (λ b. b || is_waiting (without_link order link) link) e ∙ without_gone order link
+    ] refl
+
+pub taken_free : (room : List Held) (order order' : List Wait) (d : ℕ) (taken : Option ℕ) → taken ≡ option_map (λ w. w.link) (first_due d order) → order' ≡ without_taken order taken →
+    IfSome (option_map (λ k. k.wait.link) (find (kept_due d) (map (kept_wait room) order))) (λ link. has_waiting (map (kept_wait room) order') link ≡ false)
+taken_free room order order' d taken is rest =
+    subst (λ o. IfSome o (λ link. has_waiting (map (kept_wait room) order') link ≡ false)) (is ∙ kept_first room order d)
+    (elim taken as (λ o. order' ≡ without_taken order o → IfSome o (λ link. has_waiting (map (kept_wait room) order') link ≡ false)) [
+      | None ↦ λ e. tt
+      | Some link ↦ λ e. ap (λ ws. is_waiting ws link) (waits_of-kept room order') ∙ ap (λ ws. is_waiting ws link) e ∙ without_gone order link
+    ] rest)
+
+-- a link whose request is due waits
+pub due_waits : (d : ℕ) (ks : List KeptWait) (link : ℕ) → option_map (λ k. k.wait.link) (find (kept_due d) ks) ≡ Some link → has_waiting ks link ≡ true
+due_waits d [] link e = absurd cc
+due_waits d (k ∷ ks) link e =
+    elim (kept_due d k) as (λ b. option_map (λ (k : KeptWait). k.wait.link) (cond b (Some k) (find (kept_due d) ks)) ≡ Some link → has_waiting (k ∷ ks) link ≡ true) [
+      | true ↦ λ f. let is : k.wait.link ≡ link = cc in let same : (k.wait.link == link) ≡ true = grind (arith, nat_tests) in ap (λ b. b || has_waiting ks link) same
+      | false ↦ λ f. ap (λ b. k.wait.link == link || b) (due_waits d ks link f) ∙ or_true (k.wait.link == link)
+    ] e
+  where
+    or_true : (b : Bool) → (b || true) ≡ true
+    or_true true = refl
+    or_true false = refl

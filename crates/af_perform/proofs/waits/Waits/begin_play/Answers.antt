@@ -1,0 +1,23 @@
+use Rattle.std.proofs.Common.{◌≡◌, ◌<◌, ◌∙◌, ap, sym, subst, List, [], ◌∷◌, ◌++◌, map, length, slice_set, false}
+use Rattle.af_wait.specs.declared.Wait.{Wait}
+use Rattle.af_wait.specs.Waits.{is_waiting}
+use Rattle.af_model.specs.State.{Held, held_play}
+use Rattle.af_perform.specs.Waits.{KeptWait, has_waiting, kept_wait}
+use Rattle.af_perform.proofs.Holding.{begins, waits_of-kept}
+use Rattle.af_perform.proofs.waits.Waits.begin_play.Goals as goal
+
+pub add-requires-clause-apart : goal.add-requires-clause-apart
+add-requires-clause-apart c =
+    ap (λ ws. is_waiting ws c.args.link) (sym (waits_of-kept c.self.inside.held.items c.self.inside.order)) ∙ ap (λ (ks : List KeptWait). has_waiting ks c.args.link) c.self.view_is ∙ c.requires.apart
+
+pub returns : goal.returns
+returns c =
+    let room = c.self.inside.held.items in
+    let order = c.self.inside.order in
+    let w : Wait = record { link = c.args.link; device = c.args.device; left = c.args.left } in
+    let h : Held = held_play c.args.quiet c.args.start.0 c.args.sound.now c.args.preempt in
+    let free = ap (λ ws. is_waiting ws c.args.link) (sym (waits_of-kept room order)) ∙ ap (λ (ks : List KeptWait). has_waiting ks c.args.link) c.self.view_is ∙ c.requires.apart in
+    ap (λ i. map (kept_wait (slice_set room i c.hold_play.new.self)) c.add.new.self) c.from.ensures
+    ∙ ap (λ x. map (kept_wait (slice_set room c.args.link x)) c.add.new.self) c.hold_play.ensures
+    ∙ begins room order c.add.new.self w h (subst (λ n. c.args.link < n) (sym c.self.invariant) c.requires.link) free c.add.ensures.added
+    ∙ ap (λ ks. ks ++ record { wait = w; held = h } ∷ []) c.self.view_is

@@ -1,7 +1,7 @@
 -- A turn, phase by phase. Each phase takes its own happenings off the front of a log; the answers in them are the
 -- outside's, and all else is determined. What is behind a phase is the next state and the rest of the log, or nothing where
 -- the log does not go on as it must.
-use Rattle.std.specs.Prelude.{◌≡◌, ℕ, zero, suc, ◌+◌, Bool, true, false, not, List, [], ◌∷◌, ◌++◌, length, drop, if◌then◌else◌, ◌==◌, ◌&&◌, nat_le, nat_lt, is_none, is_some, ◌*◌, ℤ, slice_get}
+use Rattle.std.specs.Prelude.{◌≡◌, ℕ, zero, suc, ◌+◌, Bool, true, false, not, List, [], ◌∷◌, ◌++◌, length, drop, if◌then◌else◌, ◌==◌, ◌&&◌, nat_le, nat_lt, ◌*◌, ℤ, slice_get}
 use Rattle.std.specs.declared.option.Option.{Option}
 use Rattle.std.specs.declared.option.Option.TheVariants.{None, Some}
 use Rattle.af_outside.specs.declared.happening.Happening.{Happening}

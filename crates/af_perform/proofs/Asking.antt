@@ -8,7 +8,7 @@ use Rattle.af_request.specs.declared.request.Request.{Request}
 use Rattle.af_request.specs.declared.request.Request.TheVariants as code
 use Rattle.af_request.specs.Asked.{Asked, meaning, no_op, get_time, create_ac, change_ac, free_ac, play_run, record_run, select_events, set_controls, query_controls, hook_switch, query_phone}
 use Rattle.af_request.specs.Fields.{u8_at, u32_at}
-use Rattle.af_request.specs.Requests.{Row, row_of, asked_by, asked_in, HasRoom, low_bit, no_op_row, get_time_row, create_ac_row, change_ac_row, free_ac_row, play_run_row, record_run_row, select_events_row, set_controls_row, query_controls_row, hook_switch_row, query_phone_row}
+use Rattle.af_request.specs.Requests.{Row, row_of, asked_by, asked_in, HasRoom, no_op_row, get_time_row, create_ac_row, change_ac_row, free_ac_row, play_run_row, record_run_row, select_events_row, set_controls_row, query_controls_row, hook_switch_row, query_phone_row}
 use Rattle.af_model.specs.Perform.{performed, request_in}
 use Rattle.af_perform.specs.Waits.{is_done_at_once}
 use denote.Bor.{Bor}

@@ -1,7 +1,6 @@
 -- What devices and the states that they stand for have in common.
 use Rattle.std.proofs.Common.{◌≡◌, ℕ, zero, suc, false, ◌*◌, ◌≤◌, ◌<◌, List, [], ◌∷◌, length, get_or, slice_get, slice_set, map, refl, sym, ap, ◌∙◌, subst, arith}
 use Rattle.std.proofs.lemmas.Option.{slice_get-get_or}
-use Rattle.std.specs.declared.option.Option.{Option}
 use Rattle.std.specs.declared.option.Option.TheVariants.{None, Some}
 use Rattle.af_sample.specs.declared.sample_type.SampleType.{SampleType}
 use Rattle.af_request.specs.declared.reply.DeviceInfo.{DeviceInfo}

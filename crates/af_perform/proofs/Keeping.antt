@@ -1,17 +1,15 @@
 -- What is kept of links that wait goes on standing for them.
-use Rattle.std.proofs.Common.{◌≡◌, ◌≢◌, ℕ, zero, suc, ℤ, ◌+◌, ◌-◌, ◌*◌, ◌%◌, ◌^◌, ◌<◌, ◌≤◌, ◌==◌, ◌&&◌, ◌||◌, nat_le, Bool, true, false, cond, List, [], ◌∷◌, ◌++◌, length, map, find, get_or, slice_get, slice_set, option_map, refl, sym, ap, ◌∙◌, subst, arith, append_assoc, append-nil}
+use Rattle.std.proofs.Common.{◌≡◌, ◌≢◌, ℕ, zero, suc, ℤ, ◌+◌, ◌-◌, ◌*◌, ◌<◌, ◌≤◌, ◌==◌, ◌&&◌, ◌||◌, nat_le, Bool, true, false, cond, List, [], ◌∷◌, ◌++◌, length, map, find, slice_get, slice_set, refl, sym, ap, ◌∙◌, subst, arith, append_assoc, append-nil}
 use Rattle.std.proofs.lemmas.Bool.Decides.{nat_tests}
-use Rattle.std.specs.List.{list_any}
-use Rattle.std.specs.declared.option.Option.{Option}
 use Rattle.std.specs.declared.option.Option.TheVariants.{None, Some}
 use Rattle.af_wait.specs.declared.Wait.{Wait}
-use Rattle.af_wait.specs.Waits.{is_waiting as is_in, passed, without_first}
+use Rattle.af_wait.specs.Waits.{without_first}
 use Rattle.af_wait.proofs.WaitLemmas.{passed-link}
 use Rattle.af_model.specs.State.{DeviceState, Held, held_play, held_record, Waiter}
 use Rattle.af_model.specs.Reply.{horizon_of}
 use Rattle.af_model.specs.Waiting.{due, is_due, is_waiting}
 use Rattle.af_model.specs.Tick.{later}
-use Rattle.af_perform.specs.Waits.{KeptWait, has_waiting, kept_due, kept_passed, waits_of, worded, AreLater, AreLaterBut, AreNew, Grows, IsNear, StandsForWait, StandForWaits}
+use Rattle.af_perform.specs.Waits.{KeptWait, has_waiting, kept_due, kept_passed, AreLater, AreLaterBut, AreNew, Grows, IsNear, StandsForWait, StandForWaits}
 
 -- Devices change
 
@@ -115,11 +113,13 @@ waits_passed devices d n s captured is_dead (k ∷ ks) (w ∷ ws) here size few 
 -- then each that is not due waits a frame or more still
 pub later_passed : (d n : ℕ) (ks : List KeptWait) → AreLater ks → AreLaterBut d (map (kept_passed d n) ks)
 later_passed d n [] l = tt
-later_passed d n (k ∷ ks) l =
-    (elim (k.wait.device == d) as (λ b. let w : Wait = cond b (record k.wait { left = k.wait.left - n }) k.wait in (k.wait.device == d) ≡ b → ((w.device == d) && (w.left == 0)) ≡ false → 0 < w.left) [
-      | true ↦ λ e f. let g : (k.wait.left - n == 0) ≡ false = ap (λ b. b && (k.wait.left - n == 0)) (sym e) ∙ f in grind (arith, nat_tests)
-      | false ↦ λ e f. l.0
-    ] refl, later_passed d n ks l.1)
+later_passed d n (k ∷ ks) l = (
+  elim (k.wait.device == d) as (λ b. let w : Wait = cond b (record k.wait { left = k.wait.left - n }) k.wait in (k.wait.device == d) ≡ b → ((w.device == d) && (w.left == 0)) ≡ false → 0 < w.left) [
+    | true ↦ λ e f. let g : (k.wait.left - n == 0) ≡ false = ap (λ b. b && (k.wait.left - n == 0)) (sym e) ∙ f in grind (arith, nat_tests)
+    | false ↦ λ e f. l.0
+  ] refl,
+  later_passed d n ks l.1,
+)
 
 -- The first that is due
 

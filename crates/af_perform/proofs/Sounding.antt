@@ -1,8 +1,7 @@
 -- A device goes on to stand for its states as it plays and records.
-use Rattle.std.proofs.Common.{◌≡◌, ℕ, ℤ, pos, suc, true, false, not, cond, ◌==◌, ◌&&◌, nat_lt, ◌+◌, ◌-◌, ◌*◌, ◌/◌, ◌%◌, ◌^◌, ◌<◌, ◌≤◌, Bool, List, [], ◌∷◌, ◌++◌, length, take, replicate, map, get_or, min, refl, sym, ap, ◌∙◌, subst, arith, eqb-true, length-take-le}
-use Rattle.std.specs.List.{range_with_len}
+use Rattle.std.proofs.Common.{◌≡◌, ℕ, ℤ, pos, true, false, not, cond, ◌==◌, nat_lt, ◌+◌, ◌-◌, ◌*◌, ◌/◌, ◌%◌, ◌^◌, ◌<◌, ◌≤◌, Bool, List, [], ◌∷◌, ◌++◌, length, take, replicate, map, refl, sym, ap, ◌∙◌, subst, arith, length-take-le}
 use Rattle.std.specs.declared.option.Option.{Option}
-use Rattle.std.specs.declared.option.Option.TheVariants.{None, Some}
+use Rattle.std.specs.declared.option.Option.TheVariants.{None}
 use Rattle.std.proofs.lemmas.List.Elements.{All-push}
 use Rattle.std.proofs.lemmas.Bool.Decides.{nat_tests}
 use Rattle.af_model.specs.declared.refusal.Refusal.{Refusal}
@@ -21,7 +20,7 @@ use Rattle.af_context.specs.declared.Context.{Context}
 use Rattle.af_outside.specs.declared.script.DeviceSpec.{DeviceSpec}
 use Rattle.af_buffers.specs.Horizons.{IsListedRate}
 use Rattle.af_buffers.specs.PlayBuffer.{Next, accepted_at, accepted_by, frames_beyond as play_beyond, frames_within, HandsOut, Hears, Plays}
-use Rattle.af_buffers.specs.RecordBuffer.{Last, Captures, Keeps, frames_before, frames_beyond as record_beyond, samples_from}
+use Rattle.af_buffers.specs.RecordBuffer.{Last, Captures, frames_before, frames_beyond as record_beyond, samples_from}
 use Rattle.af_buffers.proofs.Rooms.{horizon_of_rate, horizon_within}
 use Rattle.af_buffers.proofs.Hearing.{hears_silence, hears_play, hears_hand_out, gives_heard, frames_beyond-same as play_later, frames_within-same, size_hand_out}
 use Rattle.af_buffers.proofs.Windows.{keeps_silence, keeps_capture, reads_window, frames_before-same, frames_beyond-same as record_later, size_capture}

@@ -1,5 +1,5 @@
 -- What the core keeps of a device and of a link.
-use Rattle.std.specs.Prelude.{◌≡◌, ℕ, ◌*◌, ◌%◌, ◌^◌, false, Bool, List, length}
+use Rattle.std.specs.Prelude.{◌≡◌, ℕ, ◌*◌, false, Bool, length}
 use Rattle.af_sample.specs.declared.sample_type.SampleType.{SampleType}
 use Rattle.af_buffers.specs.Horizons.{IsListedRate}
 use Rattle.af_buffers.specs.PlayBuffer.{Next, Hears}

@@ -118,9 +118,7 @@ fn done(
             ac,
             time,
             samples,
-        } => play_run(
-            number, quiet, ac, time, samples, devices, waits, link, work,
-        ),
+        } => play_run(number, quiet, ac, time, samples, devices, waits, link, work),
         Request::RecordRun {
             blocking,
             ac,

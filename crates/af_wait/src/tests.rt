@@ -18,6 +18,21 @@ fn what_is_due_completes_in_the_order_of_beginning(rt: HostRuntime) {
 }
 
 #[test]
+fn what_waits_can_be_asked(rt: HostRuntime) {
+    let mut waiting = Waiting::new();
+    waiting.add(5, 0, 2);
+    waiting.add(2, 0, 1);
+    assert_eq!(rt; waiting.len(), 2);
+    assert!(rt; waiting.is_waiting(5) && waiting.is_waiting(2) && !waiting.is_waiting(0));
+    waiting.pass(0, 1);
+    assert_eq!(rt; waiting.first_due(0), Some(2));
+    assert_eq!(rt; waiting.first_due(1), None);
+    assert_eq!(rt; waiting.len(), 2);
+    waiting.pass(0, 1);
+    assert_eq!(rt; waiting.first_due(0), Some(5));
+}
+
+#[test]
 fn a_dropped_link_waits_no_more(rt: HostRuntime) {
     let mut waiting = Waiting::new();
     waiting.add(1, 3, 4096);

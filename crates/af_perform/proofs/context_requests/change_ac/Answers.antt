@@ -1,4 +1,4 @@
-use Rattle.std.proofs.Common.{◌≡◌, ◌∙◌, sym}
+use Rattle.std.proofs.Common.{◌∙◌, sym}
 use Rattle.af_model.specs.ContextRequests.{change, change_refusal}
 use Rattle.af_perform.proofs.Requests.{leads_refused, leads_passed}
 use Rattle.af_perform.proofs.context_requests.change_ac.Goals as goal

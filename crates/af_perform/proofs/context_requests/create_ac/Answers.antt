@@ -1,4 +1,4 @@
-use Rattle.std.proofs.Common.{◌≡◌, ◌∙◌, sym, subst}
+use Rattle.std.proofs.Common.{◌∙◌, sym, subst}
 use Rattle.af_context.specs.declared.Context.{Context}
 use Rattle.af_model.specs.ContextRequests.{create, creation_refusal, described}
 use Rattle.af_perform.specs.Places.{LeadsLink}

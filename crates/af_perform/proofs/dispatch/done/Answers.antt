@@ -1,4 +1,3 @@
-use Rattle.std.proofs.Common.{rules}
 use Rattle.af_perform.proofs.Asking.{at_once}
 use Rattle.af_perform.proofs.Keeping.{grows_nothing}
 use Rattle.af_perform.proofs.dispatch.done.Goals as goal

@@ -1,4 +1,4 @@
-use Rattle.std.proofs.Common.{◌≡◌, ◌≤◌, length, ◌∙◌, ap, sym, arith, rules, subst}
+use Rattle.std.proofs.Common.{◌∙◌, ap, sym, arith, rules}
 use Rattle.af_perform.proofs.Devices.{device_at}
 use Rattle.std.specs.declared.option.Option.TheVariants.{Some}
 use Rattle.af_model.specs.Perform.{tell_time}

@@ -1,4 +1,4 @@
-use Rattle.std.proofs.Common.{◌≡◌, ◌<◌, ◌∙◌, sym, length, arith, rules}
+use Rattle.std.proofs.Common.{◌<◌, ◌∙◌, sym, length, arith}
 use Rattle.af_model.specs.Play.{play, play_refusal, start_play}
 use Rattle.af_perform.proofs.Requests.{any_device, device_missing, at_refused, at_passed}
 use Rattle.af_perform.proofs.play.play_by.Goals as goal

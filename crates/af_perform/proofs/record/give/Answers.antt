@@ -1,4 +1,4 @@
-use Rattle.std.proofs.Common.{◌≡◌, ◌<◌, ◌^◌, ◌/◌, ◌∙◌, ap, cond, min, rules}
+use Rattle.std.proofs.Common.{◌<◌, ◌^◌, ◌/◌, ◌∙◌, ap, cond, min, rules}
 use Rattle.af_perform.proofs.Requests.{record_given}
 use Rattle.af_perform.proofs.record.give.Goals as goal
 

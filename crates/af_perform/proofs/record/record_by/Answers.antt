@@ -1,4 +1,4 @@
-use Rattle.std.proofs.Common.{◌≡◌, ◌<◌, ◌∙◌, ap, sym, length, arith, rules}
+use Rattle.std.proofs.Common.{◌<◌, ◌∙◌, ap, sym, length, arith, rules}
 use Rattle.std.specs.declared.option.Option.TheVariants.{Some}
 use Rattle.af_model.specs.Record.{record_refusal, record_sound, start_record}
 use Rattle.af_perform.proofs.Devices.{device_at}

@@ -1,4 +1,4 @@
-use Rattle.std.proofs.Common.{◌≡◌, ◌<◌, ◌≤◌, ◌^◌, ◌/◌, ◌∙◌, ◌&&◌, nat_lt, ap, sym, subst, arith, rules}
+use Rattle.std.proofs.Common.{◌<◌, ◌≤◌, ◌^◌, ◌/◌, ◌∙◌, ◌&&◌, nat_lt, ap, sym, subst, arith, rules}
 use Rattle.af_perform.proofs.Requests.{record_started, record_waits}
 use Rattle.af_perform.proofs.Sounding.{few_frames}
 use Rattle.af_perform.proofs.record.start_record.Goals as goal

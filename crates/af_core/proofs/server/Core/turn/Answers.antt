@@ -14,9 +14,10 @@ invariant_of-self g c =
     let links_are : take c.self.inside.slots.len (links ++ drop (length links) c.self.inside.slots.items) ≡ links = written c.self.inside.slots.len links (drop (length links) c.self.inside.slots.items) (c.turn_parts.auto.slots ∙ c.deref_mut-2.ensures.len) in
     let waits = c.turn_parts.new.waits in
     let few : length ds ≤ 8 = let e = c.turn_parts.auto.devices in let v = ap length c.deref_mut.ensures.value in let h = c.self.invariant.0 in omega (arith, e, v, h) in
-    let all : length links ≡ 32 = c.turn_parts.auto.slots ∙ ap length c.deref_mut-2.ensures.value ∙ c.self.invariant.1 in
-    (subst (λ (xs : List KeptDevice). length xs ≤ 8) (sym devices_are) few,
-    subst (λ (xs : List (Option LinkState)). length xs ≡ 32) (sym links_are) all,
-    subst (λ (xs : List (Option LinkState)). AreSettled waits xs) (sym links_are) c.turn_parts.ensures.settled,
-    c.turn_parts.ensures.later,
-    subst (λ (xs : List KeptDevice). (s : State) × StandsFor xs waits (take c.self.inside.slots.len (links ++ drop (length links) c.self.inside.slots.items)) s) (sym devices_are) (subst (λ (xs : List (Option LinkState)). (s : State) × StandsFor ds waits xs s) (sym links_are) c.turn_parts.ensures.stands))
+    let all : length links ≡ 32 = c.turn_parts.auto.slots ∙ ap length c.deref_mut-2.ensures.value ∙ c.self.invariant.1 in (
+      subst (λ (xs : List KeptDevice). length xs ≤ 8) (sym devices_are) few,
+      subst (λ (xs : List (Option LinkState)). length xs ≡ 32) (sym links_are) all,
+      subst (λ (xs : List (Option LinkState)). AreSettled waits xs) (sym links_are) c.turn_parts.ensures.settled,
+      c.turn_parts.ensures.later,
+      subst (λ (xs : List KeptDevice). (s : State) × StandsFor xs waits (take c.self.inside.slots.len (links ++ drop (length links) c.self.inside.slots.items)) s) (sym devices_are) (subst (λ (xs : List (Option LinkState)). (s : State) × StandsFor ds waits xs s) (sym links_are) c.turn_parts.ensures.stands),
+    )

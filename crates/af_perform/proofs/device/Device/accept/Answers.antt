@@ -1,4 +1,4 @@
-use Rattle.std.proofs.Common.{◌≡◌, ◌<◌, ◌≤◌, ◌^◌, length, sym, arith, rules, subst}
+use Rattle.std.proofs.Common.{◌<◌, ◌≤◌, ◌^◌, length, sym, arith, rules, subst}
 use Rattle.af_buffers.specs.PlayBuffer.{frames_within}
 use Rattle.af_perform.specs.Kept.{KeptDevice, StandsForDevice}
 use Rattle.af_perform.proofs.Sounding.{accepts, accepts_nothing}

@@ -1,4 +1,4 @@
-use Rattle.std.proofs.Common.{◌≡◌, ◌*◌, ◌∙◌, ap, sym, subst, take, rules}
+use Rattle.std.proofs.Common.{◌≡◌, ◌*◌, ◌∙◌, ap, sym, subst}
 use Rattle.af_model.specs.State.{Held, held_play, held_record, place}
 use Rattle.af_model.specs.Play.{in_devices}
 use Rattle.af_model.specs.Tick.{answer_held, completing}

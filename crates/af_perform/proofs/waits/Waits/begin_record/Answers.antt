@@ -1,4 +1,4 @@
-use Rattle.std.proofs.Common.{◌≡◌, ◌<◌, ◌∙◌, ap, sym, subst, List, [], ◌∷◌, ◌++◌, map, length, slice_set, false}
+use Rattle.std.proofs.Common.{◌<◌, ◌∙◌, ap, sym, subst, List, [], ◌∷◌, ◌++◌, map, slice_set}
 use Rattle.af_wait.specs.declared.Wait.{Wait}
 use Rattle.af_wait.specs.Waits.{is_waiting}
 use Rattle.af_model.specs.State.{Held, held_record}

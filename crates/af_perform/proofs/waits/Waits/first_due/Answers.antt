@@ -1,5 +1,5 @@
 use Rattle.std.proofs.Common.{◌∙◌, ap, find, option_map, List}
-use Rattle.af_perform.specs.Waits.{KeptWait, kept_due, kept_wait}
+use Rattle.af_perform.specs.Waits.{KeptWait, kept_due}
 use Rattle.af_perform.proofs.Holding.{kept_first}
 use Rattle.af_perform.proofs.waits.Waits.first_due.Goals as goal
 

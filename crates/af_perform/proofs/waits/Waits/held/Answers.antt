@@ -1,4 +1,4 @@
-use Rattle.std.proofs.Common.{◌≡◌, ◌<◌, ◌∙◌, ap, sym, subst, List, [], false, length, get_or}
+use Rattle.std.proofs.Common.{◌≡◌, ◌<◌, ◌∙◌, ap, sym, subst, List, [], false, get_or}
 use Rattle.std.specs.List.{All}
 use Rattle.af_model.specs.State.{Held, held_play}
 use Rattle.af_perform.specs.Waits.{KeptWait}

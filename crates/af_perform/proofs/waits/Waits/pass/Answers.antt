@@ -1,5 +1,5 @@
-use Rattle.std.proofs.Common.{◌∙◌, ap, map, List}
-use Rattle.af_perform.specs.Waits.{KeptWait, kept_passed, kept_wait}
+use Rattle.std.proofs.Common.{◌∙◌, ap, map}
+use Rattle.af_perform.specs.Waits.{kept_passed, kept_wait}
 use Rattle.af_perform.proofs.Holding.{kept_pass}
 use Rattle.af_perform.proofs.waits.Waits.pass.Goals as goal
 

@@ -1,12 +1,12 @@
 -- The requests that are due of a device complete.
-use Rattle.std.proofs.Common.{◌≡◌, ◌≢◌, ℕ, zero, suc, ◌+◌, ◌-◌, ◌*◌, ◌%◌, ◌^◌, ◌<◌, ◌≤◌, ◌==◌, ◌&&◌, ◌||◌, nat_le, Bool, true, false, cond, List, [], ◌∷◌, length, find, get_or, slice_get, slice_set, option_map, option_and_then, refl, sym, ap, ◌∙◌, subst, arith, eqb-true}
+use Rattle.std.proofs.Common.{◌≡◌, ◌≢◌, ℕ, zero, suc, ◌*◌, ◌%◌, ◌^◌, ◌<◌, ◌≤◌, ◌==◌, ◌||◌, nat_le, Bool, true, false, cond, List, [], ◌∷◌, length, find, slice_get, slice_set, option_map, option_and_then, refl, sym, ap, ◌∙◌, subst, arith, eqb-true}
 use Rattle.std.proofs.lemmas.Bool.Decides.{nat_tests}
 use Rattle.std.proofs.lemmas.List.Elements.{All-head, All-tail}
 use Rattle.std.specs.List.{All}
 use Rattle.std.specs.declared.option.Option.{Option}
 use Rattle.std.specs.declared.option.Option.TheVariants.{None, Some}
 use Rattle.af_wait.specs.Waits.{without_first}
-use Rattle.af_model.specs.State.{State, DeviceState, Held, held_play, held_record, LinkState, Waiter, Around, Place, Door, place, door_at, with_door}
+use Rattle.af_model.specs.State.{State, DeviceState, Held, held_play, held_record, LinkState, Waiter, Around, Place, place, door_at}
 use Rattle.af_model.specs.Reply.{horizon_of}
 use Rattle.af_model.specs.Waiting.{due, is_due}
 use Rattle.af_model.specs.Play.{in_devices}
@@ -15,12 +15,12 @@ use Rattle.af_model.specs.Tick.{answer_held, complete, complete_at, complete_by,
 use Rattle.af_model.proofs.Tests.{both-true}
 use Rattle.af_model.proofs.Slots.{some_link, slot_link, links_of-set}
 use Rattle.af_perform.specs.Kept.{KeptDevice, StandsForDevice}
-use Rattle.af_perform.specs.Waits.{KeptWait, has_waiting, kept_due, worded, AreLaterBut, EndsWithin, Grows, IsNear, StandForWaits}
+use Rattle.af_perform.specs.Waits.{KeptWait, has_waiting, kept_due, worded, EndsWithin, Grows, IsNear, StandForWaits}
 use Rattle.af_perform.specs.Places.{At, StandAround}
 use Rattle.af_perform.proofs.Devices.{state_there}
 use Rattle.af_perform.proofs.Keeping.{dues, dues_few, dues_grown, dues_taken, first_due, grows_others, length-waits, none_due}
 use Rattle.af_perform.proofs.Requests.{stands_here}
-use Rattle.af_perform.proofs.Sounding.{horizon_bounds, near_start, within-same}
+use Rattle.af_perform.proofs.Sounding.{near_start, within-same}
 use Rattle.af_core.specs.Stands.{AtDoor, CompletesTo, StandsFor}
 
 -- The first that is due

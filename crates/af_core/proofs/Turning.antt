@@ -16,7 +16,7 @@ use Rattle.af_model.specs.Reply.{horizon_of}
 use Rattle.af_model.specs.Waiting.{due, AreDueLater}
 use Rattle.af_model.specs.NoLoss.{LosesNone}
 use Rattle.af_model.specs.Tick.{sound, tick, later, capture_of, complete_due}
-use Rattle.af_model.specs.Turn.{Behind, behind, and_then, then_go, take_one, turn, fits, is_open_at, wake_phase, tick_phase, is_capture, capture_by, after_capture, emit_by, serve_all, ready, in_open, in_slot}
+use Rattle.af_model.specs.Turn.{Behind, behind, and_then, take_one, turn, fits, is_open_at, wake_phase, tick_phase, is_capture, capture_by, after_capture, emit_by, serve_all, ready, in_open, in_slot}
 use Rattle.af_model.specs.Run.{wakes}
 use Rattle.af_model.proofs.Running.{wakes-append-none}
 use Rattle.af_model.proofs.Slots.{slot_link, links_of-set, some_link}

@@ -6,7 +6,7 @@ use Rattle.af_wait.specs.declared.Wait.{Wait}
 use Rattle.af_outside.specs.declared.happening.Happening.TheVariants.{Woke}
 use Rattle.af_outside.specs.declared.happening.Wake.{Wake}
 use Rattle.af_outside.specs.Told.{Log, Grew}
-use Rattle.af_model.specs.State.{State, DeviceState, LinkState, Waiter, Around, Place, Door, Outline, place, links_of, outline_with}
+use Rattle.af_model.specs.State.{State, DeviceState, LinkState, Waiter, Place, Door, Outline, links_of, outline_with}
 use Rattle.af_model.specs.Reply.{horizon_of}
 use Rattle.af_model.specs.Waiting.{due, AreDueLater}
 use Rattle.af_model.specs.Advance.{takes_more}

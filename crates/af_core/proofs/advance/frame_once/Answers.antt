@@ -1,5 +1,4 @@
 use Rattle.std.proofs.Common.{◌≡◌, ◌∙◌, ap, sym, subst, length, take, rules, true, length-take-le}
-use Rattle.af_wire.specs.declared.front.Front.{Front}
 use Rattle.af_wire.specs.declared.front.Front.TheVariants.{Frame}
 use Rattle.af_wire.specs.Front.{frame_front}
 use Rattle.af_model.specs.State.{place}

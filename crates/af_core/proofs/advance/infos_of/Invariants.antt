@@ -1,4 +1,4 @@
-use Rattle.std.proofs.Common.{◌≡◌, length, take, map}
+use Rattle.std.proofs.Common.{◌≡◌, take, map}
 use Rattle.af_perform.specs.Kept.{kept_info}
 use Rattle.af_core.proofs.advance.infos_of.Given as goal
 

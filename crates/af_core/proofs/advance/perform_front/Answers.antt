@@ -1,5 +1,5 @@
-use Rattle.std.proofs.Common.{◌≡◌, ◌∙◌, ap, sym, rules, arith, option_map, length}
-use Rattle.af_request.specs.Asked.{Asked, meaning}
+use Rattle.std.proofs.Common.{◌∙◌, ap, sym, rules, option_map}
+use Rattle.af_request.specs.Asked.{meaning}
 use Rattle.af_perform.proofs.Asking.{asked_room}
 use Rattle.af_core.proofs.advance.perform_front.Goals as goal
 

@@ -1,5 +1,4 @@
-use Rattle.std.proofs.Common.{rules, ap, ◌∙◌}
-use Rattle.af_request.specs.Answer.{setup}
+use Rattle.std.proofs.Common.{rules}
 use Rattle.af_model.specs.Reply.{reply_message}
 use Rattle.af_core.proofs.advance.reply_setup.Goals as goal
 

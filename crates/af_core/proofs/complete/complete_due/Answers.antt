@@ -1,4 +1,4 @@
-use Rattle.std.proofs.Common.{◌≡◌, ◌∙◌, refl, sym, subst, List, arith, rules}
+use Rattle.std.proofs.Common.{refl, sym, subst, List, arith}
 use Rattle.std.specs.declared.option.Option.{Option}
 use Rattle.af_model.specs.State.{LinkState}
 use Rattle.af_model.specs.Tick.{complete_due}

@@ -1,4 +1,4 @@
-use Rattle.std.proofs.Common.{◌≡◌, ◌<◌, ◌∙◌, [], length, ap, sym, find, get_or, option_map, refl, subst, rules}
+use Rattle.std.proofs.Common.{◌≡◌, ◌∙◌, [], ap, sym, find, get_or, option_map, refl, subst, rules}
 use Rattle.std.specs.declared.option.Option.TheVariants.{Some}
 use Rattle.af_wait.specs.Waits.{without_first}
 use Rattle.af_perform.specs.Waits.{KeptWait, has_waiting, kept_due, Grows}

@@ -1,4 +1,3 @@
-use Rattle.std.proofs.Common.{rules}
 use Rattle.af_core.proofs.Completing.{completes_link, fits_now}
 use Rattle.af_core.proofs.complete.complete_link.Goals as goal
 

@@ -1,4 +1,4 @@
-use Rattle.std.proofs.Common.{◌≡◌, ◌≤◌, ◌-◌, length}
+use Rattle.std.proofs.Common.{◌≤◌, ◌-◌, length}
 use Rattle.af_model.specs.Turn.{serve_from}
 use Rattle.af_perform.specs.Waits.{AreLater}
 use Rattle.af_core.specs.Stands.{AreSettled, StandsFor}

@@ -1,10 +1,9 @@
-use Rattle.std.proofs.Common.{◌≡◌, refl, ◌∙◌, sym, map, slice_get, slice_set, subst, List, rules}
-use Rattle.af_model.specs.State.{State, LinkState}
-use Rattle.af_perform.specs.Kept.{KeptDevice}
-use Rattle.af_perform.specs.Waits.{KeptWait, has_waiting, kept_passed, AreLaterBut}
+use Rattle.std.proofs.Common.{refl, sym, slice_set, subst, List}
+use Rattle.af_model.specs.State.{State}
+use Rattle.af_perform.specs.Waits.{KeptWait, has_waiting, AreLaterBut}
 use Rattle.af_perform.proofs.Devices.{device_at}
 use Rattle.af_perform.proofs.Keeping.{later_passed, passed_waiting}
-use Rattle.af_core.specs.Stands.{AreSettled, IsSettled, StandsFor}
+use Rattle.af_core.specs.Stands.{IsSettled, StandsFor}
 use Rattle.af_core.proofs.Turning.{passed_state, ticks}
 use Rattle.af_core.proofs.tick.tick.Goals as goal
 

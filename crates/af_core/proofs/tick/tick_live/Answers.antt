@@ -1,4 +1,4 @@
-use Rattle.std.proofs.Common.{◌≡◌, rules}
+use Rattle.std.proofs.Common.{rules}
 use Rattle.af_core.proofs.Turning.{capture_failed, emit_failed, emit_done}
 use Rattle.af_core.proofs.tick.tick_live.Goals as goal
 

@@ -1,4 +1,4 @@
-use Rattle.std.proofs.Common.{◌≡◌, ◌≤◌, [], List, length, refl, sym, subst, arith, rules}
+use Rattle.std.proofs.Common.{◌≤◌, List, length, sym, subst, arith, rules}
 use Rattle.af_perform.specs.Waits.{KeptWait, AreLater}
 use Rattle.af_core.proofs.Turning.{starts_settled, starts_standing}
 use Rattle.af_core.proofs.server.Core.new.Goals as goal

@@ -1,4 +1,4 @@
-use Rattle.std.proofs.Common.{◌≡◌, ◌∙◌, ap, sym, subst, rules, IsSomeAnd}
+use Rattle.std.proofs.Common.{◌∙◌, ap, sym, subst, rules, IsSomeAnd}
 use Rattle.af_buffers.specs.PlayBuffer.{Next, Hears}
 use Rattle.af_perform.specs.Kept.{KeptDevice}
 use Rattle.af_core.specs.Stands.{Kept, Stands}

@@ -1,4 +1,4 @@
-use Rattle.std.proofs.Common.{◌≡◌, ◌<◌, sym, subst, List}
+use Rattle.std.proofs.Common.{◌<◌, sym, subst, List}
 use Rattle.std.specs.List.{All}
 use Rattle.af_wait.specs.declared.Wait.{Wait}
 use Rattle.af_core.specs.Stands.{Kept, Stands, StandForWaiting}

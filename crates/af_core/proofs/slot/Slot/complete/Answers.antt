@@ -1,7 +1,7 @@
-use Rattle.std.proofs.Common.{◌≡◌, ◌∙◌, ap, sym, cond, refl}
+use Rattle.std.proofs.Common.{◌≡◌, ◌∙◌, ap, sym, cond}
 use Rattle.std.specs.declared.option.Option.TheVariants.{None, Some}
 use Rattle.af_perform.proofs.Holding.{due_waits}
-use Rattle.af_core.proofs.Completing.{completes_at, completes_closed}
+use Rattle.af_core.proofs.Completing.{completes_closed}
 use Rattle.af_core.proofs.slot.Slot.complete.Goals as goal
 
 pub complete_link-requires-clause-room : goal.complete_link-requires-clause-room

@@ -9,7 +9,7 @@ use Rattle.af_outside.specs.declared.script.DeviceSpec.{DeviceSpec}
 use Rattle.af_outside.specs.declared.script.Step.{Step}
 use Rattle.af_outside.specs.Told.{Log, Grew}
 use Rattle.af_outside.specs.Outside.{Outside, Peer, outside_start, TapeState, fresh, TakesStep, TapeLeadsTo, Answered, IsStep, stepped, wake_of, replayed}
-use Rattle.af_model.specs.State.{State, LinkState, DeviceState, opening, opening_device, links_of, outline, outline_with}
+use Rattle.af_model.specs.State.{State, LinkState, opening, opening_device, links_of, outline, outline_with}
 use Rattle.af_model.specs.Turn.{behind, turn, fits}
 use Rattle.af_model.specs.Run.{wakes}
 use Rattle.af_model.specs.NoLoss.{LosesNone, RunLosesNone, StateLosesNone}

@@ -1,0 +1,4 @@
+pub mod Course
+pub mod Play
+pub mod Record
+pub mod Ends

@@ -41,14 +41,24 @@ pub record Followed (course : Course) (how : ToolEnd) (sent sent' held held' : O
 abbrev pub wire_of : {L : Type 0} → ConnState L → List ℕ → Wire
 wire_of conn input = record { sequence = conn.sequence; ring = conn.ring; input = input }
 
--- the source was left where it has nothing more to give
--- the source gave no more than it may
-pub record GaveWithin (before after : Option (List ℕ)) : Type 0 where
+-- a source gave at most so many bytes
+pub record GaveUpTo (most : ℕ) (before after : Option (List ℕ)) : Type 0 where
   pub bytes : List ℕ
   pub gave : Gave before bytes after
-  pub within : length bytes ≤ most_bytes
+  pub within : length bytes ≤ most
 
--- the source gave more than it may
+-- a source gave more than so many bytes, and no more than there was room for
+pub record GaveAbove (most room : ℕ) (before after : Option (List ℕ)) : Type 0 where
+  pub bytes : List ℕ
+  pub gave : Gave before bytes after
+  pub beyond : most < length bytes
+  pub within : length bytes ≤ room
+
+-- the source gave no more than aplay takes
+abbrev pub GaveWithin : Option (List ℕ) → Option (List ℕ) → Type 0
+GaveWithin before after = GaveUpTo most_bytes before after
+
+-- the source gave more than aplay takes
 pub record GaveTooMuch (before after : Option (List ℕ)) : Type 0 where
   pub bytes : List ℕ
   pub gave : Gave before bytes after
@@ -70,6 +80,12 @@ is_of_link (end.Refused code value) = true
 is_of_link (end.BadReply header first) = true
 is_of_link end.EventFlood = true
 is_of_link _ = false
+
+-- the ends of a part that also reads the source
+abbrev pub is_of_blocks : ToolEnd → Bool
+is_of_blocks end.ReadFault = true
+is_of_blocks end.TooLong = true
+is_of_blocks how = is_of_link how
 
 -- a tool may also end in another way than by its link
 abbrev pub is_of_play : ToolEnd → Bool

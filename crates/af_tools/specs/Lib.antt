@@ -2,3 +2,4 @@ pub mod Course
 pub mod Play
 pub mod Record
 pub mod Ends
+pub mod Fill

@@ -1,7 +1,9 @@
 // How a tool ended.
 ghost use Rattle.std.specs.Prelude.{◌≡◌};
 ghost use Rattle.af_tools.specs.Course.{fault_end};
+ghost use Rattle.af_tools.specs.Fill.{fill_end};
 
+use crate::fill::FillFault;
 use af_lib::ConnFault;
 
 /// How a tool ended.
@@ -48,6 +50,17 @@ impl From<ConnFault> for ToolEnd {
             ConnFault::BadReply { header, first } => ToolEnd::BadReply { header, first },
             ConnFault::OutOfMemory => ToolEnd::OutOfMemory,
             ConnFault::EventFlood => ToolEnd::EventFlood,
+        }
+    }
+}
+
+impl From<FillFault> for ToolEnd {
+    ghost from_gives = { λ fault end. end ≡ fill_end fault };
+
+    fn from(fault: FillFault) -> ToolEnd {
+        match fault {
+            FillFault::ReadFault => ToolEnd::ReadFault,
+            FillFault::TooLong => ToolEnd::TooLong,
         }
     }
 }

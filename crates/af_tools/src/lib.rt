@@ -2,7 +2,9 @@
 #![tactic(auto)]
 
 mod end;
+mod fill;
 mod job;
+mod play;
 mod talk;
 
 pub use end::ToolEnd;

@@ -1,0 +1,5 @@
+pub mod Growing
+pub mod Going
+pub mod Reaching
+pub mod Playing
+pub mod PlaySteps

@@ -3,3 +3,4 @@ pub mod Going
 pub mod Reaching
 pub mod Playing
 pub mod PlaySteps
+pub mod PlayTail

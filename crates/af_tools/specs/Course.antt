@@ -4,14 +4,15 @@ use Rattle.std.specs.Prelude.{ℕ, Bool, true, false, List, [], ◌∷◌, ◌++
 use Rattle.std.specs.declared.option.Option.{Option}
 use Rattle.std.specs.declared.option.Option.TheVariants.{None, Some}
 use Rattle.af_request.specs.declared.reply.DeviceInfo.{DeviceInfo}
-use Rattle.af_request.specs.Asked.{Asked}
+use Rattle.af_time.specs.declared.DevTime.{DevTime}
+use Rattle.af_request.specs.Asked.{Asked, get_time}
 use Rattle.af_request.specs.Answer.{Answer}
 use Rattle.af_request.specs.Requests.{request_bytes}
 use Rattle.af_lib.specs.declared.fault.ConnFault.{ConnFault}
 use Rattle.af_lib.specs.declared.fault.ConnFault.TheVariants as fault
 use Rattle.af_lib.specs.Ring.{RingState}
 use Rattle.af_lib.specs.Incoming.{Awaited, awaited}
-use Rattle.af_lib.specs.Calls.{answered, as_devices, following, opcode_of, setup_bytes}
+use Rattle.af_lib.specs.Calls.{answered, as_devices, as_done, as_time, following, opcode_of, setup_bytes}
 use Rattle.af_outside.specs.Dial.{ToldLink}
 use Rattle.af_tools.specs.declared.end.ToolEnd.{ToolEnd}
 use Rattle.af_tools.specs.declared.end.ToolEnd.TheVariants as end
@@ -70,6 +71,10 @@ answer_on asked value_of w = answered value_of (opcode_of asked) (following w.se
 unfoldable pub asks : {X : Type 0} → Asked → (Answer → Option X) → Wire → (X → Wire → Course) → Course
 asks asked value_of w next = sending (request_bytes asked) (answered_by (answer_on asked value_of w) (behind w) next)
 
+-- a context is made, and the time of its device asked
+abbrev pub begins : Asked → ℕ → Wire → (DevTime → Wire → Course) → Course
+begins context device w next = asks context as_done w (λ _ v. asks (get_time device) as_time v next)
+
 -- a tool is about the device with this number, which is to be there
 abbrev pub on_device : Option DeviceInfo → ℕ → (DeviceInfo → Course) → Course
 on_device (Some device) devices next = next device
@@ -100,7 +105,7 @@ dials (link ∷ links) next = connects link.gives next
 abbrev pub fault_end : ConnFault → ToolEnd
 fault_end fault.LinkFault = end.LinkFault
 fault_end fault.LinkEnded = end.LinkEnded
-fault_end (fault.Spent first) = end.LinkEnded
+fault_end (fault.Spent first) = end.LinkFault
 fault_end (fault.ServerError code value) = end.Refused code value
 fault_end (fault.BadReply header first) = end.BadReply header first
 fault_end fault.OutOfMemory = end.OutOfMemory

@@ -1,5 +1,5 @@
 -- How far a tool came in its course, and why it ended.
-use Rattle.std.specs.Prelude.{◌≡◌, ◌≢◌, ◌<◌, ◌≤◌, ℕ, Bool, true, false, List, [], ◌++◌, length, Result, Ok, Err, IsErr, IsOk, IsSome, IfErr}
+use Rattle.std.specs.Prelude.{◌≡◌, ◌≢◌, ◌<◌, ◌≤◌, ◌⊎◌, ℕ, Bool, true, false, List, [], ◌++◌, length, Result, Ok, Err, IsErr, IsOk, IsSome, IfErr}
 use Rattle.std.specs.declared.option.Option.{Option}
 use Rattle.std.specs.declared.option.Option.TheVariants.{None, Some}
 use Rattle.af_outside.specs.Told.{Gave, Grew, Rose}
@@ -8,7 +8,7 @@ use Rattle.af_lib.specs.declared.fault.ConnFault.TheVariants as fault
 use Rattle.af_lib.specs.Calls.{ConnState}
 use Rattle.af_tools.specs.declared.end.ToolEnd.{ToolEnd}
 use Rattle.af_tools.specs.declared.end.ToolEnd.TheVariants as end
-use Rattle.af_tools.specs.Course.{Course, Finish, Wire, done, end_of, no_device, refused}
+use Rattle.af_tools.specs.Course.{Course, Finish, Wire, end_of, fault_end, refused}
 use Rattle.af_tools.specs.Play.{most_bytes}
 
 -- the ends that come from outside: no list of bytes decides that they come
@@ -87,6 +87,12 @@ is_of_blocks end.ReadFault = true
 is_of_blocks end.TooLong = true
 is_of_blocks how = is_of_link how
 
+-- the ends of writing
+abbrev pub is_of_report : ToolEnd → Bool
+is_of_report end.Done = true
+is_of_report end.SinkFault = true
+is_of_report _ = false
+
 -- a tool may also end in another way than by its link
 abbrev pub is_of_play : ToolEnd → Bool
 is_of_play end.Done = true
@@ -101,6 +107,16 @@ is_of_record end.Done = true
 is_of_record (end.NoDevice devices) = true
 is_of_record end.SinkFault = true
 is_of_record how = is_of_link how
+
+-- Where a request is answered with a fault, the tool ends with it, unless something from outside has ended it; and it ends so
+-- only there.
+pub record EndsByReply (course : Course) (how : ToolEnd) : Type 0 where
+  pub only : (fault : ConnFault) → is_of_reply (fault_end fault) ≡ true → how ≡ fault_end fault → course.finish ≡ refused fault
+  pub always : (fault : ConnFault) → course.finish ≡ refused fault → (how ≡ fault_end fault) ⊎ (is_outer how ≡ true)
+
+-- each request gets the reply that it awaits
+abbrev pub IsAnswered : Course → Type 0
+IsAnswered course = (fault : ConnFault) → course.finish ≢ refused fault
 
 -- A part of a tool is a course with what follows it left open.
 abbrev pub Part : Type 0 → Type 0

@@ -5,11 +5,11 @@ use Rattle.std.specs.declared.option.Option.TheVariants.{None, Some}
 use Rattle.af_time.specs.DeviceTime.{frames_lasting}
 use Rattle.af_sample.specs.SampleTypes.{code_of, width_of}
 use Rattle.af_request.specs.declared.reply.DeviceInfo.{DeviceInfo}
-use Rattle.af_request.specs.Asked.{Asked, create_ac, free_ac, get_time, play_run}
+use Rattle.af_request.specs.Asked.{Asked, create_ac, free_ac, play_run}
 use Rattle.af_request.specs.Fields.{flag_byte}
 use Rattle.af_lib.specs.Calls.{as_done, as_time}
 use Rattle.af_tools.specs.declared.job.PlayJob.{PlayJob}
-use Rattle.af_tools.specs.Course.{Course, Wire, asks, done, ends, too_long, with_device, writing}
+use Rattle.af_tools.specs.Course.{Course, Wire, asks, begins, done, ends, too_long, with_device, writing}
 
 -- how many bytes a source may give
 abbrev pub most_bytes : ℕ
@@ -54,20 +54,21 @@ played sent start = codes "played " ++ decimal sent ++ codes " at " ++ decimal s
 abbrev pub play_context : PlayJob → DeviceInfo → Asked
 play_context job device = create_ac job.device 1 (code_of (unwrap_or job.ty device.ty)) 1 (flag_byte job.preempt) job.gain (pos 0)
 
--- aplay on a device: a context is made and the device's time asked, the blocks are played, and the context is freed; then it
--- writes how many frames it played from when on
-abbrev pub aplay_on : PlayJob → DeviceInfo → List ℕ → Wire → Course
-aplay_on job device bytes w =
+-- a context is made and the device's time asked, the blocks are played, and the context is freed; what follows is told how
+-- many frames these were, and from when on
+unfoldable pub played_on : PlayJob → DeviceInfo → List ℕ → Wire → (ℕ → ℕ → Wire → Course) → Course
+played_on job device bytes w next =
     let width = width_of (unwrap_or job.ty device.ty) in
-    asks (play_context job device) as_done w (λ _ w.
-    asks (get_time job.device) as_time w (λ now w.
+    begins (play_context job device) job.device w (λ now w.
     let start = start_at job.time now.0 (frames_lasting device.rate job.lead) in
-    plays width start 0 0 (blocks (job.block * width) bytes) w (λ sent w.
-    asks (free_ac 1) as_done w (λ _ w. writing (played sent start) (ends done)))))
+    plays width start 0 0 (blocks (job.block * width) bytes) w (λ frames w.
+    asks (free_ac 1) as_done w (λ _ w. next frames start w)))
 
--- the course of aplay, by the devices of the server, the bytes of the source, and what the link gives
+-- the course of aplay, by the devices of the server, the bytes of the source, and what the link gives: it plays all, and then
+-- writes how much from when on
 unfoldable pub aplay_course : PlayJob → List DeviceInfo → List ℕ → Wire → Course
-aplay_course job devices bytes w = with_device job.device devices (λ device. aplay_on job device bytes w)
+aplay_course job devices bytes w = with_device job.device devices (λ device.
+    played_on job device bytes w (λ frames start _. writing (played frames start) (ends done)))
 
 -- what aplay sends, what it writes, and how it ends
 abbrev pub aplay_sends : PlayJob → List DeviceInfo → List ℕ → Wire → List ℕ

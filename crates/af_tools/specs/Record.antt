@@ -6,10 +6,10 @@ use Rattle.af_sample.specs.declared.sample_type.SampleType.{SampleType}
 use Rattle.af_sample.specs.SampleTypes.{code_of, width_of}
 use Rattle.af_sample.specs.Samples.{samples}
 use Rattle.af_request.specs.declared.reply.DeviceInfo.{DeviceInfo}
-use Rattle.af_request.specs.Asked.{Asked, create_ac, free_ac, get_time, record_run}
+use Rattle.af_request.specs.Asked.{Asked, create_ac, free_ac, record_run}
 use Rattle.af_lib.specs.Calls.{as_done, as_recorded, as_time}
 use Rattle.af_tools.specs.declared.job.RecordJob.{RecordJob}
-use Rattle.af_tools.specs.Course.{Course, Wire, asks, done, ends, with_device, writing}
+use Rattle.af_tools.specs.Course.{Course, Wire, asks, begins, done, ends, with_device, writing}
 
 -- how many frames each block has: so many, and the last what is left of all
 unfoldable pub block_lengths : ℕ → ℕ → List ℕ
@@ -45,19 +45,17 @@ records job ty at peaks (n ∷ more) w next =
 abbrev pub record_context : RecordJob → DeviceInfo → Asked
 record_context job device = create_ac job.device 1 (code_of (unwrap_or job.ty device.ty)) 1 0 (pos 0) job.gain
 
--- arecord on a device: a context is made and the device's time asked, the blocks are recorded from the stated start or else
--- from that time on, and the context is freed
-abbrev pub arecord_on : RecordJob → DeviceInfo → Wire → Course
-arecord_on job device w =
-    let ty = unwrap_or job.ty device.ty in
-    asks (record_context job device) as_done w (λ _ w.
-    asks (get_time job.device) as_time w (λ now w.
-    records job ty (unwrap_or job.time now.0) [] (block_lengths job.block job.frames) w (λ w.
-    asks (free_ac 1) as_done w (λ _ w. ends done))))
+-- a context is made and the device's time asked, the blocks are recorded from the stated start or else from that time on, and
+-- the context is freed
+unfoldable pub recorded_on : RecordJob → DeviceInfo → Wire → (Wire → Course) → Course
+recorded_on job device w next =
+    begins (record_context job device) job.device w (λ now w.
+    records job (unwrap_or job.ty device.ty) (unwrap_or job.time now.0) [] (block_lengths job.block job.frames) w (λ w.
+    asks (free_ac 1) as_done w (λ _ w. next w)))
 
 -- the course of arecord, by the devices of the server and what the link gives
 unfoldable pub arecord_course : RecordJob → List DeviceInfo → Wire → Course
-arecord_course job devices w = with_device job.device devices (λ device. arecord_on job device w)
+arecord_course job devices w = with_device job.device devices (λ device. recorded_on job device w (λ _. ends done))
 
 -- what arecord sends, and what it writes
 abbrev pub arecord_sends : RecordJob → List DeviceInfo → Wire → List ℕ

@@ -44,8 +44,8 @@ impl From<ConnFault> for ToolEnd {
     /// The end of a tool at a fault of its connection. A tool sends nothing more on a connection that is spent.
     fn from(fault: ConnFault) -> ToolEnd {
         match fault {
-            ConnFault::LinkFault => ToolEnd::LinkFault,
-            ConnFault::LinkEnded | ConnFault::Spent { .. } => ToolEnd::LinkEnded,
+            ConnFault::LinkFault | ConnFault::Spent { .. } => ToolEnd::LinkFault,
+            ConnFault::LinkEnded => ToolEnd::LinkEnded,
             ConnFault::ServerError { code, value } => ToolEnd::Refused { code, value },
             ConnFault::BadReply { header, first } => ToolEnd::BadReply { header, first },
             ConnFault::OutOfMemory => ToolEnd::OutOfMemory,

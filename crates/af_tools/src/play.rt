@@ -1,4 +1,4 @@
-// aplay: what a source gives is played, block by block.
+// What a source gives is played, block by block.
 ghost use Rattle.std.specs.Prelude.{◌≡◌, ◌≢◌, ◌<◌, ◌≤◌, ◌*◌, ◌+◌, ◌%◌, ◌^◌, ℕ, List, true, length, pos, unwrap_or, IfErr, IfOk, IsErrOf, IsSome};
 ghost use Rattle.std.specs.declared.option.Option.{Option};
 ghost use Rattle.std.specs.declared.option.Option.TheVariants.{None, Some};
@@ -10,12 +10,11 @@ ghost use Rattle.af_tools.specs.Play.{blocks, played, plays, start_at};
 ghost use Rattle.af_tools.specs.Ends.{is_of_blocks, wire_of, GaveTooMuch, GaveWithin, Goes, Holds};
 
 use crate::end::ToolEnd;
-use crate::fill::{FillFault, fill_block};
+use crate::fill::fill_block;
 use crate::talk::CONTEXT;
 use af_lib::Conn;
-use af_outside::{Link, Put, Sink, Source};
+use af_outside::{Link, Source};
 use af_time::DevTime;
-use itoa::Buffer;
 
 // How many bytes a source may give.
 const MOST_BYTES: u64 = 1 << 40;
@@ -59,8 +58,8 @@ pub fn play_blocks<L: Link + Drop, S: Source>(
     }
 }
 
-// The time of a frame behind so many from a start on.
-fn time_behind(start: DevTime, frames: u64) -> DevTime
+/// The time of a frame behind so many from a start on.
+pub fn time_behind(start: DevTime, frames: u64) -> DevTime
     ensures { result.0 ≡ (start.0 + frames) % 2 ^ 32 }
 {
     start.after((frames % (1 << 32)) as u32)

@@ -2,11 +2,10 @@
 ghost use Rattle.std.specs.Prelude.{◌≡◌, ℕ, List, true, IfErr, Ok, Err};
 ghost use Rattle.std.specs.declared.option.Option.{Option};
 ghost use Rattle.std.specs.declared.option.Option.TheVariants.{None, Some};
-ghost use Rattle.af_sample.specs.SampleTypes.{code_of};
-ghost use Rattle.af_request.specs.Fields.{flag_byte};
-ghost use Rattle.af_request.specs.Asked.{create_ac, free_ac, get_time};
-ghost use Rattle.af_lib.specs.Calls.{as_done, as_time};
-ghost use Rattle.af_tools.specs.Course.{asks};
+ghost use Rattle.af_request.specs.Asked.{free_ac};
+ghost use Rattle.af_lib.specs.Calls.{as_done};
+ghost use Rattle.af_tools.specs.Course.{asks, begins};
+ghost use Rattle.af_tools.specs.Talk.{creates};
 ghost use Rattle.af_tools.specs.Ends.{is_of_link, wire_of, Goes, Holds};
 
 use crate::end::ToolEnd;
@@ -32,8 +31,7 @@ pub struct Context {
 pub fn begin<L: Link + Drop>(conn: &mut Conn<L>, context: Context) -> Result<DevTime, ToolEnd>
     requires { conn.old.cause ≡ None }
     ensures goes { (input : List ℕ) (held : Option (List ℕ)) → L.left conn.old.link ≡ Some input →
-        Goes (λ next. asks (create_ac context.device 1 (code_of context.ty) 1 (flag_byte context.preempt) context.play context.record_by) as_done (wire_of conn.old input)
-        (λ _ w. asks (get_time context.device) as_time w next)) result (L.left conn.new.link) (wire_of conn.new) (L.sent conn.old.link) (L.sent conn.new.link) held held }
+        Goes (begins (creates context) context.device (wire_of conn.old input)) result (L.left conn.new.link) (wire_of conn.new) (L.sent conn.old.link) (L.sent conn.new.link) held held }
     ensures holds { Holds L.left L.faults conn.old conn.new result }
     ensures end { IfErr result (λ how. is_of_link how ≡ true) }
 {

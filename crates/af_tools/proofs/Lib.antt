@@ -4,3 +4,4 @@ pub mod Reaching
 pub mod Playing
 pub mod PlaySteps
 pub mod PlayTail
+pub mod Recording

@@ -87,6 +87,11 @@ is_of_blocks end.ReadFault = true
 is_of_blocks end.TooLong = true
 is_of_blocks how = is_of_link how
 
+-- the ends of a part that also writes
+abbrev pub is_of_records : ToolEnd → Bool
+is_of_records end.SinkFault = true
+is_of_records how = is_of_link how
+
 -- the ends of writing
 abbrev pub is_of_report : ToolEnd → Bool
 is_of_report end.Done = true
@@ -139,6 +144,11 @@ pub record Goes {X : Type 0} (part : Part X) (result : Result X ToolEnd) (left :
   pub came : Came part result left wire sends output
   pub link : Grew sent sends sent'
   pub sink : Grew held output held'
+
+-- a part whose value stands in a buffer
+abbrev pub value_in : Result (Unit {0}) ToolEnd → List ℕ → Result (List ℕ) ToolEnd
+value_in (Ok done) bytes = Ok bytes
+value_in (Err how) bytes = Err how
 
 -- What a part does to its connection, whatever the link tells.
 pub record Holds {L X : Type 0} (left : L → Option (List ℕ)) (faults : L → ℕ) (old new : ConnState L) (result : Result X ToolEnd) : Type 0 where

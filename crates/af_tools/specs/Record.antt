@@ -1,5 +1,5 @@
 -- What arecord does: it records block behind block, and writes each.
-use Rattle.std.specs.Prelude.{ℕ, ℤ, zero, suc, ◌+◌, ◌*◌, ◌/◌, ◌%◌, ◌^◌, ◌==◌, max, nat_le, nat_lt, nat_abs, if◌then◌else◌, pos, Bool, true, List, [], ◌∷◌, ◌++◌, map, replicate, unwrap_or}
+use Rattle.std.specs.Prelude.{ℕ, ℤ, zero, suc, ◌+◌, ◌*◌, ◌/◌, ◌%◌, ◌^◌, ◌==◌, max, nat_le, nat_lt, unsigned_abs, if◌then◌else◌, pos, Bool, true, List, [], ◌∷◌, ◌++◌, map, replicate, unwrap_or}
 use Rattle.std.specs.declared.option.Option.{Option}
 use Rattle.std.specs.declared.option.Option.TheVariants.{None, Some}
 use Rattle.af_sample.specs.declared.sample_type.SampleType.{SampleType}
@@ -22,7 +22,7 @@ greatest (x ∷ xs) = max x (greatest xs)
 
 -- the peak of a block: the greatest absolute value of its samples
 unfoldable pub peak : SampleType → List ℕ → ℕ
-peak ty bytes = greatest (map nat_abs (samples ty bytes))
+peak ty bytes = greatest (map unsigned_abs (samples ty bytes))
 
 -- how many of these peaks, the latest first, are below a limit before one is not
 abbrev pub row_below : ℕ → List ℕ → ℕ
@@ -33,13 +33,16 @@ row_below limit (p ∷ peaks) = if nat_lt p limit then suc (row_below limit peak
 abbrev pub ends_row : RecordJob → List ℕ → Bool
 ends_row job peaks = nat_le job.stop_blocks (row_below job.stop_peak peaks)
 
+-- a block of so many bytes is recorded and written, and what follows goes by it
+abbrev pub takes_block : (at size : ℕ) → Wire → (List ℕ → Wire → Course) → Course
+takes_block at size w next = asks (record_run true 1 at size) (as_recorded true size) w (λ r v. writing r.samples (next r.samples v))
+
 -- Blocks of these lengths are recorded, one behind the other, and written. Behind a row of quiet ones none is asked any more.
 unfoldable pub records : RecordJob → SampleType → (at : ℕ) (peaks : List ℕ) → List ℕ → Wire → (Wire → Course) → Course
 records job ty at peaks [] w next = next w
-records job ty at peaks (n ∷ more) w next =
-    asks (record_run true 1 at (n * width_of ty)) (as_recorded true (n * width_of ty)) w (λ r v. writing r.samples
-    (let heard = peak ty r.samples ∷ peaks in
-    if ends_row job heard then next v else records job ty ((at + n) % 2 ^ 32) heard more v next))
+records job ty at peaks (n ∷ more) w next = takes_block at (n * width_of ty) w (λ samples v.
+    if ends_row job (peak ty samples ∷ peaks) then next v
+    else records job ty ((at + n) % 2 ^ 32) (peak ty samples ∷ peaks) more v next)
 
 -- the context of a job on a device
 abbrev pub record_context : RecordJob → DeviceInfo → Asked

@@ -7,6 +7,7 @@ mod end;
 mod fill;
 mod job;
 mod play;
+mod record;
 mod report;
 mod talk;
 

@@ -5,3 +5,6 @@ pub mod Playing
 pub mod PlaySteps
 pub mod PlayTail
 pub mod Recording
+pub mod Endings
+pub mod Tops
+pub mod RecordTail

@@ -7,7 +7,7 @@ use Rattle.af_request.specs.Asked.{Asked, free_ac}
 use Rattle.af_time.specs.declared.DevTime.{DevTime}
 use Rattle.af_lib.specs.Calls.{as_done}
 use Rattle.af_tools.specs.declared.end.ToolEnd.{ToolEnd}
-use Rattle.af_tools.specs.declared.aplay.Played.{Played}
+use Rattle.af_tools.specs.declared.player.Played.{Played}
 use Rattle.af_tools.specs.Course.{Course, Wire, asks, begins}
 use Rattle.af_tools.specs.Play.{blocks, plays}
 use Rattle.af_tools.specs.Ends.{Goes, Part}

@@ -1,15 +1,18 @@
 //! The tools: what they send, read and write, by their words.
 #![tactic(auto)]
 
-mod aplay;
 mod device;
 mod end;
 mod fill;
 mod job;
 mod play;
+mod player;
 mod record;
+mod recorder;
 mod report;
 mod talk;
 
 pub use end::ToolEnd;
 pub use job::{PlayJob, RecordJob};
+pub use player::aplay;
+pub use recorder::arecord;

@@ -30,8 +30,8 @@ goes_unwritten samples w left wire s held held' part = record {
   sends = [];
   output = part.front;
   came = λ next.
-  let c = next samples w in
-  ended_early (writing samples c) end.SinkFault [] part.front c.sends (part.rest ++ c.output) refl refl (ap (λ (l : List ℕ). l ++ c.output) part.whole ∙ append_assoc part.front part.rest c.output);
+      let c = next samples w in
+      ended_early (writing samples c) end.SinkFault [] part.front c.sends (part.rest ++ c.output) refl refl (ap (λ (l : List ℕ). l ++ c.output) part.whole ∙ append_assoc part.front part.rest c.output);
   link = grew_none s;
   sink = part.grew;
 }

@@ -85,3 +85,49 @@ fn play_on<L: Link + Drop, S: Source>(
     finish(conn)?;
     Ok(Played { frames, start })
 }
+
+/// Plays what a source gives on a device, in blocks, and then writes how many frames were played and from when on. The
+/// connection is one that was just made; room for 16000 bytes is handed in.
+pub fn aplay<L: Link + Drop, S: Source, K: Sink>(
+    job: &PlayJob,
+    conn: &mut Conn<L>,
+    source: &mut S,
+    sink: &mut K,
+    room: &mut [u8],
+) -> ToolEnd
+    requires usable { conn.old.cause ≡ None }
+    requires block { (1 ≤ job.now.block) × (job.now.block ≤ 4000) }
+    requires room { 16000 ≤ length room.old }
+
+    // what the link was sent and the sink gained are those of the course, or prefixes of them where something failed
+    ensures followed { (input bytes : List ℕ) → L.left conn.old.link ≡ Some input → S.left source.old ≡ Some bytes → IsSome (S.left source.new) →
+        Followed (aplay_course job.now conn.old.devices bytes (wire_of conn.old input)) result (L.sent conn.old.link) (L.sent conn.new.link) (K.held sink.old) (K.held sink.new) }
+    ensures done { result ≡ ToolEnd.Done → IsSpent (S.left source.new) }
+
+    // each end has its cause
+    ensures end { is_of_play result ≡ true }
+    ensures no_device { (n : ℕ) → (result ≡ ToolEnd.NoDevice n) ↔ ((n ≡ length conn.old.devices) × (length conn.old.devices ≤ job.now.device)) }
+    ensures long { result ≡ ToolEnd.TooLong → GaveTooMuch (S.left source.old) (S.left source.new) }
+    ensures within { result ≢ ToolEnd.TooLong → GaveWithin (S.left source.old) (S.left source.new) }
+    ensures reply { (input bytes : List ℕ) → L.left conn.old.link ≡ Some input → S.left source.old ≡ Some bytes → IsSome (S.left source.new) → EndsByReply (aplay_course job.now conn.old.devices bytes (wire_of conn.old input)) result }
+    ensures link { result ≡ ToolEnd.LinkFault → Rose (L.faults conn.old.link) (L.faults conn.new.link) }
+    ensures read { result ≡ ToolEnd.ReadFault → Rose (S.faults source.old) (S.faults source.new) }
+    ensures sink { result ≡ ToolEnd.SinkFault → Rose (K.faults sink.old) (K.faults sink.new) }
+
+    // with the device there, not too many bytes, and an awaited reply for each request it is done, unless something fails
+    ensures complete { (input bytes : List ℕ) → L.left conn.old.link ≡ Some input → S.left source.old ≡ Some bytes → IsSome (S.left source.new) → job.now.device < length conn.old.devices → length bytes ≤ most_bytes
+        → IsAnswered (aplay_course job.now conn.old.devices bytes (wire_of conn.old input)) → ¬ (Rose (L.faults conn.old.link) (L.faults conn.new.link)) → ¬ (Rose (S.faults source.old) (S.faults source.new)) → ¬ (Rose (K.faults sink.old) (K.faults sink.new))
+        → result ≡ ToolEnd.Done }
+    ensures link_count { L.faults conn.old.link ≤ L.faults conn.new.link }
+    ensures source_count { S.faults source.old ≤ S.faults source.new }
+    ensures sink_count { K.faults sink.old ≤ K.faults sink.new }
+{
+    let device = match device_with(conn, job.device) {
+        Ok(device) => device,
+        Err(end) => return end,
+    };
+    match play_on(job, device, conn, source, room) {
+        Ok(played) => report(sink, played.frames, played.start),
+        Err(end) => end,
+    }
+}

@@ -8,3 +8,4 @@ pub mod Recording
 pub mod Endings
 pub mod Tops
 pub mod RecordTail
+pub mod Parsed

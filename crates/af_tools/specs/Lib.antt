@@ -5,3 +5,5 @@ pub mod Ends
 pub mod Fill
 pub mod Device
 pub mod Talk
+pub mod Numbers
+pub mod Words

@@ -1,16 +1,19 @@
 //! The tools: what they send, read and write, by their words.
 #![tactic(auto)]
 
+mod command;
 mod device;
 mod end;
 mod fill;
 mod job;
+mod number;
 mod play;
 mod player;
 mod record;
 mod recorder;
 mod report;
 mod talk;
+mod words;
 
 pub use end::ToolEnd;
 pub use job::{PlayJob, RecordJob};

@@ -11,11 +11,12 @@ use Rattle.af_request.specs.Requests.{request_bytes}
 use Rattle.af_lib.specs.declared.fault.ConnFault.{ConnFault}
 use Rattle.af_lib.specs.declared.fault.ConnFault.TheVariants as fault
 use Rattle.af_lib.specs.Ring.{RingState}
-use Rattle.af_lib.specs.Calls.{Called, ConnState, Sends, following}
+use Rattle.af_lib.specs.Calls.{answered, as_devices, Called, ConnState, IsSetUp, Sends, following, setup_bytes}
+use Rattle.af_request.specs.declared.reply.DeviceInfo.{DeviceInfo}
 use Rattle.af_lib.specs.Told.{BothTold}
 use Rattle.af_tools.specs.declared.end.ToolEnd.{ToolEnd}
 use Rattle.af_tools.specs.declared.end.ToolEnd.TheVariants as end
-use Rattle.af_tools.specs.Course.{Course, Wire, answer_on, answered_by, asks, behind, end_of, ends, fault_end, next_message, refused, sending}
+use Rattle.af_tools.specs.Course.{Course, Wire, answer_on, answered_by, asks, behind, connects, end_of, ends, fault_end, next_message, refused, sending, set_up, unused}
 use Rattle.af_tools.specs.Ends.{Came, Ended, Followed, Goes, Part, Passed, is_outer, wire_of}
 use Rattle.af_tools.proofs.Growing.{grew_none, grew_on, told_both}
 
@@ -97,6 +98,10 @@ goes_on first second x r left left' wire wire' s s' s'' h h' h'' g rest =
       sink = grew_on h h' h'' g.output more.output g.sink more.sink;
     }
 
+-- a tool that something from outside ended before it did anything
+pub followed_early : (course : Course) (how : ToolEnd) (s h : Option (List ℕ)) → is_outer how ≡ true → Followed course how s s h h
+followed_early course how s h outer = record { sends = []; output = []; ended = ended_early course how [] [] course.sends course.output outer refl refl; link = grew_none s; sink = grew_none h }
+
 -- a part within which the tool ended, whatever was to follow
 pub followed_stop : {X : Type 0} (part : Part X) (next : X → Wire → Course) (how : ToolEnd) (left : Option (List ℕ)) (wire : List ℕ → Wire) (s s' h h' : Option (List ℕ)) →
     Goes {X = X} part (Err how) left wire s s' h h' → Followed (part next) how s s' h h'
@@ -123,85 +128,95 @@ wire_behind old new input a sequence ring rest =
     ap₂ (λ (s : ℕ) (r : RingState). (let w : Wire = record { sequence = s; ring = r; input = a } in w)) sequence ring
     ∙ ap (λ (i : List ℕ). (let w : Wire = record { sequence = following old.sequence; ring = (next_message (wire_of old input)).ring; input = i } in w)) rest
 
-module _ {L X : Type 0} (left sent : L → Option (List ℕ)) (faults : L → ℕ) (asked : Asked) (value_of : Answer → Option X) (old new : ConnState L) (input : List ℕ) (held : Option (List ℕ)) where
+-- a message is sent, and what follows goes by its answer
+module _ {X : Type 0} (part : Part X) (bytes : List ℕ) (answer : Result X ConnFault) (after : Wire) (is : (next : X → Wire → Course) → part next ≡ sending bytes (answered_by answer after next))
+    (left' : Option (List ℕ)) (wire : List ℕ → Wire) (sent sent' held : Option (List ℕ)) where
   -- a fault of the link ends the tool early
-  asked_failed : Sends {X = X} (Err fault.LinkFault) (sent old.link) (request_bytes asked) (sent new.link) →
-      Goes {X = X} (asks asked value_of (wire_of old input)) (Err end.LinkFault) (left new.link) (wire_of new) (sent old.link) (sent new.link) held held
-  unfolding asks
-  asked_failed sends =
-      let part : GrewByPrefix (sent old.link) (request_bytes asked) (sent new.link) = sends.part in
-      let w = wire_of old input in
-      record {
-        sends = part.front;
-        output = [];
-        came = λ next.
-            let more = answered_by (answer_on asked value_of w) (behind w) next in
-            ended_early (asks asked value_of w next) end.LinkFault part.front [] (part.rest ++ more.sends) more.output refl
-            (ap (λ l. l ++ more.sends) part.whole ∙ append_assoc part.front part.rest more.sends) refl;
-        link = part.grew;
-        sink = grew_none held;
-      }
+  exchange_failed : GrewByPrefix sent bytes sent' → Goes {X = X} part (Err end.LinkFault) left' wire sent sent' held held
+  exchange_failed front = record {
+    sends = front.front;
+    output = [];
+    came = λ next.
+        let more = answered_by answer after next in
+        let whole : (part next).sends ≡ bytes ++ more.sends = ap (λ (c : Course). c.sends) (is next) in
+        let text : (part next).output ≡ more.output = ap (λ (c : Course). c.output) (is next) in
+        ended_early (part next) end.LinkFault front.front [] (front.rest ++ more.sends) more.output refl
+        (whole ∙ ap (λ l. l ++ more.sends) front.whole ∙ append_assoc front.front front.rest more.sends) text;
+    link = front.grew;
+    sink = grew_none held;
+  }
 
   -- another fault is that of the answer
-  asked_refused : (f : ConnFault) → Sends {X = X} (Err f) (sent old.link) (request_bytes asked) (sent new.link) → (let r : Result X ConnFault = Err f in r ≢ Err fault.LinkFault) →
-      (let r : Result X ConnFault = Err f in r ≡ answer_on asked value_of (wire_of old input)) →
-      Goes {X = X} (asks asked value_of (wire_of old input)) (Err (fault_end f)) (left new.link) (wire_of new) (sent old.link) (sent new.link) held held
-  unfolding asks
-  asked_refused f sends sound is =
-      let w = wire_of old input in
-      record {
-        sends = request_bytes asked;
-        output = [];
-        came = λ next.
-            let same : asks asked value_of w next ≡ sending (request_bytes asked) (ends (refused f)) = ap (λ (r : Result X ConnFault). sending (request_bytes asked) (answered_by r (behind w) next)) (sym is) in
-            ended_at_once _ (fault_end f) (request_bytes asked) [] (ap (λ (c : Course). c.sends) same ∙ append-nil (request_bytes asked)) (ap (λ (c : Course). c.output) same) (ap (λ (c : Course). end_of c.finish) (sym same));
-        link = sends.whole sound;
-        sink = grew_none held;
-      }
+  exchange_refused : (f : ConnFault) → Grew sent bytes sent' → (let r : Result X ConnFault = Err f in r ≡ answer) → Goes {X = X} part (Err (fault_end f)) left' wire sent sent' held held
+  exchange_refused f grew same = record {
+    sends = bytes;
+    output = [];
+    came = λ next.
+        let all : part next ≡ sending bytes (ends (refused f)) = is next ∙ ap (λ (r : Result X ConnFault). sending bytes (answered_by r after next)) (sym same) in
+        ended_at_once _ (fault_end f) bytes [] (ap (λ (c : Course). c.sends) all ∙ append-nil bytes) (ap (λ (c : Course). c.output) all) (ap (λ (c : Course). end_of c.finish) (sym all));
+    link = grew;
+    sink = grew_none held;
+  }
 
-  asked_answered : (x : X) → Sends {X = X} (Ok x) (sent old.link) (request_bytes asked) (sent new.link) →
-      (let r : Result X ConnFault = Ok x in r ≡ answer_on asked value_of (wire_of old input)) → (a : List ℕ) → left new.link ≡ Some a → wire_of new a ≡ behind (wire_of old input) →
-      Goes {X = X} (asks asked value_of (wire_of old input)) (Ok x) (left new.link) (wire_of new) (sent old.link) (sent new.link) held held
-  unfolding asks
-  asked_answered x sends is a told place =
-      let w = wire_of old input in
-      record {
-        sends = request_bytes asked;
-        output = [];
-        came = (
-          a,
-          told,
-          λ next.
-              ap (λ (r : Result X ConnFault). sending (request_bytes asked) (answered_by r (behind w) next)) (sym is)
-              ∙ ap (λ (v : Wire). sending (request_bytes asked) (next x v)) (sym place),
-        );
-        link = sends.whole (λ e. cc e);
-        sink = grew_none held;
-      }
+  exchange_answered : (x : X) → Grew sent bytes sent' → (let r : Result X ConnFault = Ok x in r ≡ answer) → (a : List ℕ) → left' ≡ Some a → wire a ≡ after → Goes part (Ok x) left' wire sent sent' held held
+  exchange_answered x grew same a told place = record {
+    sends = bytes;
+    output = [];
+    came = (
+      a,
+      told,
+      λ next.
+          is next ∙ ap (λ (r : Result X ConnFault). sending bytes (answered_by r after next)) (sym same) ∙ ap (λ (v : Wire). sending bytes (next x v)) (sym place),
+    );
+    link = grew;
+    sink = grew_none held;
+  }
 
   -- what is known of an answer, where the link did not fail
-  known : (result : Result X ConnFault) → Called left sent faults asked value_of old new result → old.cause ≡ None → left old.link ≡ Some input → result ≢ Err fault.LinkFault →
-      (a : List ℕ) × (left new.link ≡ Some a) × (result ≡ answer_on asked value_of (wire_of old input)) × (wire_of new a ≡ behind (wire_of old input))
-  known result called usable told sound =
-      let both = told_both (left old.link) (left new.link) input _ told called.tells (called.answers usable sound) in
-      let facts = both.2 in
-      let kept = called.keeps usable in
-      (both.0, both.1, facts.0, wire_behind old new input both.0 (ap (λ (c : ConnState L). c.sequence) kept) facts.1 facts.2)
+  abbrev pub IsKnown : Result X ConnFault → Type 0
+  IsKnown result = result ≢ Err fault.LinkFault → (a : List ℕ) × (left' ≡ Some a) × (result ≡ answer) × (wire a ≡ after)
 
-  refused_by : (f : ConnFault) → Called left sent faults asked value_of old new (Err f) → old.cause ≡ None → left old.link ≡ Some input → (let r : Result X ConnFault = Err f in r ≢ Err fault.LinkFault) →
-      Goes {X = X} (asks asked value_of (wire_of old input)) (Err (fault_end f)) (left new.link) (wire_of new) (sent old.link) (sent new.link) held held
-  refused_by f called usable told sound = let k = known (Err f) called usable told sound in asked_refused f (called.sends usable) sound k.2
+  refused_by : (f : ConnFault) → Sends {X = X} (Err f) sent bytes sent' → IsKnown (Err f) → (let r : Result X ConnFault = Err f in r ≢ Err fault.LinkFault) → Goes {X = X} part (Err (fault_end f)) left' wire sent sent' held held
+  refused_by f sends known sound = exchange_refused f (sends.whole sound) (known sound).2
 
-  -- a request and its answer are a part of a tool
-  pub asked_goes : (result : Result X ConnFault) → Called left sent faults asked value_of old new result → old.cause ≡ None → left old.link ≡ Some input →
-      Goes {X = X} (asks asked value_of (wire_of old input)) (ended result) (left new.link) (wire_of new) (sent old.link) (sent new.link) held held
-  asked_goes (Ok x) called usable told =
-      let k = known (Ok x) called usable told (λ e. cc e) in
-      asked_answered x (called.sends usable) k.2 k.0 k.1 k.3
-  asked_goes (Err fault.LinkFault) called usable told = asked_failed (called.sends usable)
-  asked_goes (Err fault.LinkEnded) called usable told = refused_by fault.LinkEnded called usable told (λ e. cc e)
-  asked_goes (Err (fault.ServerError code value)) called usable told = refused_by (fault.ServerError code value) called usable told (λ e. cc e)
-  asked_goes (Err (fault.BadReply header first)) called usable told = refused_by (fault.BadReply header first) called usable told (λ e. cc e)
-  asked_goes (Err fault.OutOfMemory) called usable told = refused_by fault.OutOfMemory called usable told (λ e. cc e)
-  asked_goes (Err fault.EventFlood) called usable told = refused_by fault.EventFlood called usable told (λ e. cc e)
-  asked_goes (Err (fault.Spent first)) called usable told = refused_by (fault.Spent first) called usable told (λ e. cc e)
+  pub exchange_goes : (result : Result X ConnFault) → Sends result sent bytes sent' → IsKnown result → Goes {X = X} part (ended result) left' wire sent sent' held held
+  exchange_goes (Ok x) sends known = let k = known (λ e. cc e) in exchange_answered x (sends.whole (λ e. cc e)) k.2 k.0 k.1 k.3
+  exchange_goes (Err fault.LinkFault) sends known = exchange_failed sends.part
+  exchange_goes (Err fault.LinkEnded) sends known = refused_by fault.LinkEnded sends known (λ e. cc e)
+  exchange_goes (Err (fault.ServerError code value)) sends known = refused_by (fault.ServerError code value) sends known (λ e. cc e)
+  exchange_goes (Err (fault.BadReply header first)) sends known = refused_by (fault.BadReply header first) sends known (λ e. cc e)
+  exchange_goes (Err fault.OutOfMemory) sends known = refused_by fault.OutOfMemory sends known (λ e. cc e)
+  exchange_goes (Err fault.EventFlood) sends known = refused_by fault.EventFlood sends known (λ e. cc e)
+  exchange_goes (Err (fault.Spent first)) sends known = refused_by (fault.Spent first) sends known (λ e. cc e)
+
+asks_is : {X : Type 0} (asked : Asked) (value_of : Answer → Option X) (w : Wire) (next : X → Wire → Course) → asks asked value_of w next ≡ sending (request_bytes asked) (answered_by (answer_on asked value_of w) (behind w) next)
+unfolding asks
+asks_is asked value_of w next = refl
+
+-- a request and its answer are a part of a tool
+pub asked_goes : {L X : Type 0} (left sent : L → Option (List ℕ)) (faults : L → ℕ) (asked : Asked) (value_of : Answer → Option X) (old new : ConnState L) (input : List ℕ) (held : Option (List ℕ)) (result : Result X ConnFault) →
+    Called left sent faults asked value_of old new result → old.cause ≡ None → left old.link ≡ Some input →
+    Goes {X = X} (asks asked value_of (wire_of old input)) (ended result) (left new.link) (wire_of new) (sent old.link) (sent new.link) held held
+asked_goes left sent faults asked value_of old new input held result called usable told =
+    let w = wire_of old input in
+    exchange_goes (asks asked value_of w) (request_bytes asked) (answer_on asked value_of w) (behind w) (asks_is asked value_of w) (left new.link) (wire_of new) (sent old.link) (sent new.link) held result (called.sends usable)
+    (λ sound.
+    let both = told_both (left old.link) (left new.link) input _ told called.tells (called.answers usable sound) in
+    let facts = both.2 in
+    let kept = called.keeps usable in
+    (both.0, both.1, facts.0, wire_behind old new input both.0 (ap (λ (c : ConnState _). c.sequence) kept) facts.1 facts.2))
+
+connects_is : (input : List ℕ) (next : List DeviceInfo → Wire → Course) → connects input next ≡ sending setup_bytes (answered_by (answered as_devices 0 0 (next_message (unused input)).found) (set_up input) next)
+unfolding connects
+connects_is input next = refl
+
+-- a setup and its answer are a part of a tool
+pub setup_goes : {L : Type 0} (left sent : L → Option (List ℕ)) (faults : L → ℕ) (old new : L) (ring : RingState) (input : List ℕ) (held : Option (List ℕ)) (result : Result (List DeviceInfo) ConnFault) →
+    IsSetUp left sent faults old new ring result → left old ≡ Some input →
+    Goes {X = List DeviceInfo} (connects input) (ended result) (left new) (λ i. record { sequence = 0; ring = ring; input = i }) (sent old) (sent new) held held
+setup_goes left sent faults old new ring input held result is told =
+    exchange_goes (connects input) setup_bytes (answered as_devices 0 0 (next_message (unused input)).found) (set_up input) (connects_is input) (left new) (λ i. record { sequence = 0; ring = ring; input = i }) (sent old) (sent new) held result is.sends
+    (λ sound.
+    let both = told_both (left old) (left new) input _ told is.tells (is.answers sound) in
+    let facts = both.2 in
+    (both.0, both.1, facts.0, ap₂ (λ (r : RingState) (i : List ℕ). (let w : Wire = record { sequence = 0; ring = r; input = i } in w)) facts.1 facts.2))

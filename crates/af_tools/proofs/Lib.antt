@@ -9,3 +9,4 @@ pub mod Endings
 pub mod Tops
 pub mod RecordTail
 pub mod Parsed
+pub mod Naming

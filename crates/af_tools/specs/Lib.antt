@@ -7,3 +7,4 @@ pub mod Device
 pub mod Talk
 pub mod Numbers
 pub mod Words
+pub mod Run

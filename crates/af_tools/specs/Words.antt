@@ -9,6 +9,8 @@ use Rattle.af_tools.specs.declared.command.Kind.TheVariants.{Place, NeededOption
 use Rattle.af_tools.specs.declared.command.Word.{Word}
 use Rattle.af_tools.specs.declared.job.PlayJob.{PlayJob}
 use Rattle.af_tools.specs.declared.job.RecordJob.{RecordJob}
+use Rattle.af_tools.specs.declared.job.Task.{Task}
+use Rattle.af_tools.specs.declared.job.Task.TheVariants as task
 use Rattle.af_tools.specs.declared.words.Basics.{Basics}
 use Rattle.af_tools.specs.Numbers.{gain_in, if_there, number_in, or_else, type_in}
 
@@ -106,16 +108,16 @@ record_job rows =
     (basics_of rows)
 
 -- what a tool is asked to do, and with which server
-pub data Job : Type 0 where
-  plays : (server : Text) (job : PlayJob) → Job
-  records : (server : Text) (job : RecordJob) → Job
+pub record Job : Type 0 where
+  pub server : Text
+  pub task : Task
 
 -- the job of aplay with these words, where each value is in its range
 abbrev pub aplay_job : List Text → Option Job
-aplay_job words = option_and_then (λ server. option_map (plays server) (play_job (matches_of aplay_app words))) (server_at (matches_of aplay_app words))
+aplay_job words = option_and_then (λ server. option_map (λ job. record { server = server; task = task.Play job }) (play_job (matches_of aplay_app words))) (server_at (matches_of aplay_app words))
 
 abbrev pub arecord_job : List Text → Option Job
-arecord_job words = option_and_then (λ server. option_map (records server) (record_job (matches_of arecord_app words))) (server_at (matches_of arecord_app words))
+arecord_job words = option_and_then (λ server. option_map (λ job. record { server = server; task = task.Record job }) (record_job (matches_of arecord_app words))) (server_at (matches_of arecord_app words))
 
 -- The job of some words, the first of which names a tool: that of the matches that clap defines for them, where each value is in
 -- its range.

@@ -38,3 +38,10 @@ pub struct RecordJob {
     /// So many quiet blocks in a row end the recording, 1..1000000.
     pub stop_blocks: u32,
 }
+
+/// What a tool is asked to do.
+#[derive(Clone, Copy, Debug, PartialEq, Eq)]
+pub enum Task {
+    Play(PlayJob),
+    Record(RecordJob),
+}

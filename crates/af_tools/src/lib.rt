@@ -12,6 +12,7 @@ mod player;
 mod record;
 mod recorder;
 mod report;
+mod run;
 mod talk;
 mod words;
 

@@ -1,5 +1,5 @@
 -- Links to servers, which are dialled by address and given back.
-use Rattle.std.specs.Prelude.{◌≡◌, ◌<◌, ⊤, ℕ, List, [], ◌∷◌}
+use Rattle.std.specs.Prelude.{◌≡◌, ◌<◌, ◌≤◌, ⊤, ℕ, List, [], ◌∷◌}
 use Rattle.std.specs.declared.option.Option.{Option}
 use Rattle.std.specs.declared.option.Option.TheVariants.{None, Some}
 use Rattle.af_outside.specs.declared.dial.Dialed.{Dialed}
@@ -37,6 +37,7 @@ GrewBack before (Some sent) after = Grew before (sent ∷ []) after
 pub record CountsHurt (faults before after : ℕ) : Type 0 where
   pub hurt : 0 < faults → Rose before after
   pub unhurt : faults ≡ 0 → after ≡ before
+  pub count : before ≤ after
 
 -- a dial that tells nothing: how many dials have failed, and how many links had failed
 pub record DialCounts : Type 0 where

@@ -60,18 +60,21 @@ inner_reply end.SinkFault is = cc
 inner_reply end.OutOfMemory is = cc
 
 -- an end of a reply is that of the course, and of no other
-pub ends_by_reply : (course : Course) (how : ToolEnd) (s s' h h' : Option (List ℕ)) → Followed course how s s' h h' → EndsByReply course how
-ends_by_reply course how s s' h h' f = record {
+pub reply_of : (course : Course) (how : ToolEnd) (sends output : List ℕ) → Ended course how sends output → EndsByReply course how
+reply_of course how sends output e = record {
   only = λ fault is same.
       let reply : is_of_reply how ≡ true = ap is_of_reply same ∙ is in
-      let way : how ≡ end_of course.finish = (f.ended.whole (inner_reply how reply)).0 in
+      let way : how ≡ end_of course.finish = (e.whole (inner_reply how reply)).0 in
       let mine : is_of_reply (end_of course.finish) ≡ true = ap is_of_reply (sym way) ∙ reply in
       finish_told course.finish mine ∙ ap told_by (sym way ∙ same) ∙ sym (finish_told (refused fault) is);
   always = λ fault is. elim (is_outer how) as (λ b. is_outer how ≡ b → (how ≡ fault_end fault) ⊎ (is_outer how ≡ true)) [
     | true ↦ λ outer. inr outer
-    | false ↦ λ inner. inl ((f.ended.whole inner).0 ∙ ap end_of is)
+    | false ↦ λ inner. inl ((e.whole inner).0 ∙ ap end_of is)
   ] refl;
 }
+
+pub ends_by_reply : (course : Course) (how : ToolEnd) (s s' h h' : Option (List ℕ)) → Followed course how s s' h h' → EndsByReply course how
+ends_by_reply course how s s' h h' f = reply_of course how f.sends f.output f.ended
 
 -- a course whose device is there, and which is not too long, is done where each request gets its reply
 abbrev pub IsDoneOrRefused : Finish → Type 0

@@ -10,3 +10,4 @@ pub mod Tops
 pub mod RecordTail
 pub mod Parsed
 pub mod Naming
+pub mod Running

@@ -16,7 +16,7 @@ use Rattle.af_tools.specs.Course.{Course, Wire, connects, dials, no_device, not_
 use Rattle.af_tools.specs.Play.{aplay_course}
 use Rattle.af_tools.specs.Record.{arecord_course}
 use Rattle.af_tools.specs.Words.{Job}
-use Rattle.af_tools.specs.Ends.{Ended, IsAnswered, is_of_play}
+use Rattle.af_tools.specs.Ends.{Ended, IsAnswered, is_of_play, is_outer}
 
 -- the job of a call
 abbrev pub meaning : Call → Job
@@ -54,6 +54,11 @@ abbrev pub is_of_run : ToolEnd → Bool
 is_of_run end.DialFault = true
 is_of_run how = is_of_far how
 
+-- the ends of the program
+abbrev pub is_of_af : ToolEnd → Bool
+is_of_af end.Usage = true
+is_of_af how = is_of_run how
+
 -- Each link that was dialled was given back: none, and then nothing was sent; or the first, having been sent this besides what
 -- it had been sent before.
 abbrev pub GaveBack : List ToldLink → Option (List ToldLink) → List ℕ → Option (List (List ℕ)) → Option (List (List ℕ)) → Type 0
@@ -69,6 +74,12 @@ pub record Ran (course : Course) (how : ToolEnd) (links : List ToldLink) (links'
   pub ended : Ended course how sends output
   pub sink : Grew held output held'
   pub link : GaveBack links links' sends back back'
+
+-- where the device of a tool is not there, the tool ends with that, unless something from outside has ended it; and it ends so
+-- only there
+pub record EndsByDevice (course : Course) (how : ToolEnd) : Type 0 where
+  pub only : (n : ℕ) → how ≡ end.NoDevice n → course.finish ≡ no_device n
+  pub always : (n : ℕ) → course.finish ≡ no_device n → (how ≡ end.NoDevice n) ⊎ (is_outer how ≡ true)
 
 -- the one address of a job was asked for, unless memory ran out before
 abbrev pub AskedFor : Text → ToolEnd → Option (List Text) → Option (List Text) → Type 0

@@ -20,3 +20,4 @@ pub use end::ToolEnd;
 pub use job::{PlayJob, RecordJob};
 pub use player::aplay;
 pub use recorder::arecord;
+pub use run::af_run;

@@ -9,7 +9,7 @@ ghost use Rattle.af_tools.specs.Course.{connects};
 ghost use Rattle.af_tools.specs.Play.{most_bytes};
 ghost use Rattle.af_tools.specs.Words.{aplay_app, aplay_job, arecord_app, arecord_job, is_spelled, job, Job};
 ghost use Rattle.af_tools.specs.Ends.{is_of_play, wire_of, EndsByReply, Followed, GaveTooMuch, GaveWithin};
-ghost use Rattle.af_tools.specs.Run.{is_of_far, is_of_run, meaning, run_course, task_course, AskedFor, IsCall, IsRanged, IsReadWhole, IsServed, Ran};
+ghost use Rattle.af_tools.specs.Run.{is_of_af, is_of_far, is_of_run, meaning, run_course, task_course, AskedFor, EndsByDevice, IsCall, IsRanged, IsReadWhole, IsServed, Ran};
 
 use crate::command::{aplay_matches, arecord_matches};
 use crate::end::ToolEnd;
@@ -160,5 +160,102 @@ fn perform_over<L: Link + Drop, S: Source, K: Sink>(
             (end, conn.into_link())
         }
         Err((fault, far)) => (ToolEnd::from(fault), far),
+    }
+}
+
+// Room for the greatest block.
+fn room(alloc: Global) -> Result<Vec<u8>, OutOfMemory>
+    ensures { IfOk result (λ room. length room.items ≡ 16000) }
+{
+    let room = vec![in alloc; 0u8; 16000]?;
+    Ok(room)
+}
+
+// Dials the server of a call, and does its task. The link is given back.
+fn run_call<S: Source, K: Sink, D: Dial>(
+    alloc: Global,
+    call: &Call<'_>,
+    source: &mut S,
+    sink: &mut K,
+    dial: &mut D,
+) -> ToolEnd
+    requires { IsCall call.now }
+    ensures ran { (links : List ToldLink) (bytes : List ℕ) → D.links dial.old ≡ Some links → S.left source.old ≡ Some bytes → IsSome (S.left source.new) →
+        Ran (run_course (meaning call.now) links bytes) result links (D.links dial.new) (K.held sink.old) (K.held sink.new) (D.back dial.old) (D.back dial.new) }
+    ensures asked { AskedFor call.now.server.now result (D.asked dial.old) (D.asked dial.new) }
+    ensures done { result ≡ ToolEnd.Done → IsReadWhole call.now.task (S.left source.new) }
+    ensures end { is_of_run result ≡ true }
+    ensures long { result ≡ ToolEnd.TooLong → GaveTooMuch (S.left source.old) (S.left source.new) }
+    ensures within { result ≢ ToolEnd.TooLong → GaveWithin (S.left source.old) (S.left source.new) }
+    ensures dialled { result ≡ ToolEnd.DialFault → Rose (D.faults dial.old) (D.faults dial.new) }
+    ensures link { result ≡ ToolEnd.LinkFault → Rose (D.hurt dial.old) (D.hurt dial.new) }
+    ensures read { result ≡ ToolEnd.ReadFault → Rose (S.faults source.old) (S.faults source.new) }
+    ensures sink { result ≡ ToolEnd.SinkFault → Rose (K.faults sink.old) (K.faults sink.new) }
+    ensures dial_count { D.faults dial.old ≤ D.faults dial.new }
+    ensures hurt_count { D.hurt dial.old ≤ D.hurt dial.new }
+    ensures source_count { S.faults source.old ≤ S.faults source.new }
+    ensures sink_count { K.faults sink.old ≤ K.faults sink.new }
+{
+    let Ok(mut room) = room(alloc) else {
+        return ToolEnd::OutOfMemory;
+    };
+    match dial.dial(call.server) {
+        Dialed::Far(far) => {
+            let (end, far) = perform_over(alloc, &call.task, far, source, sink, &mut room);
+            dial.hang_up(far);
+            end
+        }
+        Dialed::Failed => ToolEnd::DialFault,
+        Dialed::OutOfMemory => ToolEnd::OutOfMemory,
+    }
+}
+
+/// The tools: the first word names one, and the others say what it is to do. Its server is dialled, and the link is given back
+/// before any answer. All memory is taken before the first request behind the setup.
+pub fn af_run<S: Source, K: Sink, D: Dial>(
+    alloc: Global,
+    words: &Args,
+    source: &mut S,
+    sink: &mut K,
+    dial: &mut D,
+) -> ToolEnd
+    // Usage never where the words are spelled; all others get it, but for those that the command takes all the same
+    ensures usage { is_spelled words.now ≡ true → result ≢ ToolEnd.Usage }
+    ensures other { job words.now ≡ None → (result ≡ ToolEnd.Usage) ⊎ (result ≡ ToolEnd.OutOfMemory) }
+    ensures unread { result ≡ ToolEnd.Usage → (S.left source.new ≡ S.left source.old) × (S.faults source.new ≡ S.faults source.old) × (K.held sink.new ≡ K.held sink.old) × (K.faults sink.new ≡ K.faults sink.old) }
+    ensures undialled { result ≡ ToolEnd.Usage → (D.asked dial.new ≡ D.asked dial.old) × (D.back dial.new ≡ D.back dial.old) × (D.links dial.new ≡ D.links dial.old) × (D.faults dial.new ≡ D.faults dial.old) × (D.hurt dial.new ≡ D.hurt dial.old) }
+
+    // the answer, what the link was sent, and what the sink gained, by the words and the bytes that the source and the link give
+    ensures told { (j : Job) (links : List ToldLink) (bytes : List ℕ) → job words.now ≡ Some j → result ≢ ToolEnd.Usage → D.links dial.old ≡ Some links → S.left source.old ≡ Some bytes → IsSome (S.left source.new) →
+        Ran (run_course j links bytes) result links (D.links dial.new) (K.held sink.old) (K.held sink.new) (D.back dial.old) (D.back dial.new) }
+    ensures asked { (j : Job) → job words.now ≡ Some j → result ≢ ToolEnd.Usage → AskedFor j.server result (D.asked dial.old) (D.asked dial.new) }
+    ensures done { (j : Job) → job words.now ≡ Some j → result ≡ ToolEnd.Done → IsReadWhole j.task (S.left source.new) }
+
+    // each end has its cause
+    ensures end { is_of_af result ≡ true }
+    ensures reply { (j : Job) (links : List ToldLink) (bytes : List ℕ) → job words.now ≡ Some j → result ≢ ToolEnd.Usage → D.links dial.old ≡ Some links → S.left source.old ≡ Some bytes → IsSome (S.left source.new) → EndsByReply (run_course j links bytes) result }
+    ensures device { (j : Job) (links : List ToldLink) (bytes : List ℕ) → job words.now ≡ Some j → result ≢ ToolEnd.Usage → D.links dial.old ≡ Some links → S.left source.old ≡ Some bytes → IsSome (S.left source.new) → EndsByDevice (run_course j links bytes) result }
+    ensures long { result ≡ ToolEnd.TooLong → GaveTooMuch (S.left source.old) (S.left source.new) }
+    ensures within { result ≢ ToolEnd.TooLong → GaveWithin (S.left source.old) (S.left source.new) }
+    ensures dialled { result ≡ ToolEnd.DialFault → Rose (D.faults dial.old) (D.faults dial.new) }
+    ensures link { result ≡ ToolEnd.LinkFault → Rose (D.hurt dial.old) (D.hurt dial.new) }
+    ensures read { result ≡ ToolEnd.ReadFault → Rose (S.faults source.old) (S.faults source.new) }
+    ensures sink { result ≡ ToolEnd.SinkFault → Rose (K.faults sink.old) (K.faults sink.new) }
+
+    // with words that are spelled, a link, the device, and an awaited reply for each request, and with not too many bytes, it is
+    // done, unless something fails or memory runs out
+    ensures complete { (j : Job) (links : List ToldLink) (bytes : List ℕ) → is_spelled words.now ≡ true → job words.now ≡ Some j → D.links dial.old ≡ Some links → S.left source.old ≡ Some bytes → IsSome (S.left source.new)
+        → length bytes ≤ most_bytes → IsServed (run_course j links bytes)
+        → ¬ (Rose (D.faults dial.old) (D.faults dial.new)) → ¬ (Rose (D.hurt dial.old) (D.hurt dial.new)) → ¬ (Rose (S.faults source.old) (S.faults source.new)) → ¬ (Rose (K.faults sink.old) (K.faults sink.new))
+        → (result ≡ ToolEnd.Done) ⊎ (result ≡ ToolEnd.OutOfMemory) }
+    ensures dial_count { D.faults dial.old ≤ D.faults dial.new }
+    ensures hurt_count { D.hurt dial.old ≤ D.hurt dial.new }
+    ensures source_count { S.faults source.old ≤ S.faults source.new }
+    ensures sink_count { K.faults sink.old ≤ K.faults sink.new }
+{
+    match call_of(alloc, words) {
+        Ok(call) => run_call(alloc, &call, source, sink, dial),
+        Err(WordsFault::Usage) => ToolEnd::Usage,
+        Err(WordsFault::OutOfMemory) => ToolEnd::OutOfMemory,
     }
 }

@@ -23,10 +23,10 @@ pub returns-in-Err-clause-followed : goal.returns-in-Err-clause-followed
 returns-in-Err-clause-followed g c input bytes told is tells =
     elim (c.in-Err.ensures) [
       | inl none ↦
-        let way : c.from.result ≡ end.OutOfMemory = c.from.ensures ∙ ap fault_end none.0 in
-        rw (way, none.1) (followed_early (connects input (λ devices w. task_course c.args.task.now devices bytes w)) end.OutOfMemory _ _ refl)
+          let way : c.from.result ≡ end.OutOfMemory = c.from.ensures ∙ ap fault_end none.0 in
+          rw (way, none.1) (followed_early (connects input (λ devices w. task_course c.args.task.now devices bytes w)) end.OutOfMemory _ _ refl)
       | inr setup ↦
-        let g0 = setup_goes g.L.Link.left g.L.Link.sent g.L.Link.faults c.args.far c.in-Err.far setup.0 input (g.K.Sink.held c.args.sink.now) (Err c.in-Err.fault) setup.1 told in
-        let way : c.from.result ≡ fault_end c.in-Err.fault = c.from.ensures in
-        rw way (followed_stop (connects input) (λ devices w. task_course c.args.task.now devices bytes w) _ _ _ _ _ _ _ g0)
+          let g0 = setup_goes g.L.Link.left g.L.Link.sent g.L.Link.faults c.args.far c.in-Err.far setup.0 input (g.K.Sink.held c.args.sink.now) (Err c.in-Err.fault) setup.1 told in
+          let way : c.from.result ≡ fault_end c.in-Err.fault = c.from.ensures in
+          rw way (followed_stop (connects input) (λ devices w. task_course c.args.task.now devices bytes w) _ _ _ _ _ _ _ g0)
     ]

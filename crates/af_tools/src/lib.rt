@@ -21,3 +21,6 @@ pub use job::{PlayJob, RecordJob};
 pub use player::aplay;
 pub use recorder::arecord;
 pub use run::af_run;
+
+#[cfg(test)]
+mod tests;

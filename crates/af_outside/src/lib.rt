@@ -36,4 +36,6 @@ pub use tcp::{TcpDial, TcpLink};
 pub use world::{LinkGot, LinkTook, World};
 
 #[cfg(test)]
+mod dial_tests;
+#[cfg(test)]
 mod tests;

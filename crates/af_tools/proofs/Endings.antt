@@ -1,12 +1,9 @@
 -- How a tool ends, by its course.
-use Rattle.std.proofs.Common.{◌≡◌, ◌≢◌, ℕ, zero, suc, ◌+◌, ◌-◌, ◌*◌, ◌/◌, ◌%◌, ◌^◌, ◌<◌, ◌≤◌, nat_lt, Bool, true, false, List, [], ◌∷◌, length, take, drop, slice_get, sym, ap, ◌∙◌, subst, refl, arith, inl, inr, ◌⊎◌, if◌then◌else◌, length-take, length-drop}
-use Rattle.std.specs.Prelude.{Result, Ok, Err, unwrap_or}
+use Rattle.std.proofs.Common.{◌≡◌, ℕ, zero, suc, ◌+◌, ◌*◌, ◌/◌, ◌%◌, ◌^◌, ◌≤◌, nat_lt, Bool, true, false, List, [], ◌∷◌, length, take, drop, sym, ap, ◌∙◌, refl, arith, inl, inr, ◌⊎◌, if◌then◌else◌, length-take, length-drop}
+use Rattle.std.specs.Prelude.{Result, Ok, Err}
 use Rattle.std.proofs.lemmas.Bool.Decides.{nat_tests}
 use Rattle.std.specs.declared.option.Option.{Option}
-use Rattle.std.specs.declared.option.Option.TheVariants.{None, Some}
-use Rattle.af_time.specs.DeviceTime.{frames_lasting}
 use Rattle.af_sample.specs.declared.sample_type.SampleType.{SampleType}
-use Rattle.af_sample.specs.SampleTypes.{width_of}
 use Rattle.af_request.specs.declared.reply.DeviceInfo.{DeviceInfo}
 use Rattle.af_request.specs.Asked.{Asked, free_ac, get_time, play_run}
 use Rattle.af_request.specs.Answer.{Answer}
@@ -17,9 +14,9 @@ use Rattle.af_tools.specs.declared.end.ToolEnd.{ToolEnd}
 use Rattle.af_tools.specs.declared.end.ToolEnd.TheVariants as end
 use Rattle.af_tools.specs.declared.job.PlayJob.{PlayJob}
 use Rattle.af_tools.specs.declared.job.RecordJob.{RecordJob}
-use Rattle.af_tools.specs.Course.{Course, Finish, Wire, answer_on, answered_by, asks, begins, behind, done, end_of, ends, fault_end, no_device, not_dialled, on_device, refused, too_long}
-use Rattle.af_tools.specs.Play.{aplay_course, blocks, cut, most_bytes, play_context, played_on, plays}
-use Rattle.af_tools.specs.Record.{arecord_course, block_lengths, ends_row, peak, record_context, recorded_on, records}
+use Rattle.af_tools.specs.Course.{Course, Finish, Wire, answer_on, answered_by, asks, behind, done, end_of, fault_end, no_device, not_dialled, refused, too_long}
+use Rattle.af_tools.specs.Play.{blocks, cut, most_bytes, play_context, played_on, plays}
+use Rattle.af_tools.specs.Record.{block_lengths, ends_row, peak, record_context, recorded_on, records}
 use Rattle.af_tools.specs.Ends.{Ended, EndsByReply, Followed, IsAnswered, is_of_play, is_of_record, is_of_reply, is_outer}
 
 -- the finish that an end of a reply tells of

@@ -1,6 +1,6 @@
 -- Parts of a tool, one behind the other.
-use Rattle.std.proofs.Common.{◌≡◌, ◌≢◌, ℕ, Bool, true, false, List, [], ◌++◌, sym, ap, ap₂, ◌∙◌, subst, append_assoc, append-nil, refl, IsSome}
-use Rattle.std.specs.Prelude.{Result, Ok, Err, IsErr, IsOk}
+use Rattle.std.proofs.Common.{◌≡◌, ◌≢◌, ℕ, true, false, List, [], ◌++◌, sym, ap, ap₂, ◌∙◌, subst, append_assoc, append-nil, refl}
+use Rattle.std.specs.Prelude.{Result, Ok, Err}
 use Rattle.std.specs.declared.option.Option.{Option}
 use Rattle.std.specs.declared.option.Option.TheVariants.{None, Some}
 use Rattle.af_outside.specs.Told.{Grew}
@@ -13,7 +13,6 @@ use Rattle.af_lib.specs.declared.fault.ConnFault.TheVariants as fault
 use Rattle.af_lib.specs.Ring.{RingState}
 use Rattle.af_lib.specs.Calls.{answered, as_devices, Called, ConnState, IsSetUp, Sends, following, setup_bytes}
 use Rattle.af_request.specs.declared.reply.DeviceInfo.{DeviceInfo}
-use Rattle.af_lib.specs.Told.{BothTold}
 use Rattle.af_tools.specs.declared.end.ToolEnd.{ToolEnd}
 use Rattle.af_tools.specs.declared.end.ToolEnd.TheVariants as end
 use Rattle.af_tools.specs.Course.{Course, Wire, answer_on, answered_by, asks, behind, connects, end_of, ends, fault_end, next_message, refused, sending, set_up, unused}

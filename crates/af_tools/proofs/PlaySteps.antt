@@ -1,6 +1,6 @@
 -- The steps of playing a source: a block is read and played, or the tool ends.
-use Rattle.std.proofs.Common.{◌≡◌, ℕ, ◌+◌, ◌-◌, ◌*◌, ◌/◌, ◌%◌, ◌^◌, ◌<◌, ◌≤◌, true, false, List, [], ◌++◌, length, take, sym, ap, ap₂, ◌∙◌, refl, subst, arith, append-nil, length-take-le, IsSome}
-use Rattle.std.specs.Prelude.{Result, Ok, Err}
+use Rattle.std.proofs.Common.{◌≡◌, ℕ, ◌+◌, ◌*◌, ◌/◌, ◌%◌, ◌^◌, ◌<◌, ◌≤◌, true, false, List, [], ◌++◌, length, take, sym, ap, ap₂, ◌∙◌, refl, subst, arith, append-nil, length-take-le, IsSome}
+use Rattle.std.specs.Prelude.{Ok, Err}
 use Rattle.std.proofs.lemmas.List.{take-take}
 use Rattle.std.proofs.Math.Nat.{zero-div}
 use Rattle.std.specs.declared.option.Option.{Option}
@@ -8,13 +8,13 @@ use Rattle.std.specs.declared.option.Option.TheVariants.{None, Some}
 use Rattle.af_time.specs.declared.DevTime.{DevTime}
 use Rattle.af_outside.specs.Told.{Gave}
 use Rattle.af_outside.specs.Flow.{IsSpent}
-use Rattle.af_request.specs.Asked.{Asked, play_run}
+use Rattle.af_request.specs.Asked.{play_run}
 use Rattle.af_lib.specs.Calls.{as_time}
 use Rattle.af_tools.specs.declared.end.ToolEnd.{ToolEnd}
 use Rattle.af_tools.specs.declared.end.ToolEnd.TheVariants as end
 use Rattle.af_tools.specs.Course.{Course, Wire, asks, too_long}
 use Rattle.af_tools.specs.Play.{blocks, frames_in, most_bytes, plays, whole_frames}
-use Rattle.af_tools.specs.Ends.{GaveAbove, Goes, Part, is_outer}
+use Rattle.af_tools.specs.Ends.{GaveAbove, Goes, is_outer}
 use Rattle.af_tools.proofs.Growing.{gave_known}
 use Rattle.af_tools.proofs.Going.{goes_stop}
 use Rattle.af_tools.proofs.Reaching.{goes_at_once, goes_early, goes_same, goes_value, Reaches, reaches_goes, reaches_none, reaches_on}

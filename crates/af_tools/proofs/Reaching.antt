@@ -1,12 +1,12 @@
 -- How far a part of a tool has come, step by step.
-use Rattle.std.proofs.Common.{◌≡◌, ◌≢◌, ℕ, List, [], ◌++◌, sym, ap, ap₂, ◌∙◌, subst, append_assoc, append-nil, refl, true}
+use Rattle.std.proofs.Common.{◌≡◌, ℕ, List, [], ◌++◌, sym, ap, ap₂, ◌∙◌, append_assoc, refl, true}
 use Rattle.std.specs.Prelude.{Result, Ok, Err}
 use Rattle.std.specs.declared.option.Option.{Option}
-use Rattle.std.specs.declared.option.Option.TheVariants.{None, Some}
+use Rattle.std.specs.declared.option.Option.TheVariants.{Some}
 use Rattle.af_outside.specs.Told.{Grew}
 use Rattle.af_tools.specs.declared.end.ToolEnd.{ToolEnd}
 use Rattle.af_tools.specs.Course.{Course, Finish, Wire, end_of, ends}
-use Rattle.af_tools.specs.Ends.{Came, Ended, Goes, Part, Passed, is_outer}
+use Rattle.af_tools.specs.Ends.{Came, Goes, Part, is_outer}
 use Rattle.af_tools.proofs.Growing.{grew_none, grew_on}
 use Rattle.af_tools.proofs.Going.{doing, ended_at_once, ended_behind, ended_early, ended_same}
 

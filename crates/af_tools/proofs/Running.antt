@@ -1,5 +1,5 @@
 -- A tool that dials its server.
-use Rattle.std.proofs.Common.{◌≡◌, ◌≢◌, ℕ, ◌<◌, ◌≤◌, ◌⊎◌, inl, inr, true, false, Bool, List, [], ◌∷◌, ◌++◌, length, slice_get, sym, ap, ◌∙◌, subst, refl}
+use Rattle.std.proofs.Common.{◌≡◌, ◌≢◌, ℕ, ◌≤◌, ◌⊎◌, inl, inr, true, false, List, [], ◌∷◌, ◌++◌, length, slice_get, sym, ap, ◌∙◌, subst, refl}
 use Rattle.std.specs.Prelude.{Result, Ok, Err}
 use Rattle.std.specs.declared.option.Option.{Option}
 use Rattle.std.specs.declared.option.Option.TheVariants.{None, Some}
@@ -14,14 +14,14 @@ use Rattle.af_tools.specs.declared.end.ToolEnd.TheVariants as end
 use Rattle.af_tools.specs.declared.job.Task.{Task}
 use Rattle.af_tools.specs.declared.job.Task.TheVariants as task
 use Rattle.af_tools.specs.Course.{Course, Finish, Wire, answered_by, connects, dials, done, end_of, ends, no_device, not_dialled, on_device, next_message, refused, set_up, too_long, unused, writing}
-use Rattle.af_tools.specs.Play.{aplay_course, most_bytes, played, played_on}
-use Rattle.af_tools.specs.Record.{arecord_course, recorded_on}
+use Rattle.af_tools.specs.Play.{aplay_course, most_bytes, played}
+use Rattle.af_tools.specs.Record.{arecord_course}
 use Rattle.af_tools.specs.Words.{Job}
-use Rattle.af_tools.specs.Run.{EndsByDevice, GaveBack, IsServed, Ran, is_of_run, run_course, task_course}
-use Rattle.af_tools.specs.Ends.{Ended, EndsByReply, Followed, is_outer}
+use Rattle.af_tools.specs.Run.{EndsByDevice, IsServed, Ran, is_of_run, run_course, task_course}
+use Rattle.af_tools.specs.Ends.{Ended, Followed, is_outer}
 use Rattle.af_tools.proofs.Growing.{grew_none}
 use Rattle.af_tools.proofs.Going.{ended_early}
-use Rattle.af_tools.proofs.Endings.{IsDoneOrRefused, played_finish, recorded_finish, reply_of}
+use Rattle.af_tools.proofs.Endings.{IsDoneOrRefused, played_finish, recorded_finish}
 
 -- what a link was sent in all is its entry
 gave_entry : (back back' : Option (List (List ℕ))) (before after : Option (List ℕ)) (first sends : List ℕ) → before ≡ Some first → Grew before sends after → GrewBack back after back' → Grew back ((first ++ sends) ∷ []) back'

@@ -1,5 +1,5 @@
 -- A tool on a device that is there, or not.
-use Rattle.std.proofs.Common.{◌≡◌, ◌≢◌, ℕ, ◌<◌, ◌≤◌, ◌↔◌, true, false, Bool, List, [], length, slice_get, sym, ap, ◌∙◌, subst, refl, arith, inl, inr}
+use Rattle.std.proofs.Common.{◌≡◌, ℕ, ◌<◌, ◌≤◌, ◌↔◌, true, false, List, [], length, slice_get, sym, ap, ◌∙◌, subst, refl, arith, inl, inr}
 use Rattle.std.specs.Prelude.{Result, Ok, Err}
 use Rattle.std.proofs.lemmas.Option.{slice_get_cases}
 use Rattle.std.specs.declared.option.Option.{Option}
@@ -13,7 +13,7 @@ use Rattle.af_tools.specs.Course.{Course, Wire, done, ends, no_device, on_device
 use Rattle.af_tools.specs.Device.{device_or_end}
 use Rattle.af_tools.specs.Play.{aplay_course, played, played_on}
 use Rattle.af_tools.specs.Record.{arecord_course, recorded_on}
-use Rattle.af_tools.specs.Ends.{Ended, Followed, is_of_blocks, is_of_records, is_of_report}
+use Rattle.af_tools.specs.Ends.{Followed, is_of_blocks, is_of_records, is_of_report}
 use Rattle.af_tools.proofs.Growing.{grew_none}
 use Rattle.af_tools.proofs.Going.{ended_at_once}
 

@@ -1,14 +1,13 @@
 -- How far a tool came in its course, and why it ended.
-use Rattle.std.specs.Prelude.{◌≡◌, ◌≢◌, ◌<◌, ◌≤◌, ◌⊎◌, ℕ, Bool, true, false, List, [], ◌++◌, length, Result, Ok, Err, IsErr, IsOk, IsSome, IfErr}
+use Rattle.std.specs.Prelude.{◌≡◌, ◌≢◌, ◌<◌, ◌≤◌, ◌⊎◌, ℕ, Bool, true, false, List, [], ◌++◌, length, Result, Ok, Err, IsOk, IsSome}
 use Rattle.std.specs.declared.option.Option.{Option}
 use Rattle.std.specs.declared.option.Option.TheVariants.{None, Some}
 use Rattle.af_outside.specs.Told.{Gave, Grew, Rose}
 use Rattle.af_lib.specs.declared.fault.ConnFault.{ConnFault}
-use Rattle.af_lib.specs.declared.fault.ConnFault.TheVariants as fault
 use Rattle.af_lib.specs.Calls.{ConnState}
 use Rattle.af_tools.specs.declared.end.ToolEnd.{ToolEnd}
 use Rattle.af_tools.specs.declared.end.ToolEnd.TheVariants as end
-use Rattle.af_tools.specs.Course.{Course, Finish, Wire, end_of, fault_end, refused}
+use Rattle.af_tools.specs.Course.{Course, Wire, end_of, fault_end, refused}
 use Rattle.af_tools.specs.Play.{most_bytes}
 
 -- the ends that come from outside: no list of bytes decides that they come

@@ -1,13 +1,11 @@
 -- What arecord does: it records block behind block, and writes each.
-use Rattle.std.specs.Prelude.{ℕ, ℤ, zero, suc, ◌+◌, ◌*◌, ◌/◌, ◌%◌, ◌^◌, ◌==◌, max, nat_le, nat_lt, unsigned_abs, if◌then◌else◌, pos, Bool, true, List, [], ◌∷◌, ◌++◌, map, replicate, unwrap_or}
-use Rattle.std.specs.declared.option.Option.{Option}
-use Rattle.std.specs.declared.option.Option.TheVariants.{None, Some}
+use Rattle.std.specs.Prelude.{ℕ, suc, ◌+◌, ◌*◌, ◌/◌, ◌%◌, ◌^◌, ◌==◌, max, nat_le, nat_lt, unsigned_abs, if◌then◌else◌, pos, Bool, true, List, [], ◌∷◌, ◌++◌, map, replicate, unwrap_or}
 use Rattle.af_sample.specs.declared.sample_type.SampleType.{SampleType}
 use Rattle.af_sample.specs.SampleTypes.{code_of, width_of}
 use Rattle.af_sample.specs.Samples.{samples}
 use Rattle.af_request.specs.declared.reply.DeviceInfo.{DeviceInfo}
 use Rattle.af_request.specs.Asked.{Asked, create_ac, free_ac, record_run}
-use Rattle.af_lib.specs.Calls.{as_done, as_recorded, as_time}
+use Rattle.af_lib.specs.Calls.{as_done, as_recorded}
 use Rattle.af_tools.specs.declared.job.RecordJob.{RecordJob}
 use Rattle.af_tools.specs.Course.{Course, Wire, asks, begins, done, ends, with_device, writing}
 

@@ -1,7 +1,7 @@
 -- What the tools do, by their words, the bytes of the source, and what the links that are dialled give.
-use Rattle.std.specs.Prelude.{◌≡◌, ◌≢◌, ◌≤◌, ◌⊎◌, ⊤, ℕ, Bool, true, List, [], ◌∷◌, ◌++◌, length, Result, Ok, Err}
+use Rattle.std.specs.Prelude.{◌≡◌, ◌≢◌, ◌≤◌, ◌⊎◌, ⊤, ℕ, Bool, true, List, [], ◌∷◌, ◌++◌, length}
 use Rattle.std.specs.declared.option.Option.{Option}
-use Rattle.std.specs.declared.option.Option.TheVariants.{None, Some}
+use Rattle.std.specs.declared.option.Option.TheVariants.{Some}
 use Rattle.clap.specs.Words.{Text}
 use Rattle.af_outside.specs.Told.{Grew}
 use Rattle.af_outside.specs.Flow.{IsSpent}
@@ -12,7 +12,7 @@ use Rattle.af_tools.specs.declared.end.ToolEnd.TheVariants as end
 use Rattle.af_tools.specs.declared.job.Task.{Task}
 use Rattle.af_tools.specs.declared.job.Task.TheVariants as task
 use Rattle.af_tools.specs.declared.run.Call.{Call}
-use Rattle.af_tools.specs.Course.{Course, Wire, connects, dials, no_device, not_dialled}
+use Rattle.af_tools.specs.Course.{Course, Wire, dials, no_device, not_dialled}
 use Rattle.af_tools.specs.Play.{aplay_course}
 use Rattle.af_tools.specs.Record.{arecord_course}
 use Rattle.af_tools.specs.Words.{Job}

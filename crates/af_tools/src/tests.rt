@@ -29,9 +29,10 @@ fn bytes_of(alloc: Global, text: &str) -> Result<Vec<u8>, Fail> {
         let Some(digit) = c.to_digit(16) else {
             continue;
         };
+        let digit = u8::try_from(digit)?;
         match high.take() {
             None => high = Some(digit),
-            Some(upper) => bytes.push((upper * 16 + digit) as u8)?,
+            Some(upper) => bytes.push(16u8.wrapping_mul(upper) | digit)?,
         }
     }
     Ok(bytes)

@@ -1,4 +1,4 @@
-use Rattle.std.proofs.Common.{◌≡◌, ℕ, ◌-◌, ◌+◌, ◌≤◌, [], ◌++◌, length, take, rules, arith, append-nil, length-take-le}
+use Rattle.std.proofs.Common.{◌-◌, ◌+◌, ◌≤◌, [], ◌++◌, length, take, rules, arith, append-nil, length-take-le}
 use borrow.Rule.Slice.PartMut.{post_of, put_mid}
 use Rattle.af_lib.proofs.Bytes.{Gave-part}
 use Rattle.af_tools.proofs.Growing.{gave_on}

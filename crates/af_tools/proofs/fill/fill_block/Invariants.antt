@@ -1,4 +1,4 @@
-use Rattle.std.proofs.Common.{◌≡◌, ◌≤◌, ◌-◌, length, take}
+use Rattle.std.proofs.Common.{◌≤◌, ◌-◌, length, take}
 use Rattle.af_outside.specs.Told.{Gave}
 use Rattle.af_tools.proofs.fill.fill_block.Given as goal
 

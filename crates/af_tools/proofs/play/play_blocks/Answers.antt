@@ -1,9 +1,7 @@
-use Rattle.std.proofs.Common.{rules, arith, ◌≡◌, ◌≤◌, ◌<◌, ◌+◌, ◌-◌, ◌/◌, ◌*◌, ℕ, List, [], ◌++◌, length, take, refl, sym, ap, subst, IsErrOf, IsSome, length-append, length-take-le, ◌∙◌, false}
+use Rattle.std.proofs.Common.{rules, arith, ◌≡◌, ◌≤◌, ◌<◌, ◌+◌, ◌-◌, ◌/◌, ◌*◌, ℕ, List, [], ◌++◌, length, take, refl, ap, IsErrOf, length-append, length-take-le, ◌∙◌, false}
 use Rattle.std.proofs.Math.Nat.{div-lt_iff_lt-mul, div-le_self, div-mul-le_self}
 use Rattle.std.specs.Prelude.{Result, Ok, Err}
 use Rattle.std.specs.declared.option.Option.{Option}
-use Rattle.std.specs.declared.option.Option.TheVariants.{None, Some}
-use Rattle.af_time.specs.declared.DevTime.{DevTime}
 use Rattle.af_outside.specs.Told.{Gave}
 use Rattle.af_request.specs.Asked.{play_run}
 use Rattle.af_lib.specs.Calls.{as_time, ConnState}

@@ -1,9 +1,8 @@
-use Rattle.std.proofs.Common.{rules, arith, inl, true, false, ◌≡◌, ◌<◌, ◌≤◌, ℕ, List, length, refl, sym, ap, ◌∙◌, subst, IsSome}
-use Rattle.std.specs.Prelude.{Result, Ok, Err}
-use Rattle.std.specs.declared.option.Option.TheVariants.{None, Some}
+use Rattle.std.proofs.Common.{rules, arith, inl, true, false, ◌≡◌, length, refl, sym, ap, ◌∙◌}
+use Rattle.std.specs.Prelude.{Err}
 use Rattle.af_tools.specs.declared.player.Played.{Played}
 use Rattle.af_tools.specs.declared.end.ToolEnd.{ToolEnd}
-use Rattle.af_tools.specs.Course.{Wire, done, ends, writing}
+use Rattle.af_tools.specs.Course.{done, ends, writing}
 use Rattle.af_tools.specs.Play.{aplay_course, played, played_on}
 use Rattle.af_tools.specs.Ends.{is_of_blocks, is_of_play, wire_of, Part}
 use Rattle.af_tools.proofs.Going.{followed_on, followed_stop}

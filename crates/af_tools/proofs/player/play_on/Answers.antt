@@ -1,18 +1,10 @@
-use Rattle.std.proofs.Common.{rules, ◌≡◌, ◌*◌, ℕ, List, IsSome, length, take, refl, sym, ap, ◌∙◌, subst, unwrap_or, length-take-le, ◌≤◌}
-use Rattle.std.specs.Prelude.{Result, Ok, Err}
-use Rattle.std.specs.declared.option.Option.{Option}
-use Rattle.std.specs.declared.option.Option.TheVariants.{None, Some}
-use Rattle.af_time.specs.declared.DevTime.{DevTime}
+use Rattle.std.proofs.Common.{rules, ◌≡◌, ◌*◌, length, take, ap, ◌∙◌, unwrap_or, length-take-le, ◌≤◌}
+use Rattle.std.specs.Prelude.{Err}
 use Rattle.af_time.specs.DeviceTime.{frames_lasting}
 use Rattle.af_sample.specs.SampleTypes.{width_of}
-use Rattle.af_request.specs.Asked.{Asked, get_time}
-use Rattle.af_lib.specs.Calls.{as_done, as_time}
-use Rattle.af_tools.specs.declared.end.ToolEnd.{ToolEnd}
-use Rattle.af_tools.specs.declared.player.Played.{Played}
-use Rattle.af_tools.specs.Course.{asks, begins, Course, Wire}
-use Rattle.af_tools.specs.Talk.{creates}
+use Rattle.af_tools.specs.Course.{begins}
 use Rattle.af_tools.specs.Play.{play_context, played_on, start_at}
-use Rattle.af_tools.specs.Ends.{wire_of, Goes, Part}
+use Rattle.af_tools.specs.Ends.{wire_of}
 use Rattle.af_tools.proofs.Going.{goes_on, goes_stop}
 use Rattle.af_tools.proofs.PlayTail.{begins_named, tail, tail_freed, tail_named, tail_stop, tail_unfreed}
 use Rattle.af_tools.proofs.player.play_on.Goals as goal

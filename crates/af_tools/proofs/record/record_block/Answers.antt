@@ -1,15 +1,14 @@
-use Rattle.std.proofs.Common.{rules, arith, ◌≡◌, ◌≤◌, ℕ, List, [], ◌++◌, length, take, refl, sym, ap, ◌∙◌, subst, append_assoc, true}
-use Rattle.std.specs.Prelude.{Result, Ok, Err}
+use Rattle.std.proofs.Common.{rules, arith, ◌≡◌, ℕ, List, [], ◌++◌, length, take, refl, sym, ap, ◌∙◌, subst, append_assoc, true}
+use Rattle.std.specs.Prelude.{Ok, Err}
 use Rattle.std.proofs.lemmas.List.{take_all}
 use Rattle.std.specs.declared.option.Option.{Option}
-use Rattle.std.specs.declared.option.Option.TheVariants.{None, Some}
+use Rattle.std.specs.declared.option.Option.TheVariants.{Some}
 use Rattle.af_outside.specs.Told.{Grew}
 use Rattle.af_outside.specs.Flow.{GrewByPrefix}
 use Rattle.af_request.specs.Asked.{record_run}
 use Rattle.af_lib.specs.Calls.{as_recorded, Recorded}
-use Rattle.af_tools.specs.declared.end.ToolEnd.{ToolEnd}
 use Rattle.af_tools.specs.declared.end.ToolEnd.TheVariants as end
-use Rattle.af_tools.specs.Course.{Course, Wire, asks, fault_end, writing}
+use Rattle.af_tools.specs.Course.{Wire, asks, fault_end, writing}
 use Rattle.af_tools.specs.Record.{takes_block}
 use Rattle.af_tools.specs.Ends.{Goes, Part, wire_of}
 use Rattle.af_tools.proofs.Growing.{grew_none}

@@ -1,7 +1,6 @@
-use Rattle.std.proofs.Common.{rules, arith, ◌≡◌, ◌≤◌, ◌<◌, ◌-◌, ◌*◌, ℕ, List, [], ◌++◌, length, take, drop, min, refl, sym, ap, ◌∙◌, subst, length-take-le, IsSome, nat_lt, ◌+◌, if◌then◌else◌}
-use Rattle.std.specs.Prelude.{Result, Ok, Err}
+use Rattle.std.proofs.Common.{rules, arith, ◌≡◌, ◌≤◌, ◌*◌, ℕ, length, take, drop, refl, ap, ◌∙◌, length-take-le, nat_lt, ◌+◌, if◌then◌else◌}
+use Rattle.std.specs.Prelude.{Err}
 use Rattle.std.proofs.lemmas.List.{take_at}
-use Rattle.std.specs.declared.option.Option.TheVariants.{None, Some}
 use Rattle.af_sample.specs.SampleTypes.{width_of}
 use Rattle.af_tools.specs.Record.{peak}
 use Rattle.af_tools.specs.Ends.{wire_of}

@@ -1,6 +1,5 @@
-use Rattle.std.proofs.Common.{rules, arith, inl, true, ◌≡◌, ◌<◌, ◌≤◌, ℕ, List, length, refl, sym, ap, ◌∙◌, subst}
-use Rattle.std.specs.Prelude.{Result, Ok, Err}
-use Rattle.std.specs.declared.option.Option.TheVariants.{None, Some}
+use Rattle.std.proofs.Common.{rules, arith, inl, true, ◌≡◌, length, refl, ap}
+use Rattle.std.specs.Prelude.{Err}
 use Rattle.af_tools.specs.declared.end.ToolEnd.{ToolEnd}
 use Rattle.af_tools.specs.Course.{done, ends}
 use Rattle.af_tools.specs.Record.{arecord_course, recorded_on}

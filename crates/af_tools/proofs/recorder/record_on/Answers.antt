@@ -1,6 +1,5 @@
-use Rattle.std.proofs.Common.{rules, ◌≡◌, ℕ, List, refl, sym, ap, ◌∙◌, subst, unwrap_or}
-use Rattle.std.specs.Prelude.{Result, Ok, Err}
-use Rattle.std.specs.declared.option.Option.TheVariants.{None, Some}
+use Rattle.std.proofs.Common.{rules, ◌≡◌, unwrap_or}
+use Rattle.std.specs.Prelude.{Err}
 use Rattle.af_tools.specs.Course.{begins}
 use Rattle.af_tools.specs.Record.{record_context, recorded_on}
 use Rattle.af_tools.specs.Ends.{wire_of}

@@ -1,4 +1,4 @@
-use Rattle.std.proofs.Common.{◌≡◌, ◌<◌, ◌≤◌, ◌+◌, ◌++◌, [], List, ℕ, codes, decimal, length, take, ap, ◌∙◌, refl, sym, subst, arith, rules, append-nil, length-append}
+use Rattle.std.proofs.Common.{◌<◌, [], List, ℕ, length, ◌∙◌, refl, sym, subst, arith, append-nil, length-append}
 use Rattle.std.specs.declared.option.Option.{Option}
 use Rattle.af_outside.specs.Told.{Grew}
 use Rattle.af_outside.specs.Flow.{GrewByPrefix}

@@ -1,4 +1,4 @@
-use Rattle.std.proofs.Common.{◌≡◌, ◌++◌, [], List, ℕ, codes, decimal, take, ap, ◌∙◌, rules}
+use Rattle.std.proofs.Common.{◌≡◌, ◌++◌, List, ℕ, codes, decimal, take, ap, ◌∙◌, rules}
 use Rattle.af_tools.specs.Play.{played}
 use Rattle.af_tools.proofs.report.write_line.Goals as goal
 

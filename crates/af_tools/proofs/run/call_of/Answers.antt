@@ -1,10 +1,9 @@
-use Rattle.std.proofs.Common.{◌≡◌, List, Bool, true, false, codes, map, string_bytes, sym, ap, ap₂, ◌∙◌, subst, refl, IfOk, if◌then◌else◌}
-use Rattle.std.specs.Prelude.{Option, Some, None, Result, Ok, Err}
+use Rattle.std.proofs.Common.{◌≡◌, List, Bool, true, false, codes, sym, ap, ap₂, ◌∙◌, subst, if◌then◌else◌}
+use Rattle.std.specs.Prelude.{None}
 use Rattle.std.specs.Str.{bytes_eq}
 use Rattle.std.proofs.lemmas.Result.{IfOk-weaker}
 use Rattle.clap.specs.Words.{Text, takes}
-use Rattle.af_tools.specs.Words.{Job, aplay_app, aplay_job, arecord_app, arecord_job, is_taken, job}
-use Rattle.af_tools.specs.Run.{meaning}
+use Rattle.af_tools.specs.Words.{aplay_app, aplay_job, arecord_app, arecord_job, is_taken, job}
 use Rattle.af_tools.proofs.Naming.{is_named, job_named, none_taken, taken_named, unspelled, untaken}
 use Rattle.af_tools.proofs.run.call_of.Goals as goal
 

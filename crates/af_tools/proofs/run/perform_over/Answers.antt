@@ -1,11 +1,9 @@
-use Rattle.std.proofs.Common.{rules, ◌≡◌, ℕ, List, sym, ap, ◌∙◌, subst, refl, inl, inr, IsSome}
+use Rattle.std.proofs.Common.{◌≡◌, ℕ, ap, ◌∙◌, subst, refl, inl, inr}
 use Rattle.af_tools.specs.declared.end.ToolEnd.TheVariants as end
-use Rattle.std.specs.Prelude.{Result, Ok, Err}
-use Rattle.std.specs.declared.option.Option.{Option}
-use Rattle.std.specs.declared.option.Option.TheVariants.{None, Some}
+use Rattle.std.specs.Prelude.{Ok, Err}
 use Rattle.af_tools.specs.Course.{connects, fault_end}
 use Rattle.af_tools.specs.Run.{task_course}
-use Rattle.af_tools.specs.Ends.{Followed, wire_of}
+use Rattle.af_tools.specs.Ends.{Followed}
 use Rattle.af_tools.proofs.Going.{followed_early, followed_on, followed_stop, setup_goes}
 use Rattle.af_tools.proofs.run.perform_over.Goals as goal
 

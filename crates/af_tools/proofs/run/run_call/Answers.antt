@@ -1,6 +1,5 @@
-use Rattle.std.proofs.Common.{◌≡◌, ℕ, List, refl, sym, ap, ◌∙◌, subst, IsSome}
+use Rattle.std.proofs.Common.{List, refl, ◌∙◌, subst}
 use Rattle.std.specs.declared.option.Option.{Option}
-use Rattle.std.specs.declared.option.Option.TheVariants.{None, Some}
 use Rattle.af_outside.specs.Dial.{IsFirstOf, ToldLink}
 use Rattle.af_tools.specs.declared.end.ToolEnd.TheVariants as end
 use Rattle.af_tools.specs.Run.{meaning, run_course, task_course}

@@ -1,12 +1,11 @@
-use Rattle.std.proofs.Common.{◌≡◌, ℕ, List, rules, subst, sym, ap}
-use Rattle.std.specs.Prelude.{Result, Ok, Err}
-use Rattle.std.specs.declared.option.Option.{Option}
-use Rattle.std.specs.declared.option.Option.TheVariants.{None, Some}
+use Rattle.std.proofs.Common.{◌≡◌, rules, ap}
+use Rattle.std.specs.Prelude.{Ok, Err}
+use Rattle.std.specs.declared.option.Option.TheVariants.{None}
 use Rattle.af_request.specs.Asked.{get_time}
 use Rattle.af_tools.specs.Talk.{creates}
 use Rattle.af_lib.specs.Calls.{as_done, as_time, ConnState}
 use Rattle.af_tools.specs.Course.{asks, fault_end}
-use Rattle.af_tools.specs.Ends.{Goes, wire_of}
+use Rattle.af_tools.specs.Ends.{wire_of}
 use Rattle.af_tools.proofs.Going.{asked_goes, goes_on, goes_stop}
 use Rattle.af_tools.proofs.talk.begin.Goals as goal
 

@@ -1,9 +1,8 @@
-use Rattle.std.proofs.Common.{◌≡◌, rules, subst, sym}
-use Rattle.std.specs.Prelude.{Result, Ok, Err}
+use Rattle.std.proofs.Common.{◌≡◌, rules}
+use Rattle.std.specs.Prelude.{Ok, Err}
 use Rattle.af_request.specs.Asked.{free_ac}
 use Rattle.af_lib.specs.Calls.{as_done}
-use Rattle.af_tools.specs.Course.{asks, fault_end}
-use Rattle.af_tools.specs.Ends.{Goes, wire_of}
+use Rattle.af_tools.specs.Course.{fault_end}
 use Rattle.af_tools.proofs.Going.{asked_goes}
 use Rattle.af_tools.proofs.talk.finish.Goals as goal
 

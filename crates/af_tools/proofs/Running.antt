@@ -1,5 +1,5 @@
 -- A tool that dials its server.
-use Rattle.std.proofs.Common.{◌≡◌, ◌≢◌, ℕ, ◌≤◌, ◌⊎◌, inl, inr, true, false, List, [], ◌∷◌, ◌++◌, length, slice_get, sym, ap, ◌∙◌, subst, refl}
+use Rattle.std.proofs.Common.{◌≡◌, ◌≢◌, ℕ, ◌≤◌, ◌⊎◌, inl, inr, true, false, List, [], ◌∷◌, ◌++◌, length, slice_get, sym, ap, ◌∙◌, subst, refl, arith, length-append}
 use Rattle.std.specs.Prelude.{Result, Ok, Err}
 use Rattle.std.specs.declared.option.Option.{Option}
 use Rattle.std.specs.declared.option.Option.TheVariants.{None, Some}
@@ -32,23 +32,35 @@ gave_entry back back' (Some x) (Some all) first sends is grew entry =
     let whole : all ≡ first ++ sends = grew ∙ ap (λ (l : List ℕ). l ++ sends) same in
     subst (λ (e : List ℕ). Grew back (e ∷ []) back') whole entry
 
+none_of : (xs : List ℕ) → length xs ≡ 0 → xs ≡ []
+none_of [] none = refl
+none_of (x ∷ xs) none = absurd (omega (arith, none))
+
+-- a list that stays has grown by nothing
+grew_nothing : (before after : Option (List ℕ)) (first sends : List ℕ) → before ≡ Some first → Grew before sends after → after ≡ before → sends ≡ []
+grew_nothing before after first sends is grew same =
+    let whole : first ≡ first ++ sends = subst (λ (b : Option (List ℕ)). Grew b sends (Some first)) is (subst (λ (a : Option (List ℕ)). Grew before sends a) (same ∙ is) grew) in
+    let len = ap length whole in
+    none_of sends (omega (arith, length-append first sends))
+
 module _ (next : List DeviceInfo → Wire → Course) (how : ToolEnd) (links' links'' : Option (List ToldLink)) (before after held held' : Option (List ℕ)) (back back' back'' : Option (List (List ℕ))) where
-  first_ran : (link : ToldLink) (rest : List ToldLink) → before ≡ Some link.sent → links' ≡ Some rest → Followed (connects link.gives next) how before after held held' → back' ≡ back → GrewBack back' after back'' → links'' ≡ links' →
+  first_ran : (link : ToldLink) (rest : List ToldLink) → before ≡ Some link.sent → links' ≡ Some rest → Followed (connects link.gives next) how before after held held' → back' ≡ back → GrewBack back' after back'' → links'' ≡ links' → (how ≡ end.OutOfMemory → after ≡ before) →
       Ran (dials (link ∷ rest) next) how (link ∷ rest) links'' held held' back back''
-  first_ran link rest is_sent is_rest f is_back entry is_links = record {
+  first_ran link rest is_sent is_rest f is_back entry is_links memory = record {
     sends = f.sends;
     output = f.output;
     ended = f.ended;
     sink = f.sink;
     link = inr (link, rest, refl, is_links ∙ is_rest, gave_entry back back'' before after link.sent f.sends is_sent f.link (subst (λ (b : Option (List (List ℕ))). GrewBack b after back'') is_back entry));
+    early = λ none. grew_nothing before after link.sent f.sends is_sent f.link (memory none);
   }
 
   -- the first link was dialled, used, and given back
   pub ran_over : {F : Type 0} (left_of sent_of : F → Option (List ℕ)) (far : F) (links : List ToldLink) → IsFirstOf left_of sent_of far (Some links) links' → sent_of far ≡ before →
-      ((input : List ℕ) → left_of far ≡ Some input → Followed (connects input next) how before after held held') → back' ≡ back → GrewBack back' after back'' → links'' ≡ links' →
+      ((input : List ℕ) → left_of far ≡ Some input → Followed (connects input next) how before after held held') → back' ≡ back → GrewBack back' after back'' → links'' ≡ links' → (how ≡ end.OutOfMemory → after ≡ before) →
       Ran (dials links next) how links links'' held held' back back''
-  ran_over left_of sent_of far [] first sent follows is_back entry is_links = absurd first
-  ran_over left_of sent_of far (link ∷ rest) first sent follows is_back entry is_links = first_ran link rest (sym sent ∙ first.1) first.2 (follows link.gives first.0) is_back entry is_links
+  ran_over left_of sent_of far [] first sent follows is_back entry is_links memory = absurd first
+  ran_over left_of sent_of far (link ∷ rest) first sent follows is_back entry is_links memory = first_ran link rest (sym sent ∙ first.1) first.2 (follows link.gives first.0) is_back entry is_links memory
 
 -- nothing was dialled, or no link was had
 pub ran_early : (course : Course) (how : ToolEnd) (links : List ToldLink) (links' : Option (List ToldLink)) (held : Option (List ℕ)) (back back' : Option (List (List ℕ))) → is_outer how ≡ true → links' ≡ Some links → back' ≡ back → Ran course how links links' held held back back'
@@ -58,6 +70,7 @@ ran_early course how links links' held back back' outer same is = record {
   ended = ended_early course how [] [] course.sends course.output outer refl refl;
   sink = grew_none held;
   link = inl (refl, same, is);
+  early = λ none. refl;
 }
 
 -- the finish of a course whose source gives no more than it may

@@ -74,6 +74,8 @@ pub record Ran (course : Course) (how : ToolEnd) (links : List ToldLink) (links'
   pub ended : Ended course how sends output
   pub sink : Grew held output held'
   pub link : GaveBack links links' sends back back'
+  -- memory runs out before any request was sent, and before the setup
+  pub early : how ≡ end.OutOfMemory → sends ≡ []
 
 -- where the device of a tool is not there, the tool ends with that, unless something from outside has ended it; and it ends so
 -- only there

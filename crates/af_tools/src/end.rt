@@ -34,7 +34,7 @@ pub enum ToolEnd {
     TooLong,
     /// A write to the sink failed.
     SinkFault,
-    /// Memory ran out, before anything was sent but a setup.
+    /// Memory ran out, before anything was sent.
     OutOfMemory,
 }
 

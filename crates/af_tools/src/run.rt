@@ -145,6 +145,7 @@ fn perform_over<L: Link + Drop, S: Source, K: Sink>(
     ensures followed { (input bytes : List ℕ) → L.left far ≡ Some input → S.left source.old ≡ Some bytes → IsSome (S.left source.new) →
         Followed (connects input (λ devices w. task_course task.now devices bytes w)) result.0 (L.sent far) (L.sent result.1) (K.held sink.old) (K.held sink.new) }
     ensures done { result.0 ≡ ToolEnd.Done → IsReadWhole task.now (S.left source.new) }
+    ensures memory { result.0 ≡ ToolEnd.OutOfMemory → (L.sent result.1 ≡ L.sent far) × (K.held sink.new ≡ K.held sink.old) × (S.left source.new ≡ S.left source.old) }
     ensures end { is_of_far result.0 ≡ true }
     ensures long { result.0 ≡ ToolEnd.TooLong → GaveTooMuch (S.left source.old) (S.left source.new) }
     ensures within { result.0 ≢ ToolEnd.TooLong → GaveWithin (S.left source.old) (S.left source.new) }
@@ -184,6 +185,7 @@ fn run_call<S: Source, K: Sink, D: Dial>(
         Ran (run_course (meaning call.now) links bytes) result links (D.links dial.new) (K.held sink.old) (K.held sink.new) (D.back dial.old) (D.back dial.new) }
     ensures asked { AskedFor call.now.server.now result (D.asked dial.old) (D.asked dial.new) }
     ensures done { result ≡ ToolEnd.Done → IsReadWhole call.now.task (S.left source.new) }
+    ensures memory { result ≡ ToolEnd.OutOfMemory → (K.held sink.new ≡ K.held sink.old) × (S.left source.new ≡ S.left source.old) }
     ensures end { is_of_run result ≡ true }
     ensures long { result ≡ ToolEnd.TooLong → GaveTooMuch (S.left source.old) (S.left source.new) }
     ensures within { result ≢ ToolEnd.TooLong → GaveWithin (S.left source.old) (S.left source.new) }
@@ -232,6 +234,7 @@ pub fn af_run<S: Source, K: Sink, D: Dial>(
     ensures done { (j : Job) → job words.now ≡ Some j → result ≡ ToolEnd.Done → IsReadWhole j.task (S.left source.new) }
 
     // each end has its cause
+    ensures memory { result ≡ ToolEnd.OutOfMemory → (K.held sink.new ≡ K.held sink.old) × (S.left source.new ≡ S.left source.old) }
     ensures end { is_of_af result ≡ true }
     ensures reply { (j : Job) (links : List ToldLink) (bytes : List ℕ) → job words.now ≡ Some j → result ≢ ToolEnd.Usage → D.links dial.old ≡ Some links → S.left source.old ≡ Some bytes → IsSome (S.left source.new) → EndsByReply (run_course j links bytes) result }
     ensures device { (j : Job) (links : List ToldLink) (bytes : List ℕ) → job words.now ≡ Some j → result ≢ ToolEnd.Usage → D.links dial.old ≡ Some links → S.left source.old ≡ Some bytes → IsSome (S.left source.new) → EndsByDevice (run_course j links bytes) result }

@@ -1,6 +1,6 @@
 # demo: runs the example through `afd script`, by the proved program where it is built
 # listen: runs the example in which three clients are heard, in the same way, and makes a sound file of it
-# build: proves everything and leaves the program in bin/
+# build: proves everything and leaves the programs in bin/
 # test: the whole gate
 # fmt: lays out each crate's files
 
@@ -18,6 +18,7 @@ listen:
 
 build:
 	rt all check && mkdir -p bin && cd crates/afd && rt run -- script < stdin > /dev/null && cp out/afd ../../bin/afd
+	cd crates/af && rm -f out/af && { rt run -- arecord 127.0.0.1:1 --frames=1 2> /dev/null; cp out/af ../../bin/af; }
 
 test:
 	.ci/run

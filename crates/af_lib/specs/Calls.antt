@@ -207,6 +207,10 @@ pub record Called {L X : Type 0} (left sent : L → Option (List ℕ)) (faults :
   pub sends : old.cause ≡ None → Sends result (sent old.link) (request_bytes asked) (sent new.link)
   -- exactly its answer was taken
   pub answers : old.cause ≡ None → Answers value_of (opcode_of asked) (following old.sequence) result old.ring new.ring (left old.link) (left new.link)
+  -- the answer is one of a connection that can still be used
+  pub fresh : old.cause ≡ None → IsFresh result
+  -- bytes that are told stay told
+  pub tells : IsSome (left old.link) → IsSome (left new.link)
   -- the devices stay, and a fault is kept
   pub keeps : old.cause ≡ None → new ≡ record { link = new.link; devices = old.devices; sequence = following old.sequence; ring = new.ring; cause = cause_of result }
   -- LinkFault only where the link's count of faults rose
@@ -241,6 +245,8 @@ pub record IsSetUp {L : Type 0} (left sent : L → Option (List ℕ)) (faults : 
   pub answers : Answers as_devices 0 0 result (record { events = []; lost = 0 }) ring (left old) (left new)
   -- it is neither Spent nor want of memory
   pub fresh : IsFresh result
+  -- bytes that are told stay told
+  pub tells : IsSome (left old) → IsSome (left new)
   -- LinkFault only where the link's count of faults rose
   pub failed : result ≡ Err fault.LinkFault → Rose (faults old) (faults new)
   pub count : faults old ≤ faults new

@@ -1,5 +1,5 @@
 // Replies as the values that they state, for each kind of request.
-ghost use Rattle.std.specs.Prelude.{◌≡◌, ◌≢◌, ◌≤◌, length, option_map, Err, IfOk, IfSome, IsTrue};
+ghost use Rattle.std.specs.Prelude.{◌≡◌, ◌≢◌, ◌≤◌, length, option_map, Err, IfOk, IfSome, IsTrue, IsSome};
 ghost use Rattle.af_outside.specs.Told.{Rose};
 ghost use Rattle.af_request.specs.Answer.{meaning as answered_by, recorded, items_of};
 ghost use Rattle.af_request.specs.Asked.{meaning};
@@ -68,6 +68,7 @@ pub fn ask_done<L: Link>(
     ensures answers { Answers as_done (opcode_of (meaning request.now)) sequence result ring.old ring.new (L.left link.old) (L.left link.new) }
     ensures fresh { IsFresh result }
     ensures sends { Sends result (L.sent link.old) (request_bytes (meaning request.now)) (L.sent link.new) }
+    ensures tells { IsSome (L.left link.old) → IsSome (L.left link.new) }
     ensures count { L.faults link.old ≤ L.faults link.new }
     ensures cause { result ≡ Err ConnFault.LinkFault → Rose (L.faults link.old) (L.faults link.new) }
 {
@@ -116,6 +117,7 @@ pub fn ask_time<L: Link>(
     ensures answers { Answers as_time (opcode_of (meaning request.now)) sequence result ring.old ring.new (L.left link.old) (L.left link.new) }
     ensures fresh { IsFresh result }
     ensures sends { Sends result (L.sent link.old) (request_bytes (meaning request.now)) (L.sent link.new) }
+    ensures tells { IsSome (L.left link.old) → IsSome (L.left link.new) }
     ensures count { L.faults link.old ≤ L.faults link.new }
     ensures cause { result ≡ Err ConnFault.LinkFault → Rose (L.faults link.old) (L.faults link.new) }
 {
@@ -165,6 +167,7 @@ pub fn ask_controls<L: Link>(
     ensures answers { Answers as_controls (opcode_of (meaning request.now)) sequence result ring.old ring.new (L.left link.old) (L.left link.new) }
     ensures fresh { IsFresh result }
     ensures sends { Sends result (L.sent link.old) (request_bytes (meaning request.now)) (L.sent link.new) }
+    ensures tells { IsSome (L.left link.old) → IsSome (L.left link.new) }
     ensures count { L.faults link.old ≤ L.faults link.new }
     ensures cause { result ≡ Err ConnFault.LinkFault → Rose (L.faults link.old) (L.faults link.new) }
 {
@@ -214,6 +217,7 @@ pub fn ask_phone<L: Link>(
     ensures answers { Answers as_phone (opcode_of (meaning request.now)) sequence result ring.old ring.new (L.left link.old) (L.left link.new) }
     ensures fresh { IsFresh result }
     ensures sends { Sends result (L.sent link.old) (request_bytes (meaning request.now)) (L.sent link.new) }
+    ensures tells { IsSome (L.left link.old) → IsSome (L.left link.new) }
     ensures count { L.faults link.old ≤ L.faults link.new }
     ensures cause { result ≡ Err ConnFault.LinkFault → Rose (L.faults link.old) (L.faults link.new) }
 {
@@ -299,6 +303,7 @@ pub fn ask_recorded<L: Link>(
     ensures all { IfOk result (λ r. IsTrue blocking → r.1 ≡ length into.old) }
     ensures fresh { IsFresh result }
     ensures sends { Sends (recorded_in result into.new) (L.sent link.old) (request_bytes (meaning request.now)) (L.sent link.new) }
+    ensures tells { IsSome (L.left link.old) → IsSome (L.left link.new) }
     ensures count { L.faults link.old ≤ L.faults link.new }
     ensures cause { result ≡ Err ConnFault.LinkFault → Rose (L.faults link.old) (L.faults link.new) }
 {
@@ -344,6 +349,7 @@ pub fn set_up<L: Link>(
     ensures answers { Answers as_devices 0 0 (listed result) ring.old ring.new (L.left link.old) (L.left link.new) }
     ensures fresh { IsFresh result }
     ensures sends { Sends (listed result) (L.sent link.old) setup_bytes (L.sent link.new) }
+    ensures tells { IsSome (L.left link.old) → IsSome (L.left link.new) }
     ensures count { L.faults link.old ≤ L.faults link.new }
     ensures cause { result ≡ Err ConnFault.LinkFault → Rose (L.faults link.old) (L.faults link.new) }
 {

@@ -70,7 +70,8 @@ impl<L: Link + Drop> Conn<L> {
 
     /// The devices of the server, by rising number.
     pub fn devices(&self) -> &[DeviceInfo]
-        ensures { result.now ≡ self.now.devices }
+        ensures value { result.now ≡ self.now.devices }
+        ensures few { length result.now ≤ 8 }
     {
         self.devices.as_slice()
     }

@@ -1,5 +1,5 @@
 // Sending a request, and taking its answer.
-ghost use Rattle.std.specs.Prelude.{◌≡◌, ◌≢◌, ◌≤◌, length, IfOk, Ok, Err};
+ghost use Rattle.std.specs.Prelude.{◌≡◌, ◌≢◌, ◌≤◌, length, IfOk, Ok, Err, IsSome};
 ghost use Rattle.af_outside.specs.Told.{Rose};
 ghost use Rattle.af_outside.specs.Flow.{Written};
 ghost use Rattle.af_request.specs.Asked.{meaning};
@@ -98,6 +98,7 @@ pub fn await_answer<L: Link>(
     ensures within { IfOk result (λ n. (8 ≤ n) × (n ≤ 16016)) }
     ensures fresh { IsFresh result }
     ensures sends { L.sent link.new ≡ L.sent link.old }
+    ensures tells { IsSome (L.left link.old) → IsSome (L.left link.new) }
     ensures count { L.faults link.old ≤ L.faults link.new }
     ensures cause { result ≡ Err ConnFault.LinkFault → Rose (L.faults link.old) (L.faults link.new) }
 {
@@ -114,6 +115,7 @@ fn send<L: Link>(link: &mut L, output: &mut [u8], request: &Request<'_>) -> Put
     requires room { 16384 ≤ length output.old }
     ensures written { Written result (L.sent link.old) (request_bytes (meaning request.now)) (L.sent link.new) }
     ensures gives { L.left link.new ≡ L.left link.old }
+    ensures tells { IsSome (L.left link.old) → IsSome (L.left link.new) }
     ensures count { L.faults link.old ≤ L.faults link.new }
     ensures cause { result ≡ Put.Failed → Rose (L.faults link.old) (L.faults link.new) }
 {
@@ -137,6 +139,7 @@ pub fn ask<L: Link>(
     ensures within { IfOk result (λ n. (8 ≤ n) × (n ≤ 16016)) }
     ensures fresh { IsFresh result }
     ensures sends { Sends result (L.sent link.old) (request_bytes (meaning request.now)) (L.sent link.new) }
+    ensures tells { IsSome (L.left link.old) → IsSome (L.left link.new) }
     ensures count { L.faults link.old ≤ L.faults link.new }
     ensures cause { result ≡ Err ConnFault.LinkFault → Rose (L.faults link.old) (L.faults link.new) }
 {
@@ -157,6 +160,7 @@ pub fn await_setup<L: Link>(
     ensures within { IfOk result (λ n. (8 ≤ n) × (n ≤ 16016)) }
     ensures fresh { IsFresh result }
     ensures sends { Sends result (L.sent link.old) setup_bytes (L.sent link.new) }
+    ensures tells { IsSome (L.left link.old) → IsSome (L.left link.new) }
     ensures count { L.faults link.old ≤ L.faults link.new }
     ensures cause { result ≡ Err ConnFault.LinkFault → Rose (L.faults link.old) (L.faults link.new) }
 {

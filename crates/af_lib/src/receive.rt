@@ -1,5 +1,5 @@
 // Receiving messages: bytes, one message, and the first message that is no event.
-ghost use Rattle.std.specs.Prelude.{◌≡◌, ◌≢◌, ◌≤◌, ◌<◌, ◌++◌, length, take, drop, IfOk, Ok, Err};
+ghost use Rattle.std.specs.Prelude.{◌≡◌, ◌≢◌, ◌≤◌, ◌<◌, ◌++◌, length, take, drop, IfOk, Ok, Err, IsSome};
 ghost use Rattle.af_outside.specs.Told.{Rose};
 ghost use Rattle.af_request.specs.Fields.{u8_at};
 ghost use Rattle.af_lib.specs.Incoming.{bad_reply, first_bytes, message_in, rest_of};
@@ -43,6 +43,7 @@ pub enum Taken {
 pub fn fill<L: Link>(link: &mut L, into: &mut [u8]) -> Filled
     ensures fills { Fills result into.new (L.left link.old) (L.left link.new) }
     ensures sends { L.sent link.new ≡ L.sent link.old }
+    ensures tells { IsSome (L.left link.old) → IsSome (L.left link.new) }
     ensures count { L.faults link.old ≤ L.faults link.new }
     ensures cause { result ≡ Filled.Failed → Rose (L.faults link.old) (L.faults link.new) }
 {
@@ -63,6 +64,7 @@ pub fn frame<L: Link>(link: &mut L, input: &mut [u8]) -> Framed
     ensures frames { Frames result input.new (L.left link.old) (L.left link.new) }
     ensures within { IsFramedWithin result }
     ensures sends { L.sent link.new ≡ L.sent link.old }
+    ensures tells { IsSome (L.left link.old) → IsSome (L.left link.new) }
     ensures count { L.faults link.old ≤ L.faults link.new }
     ensures cause { result ≡ Framed.Failed → Rose (L.faults link.old) (L.faults link.new) }
 {
@@ -126,6 +128,7 @@ pub fn take_message<L: Link>(link: &mut L, input: &mut [u8]) -> Result<Taken, Co
     ensures within { IsTakenWithin result 16016 }
     ensures fresh { IsFresh result }
     ensures sends { L.sent link.new ≡ L.sent link.old }
+    ensures tells { IsSome (L.left link.old) → IsSome (L.left link.new) }
     ensures count { L.faults link.old ≤ L.faults link.new }
     ensures cause { result ≡ Err ConnFault.LinkFault → Rose (L.faults link.old) (L.faults link.new) }
 {
@@ -149,6 +152,7 @@ pub fn await_message<L: Link>(
     ensures within { IfOk result (λ n. (8 ≤ n) × (n ≤ 16016)) }
     ensures fresh { IsFresh result }
     ensures sends { L.sent link.new ≡ L.sent link.old }
+    ensures tells { IsSome (L.left link.old) → IsSome (L.left link.new) }
     ensures count { L.faults link.old ≤ L.faults link.new }
     ensures cause { result ≡ Err ConnFault.LinkFault → Rose (L.faults link.old) (L.faults link.new) }
 {
@@ -169,6 +173,7 @@ pub fn take_event<L: Link>(link: &mut L, input: &mut [u8]) -> Result<Event, Conn
     ensures takes { result ≢ Err ConnFault.LinkFault → BothTold (L.left link.old) (L.left link.new) (λ b a. (result ≡ event_of b) × (a ≡ rest_of b)) }
     ensures fresh { IsFresh result }
     ensures sends { L.sent link.new ≡ L.sent link.old }
+    ensures tells { IsSome (L.left link.old) → IsSome (L.left link.new) }
     ensures count { L.faults link.old ≤ L.faults link.new }
     ensures cause { result ≡ Err ConnFault.LinkFault → Rose (L.faults link.old) (L.faults link.new) }
 {

@@ -5,5 +5,7 @@ pub mod Outside
 pub mod Tape
 pub mod Memory
 pub mod Link
+pub mod Dial
+pub mod MemDial
 pub mod Real
 pub mod TapeLaws

@@ -1,5 +1,5 @@
 // The words of a command line, which contracts see as a list of words, each a list of bytes.
-ghost use Rattle.std.specs.Prelude.{◌≡◌, ◌++◌, [], ◌∷◌, length, option_map, slice_get, OnOk, OnErr};
+ghost use Rattle.std.specs.Prelude.{◌≡◌, ◌++◌, [], ◌∷◌, length, map, option_map, slice_get, string_bytes, OnOk, OnErr};
 
 use af_time::OutOfMemory;
 use std::alloc::Global;
@@ -44,6 +44,13 @@ impl Args {
         ensures { result ≡ length self.now }
     {
         self.words.len()
+    }
+
+    /// All words.
+    pub fn as_slice(&self) -> &[String]
+        ensures { map string_bytes result.now ≡ self.now }
+    {
+        self.words.as_slice()
     }
 
     /// The word at a place, counted from 0, or None exactly where the place is not below the length.

@@ -3,31 +3,39 @@
 
 mod args;
 mod bytes;
+mod dial;
 mod far_end;
 mod flow;
 mod happening;
 pub mod laws;
 mod link;
 mod logbook;
+mod mem_dial;
 mod mem_link;
 mod memory;
 mod real;
 mod script;
 mod station;
 mod tape;
+mod tcp;
 mod world;
 
 pub use args::Args;
 pub use bytes::Bytes;
+pub use dial::{Dial, Dialed};
 pub use flow::{Got, Put, Sink, Source};
 pub use happening::{Happening, ReadGot, Wake, Why};
 pub use link::Link;
+pub use mem_dial::MemDial;
 pub use mem_link::MemLink;
 pub use memory::{MemSink, MemSource};
 pub use real::{StdSink, StdSource};
 pub use script::{Config, DeviceSpec, Step};
 pub use tape::Tape;
+pub use tcp::{TcpDial, TcpLink};
 pub use world::{LinkGot, LinkTook, World};
 
+#[cfg(test)]
+mod dial_tests;
 #[cfg(test)]
 mod tests;

@@ -1,10 +1,10 @@
 // A link to a server, as a client has it.
-ghost use Rattle.std.specs.Prelude.{◌≡◌, ◌≤◌, ◌<◌, ℕ, List, length};
+ghost use Rattle.std.specs.Prelude.{◌≡◌, ◌≤◌, ◌<◌, ℕ, List, length, IsSome};
 ghost use Rattle.std.specs.declared.option.Option.{Option};
 
 use crate::{Got, Put};
 
-/// Bytes come and go both ways.
+/// Bytes come and go both ways. A link tells the bytes that it is left to give for good, or never.
 pub trait Link {
     ghost use Rattle.af_outside.specs.Told.{Gave, Rose};
     ghost use Rattle.af_outside.specs.Flow.{given_of, GotFits, Written};
@@ -23,6 +23,7 @@ pub trait Link {
         requires { 0 < length into.old }
         ensures gave { Gave (left self.old) (given_of result into.new) (left self.new) }
         ensures bound { GotFits result (length into.new) (left self.new) }
+        ensures tells { IsSome (left self.old) → IsSome (left self.new) }
         ensures sends { sent self.new ≡ sent self.old }
         ensures count { faults self.old ≤ faults self.new }
         ensures cause { result ≡ Got.Failed → Rose (faults self.old) (faults self.new) };

@@ -1,5 +1,5 @@
 // A link in memory, of which chosen calls fail.
-ghost use Rattle.std.specs.Prelude.{◌≡◌, ◌≤◌, ◌<◌, ◌+◌, ◌↔◌, ◌⊎◌, ℕ, [], ◌++◌, length, min, Contains, IfOk, vec_capacity};
+ghost use Rattle.std.specs.Prelude.{◌≡◌, ◌≤◌, ◌<◌, ◌+◌, ◌↔◌, ◌⊎◌, ℕ, [], ◌++◌, length, min, Contains, IfOk, IsSome, vec_capacity};
 ghost use Rattle.std.specs.declared.option.Option.TheVariants.{Some};
 ghost use Rattle.af_outside.specs.Told.{Gave, Rose};
 ghost use Rattle.af_outside.specs.Flow.{given_of, GotFits, Written};
@@ -79,6 +79,13 @@ impl MemLink {
     {
         self.sent.as_slice()
     }
+
+    /// How many of its calls have failed.
+    pub fn faults(&self) -> u64
+        ensures { result ≡ self.now.faults }
+    {
+        self.faults
+    }
 }
 
 impl Link for MemLink {
@@ -92,6 +99,7 @@ impl Link for MemLink {
         requires { 0 < length into.old }
         ensures gave { Gave (Some self.old.left) (given_of result into.new) (Some self.new.left) }
         ensures bound { GotFits result (length into.new) (Some self.new.left) }
+        ensures tells { IsSome (Some self.old.left) → IsSome (Some self.new.left) }
         ensures sends { Some self.new.sent ≡ Some self.old.sent }
         ensures count { self.old.faults ≤ self.new.faults }
         ensures cause { result ≡ Got.Failed → Rose self.old.faults self.new.faults }

@@ -107,8 +107,8 @@ impl<W: Write + Drop> Sink for StdSink<W> {
     }
 }
 
-// A read, made again where it is interrupted.
-fn read_some<R: Read>(reader: &mut R, into: &mut [u8]) -> Got
+/// A read, made again where it is interrupted.
+pub fn read_some<R: Read>(reader: &mut R, into: &mut [u8]) -> Got
     requires { 0 < length into.old }
     ensures { ReadsOn result (R.remaining reader.old) into.new (R.remaining reader.new) }
 {
@@ -140,8 +140,8 @@ fn write_some<W: Write>(writer: &mut W, piece: &[u8]) -> Option<usize>
     None
 }
 
-// Writes a piece part by part.
-fn write_whole<W: Write>(writer: &mut W, piece: &[u8]) -> Put
+/// Writes a piece part by part.
+pub fn write_whole<W: Write>(writer: &mut W, piece: &[u8]) -> Put
     ensures { WritesOn result (W.contents writer.old) piece.now (W.contents writer.new) }
 {
     let mut written = 0;

@@ -42,8 +42,17 @@ loop-allowed-preserved g c =
     let i = c.loop-allowed.invariant in
     let told = await_event l0 l1 l2 4096 c.loop-allowed.allowed c.args.ring.now c.loop-allowed.ring i.0 c.in-Event.event (omega arith)
     (sound c.in_ok-event.field-0 _ (λ t. Takes (Ok t) c.take_message.new.input l1 l2) c.in-Event.is c.in_ok-event.ensures.takes) in
-    (rw c.note.ensures told, c.in_ok-event.ensures.sends ∙ i.1, omega (arith, i.2, c.in_ok-event.ensures.count))
+    (rw c.note.ensures told, c.in_ok-event.ensures.sends ∙ i.1, omega (arith, i.2, c.in_ok-event.ensures.count), λ t. c.in_ok-event.ensures.tells (i.3 t))
 
 pub returns-clause-awaits : goal.returns-clause-awaits
 returns-clause-awaits g c _ =
     await_flood (g.L.Link.left c.args.link.now) (g.L.Link.left c.loop-allowed.link) 4096 c.loop-allowed.allowed c.args.ring.now c.loop-allowed.ring c.loop-allowed.invariant.0 (omega arith)
+
+pub returns-in_err-event-clause-tells : goal.returns-in_err-event-clause-tells
+returns-in_err-event-clause-tells g c told = c.in_err-event.ensures.tells (c.loop-allowed.invariant.3 told)
+
+pub returns-in-Other-clause-tells : goal.returns-in-Other-clause-tells
+returns-in-Other-clause-tells g c told = c.in_ok-event.ensures.tells (c.loop-allowed.invariant.3 told)
+
+pub returns-clause-tells : goal.returns-clause-tells
+returns-clause-tells g c told = c.loop-allowed.invariant.3 told

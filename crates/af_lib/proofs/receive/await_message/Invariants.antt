@@ -1,4 +1,4 @@
-use Rattle.std.proofs.Common.{◌≡◌, ◌≤◌}
+use Rattle.std.proofs.Common.{◌≡◌, ◌≤◌, IsSome}
 use Rattle.af_lib.specs.Told.{BothTold}
 use Rattle.af_lib.specs.Incoming.{awaited}
 use Rattle.af_lib.proofs.receive.await_message.Given as goal
@@ -8,6 +8,7 @@ invariant-loop-allowed g l =
     BothTold (g.L.Link.left l.initial.link) (g.L.Link.left l.link) (λ before now. awaited 4096 l.initial.ring before ≡ awaited l.allowed l.ring now)
     × (g.L.Link.sent l.link ≡ g.L.Link.sent l.initial.link)
     × (g.L.Link.faults l.initial.link ≤ g.L.Link.faults l.link)
+    × (IsSome (g.L.Link.left l.initial.link) → IsSome (g.L.Link.left l.link))
 
 abbrev pub decreases-loop-allowed : goal.decreases-loop-allowed
 decreases-loop-allowed g l = l.allowed

@@ -1,4 +1,4 @@
-use Rattle.std.proofs.Common.{◌≡◌, ◌≤◌, ◌-◌, length, take}
+use Rattle.std.proofs.Common.{◌≡◌, ◌≤◌, ◌-◌, length, take, IsSome}
 use Rattle.af_outside.specs.Told.{Gave}
 use Rattle.af_lib.proofs.receive.fill.Given as goal
 
@@ -8,6 +8,7 @@ invariant-loop-filled g l =
     × Gave (g.L.Link.left l.initial.link) (take l.filled l.into) (g.L.Link.left l.link)
     × (g.L.Link.sent l.link ≡ g.L.Link.sent l.initial.link)
     × (g.L.Link.faults l.initial.link ≤ g.L.Link.faults l.link)
+    × (IsSome (g.L.Link.left l.initial.link) → IsSome (g.L.Link.left l.link))
 
 abbrev pub decreases-loop-filled : goal.decreases-loop-filled
 decreases-loop-filled g l = length l.into - l.filled

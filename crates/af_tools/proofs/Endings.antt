@@ -1,0 +1,169 @@
+-- How a tool ends, by its course.
+use Rattle.std.proofs.Common.{◌≡◌, ℕ, zero, suc, ◌+◌, ◌*◌, ◌/◌, ◌%◌, ◌^◌, ◌≤◌, nat_lt, Bool, true, false, List, [], ◌∷◌, length, take, drop, sym, ap, ◌∙◌, refl, arith, inl, inr, ◌⊎◌, if◌then◌else◌, length-take, length-drop}
+use Rattle.std.specs.Prelude.{Result, Ok, Err}
+use Rattle.std.proofs.lemmas.Bool.Decides.{nat_tests}
+use Rattle.std.specs.declared.option.Option.{Option}
+use Rattle.af_sample.specs.declared.sample_type.SampleType.{SampleType}
+use Rattle.af_request.specs.declared.reply.DeviceInfo.{DeviceInfo}
+use Rattle.af_request.specs.Asked.{Asked, free_ac, get_time, play_run}
+use Rattle.af_request.specs.Answer.{Answer}
+use Rattle.af_lib.specs.declared.fault.ConnFault.{ConnFault}
+use Rattle.af_lib.specs.declared.fault.ConnFault.TheVariants as fault
+use Rattle.af_lib.specs.Calls.{as_done, as_time}
+use Rattle.af_tools.specs.declared.end.ToolEnd.{ToolEnd}
+use Rattle.af_tools.specs.declared.end.ToolEnd.TheVariants as end
+use Rattle.af_tools.specs.declared.job.PlayJob.{PlayJob}
+use Rattle.af_tools.specs.declared.job.RecordJob.{RecordJob}
+use Rattle.af_tools.specs.Course.{Course, Finish, Wire, answer_on, answered_by, asks, behind, done, end_of, fault_end, no_device, not_dialled, refused, too_long}
+use Rattle.af_tools.specs.Play.{blocks, cut, most_bytes, play_context, played_on, plays}
+use Rattle.af_tools.specs.Record.{block_lengths, ends_row, peak, record_context, recorded_on, records}
+use Rattle.af_tools.specs.Ends.{Ended, EndsByReply, Followed, IsAnswered, is_of_play, is_of_record, is_of_reply, is_outer}
+
+-- the finish that an end of a reply tells of
+abbrev told_by : ToolEnd → Finish
+told_by end.LinkEnded = refused fault.LinkEnded
+told_by (end.Refused code value) = refused (fault.ServerError code value)
+told_by (end.BadReply header first) = refused (fault.BadReply header first)
+told_by end.EventFlood = refused fault.EventFlood
+told_by _ = done
+
+finish_told : (finish : Finish) → is_of_reply (end_of finish) ≡ true → finish ≡ told_by (end_of finish)
+finish_told done is = cc
+finish_told not_dialled is = cc
+finish_told (no_device devices) is = cc
+finish_told too_long is = cc
+finish_told (refused fault.LinkFault) is = cc
+finish_told (refused fault.LinkEnded) is = refl
+finish_told (refused (fault.ServerError code value)) is = refl
+finish_told (refused (fault.BadReply header first)) is = refl
+finish_told (refused fault.OutOfMemory) is = cc
+finish_told (refused fault.EventFlood) is = refl
+finish_told (refused (fault.Spent first)) is = cc
+
+inner_reply : (how : ToolEnd) → is_of_reply how ≡ true → is_outer how ≡ false
+inner_reply end.Done is = cc
+inner_reply end.Usage is = cc
+inner_reply end.DialFault is = cc
+inner_reply end.LinkFault is = cc
+inner_reply end.LinkEnded is = refl
+inner_reply (end.NoDevice devices) is = cc
+inner_reply (end.RateMismatch from to) is = cc
+inner_reply (end.Refused code value) is = refl
+inner_reply (end.BadReply header first) is = refl
+inner_reply end.EventFlood is = refl
+inner_reply end.ReadFault is = cc
+inner_reply end.TooLong is = cc
+inner_reply end.SinkFault is = cc
+inner_reply end.OutOfMemory is = cc
+
+-- an end of a reply is that of the course, and of no other
+pub reply_of : (course : Course) (how : ToolEnd) (sends output : List ℕ) → Ended course how sends output → EndsByReply course how
+reply_of course how sends output e = record {
+  only = λ fault is same.
+      let reply : is_of_reply how ≡ true = ap is_of_reply same ∙ is in
+      let way : how ≡ end_of course.finish = (e.whole (inner_reply how reply)).0 in
+      let mine : is_of_reply (end_of course.finish) ≡ true = ap is_of_reply (sym way) ∙ reply in
+      finish_told course.finish mine ∙ ap told_by (sym way ∙ same) ∙ sym (finish_told (refused fault) is);
+  always = λ fault is. elim (is_outer how) as (λ b. is_outer how ≡ b → (how ≡ fault_end fault) ⊎ (is_outer how ≡ true)) [
+    | true ↦ λ outer. inr outer
+    | false ↦ λ inner. inl ((e.whole inner).0 ∙ ap end_of is)
+  ] refl;
+}
+
+pub ends_by_reply : (course : Course) (how : ToolEnd) (s s' h h' : Option (List ℕ)) → Followed course how s s' h h' → EndsByReply course how
+ends_by_reply course how s s' h h' f = reply_of course how f.sends f.output f.ended
+
+-- a course whose device is there, and which is not too long, is done where each request gets its reply
+abbrev pub IsDoneOrRefused : Finish → Type 0
+IsDoneOrRefused finish = (finish ≡ done) ⊎ ((f : ConnFault) × (finish ≡ refused f))
+
+answer_finish : {X : Type 0} (r : Result X ConnFault) (w : Wire) (next : X → Wire → Course) → ((x : X) (v : Wire) → IsDoneOrRefused (next x v).finish) → IsDoneOrRefused (answered_by r w next).finish
+answer_finish (Ok x) w next more = more x w
+answer_finish (Err f) w next more = inr (f, refl)
+
+asked_finish : {X : Type 0} (asked : Asked) (value_of : Answer → Option X) (w : Wire) (next : X → Wire → Course) → ((x : X) (v : Wire) → IsDoneOrRefused (next x v).finish) → IsDoneOrRefused (asks asked value_of w next).finish
+unfolding asks
+asked_finish asked value_of w next more = answer_finish (answer_on asked value_of w) (behind w) next more
+
+if_finish : (b : Bool) (c d : Course) → IsDoneOrRefused c.finish → IsDoneOrRefused d.finish → IsDoneOrRefused (if b then c else d).finish
+if_finish true c d p q = p
+if_finish false c d p q = q
+
+plays_finish : (width start : ℕ) (n size sent given : ℕ) (bytes : List ℕ) (w : Wire) (next : ℕ → Wire → Course) → given + length bytes ≤ most_bytes → ((frames : ℕ) (v : Wire) → IsDoneOrRefused (next frames v).finish) →
+    IsDoneOrRefused (plays width start sent given (cut n size bytes) w next).finish
+unfolding plays
+plays_finish width start zero size sent given bytes w next within more = more sent w
+plays_finish width start (suc n) size sent given [] w next within more = more sent w
+plays_finish width start (suc n) size sent given (b ∷ bytes) w next within more =
+    let block = take size (b ∷ bytes) in
+    let rest = drop size (b ∷ bytes) in
+    let len = length-take size (b ∷ bytes) in
+    let left = length-drop size (b ∷ bytes) in
+    let fits : nat_lt most_bytes (given + length block) ≡ false = grind (arith, nat_tests) in
+    rw fits (if_finish (nat_lt 0 (length block / width)) _ (next sent w)
+    (asked_finish (play_run false 1 ((start + sent) % 2 ^ 32) (take (length block / width * width) block)) as_time w (λ _ v. plays width start (sent + length block / width) (given + length block) (cut n size rest) v next)
+    (λ _ v. plays_finish width start n size (sent + length block / width) (given + length block) rest v next (omega arith) more)) (more sent w))
+
+pub played_finish : (job : PlayJob) (device : DeviceInfo) (bytes : List ℕ) (w : Wire) (next : ℕ → ℕ → Wire → Course) → length bytes ≤ most_bytes → ((frames start : ℕ) (v : Wire) → IsDoneOrRefused (next frames start v).finish) →
+    IsDoneOrRefused (played_on job device bytes w next).finish
+unfolding played_on blocks
+played_finish job device bytes w next within more =
+    asked_finish (play_context job device) as_done w _ (λ _ v.
+    asked_finish (get_time job.device) as_time v _ (λ now v.
+    plays_finish _ _ (length bytes) _ 0 0 bytes v _ (omega arith) (λ frames v.
+    asked_finish (free_ac 1) as_done v _ (λ _ v. more frames _ v))))
+
+records_finish : (job : RecordJob) (ty : SampleType) (at : ℕ) (peaks lengths : List ℕ) (w : Wire) (next : Wire → Course) → ((v : Wire) → IsDoneOrRefused (next v).finish) → IsDoneOrRefused (records job ty at peaks lengths w next).finish
+unfolding records
+records_finish job ty at peaks [] w next more = more w
+records_finish job ty at peaks (n ∷ lengths) w next more =
+    asked_finish _ _ w _ (λ r v. if_finish (ends_row job (peak ty r.samples ∷ peaks)) (next v) _ (more v)
+    (records_finish job ty ((at + n) % 2 ^ 32) (peak ty r.samples ∷ peaks) lengths v next more))
+
+pub recorded_finish : (job : RecordJob) (device : DeviceInfo) (w : Wire) (next : Wire → Course) → ((v : Wire) → IsDoneOrRefused (next v).finish) → IsDoneOrRefused (recorded_on job device w next).finish
+unfolding recorded_on
+recorded_finish job device w next more =
+    asked_finish (record_context job device) as_done w _ (λ _ v.
+    asked_finish (get_time job.device) as_time v _ (λ now v.
+    records_finish job _ _ [] (block_lengths job.block job.frames) v _ (λ v.
+    asked_finish (free_ac 1) as_done v _ (λ _ v. more v))))
+
+-- where nothing from outside ended the tool and each request got its reply, the tool is done
+pub is_done : (course : Course) (how : ToolEnd) (s s' h h' : Option (List ℕ)) → Followed course how s s' h h' → IsDoneOrRefused course.finish → IsAnswered course → is_outer how ≡ false → how ≡ end.Done
+is_done course how s s' h h' f finish answered inner = elim finish [
+  | inl is ↦ (f.ended.whole inner).0 ∙ ap end_of is
+  | inr r ↦ absurd (answered r.0 r.1)
+]
+
+-- the ends from outside that a tool has
+pub inner_play : (how : ToolEnd) → is_of_play how ≡ true → (how ≡ end.LinkFault → ⊥) → (how ≡ end.ReadFault → ⊥) → (how ≡ end.SinkFault → ⊥) → is_outer how ≡ false
+inner_play end.Done is link read sink = refl
+inner_play end.Usage is link read sink = cc
+inner_play end.DialFault is link read sink = cc
+inner_play end.LinkFault is link read sink = absurd (link refl)
+inner_play end.LinkEnded is link read sink = refl
+inner_play (end.NoDevice devices) is link read sink = refl
+inner_play (end.RateMismatch from to) is link read sink = cc
+inner_play (end.Refused code value) is link read sink = refl
+inner_play (end.BadReply header first) is link read sink = refl
+inner_play end.EventFlood is link read sink = refl
+inner_play end.ReadFault is link read sink = absurd (read refl)
+inner_play end.TooLong is link read sink = refl
+inner_play end.SinkFault is link read sink = absurd (sink refl)
+inner_play end.OutOfMemory is link read sink = cc
+
+pub inner_record : (how : ToolEnd) → is_of_record how ≡ true → (how ≡ end.LinkFault → ⊥) → (how ≡ end.SinkFault → ⊥) → is_outer how ≡ false
+inner_record end.Done is link sink = refl
+inner_record end.Usage is link sink = cc
+inner_record end.DialFault is link sink = cc
+inner_record end.LinkFault is link sink = absurd (link refl)
+inner_record end.LinkEnded is link sink = refl
+inner_record (end.NoDevice devices) is link sink = refl
+inner_record (end.RateMismatch from to) is link sink = cc
+inner_record (end.Refused code value) is link sink = refl
+inner_record (end.BadReply header first) is link sink = refl
+inner_record end.EventFlood is link sink = refl
+inner_record end.ReadFault is link sink = cc
+inner_record end.TooLong is link sink = cc
+inner_record end.SinkFault is link sink = absurd (sink refl)
+inner_record end.OutOfMemory is link sink = cc

@@ -1,0 +1,13 @@
+pub mod Growing
+pub mod Going
+pub mod Reaching
+pub mod Playing
+pub mod PlaySteps
+pub mod PlayTail
+pub mod Recording
+pub mod Endings
+pub mod Tops
+pub mod RecordTail
+pub mod Parsed
+pub mod Naming
+pub mod Running

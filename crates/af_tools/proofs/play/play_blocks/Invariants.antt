@@ -1,0 +1,23 @@
+use Rattle.std.proofs.Common.{◌≡◌, ◌≤◌, ◌+◌, ◌-◌, ◌^◌, ℕ, List, length, IsSome}
+use Rattle.std.specs.declared.option.Option.{Option}
+use Rattle.std.specs.declared.option.Option.TheVariants.{None, Some}
+use Rattle.af_tools.specs.Ends.{wire_of}
+use Rattle.af_tools.proofs.Playing.{GaveAll, IsPlaying}
+use Rattle.af_tools.proofs.play.play_blocks.Given as goal
+
+abbrev pub invariant-loop-filled : goal.invariant-loop-filled
+invariant-loop-filled g l = record {
+  usable : l.conn.cause ≡ None;
+  devices : l.conn.devices ≡ l.initial.conn.devices;
+  tells : IsSome (g.L.Link.left l.initial.conn.link) → IsSome (g.L.Link.left l.conn.link);
+  link_count : g.L.Link.faults l.initial.conn.link ≤ g.L.Link.faults l.conn.link;
+  count : g.S.Source.faults l.initial.source ≤ g.S.Source.faults l.source;
+  permitted : l.given ≤ 2 ^ 40;
+  few : l.frames ≤ l.given;
+  given : GaveAll l.given (g.S.Source.left l.initial.source) (g.S.Source.left l.source);
+  playing : (input bytes : List ℕ) (held : Option (List ℕ)) → g.L.Link.left l.initial.conn.link ≡ Some input → g.S.Source.left l.initial.source ≡ Some bytes → IsSome (g.S.Source.left l.source) →
+      IsPlaying l.width l.start.0 (length l.initial.room) l.frames l.given bytes (wire_of l.initial.conn input) (g.S.Source.left l.source) (g.L.Link.left l.conn.link) (wire_of l.conn) (g.L.Link.sent l.initial.conn.link) (g.L.Link.sent l.conn.link) held;
+}
+
+abbrev pub decreases-loop-filled : goal.decreases-loop-filled
+decreases-loop-filled g l = 2 ^ 40 + 1 - l.given

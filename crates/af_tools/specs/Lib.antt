@@ -1,0 +1,10 @@
+pub mod Course
+pub mod Play
+pub mod Record
+pub mod Ends
+pub mod Fill
+pub mod Device
+pub mod Talk
+pub mod Numbers
+pub mod Words
+pub mod Run

@@ -1,0 +1,35 @@
+-- The values of words: numbers, gains and sample types.
+use Rattle.std.specs.Prelude.{ℕ, ℤ, pos, neg_ℤ, nat_le, ◌==◌, ◌&&◌, List, [], ◌∷◌, length, Option, Some, None, option_map, if◌then◌else◌, codes}
+use Rattle.std.specs.Str.{all_ascii_digits, bytes_eq}
+use Rattle.std.specs.Str.Parse.{digits_value}
+use Rattle.af_sample.specs.declared.sample_type.SampleType.{SampleType}
+use Rattle.af_sample.specs.declared.sample_type.SampleType.TheVariants.{Mu255, Alaw, Lin16, Lin32}
+
+-- the number of some decimal digits, where it lies between these two
+abbrev pub number_in : ℕ → ℕ → List ℕ → Option ℕ
+number_in low high text =
+    if nat_le 1 (length text) && all_ascii_digits text && nat_le low (digits_value 10 text) && nat_le (digits_value 10 text) high then Some (digits_value 10 text) else None
+
+-- a gain of -30 to 30 decibels, of which a minus sign may stand before the digits
+abbrev pub gain_in : List ℕ → Option ℤ
+gain_in [] = None
+gain_in (c ∷ text) = if c == 45 then option_map (λ n. neg_ℤ (pos n)) (number_in 0 30 text) else option_map (λ n. pos n) (number_in 0 30 (c ∷ text))
+
+-- the sample type of a name
+abbrev pub type_in : List ℕ → Option SampleType
+type_in text =
+    if bytes_eq text (codes "mu255") then Some Mu255
+    else if bytes_eq text (codes "alaw") then Some Alaw
+    else if bytes_eq text (codes "lin16") then Some Lin16
+    else if bytes_eq text (codes "lin32") then Some Lin32
+    else None
+
+-- a value that need not be there
+abbrev pub if_there : {X : Type 0} → (List ℕ → Option X) → Option (List ℕ) → Option (Option X)
+if_there value_in None = Some None
+if_there value_in (Some text) = option_map (λ x. Some x) (value_in text)
+
+-- a value with a default
+abbrev pub or_else : {X : Type 0} → X → (List ℕ → Option X) → Option (List ℕ) → Option X
+or_else default value_in None = Some default
+or_else default value_in (Some text) = value_in text

@@ -1,0 +1,78 @@
+-- What aplay does: the bytes of its source are cut into blocks, and each block is played at its time.
+use Rattle.std.specs.Prelude.{ℕ, zero, suc, ◌+◌, ◌*◌, ◌/◌, ◌%◌, ◌^◌, nat_lt, if◌then◌else◌, pos, false, List, [], ◌∷◌, ◌++◌, length, take, drop, codes, decimal, unwrap_or}
+use Rattle.std.specs.declared.option.Option.{Option}
+use Rattle.std.specs.declared.option.Option.TheVariants.{None, Some}
+use Rattle.af_time.specs.DeviceTime.{frames_lasting}
+use Rattle.af_sample.specs.SampleTypes.{code_of, width_of}
+use Rattle.af_request.specs.declared.reply.DeviceInfo.{DeviceInfo}
+use Rattle.af_request.specs.Asked.{Asked, create_ac, free_ac, play_run}
+use Rattle.af_request.specs.Fields.{flag_byte}
+use Rattle.af_lib.specs.Calls.{as_done, as_time}
+use Rattle.af_tools.specs.declared.job.PlayJob.{PlayJob}
+use Rattle.af_tools.specs.Course.{Course, Wire, asks, begins, done, ends, too_long, with_device, writing}
+
+-- how many bytes a source may give
+abbrev pub most_bytes : ℕ
+most_bytes = 2 ^ 40
+
+-- a list cut into blocks of so many bytes, the last of what is left
+abbrev pub cut : ℕ → ℕ → List ℕ → List (List ℕ)
+cut zero size bytes = []
+cut (suc n) size [] = []
+cut (suc n) size (b ∷ bytes) = take size (b ∷ bytes) ∷ cut n size (drop size (b ∷ bytes))
+
+unfoldable pub blocks : ℕ → List ℕ → List (List ℕ)
+blocks size bytes = cut (length bytes) size bytes
+
+-- how many frames of so many bytes a block has, and the bytes of these
+abbrev pub frames_in : ℕ → List ℕ → ℕ
+frames_in width block = length block / width
+
+abbrev pub whole_frames : ℕ → List ℕ → List ℕ
+whole_frames width block = take (frames_in width block * width) block
+
+-- Each block is played behind those before it: so many frames after the start. What follows is told how many frames there
+-- were in all. A block without a whole frame is not sent, and where the source has given too much the tool ends.
+unfoldable pub plays : (width start sent given : ℕ) → List (List ℕ) → Wire → (ℕ → Wire → Course) → Course
+plays width start sent given [] w next = next sent w
+plays width start sent given (block ∷ more) w next =
+    if nat_lt most_bytes (given + length block) then ends too_long
+    else if nat_lt 0 (frames_in width block) then asks (play_run false 1 ((start + sent) % 2 ^ 32) (whole_frames width block)) as_time w
+    (λ _ v. plays width start (sent + frames_in width block) (given + length block) more v next)
+    else next sent w
+
+-- the start, where it is stated, or else so many frames after the device's time
+abbrev pub start_at : Option ℕ → ℕ → ℕ → ℕ
+start_at (Some time) now lead = time
+start_at None now lead = (now + lead) % 2 ^ 32
+
+-- what aplay writes of so many frames from a start
+unfoldable pub played : ℕ → ℕ → List ℕ
+played sent start = codes "played " ++ decimal sent ++ codes " at " ++ decimal start ++ codes "\n"
+
+-- the context of a job on a device
+abbrev pub play_context : PlayJob → DeviceInfo → Asked
+play_context job device = create_ac job.device 1 (code_of (unwrap_or job.ty device.ty)) 1 (flag_byte job.preempt) job.gain (pos 0)
+
+-- a context is made and the device's time asked, the blocks are played, and the context is freed; what follows is told how
+-- many frames these were, and from when on
+unfoldable pub played_on : PlayJob → DeviceInfo → List ℕ → Wire → (ℕ → ℕ → Wire → Course) → Course
+played_on job device bytes w next =
+    let width = width_of (unwrap_or job.ty device.ty) in
+    begins (play_context job device) job.device w (λ now w.
+    let start = start_at job.time now.0 (frames_lasting device.rate job.lead) in
+    plays width start 0 0 (blocks (job.block * width) bytes) w (λ frames w.
+    asks (free_ac 1) as_done w (λ _ w. next frames start w)))
+
+-- the course of aplay, by the devices of the server, the bytes of the source, and what the link gives: it plays all, and then
+-- writes how much from when on
+unfoldable pub aplay_course : PlayJob → List DeviceInfo → List ℕ → Wire → Course
+aplay_course job devices bytes w = with_device job.device devices (λ device.
+    played_on job device bytes w (λ frames start _. writing (played frames start) (ends done)))
+
+-- what aplay sends, what it writes, and how it ends
+abbrev pub aplay_sends : PlayJob → List DeviceInfo → List ℕ → Wire → List ℕ
+aplay_sends job devices bytes w = (aplay_course job devices bytes w).sends
+
+abbrev pub aplay_output : PlayJob → List DeviceInfo → List ℕ → Wire → List ℕ
+aplay_output job devices bytes w = (aplay_course job devices bytes w).output

@@ -1,0 +1,45 @@
+// Blocks of a source's bytes.
+ghost use Rattle.std.specs.Prelude.{◌≡◌, ◌<◌, ◌≤◌, ◌^◌, length, take, Err, IfOk, IsErrOf};
+ghost use Rattle.af_outside.specs.Told.{Gave, Rose};
+ghost use Rattle.af_outside.specs.Flow.{IsSpent};
+ghost use Rattle.af_tools.specs.Ends.{GaveAbove, GaveUpTo};
+
+use af_outside::{Got, Source};
+
+/// Why a source gave no block.
+#[derive(Clone, Copy, Debug, PartialEq, Eq)]
+pub enum FillFault {
+    ReadFault,
+    /// More came than was allowed.
+    TooLong,
+}
+
+/// Reads until the block is full or the source has ended: how many bytes it has. At most so many bytes are allowed.
+pub fn fill_block<S: Source>(
+    source: &mut S,
+    block: &mut [u8],
+    allowed: u64,
+) -> Result<usize, FillFault>
+    ensures given { IfOk result (λ n. Gave (S.left source.old) (take n block.new) (S.left source.new)) }
+    ensures within { IfOk result (λ n. (n ≤ length block.new) × (n ≤ allowed)) }
+    ensures ended { IfOk result (λ n. n < length block.new → IsSpent (S.left source.new)) }
+    ensures long { IsErrOf result FillFault.TooLong → GaveAbove allowed (length block.new) (S.left source.old) (S.left source.new) }
+    ensures cut { IsErrOf result FillFault.ReadFault → GaveUpTo allowed (S.left source.old) (S.left source.new) }
+    ensures fault { IsErrOf result FillFault.ReadFault → Rose (S.faults source.old) (S.faults source.new) }
+    ensures count { S.faults source.old ≤ S.faults source.new }
+{
+    let mut filled = 0;
+    while filled < block.len() {
+        match source.read(&mut block[filled..]) {
+            Got::Bytes(count) => {
+                filled += count;
+                if filled as u64 > allowed {
+                    return Err(FillFault::TooLong);
+                }
+            }
+            Got::Ended => return Ok(filled),
+            Got::Failed => return Err(FillFault::ReadFault),
+        }
+    }
+    Ok(filled)
+}

@@ -1,0 +1,47 @@
+// What a tool is asked to do.
+use af_sample::{Gain, SampleType};
+
+/// To play what a source gives.
+#[derive(Clone, Copy, Debug, PartialEq, Eq)]
+pub struct PlayJob {
+    /// The number of the device, 0..7.
+    pub device: u8,
+    /// The type of the samples, or that of the device.
+    pub ty: Option<SampleType>,
+    pub gain: Gain,
+    /// The frames of a block, 1..4000.
+    pub block: u32,
+    /// The milliseconds from the device's time to the start, 0..60000.
+    pub lead: u32,
+    /// The start, where it is stated.
+    pub time: Option<u32>,
+    /// Whether what others play is replaced.
+    pub preempt: bool,
+}
+
+/// To record so many frames.
+#[derive(Clone, Copy, Debug, PartialEq, Eq)]
+pub struct RecordJob {
+    /// The number of the device, 0..7.
+    pub device: u8,
+    /// The type of the samples, or that of the device.
+    pub ty: Option<SampleType>,
+    pub gain: Gain,
+    /// The frames of a block, 1..4000.
+    pub block: u32,
+    /// The start, where it is stated, or else the device's time.
+    pub time: Option<u32>,
+    /// How many frames, 1..2147483647.
+    pub frames: u32,
+    /// A block whose peak is below this is quiet, 0..32768.
+    pub stop_peak: u32,
+    /// So many quiet blocks in a row end the recording, 1..1000000.
+    pub stop_blocks: u32,
+}
+
+/// What a tool is asked to do.
+#[derive(Clone, Copy, Debug, PartialEq, Eq)]
+pub enum Task {
+    Play(PlayJob),
+    Record(RecordJob),
+}

@@ -1,0 +1,66 @@
+// What a source gives is played, block by block.
+ghost use Rattle.std.specs.Prelude.{◌≡◌, ◌≢◌, ◌<◌, ◌≤◌, ◌*◌, ◌+◌, ◌%◌, ◌^◌, ℕ, List, true, length, pos, unwrap_or, IfErr, IfOk, IsErrOf, IsSome};
+ghost use Rattle.std.specs.declared.option.Option.{Option};
+ghost use Rattle.std.specs.declared.option.Option.TheVariants.{None, Some};
+ghost use Rattle.af_outside.specs.Told.{Rose};
+ghost use Rattle.af_outside.specs.Flow.{IsSpent, Written};
+ghost use Rattle.af_sample.specs.SampleTypes.{width_of};
+ghost use Rattle.af_tools.specs.Course.{asks};
+ghost use Rattle.af_tools.specs.Play.{blocks, played, plays, start_at};
+ghost use Rattle.af_tools.specs.Ends.{is_of_blocks, wire_of, GaveTooMuch, GaveWithin, Goes, Holds};
+
+use crate::end::ToolEnd;
+use crate::fill::fill_block;
+use crate::talk::CONTEXT;
+use af_lib::Conn;
+use af_outside::{Link, Source};
+use af_time::DevTime;
+
+// How many bytes a source may give.
+const MOST_BYTES: u64 = 1 << 40;
+
+/// Plays what a source gives, in blocks of so many bytes as there is room for, from a start on: how many frames these were.
+/// A frame has `width` bytes; bytes at the end that make no whole frame are dropped.
+pub fn play_blocks<L: Link + Drop, S: Source>(
+    conn: &mut Conn<L>,
+    source: &mut S,
+    room: &mut [u8],
+    width: usize,
+    start: DevTime,
+) -> Result<u64, ToolEnd>
+    requires usable { conn.old.cause ≡ None }
+    requires room { (1 ≤ width) × (width ≤ length room.old) × (length room.old ≤ 16000) }
+    ensures goes { (input bytes : List ℕ) (held : Option (List ℕ)) → L.left conn.old.link ≡ Some input → S.left source.old ≡ Some bytes → IsSome (S.left source.new) →
+        Goes (plays width start.0 0 0 (blocks (length room.old) bytes) (wire_of conn.old input)) result (L.left conn.new.link) (wire_of conn.new) (L.sent conn.old.link) (L.sent conn.new.link) held held }
+    ensures spent { IfOk result (λ _. IsSpent (S.left source.new)) }
+    ensures long { IsErrOf result ToolEnd.TooLong → GaveTooMuch (S.left source.old) (S.left source.new) }
+    ensures within { (result ≡ Err ToolEnd.TooLong → ⊥) → GaveWithin (S.left source.old) (S.left source.new) }
+    ensures holds { Holds L.left L.faults conn.old conn.new result }
+    ensures end { IfErr result (λ how. is_of_blocks how ≡ true) }
+    ensures fault { IsErrOf result ToolEnd.ReadFault → Rose (S.faults source.old) (S.faults source.new) }
+    ensures count { S.faults source.old ≤ S.faults source.new }
+{
+    let mut frames = 0u64;
+    let mut given = 0u64;
+    loop {
+        let filled = fill_block(source, room, MOST_BYTES - given)?;
+        let count = filled / width;
+        if count == 0 {
+            return Ok(frames);
+        }
+        let at = time_behind(start, frames);
+        conn.play_run(CONTEXT, at, &room[..count * width])?;
+        frames += count as u64;
+        given += filled as u64;
+        if filled < room.len() {
+            return Ok(frames);
+        }
+    }
+}
+
+/// The time of a frame behind so many from a start on.
+pub fn time_behind(start: DevTime, frames: u64) -> DevTime
+    ensures { result.0 ≡ (start.0 + frames) % 2 ^ 32 }
+{
+    start.after((frames % (1 << 32)) as u32)
+}

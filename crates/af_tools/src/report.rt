@@ -1,0 +1,62 @@
+// What aplay writes when it has played all.
+ghost use Rattle.std.specs.Prelude.{◌≡◌, ◌≤◌, ◌+◌, ◌++◌, [], ℕ, List, codes, decimal, length, take, true};
+ghost use Rattle.std.specs.declared.option.Option.{Option};
+ghost use Rattle.af_outside.specs.Told.{Rose};
+ghost use Rattle.af_tools.specs.Course.{done, ends, writing};
+ghost use Rattle.af_tools.specs.Play.{played};
+ghost use Rattle.af_tools.specs.Ends.{is_of_report, Followed};
+
+use crate::end::ToolEnd;
+use af_outside::{Put, Sink};
+use af_time::DevTime;
+use itoa::Buffer;
+
+// Writes a piece behind what stands before a place: the place behind it.
+fn put(out: &mut [u8], at: usize, piece: &[u8]) -> usize
+    requires { at + length piece.now ≤ length out.old }
+    ensures at { result ≡ at + length piece.now }
+    ensures bytes { take result out.new ≡ take at out.old ++ piece.now }
+{
+    let end = at + piece.len();
+    out[at..end].copy_from_slice(piece);
+    end
+}
+
+// Writes a number in decimal digits behind what stands before a place.
+fn put_number(out: &mut [u8], at: usize, number: u64) -> usize
+    requires { at + 40 ≤ length out.old }
+    ensures at { result ≤ at + 40 }
+    ensures within { result ≤ length out.new }
+    ensures bytes { take result out.new ≡ take at out.old ++ decimal number }
+{
+    let mut buffer = Buffer::new();
+    put(out, at, buffer.format(number).as_bytes())
+}
+
+// Writes the line into a buffer: its length.
+fn write_line(out: &mut [u8], frames: u64, start: DevTime) -> usize
+    requires { 128 ≤ length out.old }
+    ensures within { result ≤ length out.new }
+    ensures bytes { take result out.new ≡ played frames start.0 }
+{
+    let at = put(out, 0, b"played ");
+    let at = put_number(out, at, frames);
+    let at = put(out, at, b" at ");
+    let at = put_number(out, at, u64::from(start.0));
+    put(out, at, b"\n")
+}
+
+/// Writes how many frames were played, and from when on.
+pub fn report<K: Sink>(sink: &mut K, frames: u64, start: DevTime) -> ToolEnd
+    ensures followed { (sent : Option (List ℕ)) → Followed (writing (played frames start.0) (ends done)) result sent sent (K.held sink.old) (K.held sink.new) }
+    ensures end { is_of_report result ≡ true }
+    ensures fault { result ≡ ToolEnd.SinkFault → Rose (K.faults sink.old) (K.faults sink.new) }
+    ensures count { K.faults sink.old ≤ K.faults sink.new }
+{
+    let mut line = [0; 128];
+    let length = write_line(&mut line, frames, start);
+    match sink.write(&line[..length]) {
+        Put::Done => ToolEnd::Done,
+        Put::Failed => ToolEnd::SinkFault,
+    }
+}

@@ -1,0 +1,264 @@
+// The tools, by their words: a server is dialled, and what the words ask is done.
+ghost use Rattle.std.specs.Prelude.{◌≡◌, ◌≢◌, ◌≤◌, ◌⊎◌, ℕ, List, true, false, is_some, length, map, string_bytes, Err, IfOk, IsSome};
+ghost use Rattle.std.specs.declared.option.Option.{Option};
+ghost use Rattle.std.specs.declared.option.Option.TheVariants.{None, Some};
+ghost use Rattle.clap.specs.Words.{matches_of, takes};
+ghost use Rattle.af_outside.specs.Told.{Rose};
+ghost use Rattle.af_outside.specs.Dial.{ToldLink};
+ghost use Rattle.af_tools.specs.Course.{connects};
+ghost use Rattle.af_tools.specs.Play.{most_bytes};
+ghost use Rattle.af_tools.specs.Words.{aplay_app, aplay_job, arecord_app, arecord_job, is_spelled, job, Job};
+ghost use Rattle.af_tools.specs.Ends.{is_of_play, wire_of, EndsByReply, Followed, GaveTooMuch, GaveWithin};
+ghost use Rattle.af_tools.specs.Run.{is_of_af, is_of_far, is_of_run, meaning, run_course, task_course, AskedFor, EndsByDevice, IsCall, IsRanged, IsReadWhole, IsServed, Ran};
+
+use crate::command::{aplay_matches, arecord_matches};
+use crate::end::ToolEnd;
+use crate::job::Task;
+use crate::player::aplay;
+use crate::recorder::arecord;
+use crate::words::{play_job, record_job, server_at};
+use af_lib::Conn;
+use af_outside::{Args, Dial, Dialed, Link, Sink, Source};
+use af_time::OutOfMemory;
+use clap::error::ErrorKind;
+use std::alloc::Global;
+
+/// What a tool is asked to do, and with which server.
+#[derive(Clone, Copy)]
+pub struct Call<'a> {
+    pub server: &'a str,
+    pub task: Task,
+}
+
+/// Why words are no call.
+#[derive(Clone, Copy, Debug, PartialEq, Eq)]
+pub enum WordsFault {
+    Usage,
+    OutOfMemory,
+}
+
+// The call of aplay with these words, of which the first is its name.
+fn play_call<'a>(alloc: Global, words: &'a [String]) -> Result<Call<'a>, WordsFault>
+    ensures ok { IfOk result (λ call. aplay_job (map string_bytes words.entry.now) ≡ Some (meaning call)) }
+    ensures call { IfOk result (λ call. IsCall call) }
+    ensures usage { result ≡ Err WordsFault.Usage → takes aplay_app (map string_bytes words.entry.now) ≡ true → aplay_job (map string_bytes words.entry.now) ≡ None }
+{
+    let matches = match aplay_matches(alloc, words) {
+        Ok(matches) => matches,
+        Err(e) if e.kind() == ErrorKind::OutOfMemory => return Err(WordsFault::OutOfMemory),
+        Err(_) => return Err(WordsFault::Usage),
+    };
+    let Some(server) = server_at(&matches) else {
+        return Err(WordsFault::Usage);
+    };
+    match play_job(&matches) {
+        Some(job) => Ok(Call {
+            server,
+            task: Task::Play(job),
+        }),
+        None => Err(WordsFault::Usage),
+    }
+}
+
+// The call of arecord with these words, of which the first is its name.
+fn record_call<'a>(alloc: Global, words: &'a [String]) -> Result<Call<'a>, WordsFault>
+    ensures ok { IfOk result (λ call. arecord_job (map string_bytes words.entry.now) ≡ Some (meaning call)) }
+    ensures call { IfOk result (λ call. IsCall call) }
+    ensures usage { result ≡ Err WordsFault.Usage → takes arecord_app (map string_bytes words.entry.now) ≡ true → arecord_job (map string_bytes words.entry.now) ≡ None }
+{
+    let matches = match arecord_matches(alloc, words) {
+        Ok(matches) => matches,
+        Err(e) if e.kind() == ErrorKind::OutOfMemory => return Err(WordsFault::OutOfMemory),
+        Err(_) => return Err(WordsFault::Usage),
+    };
+    let Some(server) = server_at(&matches) else {
+        return Err(WordsFault::Usage);
+    };
+    match record_job(&matches) {
+        Some(job) => Ok(Call {
+            server,
+            task: Task::Record(job),
+        }),
+        None => Err(WordsFault::Usage),
+    }
+}
+
+// The call of these words, of which the first names a tool.
+fn call_of(alloc: Global, words: &Args) -> Result<Call<'_>, WordsFault>
+    ensures ok { IfOk result (λ call. job words.now ≡ Some (meaning call)) }
+    ensures call { IfOk result (λ call. IsCall call) }
+    ensures usage { result ≡ Err WordsFault.Usage → is_spelled words.now ≡ false }
+{
+    let Some(tool) = words.word(0) else {
+        return Err(WordsFault::Usage);
+    };
+    if tool == "aplay" {
+        play_call(alloc, words.as_slice())
+    } else if tool == "arecord" {
+        record_call(alloc, words.as_slice())
+    } else {
+        Err(WordsFault::Usage)
+    }
+}
+
+// Does a task on a connection that was just made.
+fn perform<L: Link + Drop, S: Source, K: Sink>(
+    task: &Task,
+    conn: &mut Conn<L>,
+    source: &mut S,
+    sink: &mut K,
+    room: &mut [u8],
+) -> ToolEnd
+    requires usable { conn.old.cause ≡ None }
+    requires range { IsRanged task.now }
+    requires room { 16000 ≤ length room.old }
+    ensures followed { (input bytes : List ℕ) → L.left conn.old.link ≡ Some input → S.left source.old ≡ Some bytes → IsSome (S.left source.new) →
+        Followed (task_course task.now conn.old.devices bytes (wire_of conn.old input)) result (L.sent conn.old.link) (L.sent conn.new.link) (K.held sink.old) (K.held sink.new) }
+    ensures done { result ≡ ToolEnd.Done → IsReadWhole task.now (S.left source.new) }
+    ensures end { is_of_play result ≡ true }
+    ensures long { result ≡ ToolEnd.TooLong → GaveTooMuch (S.left source.old) (S.left source.new) }
+    ensures within { result ≢ ToolEnd.TooLong → GaveWithin (S.left source.old) (S.left source.new) }
+    ensures link { result ≡ ToolEnd.LinkFault → Rose (L.faults conn.old.link) (L.faults conn.new.link) }
+    ensures read { result ≡ ToolEnd.ReadFault → Rose (S.faults source.old) (S.faults source.new) }
+    ensures sink { result ≡ ToolEnd.SinkFault → Rose (K.faults sink.old) (K.faults sink.new) }
+    ensures link_count { L.faults conn.old.link ≤ L.faults conn.new.link }
+    ensures source_count { S.faults source.old ≤ S.faults source.new }
+    ensures sink_count { K.faults sink.old ≤ K.faults sink.new }
+{
+    match task {
+        Task::Play(job) => aplay(job, conn, source, sink, room),
+        Task::Record(job) => arecord(job, conn, sink, room),
+    }
+}
+
+// Sets a link up and does a task on it. The link comes back.
+fn perform_over<L: Link + Drop, S: Source, K: Sink>(
+    alloc: Global,
+    task: &Task,
+    far: L,
+    source: &mut S,
+    sink: &mut K,
+    room: &mut [u8],
+) -> (ToolEnd, L)
+    requires range { IsRanged task.now }
+    requires room { 16000 ≤ length room.old }
+    ensures followed { (input bytes : List ℕ) → L.left far ≡ Some input → S.left source.old ≡ Some bytes → IsSome (S.left source.new) →
+        Followed (connects input (λ devices w. task_course task.now devices bytes w)) result.0 (L.sent far) (L.sent result.1) (K.held sink.old) (K.held sink.new) }
+    ensures done { result.0 ≡ ToolEnd.Done → IsReadWhole task.now (S.left source.new) }
+    ensures memory { result.0 ≡ ToolEnd.OutOfMemory → (L.sent result.1 ≡ L.sent far) × (K.held sink.new ≡ K.held sink.old) × (S.left source.new ≡ S.left source.old) }
+    ensures end { is_of_far result.0 ≡ true }
+    ensures long { result.0 ≡ ToolEnd.TooLong → GaveTooMuch (S.left source.old) (S.left source.new) }
+    ensures within { result.0 ≢ ToolEnd.TooLong → GaveWithin (S.left source.old) (S.left source.new) }
+    ensures link { result.0 ≡ ToolEnd.LinkFault → Rose (L.faults far) (L.faults result.1) }
+    ensures read { result.0 ≡ ToolEnd.ReadFault → Rose (S.faults source.old) (S.faults source.new) }
+    ensures sink { result.0 ≡ ToolEnd.SinkFault → Rose (K.faults sink.old) (K.faults sink.new) }
+    ensures source_count { S.faults source.old ≤ S.faults source.new }
+    ensures sink_count { K.faults sink.old ≤ K.faults sink.new }
+{
+    match Conn::connect(alloc, far) {
+        Ok(mut conn) => {
+            let end = perform(task, &mut conn, source, sink, room);
+            (end, conn.into_link())
+        }
+        Err((fault, far)) => (ToolEnd::from(fault), far),
+    }
+}
+
+// Room for the greatest block.
+fn room(alloc: Global) -> Result<Vec<u8>, OutOfMemory>
+    ensures { IfOk result (λ room. length room.items ≡ 16000) }
+{
+    let room = vec![in alloc; 0u8; 16000]?;
+    Ok(room)
+}
+
+// Dials the server of a call, and does its task. The link is given back.
+fn run_call<S: Source, K: Sink, D: Dial>(
+    alloc: Global,
+    call: &Call<'_>,
+    source: &mut S,
+    sink: &mut K,
+    dial: &mut D,
+) -> ToolEnd
+    requires { IsCall call.now }
+    ensures ran { (links : List ToldLink) (bytes : List ℕ) → D.links dial.old ≡ Some links → S.left source.old ≡ Some bytes → IsSome (S.left source.new) →
+        Ran (run_course (meaning call.now) links bytes) result links (D.links dial.new) (K.held sink.old) (K.held sink.new) (D.back dial.old) (D.back dial.new) }
+    ensures asked { AskedFor call.now.server.now result (D.asked dial.old) (D.asked dial.new) }
+    ensures done { result ≡ ToolEnd.Done → IsReadWhole call.now.task (S.left source.new) }
+    ensures memory { result ≡ ToolEnd.OutOfMemory → (K.held sink.new ≡ K.held sink.old) × (S.left source.new ≡ S.left source.old) }
+    ensures end { is_of_run result ≡ true }
+    ensures long { result ≡ ToolEnd.TooLong → GaveTooMuch (S.left source.old) (S.left source.new) }
+    ensures within { result ≢ ToolEnd.TooLong → GaveWithin (S.left source.old) (S.left source.new) }
+    ensures dialled { result ≡ ToolEnd.DialFault → Rose (D.faults dial.old) (D.faults dial.new) }
+    ensures link { result ≡ ToolEnd.LinkFault → Rose (D.hurt dial.old) (D.hurt dial.new) }
+    ensures read { result ≡ ToolEnd.ReadFault → Rose (S.faults source.old) (S.faults source.new) }
+    ensures sink { result ≡ ToolEnd.SinkFault → Rose (K.faults sink.old) (K.faults sink.new) }
+    ensures dial_count { D.faults dial.old ≤ D.faults dial.new }
+    ensures hurt_count { D.hurt dial.old ≤ D.hurt dial.new }
+    ensures source_count { S.faults source.old ≤ S.faults source.new }
+    ensures sink_count { K.faults sink.old ≤ K.faults sink.new }
+{
+    let Ok(mut room) = room(alloc) else {
+        return ToolEnd::OutOfMemory;
+    };
+    match dial.dial(call.server) {
+        Dialed::Far(far) => {
+            let (end, far) = perform_over(alloc, &call.task, far, source, sink, &mut room);
+            dial.hang_up(far);
+            end
+        }
+        Dialed::Failed => ToolEnd::DialFault,
+        Dialed::OutOfMemory => ToolEnd::OutOfMemory,
+    }
+}
+
+/// The tools: the first word names one, and the others say what it is to do. Its server is dialled, and the link is given back
+/// before any answer. All memory is taken before the first request behind the setup.
+pub fn af_run<S: Source, K: Sink, D: Dial>(
+    alloc: Global,
+    words: &Args,
+    source: &mut S,
+    sink: &mut K,
+    dial: &mut D,
+) -> ToolEnd
+    // Usage never where the words are spelled; all others get it, but for those that the command takes all the same
+    ensures usage { is_spelled words.now ≡ true → result ≢ ToolEnd.Usage }
+    ensures other { job words.now ≡ None → (result ≡ ToolEnd.Usage) ⊎ (result ≡ ToolEnd.OutOfMemory) }
+    ensures unread { result ≡ ToolEnd.Usage → (S.left source.new ≡ S.left source.old) × (S.faults source.new ≡ S.faults source.old) × (K.held sink.new ≡ K.held sink.old) × (K.faults sink.new ≡ K.faults sink.old) }
+    ensures undialled { result ≡ ToolEnd.Usage → (D.asked dial.new ≡ D.asked dial.old) × (D.back dial.new ≡ D.back dial.old) × (D.links dial.new ≡ D.links dial.old) × (D.faults dial.new ≡ D.faults dial.old) × (D.hurt dial.new ≡ D.hurt dial.old) }
+
+    // the answer, what the link was sent, and what the sink gained, by the words and the bytes that the source and the link give
+    ensures told { (j : Job) (links : List ToldLink) (bytes : List ℕ) → job words.now ≡ Some j → result ≢ ToolEnd.Usage → D.links dial.old ≡ Some links → S.left source.old ≡ Some bytes → IsSome (S.left source.new) →
+        Ran (run_course j links bytes) result links (D.links dial.new) (K.held sink.old) (K.held sink.new) (D.back dial.old) (D.back dial.new) }
+    ensures asked { (j : Job) → job words.now ≡ Some j → result ≢ ToolEnd.Usage → AskedFor j.server result (D.asked dial.old) (D.asked dial.new) }
+    ensures done { (j : Job) → job words.now ≡ Some j → result ≡ ToolEnd.Done → IsReadWhole j.task (S.left source.new) }
+
+    // each end has its cause
+    ensures memory { result ≡ ToolEnd.OutOfMemory → (K.held sink.new ≡ K.held sink.old) × (S.left source.new ≡ S.left source.old) }
+    ensures end { is_of_af result ≡ true }
+    ensures reply { (j : Job) (links : List ToldLink) (bytes : List ℕ) → job words.now ≡ Some j → result ≢ ToolEnd.Usage → D.links dial.old ≡ Some links → S.left source.old ≡ Some bytes → IsSome (S.left source.new) → EndsByReply (run_course j links bytes) result }
+    ensures device { (j : Job) (links : List ToldLink) (bytes : List ℕ) → job words.now ≡ Some j → result ≢ ToolEnd.Usage → D.links dial.old ≡ Some links → S.left source.old ≡ Some bytes → IsSome (S.left source.new) → EndsByDevice (run_course j links bytes) result }
+    ensures long { result ≡ ToolEnd.TooLong → GaveTooMuch (S.left source.old) (S.left source.new) }
+    ensures within { result ≢ ToolEnd.TooLong → GaveWithin (S.left source.old) (S.left source.new) }
+    ensures dialled { result ≡ ToolEnd.DialFault → Rose (D.faults dial.old) (D.faults dial.new) }
+    ensures link { result ≡ ToolEnd.LinkFault → Rose (D.hurt dial.old) (D.hurt dial.new) }
+    ensures read { result ≡ ToolEnd.ReadFault → Rose (S.faults source.old) (S.faults source.new) }
+    ensures sink { result ≡ ToolEnd.SinkFault → Rose (K.faults sink.old) (K.faults sink.new) }
+
+    // with words that are spelled, a link, the device, and an awaited reply for each request, and with not too many bytes, it is
+    // done, unless something fails or memory runs out
+    ensures complete { (j : Job) (links : List ToldLink) (bytes : List ℕ) → is_spelled words.now ≡ true → job words.now ≡ Some j → D.links dial.old ≡ Some links → S.left source.old ≡ Some bytes → IsSome (S.left source.new)
+        → length bytes ≤ most_bytes → IsServed (run_course j links bytes)
+        → ¬ (Rose (D.faults dial.old) (D.faults dial.new)) → ¬ (Rose (D.hurt dial.old) (D.hurt dial.new)) → ¬ (Rose (S.faults source.old) (S.faults source.new)) → ¬ (Rose (K.faults sink.old) (K.faults sink.new))
+        → (result ≡ ToolEnd.Done) ⊎ (result ≡ ToolEnd.OutOfMemory) }
+    ensures dial_count { D.faults dial.old ≤ D.faults dial.new }
+    ensures hurt_count { D.hurt dial.old ≤ D.hurt dial.new }
+    ensures source_count { S.faults source.old ≤ S.faults source.new }
+    ensures sink_count { K.faults sink.old ≤ K.faults sink.new }
+{
+    match call_of(alloc, words) {
+        Ok(call) => run_call(alloc, &call, source, sink, dial),
+        Err(WordsFault::Usage) => ToolEnd::Usage,
+        Err(WordsFault::OutOfMemory) => ToolEnd::OutOfMemory,
+    }
+}

@@ -1,5 +1,6 @@
 pub mod Taking
 pub mod Doing
 pub mod Serving
+pub mod Telling
 pub mod Completing
 pub mod Turning

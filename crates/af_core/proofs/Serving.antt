@@ -9,7 +9,6 @@ use Rattle.af_outside.specs.declared.happening.Happening.TheVariants.{Read, Wrot
 use Rattle.af_outside.specs.declared.happening.ReadGot.{ReadGot}
 use Rattle.af_outside.specs.declared.happening.ReadGot.TheVariants.{Given}
 use Rattle.af_outside.specs.declared.happening.Why.{Why}
-use Rattle.af_outside.specs.declared.happening.Why.TheVariants as why
 use Rattle.af_outside.specs.declared.world.LinkTook.{LinkTook}
 use Rattle.af_outside.specs.declared.world.LinkTook.TheVariants.{Took}
 use Rattle.af_outside.specs.World.{TookFits, took_of, taken_count}
@@ -18,7 +17,7 @@ use Rattle.af_outside.proofs.Outsides.{same_bytes-refl, eq-refl}
 use Rattle.af_model.specs.State.{Place, Around, LinkState, place, opened, door, door_at, with_door}
 use Rattle.af_model.specs.Waiting.{is_waiting}
 use Rattle.af_model.specs.Advance.{absorb, advance, takes_more}
-use Rattle.af_model.specs.Turn.{behind, and_then, then_go, take_one, wants_read, is_read, read_by, read_phase, after_read, wants_write, write_by, write_phase, after_write, same_why, close_due, close_for, close_phase, serve_link, serve_open, serve_door, serve_from, serve_all, ready, in_open}
+use Rattle.af_model.specs.Turn.{behind, and_then, then_go, take_one, wants_read, is_read, read_by, read_phase, after_read, wants_write, write_by, write_phase, after_write, same_why, number_of, close_due, close_for, close_phase, serve_link, serve_open, serve_door, serve_from, serve_all, ready, in_open}
 use Rattle.af_model.proofs.Tests.{both-true}
 use Rattle.af_model.proofs.Slots.{some_link, slot_link, links_of-set, length-links_of}
 use Rattle.af_perform.specs.Kept.{KeptDevice}
@@ -106,8 +105,7 @@ closes_nothing t k ds ks l idle =
     (λ p s log. ap (λ o. close_for k p o log) (ap close_due s.1 ∙ idle))
 
 same_why-refl : (cause : Why) → same_why cause cause ≡ true
-same_why-refl why.BadSetup = refl
-same_why-refl why.Malformed = refl
+same_why-refl cause = eq-refl (number_of cause)
 
 pub closes : (a b : Option Log) (k : ℕ) (ds : List KeptDevice) (ks : List KeptWait) (l : LinkState) (cause : Why) → close_due l ≡ Some cause → Grew a (Closed k cause ∷ []) b → Does a b (At ds ks l) (AtDoor ds ks None) (close_phase k) behind
 unfolding close_phase

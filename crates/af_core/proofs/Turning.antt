@@ -11,25 +11,26 @@ use Rattle.af_outside.specs.declared.happening.Wake.TheVariants.{Opened, Readabl
 use Rattle.af_outside.specs.declared.script.DeviceSpec.{DeviceSpec}
 use Rattle.af_outside.specs.Told.{Log, Grew}
 use Rattle.af_outside.proofs.Outsides.{same_bytes-refl, eq-refl}
-use Rattle.af_model.specs.State.{State, DeviceState, LinkState, Waiter, opening, opening_device, opened, links_of, outline, outline_with, with_slot, slot_at, with_device, device_set}
+use Rattle.af_request.specs.declared.reply.Phone.{Phone}
+use Rattle.af_model.specs.State.{State, DeviceState, LinkState, Waiter, opening, opening_device, opened, links_of, lines_of, outline, outline_with, with_slot, slot_at, with_device, device_set}
 use Rattle.af_model.specs.Reply.{horizon_of}
 use Rattle.af_model.specs.Waiting.{due, AreDueLater}
 use Rattle.af_model.specs.NoLoss.{LosesNone}
 use Rattle.af_model.specs.Tick.{sound, tick, later, capture_of, complete_due}
-use Rattle.af_model.specs.Turn.{Behind, behind, and_then, take_one, turn, fits, is_open_at, wake_phase, tick_phase, is_capture, capture_by, after_capture, emit_by, serve_all, ready, in_open, in_slot}
+use Rattle.af_model.specs.Turn.{Behind, behind, and_then, take_one, turn, fits, is_open_at, wake_phase, tick_phase, is_capture, capture_by, after_capture, emit_by, serve_and_hook, ready, in_open, in_slot}
 use Rattle.af_model.specs.Run.{wakes}
 use Rattle.af_model.proofs.Running.{wakes-append-none}
 use Rattle.af_model.proofs.Slots.{slot_link, links_of-set, some_link}
 use Rattle.af_perform.specs.Kept.{KeptDevice, StandsForDevice}
 use Rattle.af_perform.specs.Waits.{KeptWait, kept_passed, waits_of, AreLater, StandForWaits}
 use Rattle.af_perform.specs.Places.{StandForDevices}
-use Rattle.af_core.specs.Stands.{AreSettled, Stands, StandsFor, StandForWaiting, Turns, outline_of}
+use Rattle.af_core.specs.Stands.{AreSettled, Stands, StandsFor, StandForWaiting, Turns, kept_lines, outline_of}
 use Rattle.af_sample.specs.SampleTypes.{width_of}
 use Rattle.af_sample.proofs.RunLemmas.{length-samples}
 use Rattle.af_core.specs.Does.{Does}
 use Rattle.af_core.specs.Live.{Passes, Ticks, TicksLive}
 use Rattle.af_core.proofs.Doing.{grew_nothing, grew_more, does_nothing}
-use Rattle.af_perform.proofs.Devices.{found, stands_length, stands_set}
+use Rattle.af_perform.proofs.Devices.{found, stands_set}
 use Rattle.af_perform.proofs.Keeping.{waits_passed}
 use Rattle.af_perform.proofs.Sounding.{horizon_bounds}
 
@@ -81,9 +82,16 @@ none_lost (d ∷ ds) (s ∷ ss) h = All-cons (λ s. LosesNone s) s ss h.0.whole 
 pub stands_now : (ds : List KeptDevice) (ks : List KeptWait) (links : List (Option LinkState)) (s : State) → AreLater ks → StandsFor ds ks links s → Stands (record { devices = ds; waits = ks; links = links }) s
 stands_now ds ks links s l h = record { kept = h; later = due_later s.devices ks s.waiting l h.waiting }
 
+-- whether devices have lines is what the state says
+pub same_lines : (ds : List KeptDevice) (ss : List DeviceState) → StandForDevices ds ss → lines_of ss ≡ kept_lines ds
+same_lines [] [] h = refl
+same_lines [] (s ∷ ss) h = absurd h
+same_lines (d ∷ ds) [] h = absurd h
+same_lines (d ∷ ds) (s ∷ ss) h = ap (λ (line : Option Phone). is_some line ∷ lines_of ss) (sym h.0.line) ∙ ap (λ l. is_some d.line ∷ l) (same_lines ds ss h.1)
+
 pub turns : (a b c d : Option Log) (wake : Wake) (ds ds' ds'' : List KeptDevice) (ks ks' ks'' : List KeptWait) (links links' links'' : List (Option LinkState)) →
     fits (outline_of (record { devices = ds; waits = ks; links = links })) wake ≡ true → length ds'' ≡ length ds → length links'' ≡ length links → AreLater ks'' → Grew a (Woke wake ∷ []) b →
-    Does b c (StandsFor ds ks links) (StandsFor ds' ks' links') (wake_phase wake) behind → Does c d (StandsFor ds' ks' links') (StandsFor ds'' ks'' links'') serve_all behind →
+    Does b c (StandsFor ds ks links) (StandsFor ds' ks' links') (wake_phase wake) behind → Does c d (StandsFor ds' ks' links') (StandsFor ds'' ks'' links'') serve_and_hook behind →
     Turns a d wake (record { devices = ds; waits = ks; links = links }) (record { devices = ds''; waits = ks''; links = links'' })
 unfolding turn
 turns a b c d wake ds ds' ds'' ks ks' ks'' links links' links'' fit devices_stay links_stay later told w e = record {
@@ -102,13 +110,13 @@ turns a b c d wake ds ds' ds'' ks ks' ks'' links links' links'' fit devices_stay
         next = second.state;
         stands = stands_now ds'' ks'' links'' second.state later second.stands;
         lossless = none_lost ds'' second.state.devices second.stands.devices;
-        is_turn = λ more. ap (λ b. cond b (and_then (wake_phase wake s ((w.part ++ e.part) ++ more)) serve_all) None) open_to
-            ∙ rw append_assoc (ap (λ o. and_then o serve_all) (first.same (e.part ++ more)) ∙ second.same more);
+        is_turn = λ more. ap (λ b. cond b (and_then (wake_phase wake s ((w.part ++ e.part) ++ more)) serve_and_hook) None) open_to
+            ∙ rw append_assoc (ap (λ o. and_then o serve_and_hook) (first.same (e.part ++ more)) ∙ second.same more);
       };
 }
   where
     same_outline : (ds : List KeptDevice) (ks : List KeptWait) (links : List (Option LinkState)) (s : State) → StandsFor ds ks links s → outline s ≡ outline_of (record { devices = ds; waits = ks; links = links })
-    same_outline ds ks links s h = ap (λ n. outline_with n (links_of s.slots)) (stands_length ds s.devices h.devices) ∙ ap (λ l. outline_with (length ds) l) h.links
+    same_outline ds ks links s h = ap (λ n. outline_with n (links_of s.slots)) (same_lines ds s.devices h.devices) ∙ ap (λ l. outline_with (kept_lines ds) l) h.links
 
 -- the state that is stood for behind a part
 pub does_leave : {a b : Option Log} (ds ds' : List KeptDevice) (ks ks' : List KeptWait) (links links' : List (Option LinkState)) {f : State → Log → Option (Behind State)} {g : State → Log → Option (Behind State)} → Does a b (StandsFor ds ks links) (StandsFor ds' ks' links') f g →
@@ -134,7 +142,7 @@ opens t k ds ks links links' e =
     (λ s h log. refl)
 
 -- a link that may be read is one of the links
-pub read_below : (n k : ℕ) (links : List (Option LinkState)) (wake : Wake) → wake ≡ Readable k → fits (outline_with n links) wake ≡ true → k < length links
+pub read_below : (n : List Bool) (k : ℕ) (links : List (Option LinkState)) (wake : Wake) → wake ≡ Readable k → fits (outline_with n links) wake ≡ true → k < length links
 read_below n k links wake e fit = below links k (subst (λ w. fits (outline_with n links) w ≡ true) e fit)
   where
     below : (links : List (Option LinkState)) (k : ℕ) → is_open_at (slice_get (map {A = Option LinkState} {B = Bool} is_some links) k) ≡ true → k < length links
@@ -169,7 +177,7 @@ at_wake {a} {b} {ds} {ds'} {ks} {ks'} {links} {links'} {wake} {wake'} e d = subs
 
 -- a device that failed
 pub fails : (d : KeptDevice) (captured : List ℤ) (b : Bool) (s : DeviceState) → StandsForDevice d (later captured b s) → StandsForDevice (record d { is_dead = true }) (later captured true s)
-fails d captured b s h = record { ty = h.ty; rate = h.rate; listed = h.listed; ahead = h.ahead; back = h.back; hears = h.hears; keeps = h.keeps; whole = h.whole; dead = refl }
+fails d captured b s h = record { ty = h.ty; rate = h.rate; listed = h.listed; ahead = h.ahead; back = h.back; hears = h.hears; keeps = h.keeps; whole = h.whole; controls = h.controls; line = h.line; dead = refl }
 
 -- where a tick leads before requests complete
 record Passed (k n : ℕ) (ds : List KeptDevice) (d' : KeptDevice) (ks : List KeptWait) (links : List (Option LinkState)) (part : Log) (s : State) : Type 0 where

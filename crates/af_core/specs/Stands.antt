@@ -1,5 +1,5 @@
 -- What the core keeps, and the states of the abstract server that it stands for.
-use Rattle.std.specs.Prelude.{◌≡◌, ℕ, ◌+◌, ◌<◌, ◌≤◌, Bool, true, false, IsTrue, List, [], ◌∷◌, length, slice_get, option_and_then, IsSomeAnd, if◌then◌else◌}
+use Rattle.std.specs.Prelude.{◌≡◌, ◌⊎◌, ℕ, ◌+◌, ◌<◌, ◌≤◌, Bool, true, false, IsTrue, List, [], ◌∷◌, length, map, is_some, slice_get, option_and_then, IsSomeAnd, if◌then◌else◌}
 use Rattle.std.specs.declared.option.Option.{Option}
 use Rattle.std.specs.declared.option.Option.TheVariants.{None, Some}
 use Rattle.af_wait.specs.declared.Wait.{Wait}
@@ -14,7 +14,7 @@ use Rattle.af_model.specs.Turn.{IsTurn, wants_write}
 use Rattle.af_model.specs.Run.{wakes}
 use Rattle.af_model.specs.NoLoss.{StateLosesNone}
 use Rattle.af_perform.specs.Kept.{KeptDevice}
-use Rattle.af_perform.specs.Waits.{KeptWait, has_waiting, StandForWaits}
+use Rattle.af_perform.specs.Waits.{KeptWait, has_waiting, kept_without, StandForWaits}
 use Rattle.af_perform.specs.Places.{StandForDevices, StandAround, At}
 
 -- a link's number, open or not, with what is around it
@@ -41,6 +41,10 @@ AreSettled ks links = (k : ℕ) (l : LinkState) → slice_get links k ≡ Some (
 abbrev pub writes_left : LinkState → ℕ
 writes_left l = length l.rest + (if wants_write l then 1 else 0)
 
+-- only one link may have ended to wait
+abbrev pub Sheds : ℕ → List KeptWait → List KeptWait → Type 0
+Sheds link old new = (new ≡ old) ⊎ (new ≡ kept_without link old)
+
 -- all that a core keeps
 pub record Kept : Type 0 where
   pub devices : List KeptDevice
@@ -51,8 +55,12 @@ pub record Kept : Type 0 where
 abbrev pub link_kept : Kept → ℕ → Option LinkState
 link_kept kept k = option_and_then (λ link. link) (slice_get kept.links k)
 
+-- whether each device has a line
+abbrev pub kept_lines : List KeptDevice → List Bool
+kept_lines ds = map (λ d. is_some d.line) ds
+
 abbrev pub outline_of : Kept → Outline
-outline_of kept = outline_with (length kept.devices) kept.links
+outline_of kept = outline_with (kept_lines kept.devices) kept.links
 
 -- What a core keeps of its devices, its links and those that wait stands for each state that has them; it keeps no history, so
 -- there are many.

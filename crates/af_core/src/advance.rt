@@ -14,8 +14,8 @@ ghost use Rattle.af_perform.specs.Places.{StandAround, At};
 ghost use Rattle.af_core.specs.Stands.{StepsTo, IsSettled};
 
 use af_outside::Why;
-use af_perform::{Device, Link, Waits, Work, perform, request_in};
-use af_request::{Devices, Reply, write_reply};
+use af_perform::{Device, Link, Waits, Work, perform};
+use af_request::{Devices, Reply, read_request, write_reply};
 use af_wire::{Front, SetupFront, frame_at, setup_of, write_error};
 
 const BAD_SETUP: u8 = 1;
@@ -102,7 +102,7 @@ fn perform_front(
     ensures calm { IsTrue (has_waiting waits.new number) → length link.new.pending ≤ 16384 }
 {
     link.take_front(frame);
-    match request_in(frame) {
+    match read_request(frame) {
         Some(request) => perform(number, &request, devices, waits, link, work),
         None => link.stop(Why::Malformed),
     }

@@ -3,6 +3,8 @@
 
 mod advance;
 mod complete;
+mod events;
+mod lines;
 mod serve;
 mod server;
 mod slot;

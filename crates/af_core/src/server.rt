@@ -1,6 +1,5 @@
 // The core: all that the server keeps, and one turn.
 ghost use Rattle.std.specs.Prelude.{◌≡◌, ◌≤◌, ◌<◌, ◌↔◌, List, length, map, slice_get, All, IfOk, IsNone, IsTrue, IsSomeAnd, MatchOption, replicate};
-ghost use Rattle.std.specs.declared.option.Option.{Option};
 ghost use Rattle.std.specs.declared.option.Option.TheVariants.{None, Some};
 ghost use Rattle.af_buffers.specs.Horizons.{IsListedRate};
 ghost use Rattle.af_buffers.specs.PlayBuffer.{Next, Hears};
@@ -12,12 +11,14 @@ ghost use Rattle.af_perform.specs.Waits.{waits_of, AreLater};
 ghost use Rattle.af_perform.specs.Places.{StandForDevices};
 ghost use Rattle.af_core.specs.Stands.{AreSettled, Stands, StandsFor, StandForWaiting, Turns, link_kept, outline_of};
 
+use crate::lines::{change_line, give_hooks};
 use crate::slot::{Slot, serve_slots};
 use crate::tick::{TICK, tick};
 use af_buffers::{PlayBuffer, RecordBuffer};
 use af_context::Contexts;
 use af_outside::{Config, DeviceSpec, Wake, World};
 use af_perform::{Device, Scratch, Waits};
+use af_phone::Line;
 use af_time::OutOfMemory;
 use af_wait::Waiting;
 use std::alloc::Global;
@@ -99,6 +100,7 @@ fn wake_up<W: World>(
         Wake::Ticked(number, frames) => {
             tick(number, frames, devices, waits, slots, scratch, world)
         }
+        Wake::Line(number, change) => change_line(number, change, devices, waits, slots),
         Wake::Idle | Wake::Stop => {}
     }
 }
@@ -127,6 +129,7 @@ fn turn_parts<W: World>(
     world.woke(wake);
     wake_up(wake, devices, waits, slots, scratch, world);
     serve_slots(devices, waits, slots, scratch, world);
+    give_hooks(devices, waits, slots, world);
 }
 
 impl Core {
@@ -164,6 +167,10 @@ impl Core {
             Wake::Ticked(number, frames) => {
                 (number as usize) < self.devices.len() && frames >= 1 && frames <= TICK
             }
+            Wake::Line(number, change) => match self.devices.get(number as usize) {
+                Some(device) => device.line().is_some() && change.is_possible(),
+                None => false,
+            },
             Wake::Idle | Wake::Stop => true,
         }
     }
@@ -186,6 +193,15 @@ impl Core {
         self.devices[usize::from(device)].last()
     }
 
+    /// The telephone line of a device, which is there. None where it has none.
+    pub fn line(&self, device: u8) -> Option<&Line>
+        requires { device < length self.now.devices }
+        ensures kept { IsSomeAnd (slice_get self.now.devices device) (λ d. MatchOption result (d.line ≡ None) (λ line. d.line ≡ Some line.now)) }
+        ensures shows { (s : State) → Stands self.now s → IsSomeAnd (slice_get s.devices device) (λ d. MatchOption result (d.line ≡ None) (λ line. d.line ≡ Some line.now)) }
+    {
+        self.devices[usize::from(device)].kept_line()
+    }
+
     /// The contexts of a link. None where the link is not open.
     pub fn contexts(&self, link: u8) -> Option<&Contexts>
         ensures none { IsNone result ↔ (link_kept self.now link ≡ None) }
@@ -204,8 +220,8 @@ impl Core {
         self.waits.order()
     }
 
-    /// One turn: the wake with its effect, and then each open link by rising number. It answers nothing and takes no
-    /// memory.
+    /// One turn: the wake with its effect, then each open link by rising number, and then the hooks of the devices' lines by rising
+    /// number. It answers nothing and takes no memory.
     pub fn turn<W: World>(&mut self, wake: Wake, world: &mut W)
         requires { IsTrue (fits (outline_of self.old) wake) }
         ensures turns { Turns (W.log world.old) (W.log world.new) wake self.old self.new }

@@ -1,22 +1,26 @@
 // A number for a link, which keeps its memory while no link is open there.
-ghost use Rattle.std.specs.Prelude.{◌≡◌, ◌≤◌, ◌<◌, find, length, option_map, slice_get, IfOk, IsSomeAnd, MatchOption, is_some};
+ghost use Rattle.std.specs.Prelude.{◌≡◌, ◌≤◌, ◌<◌, List, find, length, option_map, slice_get, IfOk, IsSomeAnd, MatchOption, is_some};
 ghost use Rattle.std.specs.declared.option.Option.TheVariants.{None, Some};
 ghost use Rattle.af_wait.specs.Waits.{without_first};
 ghost use Rattle.af_model.specs.State.{Around, DeviceState, LinkState, Waiter, opened};
 ghost use Rattle.af_model.specs.Waiting.{is_due};
 ghost use Rattle.af_model.specs.Tick.{complete_at};
+ghost use Rattle.af_model.specs.Events.{tell_open};
 ghost use Rattle.af_model.specs.Turn.{behind, serve_door, serve_all, ready, in_open};
+ghost use Rattle.af_perform.specs.Kept.{KeptDevice};
 ghost use Rattle.af_perform.specs.Waits.{has_waiting, kept_due, AreLater, Grows};
 ghost use Rattle.af_perform.specs.Places.{StandAround};
 ghost use Rattle.af_core.specs.Does.{Does};
-ghost use Rattle.af_core.specs.Stands.{AreSettled, AtDoor, IsSettled, StandsFor};
+ghost use Rattle.af_core.specs.Stands.{AreSettled, AtDoor, IsSettled, Sheds, StandsFor};
 
 use crate::complete::complete_link;
+use crate::events::tell_link;
 use crate::serve::serve_link;
 use af_context::Contexts;
 use af_outside::World;
 use af_perform::{Device, Link, Scratch, Waits};
 use af_time::OutOfMemory;
+use af_wire::Event;
 use std::alloc::Global;
 use std::marker::Model;
 
@@ -110,6 +114,18 @@ impl Slot {
             );
         } else {
             waits.take_due(device);
+        }
+    }
+
+    /// The link that is open here is told an event, where it selects it.
+    pub fn tell(&mut self, number: u8, event: Event, waits: &mut Waits)
+        requires { (l : LinkState) → self.old ≡ Some l → IsSettled (has_waiting waits.old number) l }
+        ensures step { (ds : List KeptDevice) (a : Around) → StandAround ds waits.old a → AtDoor ds waits.new self.new (tell_open number event a self.old) }
+        ensures settled { (l : LinkState) → self.new ≡ Some l → IsSettled (has_waiting waits.new number) l }
+        ensures sheds { Sheds number waits.old waits.new }
+    {
+        if self.is_open {
+            tell_link(number, event, waits, &mut self.link);
         }
     }
 

@@ -16,7 +16,7 @@ ghost use Rattle.af_core.specs.Stands.{AreSettled, StandsFor};
 use crate::complete::complete_due;
 use crate::slot::Slot;
 use af_outside::{Put, World};
-use af_perform::{Device, Scratch, Waits, Work};
+use af_perform::{Device, Scratch, Waits, Work, silence};
 use af_sample::{SampleType, convert_in, convert_out};
 
 /// How many frames a tick may have.
@@ -34,16 +34,7 @@ fn capture<W: World>(number: u8, frames: u32, bytes: &mut [u8], world: &mut W) -
     }
 }
 
-// Silence.
-fn silence(samples: &mut [i16])
-    ensures { samples.new ≡ replicate (length samples.old) (pos 0) }
-{
-    for x in samples.iter_mut() {
-        *x = 0;
-    }
-}
-
-// What a device captures: the samples of the bytes that came, or silence where none did.
+// What comes to a device: the samples of the bytes that came, or silence where none did.
 fn captured(came: bool, ty: SampleType, bytes: &[u8], samples: &mut [i16])
     requires { length bytes.now ≡ length samples.old * width_of ty }
     ensures { samples.new ≡ capture_of ty (length samples.old) (if came then Some bytes.now else None) }

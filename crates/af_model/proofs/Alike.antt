@@ -5,23 +5,30 @@ use Rattle.std.proofs.lemmas.List.{map-set}
 use Rattle.std.specs.declared.option.Option.{Option}
 use Rattle.std.specs.declared.option.Option.TheVariants.{None, Some}
 use Rattle.af_outside.specs.declared.happening.Happening.{Happening}
-use Rattle.af_outside.specs.declared.happening.Happening.TheVariants.{Woke, Read, Wrote, Closed, Captured, Emitted}
+use Rattle.af_outside.specs.declared.happening.Happening.TheVariants.{Woke, Read, Wrote, Closed, Captured, Emitted, Hooked}
 use Rattle.af_outside.specs.declared.happening.ReadGot.{ReadGot}
 use Rattle.af_outside.specs.declared.happening.ReadGot.TheVariants.{Given, NotYet}
 use Rattle.af_outside.specs.declared.happening.Why.{Why}
 use Rattle.af_outside.specs.declared.happening.Why.TheVariants as why
 use Rattle.af_outside.specs.declared.happening.Wake.{Wake}
-use Rattle.af_outside.specs.declared.happening.Wake.TheVariants.{Opened, Readable, Ticked, Idle, Stop}
+use Rattle.af_outside.specs.declared.happening.Wake.TheVariants.{Opened, Readable, Ticked, Line, Idle, Stop}
 use Rattle.af_outside.specs.declared.script.Step.{Step}
 use Rattle.af_outside.specs.Told.{Log}
-use Rattle.af_outside.specs.Outside.{Outside, Peer, Station, answered, read_answered, write_answered, capture_answered, emit_answered, captured, station_at, with_station, peer_at, with_peer, gives_of, same_bytes}
+use Rattle.af_outside.specs.Outside.{Outside, Peer, Station, answered, read_answered, write_answered, capture_answered, emit_answered, hook_answered, captured, station_at, with_station, peer_at, with_peer, gives_of, same_bytes}
 use Rattle.af_sample.specs.SampleTypes.{width_of}
 use Rattle.af_model.specs.State.{State, Slot, Around, Place, Waiter, Door, with_device, LinkState, DeviceState, door, door_at, with_door, place, opened, slot_at, some_slot, with_slot, links_of}
 use Rattle.af_wait.specs.Waits.{without_first}
 use Rattle.af_model.specs.Waiting.{is_due, is_waiting}
 use Rattle.af_model.specs.Advance.{or_else}
 use Rattle.af_model.specs.Tick.{sound, capture_of, complete, complete_at, complete_by, complete_due, complete_first, complete_step, later, tick}
-use Rattle.af_model.specs.Turn.{Behind, behind, and_then, then_go, take_one, wants_read, is_read, read_by, read_phase, after_read, wants_write, write_by, write_taken, write_phase, after_write, same_why, close_due, close_by, close_for, close_phase, serve_link, serve_open, serve_door, serve_at, serve_from, serve_all, ready, in_open, in_slot, is_capture, capture_by, emit_by, after_capture, tick_phase, wake_phase}
+use Rattle.af_model.specs.Turn.{Behind, behind, and_then, then_go, take_one, wants_read, is_read, read_by, read_phase, after_read, wants_write, write_by, write_taken, write_phase, after_write, same_why, close_due, close_by, close_for, close_phase, serve_link, serve_open, serve_door, serve_at, serve_from, serve_all, ready, in_open, in_slot, is_capture, capture_by, emit_by, after_capture, tick_phase, line_phase, wake_phase, same_flag, hook_wanted, hook_by, hook_for, hook_at, hook_from, hook_all, serve_and_hook}
+use Rattle.af_wire.specs.declared.event.Event.{Event}
+use Rattle.af_wire.specs.declared.event.EventKind.{EventKind}
+use Rattle.af_wire.specs.declared.event.EventKind.TheVariants as kind
+use Rattle.af_request.specs.declared.reply.Phone.{Phone}
+use Rattle.af_phone.specs.declared.line.LineChange.{LineChange}
+use Rattle.af_phone.specs.Lines.{changed, flag_value, hooked, kind_of, value_of}
+use Rattle.af_model.specs.Events.{event_at, hook_given, hook_refused, line_becomes, line_changes, tell, tell_at, tell_from, tell_open}
 use Rattle.af_model.specs.Script.{AnswersTo}
 use Rattle.af_model.proofs.Tests.{cond-some, cond-true, both-true, not_true, none_some, same_bytes-true}
 use Rattle.af_model.proofs.Slots.{links_of-set}
@@ -79,6 +86,7 @@ is_quiet (Wrote k offered took) = true
 is_quiet (Closed k why) = true
 is_quiet (Captured d n got) = true
 is_quiet (Emitted d sound done) = true
+is_quiet (Hooked d off done) = true
 
 some_and : (x : Option Outside) (P : Outside → Type 0) → IsSomeAnd x P → (o : Outside) × (x ≡ Some o) × P o
 some_and None P h = absurd h
@@ -93,6 +101,7 @@ answered_first o (Wrote k offered took) log steps e q a = some_and (answered o (
 answered_first o (Closed k why) log steps e q a = some_and (answered o (Closed k why)) (λ o. AnswersTo o log steps e) a
 answered_first o (Captured d n got) log steps e q a = some_and (answered o (Captured d n got)) (λ o. AnswersTo o log steps e) a
 answered_first o (Emitted d sound done) log steps e q a = some_and (answered o (Emitted d sound done)) (λ o. AnswersTo o log steps e) a
+answered_first o (Hooked d off done) log steps e q a = some_and (answered o (Hooked d off done)) (λ o. AnswersTo o log steps e) a
 
 -- The one happening that may come, of a state and the outside: where a happening is taken and answered, it is that one, and
 -- what is to hold holds behind it.
@@ -208,6 +217,7 @@ read_answer w o o' k (x ∷ xs) (Given bytes) e =
 read_one : (w : List Bool) (k : ℕ) (p : Place) (o : Outside) (h : Happening) (t : Place) → read_by k p h ≡ Some t →
     TakesOne (read_by k) (AtPlace w k) (AtPlace w k) p o h (Read k (expected (gives_of (peer_at o k))))
 read_one w k p o (Woke wake) t e = absurd (none_some e)
+read_one w k p o (Hooked x off y) t e = absurd (none_some e)
 read_one w k p o (Wrote j offered took) t e = absurd (none_some e)
 read_one w k p o (Closed j why) t e = absurd (none_some e)
 read_one w k p o (Captured d n got) t e = absurd (none_some e)
@@ -254,6 +264,7 @@ write_opens w k offered (Some bytes) o o' e p =
 write_one : (w : List Bool) (k : ℕ) (p : Place) (o : Outside) (h : Happening) (t : Place) → write_by k p h ≡ Some t →
     TakesOne (write_by k) (AtPlace w k) (AtPlace w k) p o h (Wrote k (length p.link.pending) (Some p.link.pending))
 write_one w k p o (Woke wake) t e = absurd (none_some e)
+write_one w k p o (Hooked x off y) t e = absurd (none_some e)
 write_one w k p o (Read j got) t e = absurd (none_some e)
 write_one w k p o (Closed j why) t e = absurd (none_some e)
 write_one w k p o (Captured d n got) t e = absurd (none_some e)
@@ -313,12 +324,18 @@ write_alike w k steps p o (h1 ∷ log1) (h2 ∷ log2) b1 b2 e1 e2 at f1 f2 r1 r2
 same_why-true : (a b : Why) → same_why a b ≡ true → a ≡ b
 same_why-true why.BadSetup why.BadSetup e = refl
 same_why-true why.BadSetup why.Malformed e = absurd cc
+same_why-true why.BadSetup why.Overrun e = absurd cc
 same_why-true why.Malformed why.BadSetup e = absurd cc
 same_why-true why.Malformed why.Malformed e = refl
+same_why-true why.Malformed why.Overrun e = absurd cc
+same_why-true why.Overrun why.BadSetup e = absurd cc
+same_why-true why.Overrun why.Malformed e = absurd cc
+same_why-true why.Overrun why.Overrun e = refl
 
 close_one : (w : List Bool) (k : ℕ) (cause : Why) (p : Place) (o : Outside) (h : Happening) (t : Door) → close_by k p.around cause h ≡ Some t →
     TakesOne (λ p. close_by k p.around cause) (AtPlace w k) (AtDoor w k) p o h (Closed k cause)
 close_one w k cause p o (Woke wake) t e = absurd (none_some e)
+close_one w k cause p o (Hooked x off y) t e = absurd (none_some e)
 close_one w k cause p o (Read j got) t e = absurd (none_some e)
 close_one w k cause p o (Wrote j offered took) t e = absurd (none_some e)
 close_one w k cause p o (Captured d n got) t e = absurd (none_some e)
@@ -407,6 +424,29 @@ tick-opens : (d : ℕ) (captured : List ℤ) (is_dead : Bool) (s : State) → op
 unfolding complete_due
 tick-opens d captured is_dead s = complete_by-opens (length s.waiting) d (record s { devices = with_device d (later captured is_dead) s.devices })
 
+-- Events leave the links as open as they are
+
+tell_open-some : (k : ℕ) (e : Event) (a : Around) (link : Option LinkState) → is_some (tell_open k e a link).link ≡ is_some link
+tell_open-some k e a None = refl
+tell_open-some k e a (Some l) = refl
+
+tell_at-opens : (k : ℕ) (e : Event) (s : State) → open_links (tell_at k e s).slots ≡ open_links s.slots
+tell_at-opens k e s =
+    let here = door_at k s in
+    let there = tell_open k e here.around here.link in
+    open_links-set s.slots k (record { link = there.link; said = there.around.said })
+    ∙ ap (λ b. slice_set (open_links s.slots) k b) (tell_open-some k e here.around here.link) ∙ open_links-same s.slots k
+
+tell_from-opens : (n k : ℕ) (e : Event) (s : State) → open_links (tell_from n k e s).slots ≡ open_links s.slots
+tell_from-opens zero k e s = refl
+tell_from-opens (suc n) k e s = tell_from-opens n (k + 1) e (tell_at k e s) ∙ tell_at-opens k e s
+
+becomes-opens : (f : Phone → Phone) (kind : EventKind) (value d : ℕ) (device : DeviceState) (s : State) → open_links (line_becomes f kind value d device s).slots ≡ open_links s.slots
+unfolding tell
+becomes-opens f kind value d device s =
+    let changed_line : State = record s { devices = with_device d (λ device. record device { line = option_map f device.line }) s.devices } in
+    tell_from-opens (length s.slots) 0 (event_at kind d device value) changed_line
+
 at_alike : (k : ℕ) → GoesAlike (serve_at k) Agree Agree
 at_alike k steps s o log1 log2 b1 b2 e1 e2 at f1 f2 r1 r2 =
     alike_then (λ (u : State) log. serve_door k (door_at k s) log) (λ d log. behind (with_door k s d) log) (λ u o. Agree s o) (AtDoor (open_links s.slots) k) Agree
@@ -429,6 +469,7 @@ abbrev pub open_after : List Bool → Wake → List Bool
 open_after w (Opened k) = slice_set w k true
 open_after w (Readable k) = w
 open_after w (Ticked d n) = w
+open_after w (Line d change) = w
 open_after w Idle = w
 open_after w Stop = w
 
@@ -482,6 +523,7 @@ is_capture-size n device (Some bytes) e = eqb-true (length bytes) (n * width_of 
 capture_one : (w : List Bool) (d n : ℕ) (device : DeviceState) (s : State) (o : Outside) (h : Happening) (t : Option (List ℕ)) → capture_by d n device h ≡ Some t →
     TakesOne (λ (s : State). capture_by d n device) (λ s o. opens o ≡ w) (λ t o. opens o ≡ w) s o h (Captured d n (expected_capture (n * width_of device.ty) (station_at o d)))
 capture_one w d n device s o (Woke wake) t e = absurd (none_some e)
+capture_one w d n device s o (Hooked x off y) t e = absurd (none_some e)
 capture_one w d n device s o (Read j got) t e = absurd (none_some e)
 capture_one w d n device s o (Wrote j offered took) t e = absurd (none_some e)
 capture_one w d n device s o (Closed j why) t e = absurd (none_some e)
@@ -517,6 +559,7 @@ emit_answer w o o' d station true e =
 emit_one : (d n : ℕ) (device : DeviceState) (heard : List ℤ) (s : State) (o : Outside) (h : Happening) (t : State) → emit_by d n device heard s h ≡ Some t →
     TakesOne (λ s. emit_by d n device heard s) Agree Agree s o h (Emitted d (sound device n) (not (station_at o d).fails_emit))
 emit_one d n device heard s o (Woke wake) t e = absurd (none_some e)
+emit_one d n device heard s o (Hooked x off y) t e = absurd (none_some e)
 emit_one d n device heard s o (Read j got) t e = absurd (none_some e)
 emit_one d n device heard s o (Wrote j offered took) t e = absurd (none_some e)
 emit_one d n device heard s o (Closed j why) t e = absurd (none_some e)
@@ -563,10 +606,82 @@ tick_alike d n (Some device) steps s o log1 log2 b1 b2 e1 e2 at f1 f2 r1 r2 =
       | false ↦ λ f1 f2. live_alike d n device steps s o log1 log2 b1 b2 e1 e2 at f1 f2 r1 r2
     ] f1 f2
 
+line_alike : (change : LineChange) (d : ℕ) (device : Option DeviceState) (steps : List Step) (s : State) (o : Outside) (log1 log2 : Log) (b1 b2 : Behind State) (e1 e2 : Outside) →
+    Agree s o → line_phase change d device s log1 ≡ Some b1 → line_phase change d device s log2 ≡ Some b2 → AnswersTo o log1 steps e1 → AnswersTo o log2 steps e2 → Agreed steps Agree log1 log2 e1 e2 b1 b2
+line_alike change d None steps s o log1 log2 b1 b2 e1 e2 at f1 f2 r1 r2 = absurd (none_some f1)
+line_alike change d (Some device) steps s o log1 log2 b1 b2 e1 e2 at f1 f2 r1 r2 =
+    alike_nothing (line_changes change d device) Agree Agree (λ s o at. at ∙ sym (becomes-opens (changed change) (kind_of change) (value_of change) d device s)) steps s o log1 log2 b1 b2 e1 e2 at f1 f2 r1 r2
+
 pub wake_alike : (wake : Wake) → GoesAlike (wake_phase wake) (Woken wake) Agree
 unfolding wake_phase
 wake_alike (Opened k) = alike_nothing (λ s. with_slot k (record { link = Some opened; said = [] }) s) (Woken (Opened k)) Agree (λ s o at. at ∙ sym (open_links-set s.slots k (record { link = Some opened; said = [] })))
 wake_alike (Readable k) = alike_nothing (λ s. with_slot k (in_slot ready (slot_at k s)) s) (Woken (Readable k)) Agree (λ s o at. at ∙ sym (readied s k))
 wake_alike (Ticked d n) = λ steps s o log1 log2 b1 b2 e1 e2 at f1 f2 r1 r2. tick_alike d n (slice_get s.devices d) steps s o log1 log2 b1 b2 e1 e2 at f1 f2 r1 r2
+wake_alike (Line d change) = λ steps s o log1 log2 b1 b2 e1 e2 at f1 f2 r1 r2. line_alike change d (slice_get s.devices d) steps s o log1 log2 b1 b2 e1 e2 at f1 f2 r1 r2
 wake_alike Idle = alike_nothing (λ s. s) (Woken Idle) Agree (λ s o at. at)
 wake_alike Stop = alike_nothing (λ s. s) (Woken Stop) Agree (λ s o at. at)
+
+-- Hooks
+
+hook_answer : (w : List Bool) (o o' : Outside) (d : ℕ) (station : Station) (done : Bool) → hook_answered o d station done ≡ Some o' → (done ≡ not station.fails_hook) × (opens o ≡ w → opens o' ≡ w)
+hook_answer w o o' d station false e =
+    let i = cond-some station.fails_hook (Some (with_station o d (record station { fails_hook = false }))) o' e in
+    let g = i.1 in
+    let same : with_station o d (record station { fails_hook = false }) ≡ o' = cc in
+    (ap not (sym i.0), λ p. subst (λ x. opens x ≡ w) same p)
+hook_answer w o o' d station true e =
+    elim station.fails_hook as (λ b. cond b None (Some o) ≡ Some o' → (true ≡ not b) × (opens o ≡ w → opens o' ≡ w)) [
+      | true ↦ λ e. absurd (none_some e)
+      | false ↦ λ e. let same : o ≡ o' = cc in (refl, λ p. subst (λ x. opens x ≡ w) same p)
+    ] e
+
+same_flag-true : (a b : Bool) → same_flag a b ≡ true → a ≡ b
+same_flag-true true true e = refl
+same_flag-true true false e = absurd cc
+same_flag-true false true e = absurd cc
+same_flag-true false false e = refl
+
+hook_opens : (d : ℕ) (off done : Bool) (device : DeviceState) (s : State) → open_links (cond done (hook_given off d device s) (hook_refused d s)).slots ≡ open_links s.slots
+hook_opens d off true device s = becomes-opens (hooked true) kind.Hook (flag_value off) d device s
+hook_opens d off false device s = refl
+
+hook_one : (d : ℕ) (off : Bool) (device : DeviceState) (s : State) (o : Outside) (h : Happening) (t : State) → hook_by d off device s h ≡ Some t →
+    TakesOne (hook_by d off device) Agree Agree s o h (Hooked d off (not (station_at o d).fails_hook))
+hook_one d off device s o (Woke wake) t e = absurd (none_some e)
+hook_one d off device s o (Read j got) t e = absurd (none_some e)
+hook_one d off device s o (Wrote j offered took) t e = absurd (none_some e)
+hook_one d off device s o (Closed j why) t e = absurd (none_some e)
+hook_one d off device s o (Captured j n got) t e = absurd (none_some e)
+hook_one d off device s o (Emitted j bytes done) t e = absurd (none_some e)
+hook_one d off device s o (Hooked j wanted done) t e =
+    let next = cond done (hook_given off d device s) (hook_refused d s) in
+    let i = cond-some (j == d && same_flag wanted off) (Some next) t e in
+    let u = both-true (j == d) (same_flag wanted off) i.0 in
+    let at : j ≡ d = eqb-true j d u.0 in
+    let here : (o' : Outside) → answered o (Hooked j wanted done) ≡ Some o' → hook_answered o d (station_at o d) done ≡ Some o' = λ o' a. subst (λ m. hook_answered o m (station_at o m) done ≡ Some o') at a in
+    record {
+      quiet = refl;
+      is = λ o' a. ap (λ m. Hooked m wanted done) at ∙ ap (λ b. Hooked d b done) (same_flag-true wanted off u.1) ∙ ap (Hooked d off) (hook_answer (opens o) o o' d (station_at o d) done (here o' a)).0;
+      stands = λ t o' p f a.
+          let g : Some next ≡ Some t = (cond-some (j == d && same_flag wanted off) (Some next) t f).1 in
+          let same : next ≡ t = cc in
+          subst (λ x. Agree x o') same ((hook_answer (open_links s.slots) o o' d (station_at o d) done (here o' a)).1 p ∙ sym (hook_opens d off done device s));
+    }
+
+hook_for-alike : (d : ℕ) (device : DeviceState) (off : Option Bool) → GoesAlike (hook_for d device off) Agree Agree
+hook_for-alike d device None = alike_nothing (λ s. s) Agree Agree (λ s o at. at)
+hook_for-alike d device (Some off) = alike_one (hook_by d off device) Agree Agree (λ s o. Hooked d off (not (station_at o d).fails_hook)) (hook_one d off device)
+
+hook_at-alike : (d : ℕ) (device : Option DeviceState) → GoesAlike (hook_at d device) Agree Agree
+hook_at-alike d None = alike_nothing (λ s. s) Agree Agree (λ s o at. at)
+hook_at-alike d (Some device) = hook_for-alike d device (hook_wanted device)
+
+hook_from-alike : (n d : ℕ) → GoesAlike (hook_from n d) Agree Agree
+unfolding hook_from
+hook_from-alike zero d = alike_nothing (λ s. s) Agree Agree (λ s o at. at)
+hook_from-alike (suc n) d =
+    alike_then (λ s log. hook_at d (slice_get s.devices d) s log) (hook_from n (d + 1)) Agree Agree Agree
+    (λ steps s o log1 log2 b1 b2 e1 e2 at f1 f2 r1 r2. hook_at-alike d (slice_get s.devices d) steps s o log1 log2 b1 b2 e1 e2 at f1 f2 r1 r2) (hook_from-alike n (d + 1))
+
+pub hooks_alike : GoesAlike serve_and_hook Agree Agree
+hooks_alike = alike_then serve_all hook_all Agree Agree Agree all_alike (λ steps s o log1 log2 b1 b2 e1 e2 at f1 f2 r1 r2. hook_from-alike (length s.devices) 0 steps s o log1 log2 b1 b2 e1 e2 at f1 f2 r1 r2)

@@ -12,11 +12,11 @@ use Rattle.af_wire.specs.declared.front.SetupFront.TheVariants as front
 use Rattle.af_wire.specs.Front.{setup_front, frame_front}
 use Rattle.af_wire.specs.Message.{error}
 use Rattle.af_request.specs.Asked.{Asked}
+use Rattle.af_request.specs.Requests.{asked_in}
 use Rattle.af_request.specs.Answer.{setup}
 use Rattle.af_model.specs.State.{State, Slot, Place, Door, place, say, stopped, some_slot, slot_at, door_at, with_door}
 use Rattle.af_model.specs.Waiting.{is_waiting}
 use Rattle.af_model.specs.Reply.{infos_of, reply_message}
-use Rattle.af_model.specs.Perform.{request_in}
 use Rattle.af_model.specs.Advance.{advance_step, after_front, after_frame, after_setup, requested, takes_more, without_front}
 use Rattle.af_model.specs.Turn.{Behind, behind, and_then, serve_at, serve_door}
 use Rattle.af_model.proofs.Tests.{both-true, cond-some, none_some}
@@ -35,10 +35,10 @@ request_alone k (Some request) n p none e = not_closing p (requested k (Some req
 
 frame_alone : (k : ℕ) (f : Front) (p q : Place) → p.link.closing ≡ None → after_frame k f p ≡ Some q → ClosesAlone p q
 frame_alone k NeedMore p q none e = absurd (none_some e)
-frame_alone k Malformed p q none e = let same : place p.around (record p.link { rest = []; closing = Some why.Malformed }) ≡ q = cc in subst (ClosesAlone p) same (λ c. (refl, refl, refl))
+frame_alone k Malformed p q none e = let same : place p.around (stopped why.Malformed p.link) ≡ q = cc in subst (ClosesAlone p) same (λ c. (refl, refl, refl))
 frame_alone k (Frame n) p q none e =
-    let same : requested k (request_in (take n p.link.rest)) (place p.around (without_front n p.link)) ≡ q = cc in
-    subst (ClosesAlone p) same (request_alone k (request_in (take n p.link.rest)) n p none)
+    let same : requested k (asked_in (take n p.link.rest)) (place p.around (without_front n p.link)) ≡ q = cc in
+    subst (ClosesAlone p) same (request_alone k (asked_in (take n p.link.rest)) n p none)
 
 other_cause : Some why.BadSetup ≡ Some why.Malformed → ⊥
 other_cause e = cc

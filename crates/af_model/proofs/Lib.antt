@@ -1,4 +1,5 @@
 pub mod Advancing
+pub mod KeptLines
 pub mod Alone
 pub mod Running
 pub mod Slots

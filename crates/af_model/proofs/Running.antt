@@ -2,7 +2,7 @@
 use Rattle.std.proofs.Common.{◌≡◌, ◌+◌, List, [], ◌∷◌, ◌++◌, length, is_some, refl, sym, ap, ◌∙◌, subst, append_assoc, append-nil, arith, IsSomeAnd}
 use Rattle.std.specs.declared.option.Option.{Option}
 use Rattle.std.specs.declared.option.Option.TheVariants.{None, Some}
-use Rattle.af_outside.specs.declared.happening.Happening.TheVariants.{Woke, Read, Wrote, Closed, Captured, Emitted}
+use Rattle.af_outside.specs.declared.happening.Happening.TheVariants.{Woke, Read, Wrote, Closed, Captured, Emitted, Hooked}
 use Rattle.af_outside.specs.declared.script.DeviceSpec.{DeviceSpec}
 use Rattle.af_outside.specs.declared.script.Step.{Step}
 use Rattle.af_outside.specs.Told.{Log}
@@ -20,6 +20,7 @@ wakes-append (Wrote k offered took ∷ p) q = wakes-append p q
 wakes-append (Closed k why ∷ p) q = wakes-append p q
 wakes-append (Captured d n got ∷ p) q = wakes-append p q
 wakes-append (Emitted d sound done ∷ p) q = wakes-append p q
+wakes-append (Hooked d off done ∷ p) q = wakes-append p q
 
 -- two parts without a wake have none together
 pub wakes-append-none : (p q : Log) → wakes p ≡ 0 → wakes q ≡ 0 → wakes (p ++ q) ≡ 0
@@ -90,6 +91,8 @@ answers_more o mid end (Captured d n got ∷ log) more steps steps' a b =
     some_and-map (answered o (Captured d n got)) (λ o. AnswersTo o log steps mid) (λ o. AnswersTo o (log ++ more) (steps ++ steps') end) (λ o h. answers_more o mid end log more steps steps' h b) a
 answers_more o mid end (Emitted d sound done ∷ log) more steps steps' a b =
     some_and-map (answered o (Emitted d sound done)) (λ o. AnswersTo o log steps mid) (λ o. AnswersTo o (log ++ more) (steps ++ steps') end) (λ o h. answers_more o mid end log more steps steps' h b) a
+answers_more o mid end (Hooked d off done ∷ log) more steps steps' a b =
+    some_and-map (answered o (Hooked d off done)) (λ o. AnswersTo o log steps mid) (λ o. AnswersTo o (log ++ more) (steps ++ steps') end) (λ o h. answers_more o mid end log more steps steps' h b) a
 
 -- what is replayed without a wake is answered within one step
 pub replayed_answers : (o end : Outside) (log : Log) → wakes log ≡ 0 → replayed o log ≡ Some end → AnswersTo o log [] end
@@ -105,3 +108,5 @@ replayed_answers o end (Captured d n got ∷ log) w e =
     then_some_and (answered o (Captured d n got)) (λ o. replayed o log) end (λ o. AnswersTo o log [] end) (λ o h. replayed_answers o end log w h) e
 replayed_answers o end (Emitted d sound done ∷ log) w e =
     then_some_and (answered o (Emitted d sound done)) (λ o. replayed o log) end (λ o. AnswersTo o log [] end) (λ o h. replayed_answers o end log w h) e
+replayed_answers o end (Hooked d off done ∷ log) w e =
+    then_some_and (answered o (Hooked d off done)) (λ o. replayed o log) end (λ o. AnswersTo o log [] end) (λ o h. replayed_answers o end log w h) e

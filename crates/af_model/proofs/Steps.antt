@@ -3,13 +3,14 @@ use Rattle.std.proofs.Common.{◌≡◌, ℕ, zero, suc, ◌<◌, ◌≤◌, ◌
 use Rattle.std.proofs.lemmas.Grind.{common_steps}
 use Rattle.std.specs.declared.option.Option.{Option}
 use Rattle.std.specs.declared.option.Option.TheVariants.{None, Some}
+use Rattle.af_phone.specs.Lines.{is_change}
 use Rattle.af_outside.specs.declared.happening.Wake.TheVariants as wake
 use Rattle.af_outside.specs.declared.script.DeviceSpec.{DeviceSpec}
 use Rattle.af_outside.specs.declared.script.Step.{Step}
-use Rattle.af_outside.specs.declared.script.Step.TheVariants.{Open, Send, Tick, FailCapture, FailEmit, Idle}
-use Rattle.af_outside.specs.Outside.{Outside, Peer, outside_start, peer_at, some_peer, opened_at, sent_at, stepped, wake_of, IsStep}
-use Rattle.af_model.specs.State.{State, opening, outline}
-use Rattle.af_model.specs.Turn.{fits, is_open_at, is_closed_at}
+use Rattle.af_outside.specs.declared.script.Step.TheVariants.{Open, Send, Tick, Line, FailCapture, FailEmit, FailHook, Idle}
+use Rattle.af_outside.specs.Outside.{Outside, Peer, outside_start, peer_at, some_peer, opened_at, sent_at, stepped, wake_of, line_at, IsStep}
+use Rattle.af_model.specs.State.{State, opening, outline, lines_of}
+use Rattle.af_model.specs.Turn.{fits, has_line_at, is_open_at, is_closed_at}
 use Rattle.af_model.proofs.Alike.{Agree, Woken, opens, opens-set, open_after}
 
 -- whether a link is open outside
@@ -46,6 +47,8 @@ stepped_opens o (Send k bytes) =
 stepped_opens o (Tick d n captured) = refl
 stepped_opens o (FailCapture d) = refl
 stepped_opens o (FailEmit d) = refl
+stepped_opens o (Line d change) = refl
+stepped_opens o (FailHook d) = refl
 stepped_opens o Idle = refl
 
 pub agree_step : (s : State) (o : Outside) (step : Step) → Agree s o → Woken (wake_of o step) s (stepped o step)
@@ -54,8 +57,21 @@ agree_step s o step at = stepped_opens o step ∙ ap (λ w. open_after w (wake_o
 pub agree_start : (config : List DeviceSpec) → Agree (opening config) (outside_start config)
 agree_start config = refl
 
+-- whether a device of a configuration has a line
+abbrev pub line_of : DeviceSpec → Bool
+line_of c = c.line
+
+same_line : (config : List DeviceSpec) (d : ℕ) → has_line_at (slice_get (map line_of config) d) ≡ line_at config d
+same_line [] d = refl
+same_line (c ∷ config) zero = refl
+same_line (c ∷ config) (suc d) = same_line config d
+
+length-lines : (config : List DeviceSpec) → length (map line_of config) ≡ length config
+length-lines [] = refl
+length-lines (c ∷ config) = ap suc (length-lines config)
+
 -- the wake of a step that may stand in a script fits
-pub step_fits : (config : List DeviceSpec) (s : State) (o : Outside) (step : Step) → Agree s o → length o.peers ≡ 32 → length s.devices ≡ length config → IsStep config step → fits (outline s) (wake_of o step) ≡ true
+pub step_fits : (config : List DeviceSpec) (s : State) (o : Outside) (step : Step) → Agree s o → length o.peers ≡ 32 → lines_of s.devices ≡ map line_of config → IsStep config step → fits (outline s) (wake_of o step) ≡ true
 step_fits config s o (Open k) at l c f =
     elim (peer_at o k) as (λ p. is_some p ≡ is_open_at (slice_get (opens o) k) → fits (outline s) (cond (is_some p) wake.Idle (wake.Opened k)) ≡ true) [
       | None ↦ λ e. subst (λ w. is_closed_at (slice_get w k) ≡ true) at (closed_at (opens o) k (opens_length o.peers k l f) (sym e))
@@ -73,10 +89,20 @@ step_fits config s o (Send k bytes) at l c f =
       | None ↦ λ e. refl
       | Some peer ↦ λ e. subst (λ w. is_open_at (slice_get w k) ≡ true) at (sym e)
     ] (open_outside o k)
-step_fits config s o (Tick d n captured) at l c f = ticks d n (length s.devices) (let lt = f.0 in omega (arith, lt, c)) f.1 f.2
+step_fits config s o (Line d change) at l c f = both (has_line_at (slice_get (lines_of s.devices) d)) (is_change change) (ap (λ lines. has_line_at (slice_get lines d)) c ∙ same_line config d ∙ f.0) f.1
+  where
+    both : (a b : Bool) → a ≡ true → b ≡ true → (a && b) ≡ true
+    both true true e f = refl
+    both true false e f = absurd cc
+    both false b e f = absurd cc
+step_fits config s o (Tick d n captured) at l c f =
+    let same = ap length c in
+    let all = length-lines config in
+    ticks d n (length (lines_of s.devices)) (let lt = f.0 in omega (arith, lt, same, all)) f.1 f.2
   where
     ticks : (d n devices : ℕ) → d < devices → 1 ≤ n → n ≤ 4096 → (nat_lt d devices && nat_le 1 n && nat_le n 4096) ≡ true
     ticks d n devices a b c = search (rules, common_steps)
 step_fits config s o (FailCapture d) at l c f = refl
 step_fits config s o (FailEmit d) at l c f = refl
+step_fits config s o (FailHook d) at l c f = refl
 step_fits config s o Idle at l c f = refl

@@ -2,18 +2,18 @@
 use Rattle.std.proofs.Common.{◌≡◌, ℕ, zero, suc, true, List, [], ◌∷◌, is_some, refl, sym, ap, ◌∙◌, subst}
 use Rattle.std.specs.declared.option.Option.{Option}
 use Rattle.std.specs.declared.option.Option.TheVariants.{None, Some}
-use Rattle.af_outside.specs.declared.happening.Happening.TheVariants.{Woke, Read, Wrote, Closed, Captured, Emitted}
+use Rattle.af_outside.specs.declared.happening.Happening.TheVariants.{Woke, Read, Wrote, Closed, Captured, Emitted, Hooked}
 use Rattle.af_outside.specs.declared.happening.Wake.{Wake}
 use Rattle.af_outside.specs.declared.script.DeviceSpec.{DeviceSpec}
 use Rattle.af_outside.specs.declared.script.Step.{Step}
 use Rattle.af_outside.specs.Told.{Log}
 use Rattle.af_outside.specs.Outside.{Outside, outside_start, stepped, wake_of}
 use Rattle.af_model.specs.State.{State, opening, outline}
-use Rattle.af_model.specs.Turn.{Behind, and_then, turn, fits, wake_phase, serve_all}
+use Rattle.af_model.specs.Turn.{Behind, and_then, turn, fits, wake_phase, serve_and_hook}
 use Rattle.af_model.specs.Run.{end_by, end_state, then_end, wakes}
 use Rattle.af_model.specs.Script.{AnswersTo, ScriptLog}
 use Rattle.af_model.proofs.Tests.{cond-some, none_some}
-use Rattle.af_model.proofs.Alike.{Agreed, Agree, Woken, alike_then, wake_alike, all_alike}
+use Rattle.af_model.proofs.Alike.{Agreed, Agree, Woken, alike_then, wake_alike, hooks_alike}
 use Rattle.af_model.proofs.Steps.{agree_step, agree_start}
 
 -- a turn begins with a wake
@@ -21,17 +21,18 @@ record TurnTaken (s : State) (log : Log) (b : Behind State) : Type 0 where
   wake : Wake
   rest : Log
   is : log ≡ Woke wake ∷ rest
-  goes : and_then (wake_phase wake s rest) serve_all ≡ Some b
+  goes : and_then (wake_phase wake s rest) serve_and_hook ≡ Some b
 
 turn_inv : (s : State) (log : Log) (b : Behind State) → turn s log ≡ Some b → TurnTaken s log b
 unfolding turn
 turn_inv s [] b e = absurd (none_some e)
-turn_inv s (Woke wake ∷ rest) b e = record { wake = wake; rest = rest; is = refl; goes = (cond-some (fits (outline s) wake) (and_then (wake_phase wake s rest) serve_all) b e).1 }
+turn_inv s (Woke wake ∷ rest) b e = record { wake = wake; rest = rest; is = refl; goes = (cond-some (fits (outline s) wake) (and_then (wake_phase wake s rest) serve_and_hook) b e).1 }
 turn_inv s (Read k got ∷ rest) b e = absurd (none_some e)
 turn_inv s (Wrote k offered took ∷ rest) b e = absurd (none_some e)
 turn_inv s (Closed k why ∷ rest) b e = absurd (none_some e)
 turn_inv s (Captured d n got ∷ rest) b e = absurd (none_some e)
 turn_inv s (Emitted d sound done ∷ rest) b e = absurd (none_some e)
+turn_inv s (Hooked d off done ∷ rest) b e = absurd (none_some e)
 
 -- the turns of one step are alike
 pub turn_alike : (s : State) (o : Outside) (step : Step) (steps : List Step) (log1 log2 : Log) (b1 b2 : Behind State) (e1 e2 : Outside) → Agree s o → turn s log1 ≡ Some b1 → turn s log2 ≡ Some b2 →
@@ -42,9 +43,9 @@ turn_alike s o step steps log1 log2 b1 b2 e1 e2 at f1 f2 r1 r2 =
     let a1 = subst (λ l. AnswersTo o l (step ∷ steps) e1) i1.is r1 in
     let a2 = subst (λ l. AnswersTo o l (step ∷ steps) e2) i2.is r2 in
     let w = wake_of o step in
-    let g1 : and_then (wake_phase w s i1.rest) serve_all ≡ Some b1 = subst (λ x. and_then (wake_phase x s i1.rest) serve_all ≡ Some b1) a1.0 i1.goes in
-    let g2 : and_then (wake_phase w s i2.rest) serve_all ≡ Some b2 = subst (λ x. and_then (wake_phase x s i2.rest) serve_all ≡ Some b2) a2.0 i2.goes in
-    let a = alike_then (wake_phase w) serve_all (Woken w) Agree Agree (wake_alike w) all_alike steps s (stepped o step) i1.rest i2.rest b1 b2 e1 e2 (agree_step s o step at) g1 g2 a1.1 a2.1 in
+    let g1 : and_then (wake_phase w s i1.rest) serve_and_hook ≡ Some b1 = subst (λ x. and_then (wake_phase x s i1.rest) serve_and_hook ≡ Some b1) a1.0 i1.goes in
+    let g2 : and_then (wake_phase w s i2.rest) serve_and_hook ≡ Some b2 = subst (λ x. and_then (wake_phase x s i2.rest) serve_and_hook ≡ Some b2) a2.0 i2.goes in
+    let a = alike_then (wake_phase w) serve_and_hook (Woken w) Agree Agree (wake_alike w) hooks_alike steps s (stepped o step) i1.rest i2.rest b1 b2 e1 e2 (agree_step s o step at) g1 g2 a1.1 a2.1 in
     record {
       outside = a.outside;
       stands = a.stands;

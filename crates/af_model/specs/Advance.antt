@@ -10,11 +10,12 @@ use Rattle.af_wire.specs.declared.front.SetupFront.TheVariants as front
 use Rattle.af_wire.specs.Front.{setup_front, frame_front}
 use Rattle.af_wire.specs.Message.{error}
 use Rattle.af_request.specs.Asked.{Asked}
+use Rattle.af_request.specs.Requests.{asked_in}
 use Rattle.af_request.specs.Answer.{setup}
 use Rattle.af_model.specs.State.{LinkState, Place, place, say, stopped}
 use Rattle.af_model.specs.Waiting.{is_waiting}
 use Rattle.af_model.specs.Reply.{reply_message, infos_of}
-use Rattle.af_model.specs.Perform.{request_in, perform}
+use Rattle.af_model.specs.Perform.{perform}
 
 -- n bytes are taken off the front of the input
 abbrev pub without_front : ℕ → LinkState → LinkState
@@ -29,7 +30,7 @@ requested k (Some request) p = perform k request p
 abbrev pub after_frame : ℕ → Front → Place → Option Place
 after_frame k NeedMore p = None
 after_frame k Malformed p = Some (place p.around (stopped why.Malformed p.link))
-after_frame k (Frame n) p = Some (requested k (request_in (take n p.link.rest)) (place p.around (without_front n p.link)))
+after_frame k (Frame n) p = Some (requested k (asked_in (take n p.link.rest)) (place p.around (without_front n p.link)))
 
 -- what becomes of a link with a setup at the front of its input; a bad one is refused and closes the link. Setups have the
 -- opcode 0 and the number 0.

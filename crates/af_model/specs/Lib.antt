@@ -2,12 +2,15 @@ pub mod State
 pub mod Reply
 pub mod Checks
 pub mod ContextRequests
+pub mod Controls
 pub mod Waiting
 pub mod Play
 pub mod Record
+pub mod DeviceRequests
 pub mod Perform
 pub mod Advance
 pub mod Tick
+pub mod Events
 pub mod Turn
 pub mod Run
 pub mod NoLoss

@@ -1,34 +1,19 @@
 -- Performing a request.
-use Rattle.std.specs.Prelude.{ℕ, ◌+◌, ◌%◌, ◌^◌, List, length, option_and_then, slice_get}
+use Rattle.std.specs.Prelude.{ℕ, ◌+◌, ◌%◌, ◌^◌, length, slice_get}
 use Rattle.std.specs.declared.option.Option.{Option}
 use Rattle.std.specs.declared.option.Option.TheVariants.{None, Some}
 use Rattle.af_context.specs.declared.Context.{Context}
 use Rattle.af_context.specs.Contexts.{context_of}
-use Rattle.af_request.specs.Asked.{Asked, no_op, get_time, create_ac, change_ac, free_ac, play_run, record_run}
-use Rattle.af_request.specs.Requests.{asked_in}
+use Rattle.af_request.specs.Asked.{Asked, no_op, get_time, create_ac, change_ac, free_ac, play_run, record_run, select_events, set_controls, query_controls, hook_switch, query_phone}
 use Rattle.af_request.specs.Answer.{time}
 use Rattle.af_model.specs.declared.refusal.Cause.TheVariants.{BadAc}
 use Rattle.af_model.specs.State.{DeviceState, LinkState, Place, place}
 use Rattle.af_model.specs.Reply.{refusal, refused, replied}
 use Rattle.af_model.specs.Checks.{refused_or, in_device}
 use Rattle.af_model.specs.ContextRequests.{creation_refusal, described, create, change_refusal, change, free}
+use Rattle.af_model.specs.DeviceRequests.{on_line, select, set_device_controls, switch_hook, tell_controls, tell_phone}
 use Rattle.af_model.specs.Play.{play}
 use Rattle.af_model.specs.Record.{record_sound}
-
--- The requests that are performed so far: the others are as requests that are not known.
-abbrev pub performed : Asked → Option Asked
-performed no_op = Some no_op
-performed (get_time d) = Some (get_time d)
-performed (create_ac d ac ty channels preempt play_gain record_gain) = Some (create_ac d ac ty channels preempt play_gain record_gain)
-performed (change_ac mask ac preempt play_gain record_gain) = Some (change_ac mask ac preempt play_gain record_gain)
-performed (free_ac ac) = Some (free_ac ac)
-performed (play_run quiet ac start bytes) = Some (play_run quiet ac start bytes)
-performed (record_run blocking ac start bytes) = Some (record_run blocking ac start bytes)
-performed _ = None
-
--- the request that a whole frame is, where it is one
-abbrev pub request_in : List ℕ → Option Asked
-request_in frame = option_and_then performed (asked_in frame)
 
 -- one more request of a link, modulo 2^16
 abbrev pub counted : LinkState → LinkState
@@ -55,7 +40,12 @@ done k (change_ac mask ac preempt play_gain record_gain) p =
 done k (free_ac ac) p = free ac p
 done k (play_run quiet ac start bytes) p = in_context 6 ac (λ c. play k quiet c start bytes) (context_of p.link.contexts ac) p
 done k (record_run blocking ac start bytes) p = in_context 7 ac (λ c. record_sound k blocking c start bytes) (context_of p.link.contexts ac) p
-done k _ p = p
+done k (select_events d mask) p = in_device 8 d (λ device. on_line 8 d (λ line. select d mask) device.line) (slice_get p.around.devices d) p
+done k (set_controls d mask input_on output_on input_gain output_gain) p =
+    in_device 9 d (set_device_controls d mask input_on output_on input_gain output_gain) (slice_get p.around.devices d) p
+done k (query_controls d) p = in_device 10 d tell_controls (slice_get p.around.devices d) p
+done k (hook_switch d off) p = in_device 11 d (λ device. on_line 11 d (switch_hook d off) device.line) (slice_get p.around.devices d) p
+done k (query_phone d) p = in_device 12 d (λ device. on_line 12 d tell_phone device.line) (slice_get p.around.devices d) p
 
 -- link k makes a request
 abbrev pub perform : ℕ → Asked → Place → Place

@@ -1,11 +1,11 @@
 -- What the server answers: replies, and errors.
-use Rattle.std.specs.Prelude.{ℕ, ◌*◌, false, List, map}
+use Rattle.std.specs.Prelude.{ℕ, ◌*◌, List, map, is_some}
 use Rattle.af_wire.specs.Message.{error}
 use Rattle.af_request.specs.declared.reply.DeviceInfo.{DeviceInfo}
 use Rattle.af_request.specs.Answer.{Answer}
 use Rattle.af_request.specs.Replies.{reply_bytes}
 use Rattle.af_model.specs.declared.refusal.Cause.{Cause}
-use Rattle.af_model.specs.declared.refusal.Cause.TheVariants.{BadSetup, BadValue, BadDevice, BadAc, BadIdChoice, BadMatch, TooManyAcs}
+use Rattle.af_model.specs.declared.refusal.Cause.TheVariants.{BadSetup, BadValue, BadDevice, BadAc, BadIdChoice, BadMatch, TooManyAcs, BadLine}
 use Rattle.af_model.specs.declared.refusal.Refusal.{Refusal}
 use Rattle.af_model.specs.State.{DeviceState, Place, say}
 
@@ -13,9 +13,9 @@ use Rattle.af_model.specs.State.{DeviceState, Place, say}
 abbrev pub horizon_of : DeviceState → ℕ
 horizon_of device = device.rate * 4
 
--- what the reply to a setup says of a device: it has one channel and no line
+-- what the reply to a setup says of a device: it has one channel
 abbrev pub info_of : DeviceState → DeviceInfo
-info_of device = record { ty = device.ty; channels = 1; line = false; rate = device.rate; horizon = horizon_of device }
+info_of device = record { ty = device.ty; channels = 1; line = is_some device.line; rate = device.rate; horizon = horizon_of device }
 
 abbrev pub infos_of : List DeviceState → List DeviceInfo
 infos_of devices = map info_of devices
@@ -29,6 +29,7 @@ code_of_cause BadAc = 4
 code_of_cause BadIdChoice = 5
 code_of_cause BadMatch = 6
 code_of_cause TooManyAcs = 7
+code_of_cause BadLine = 8
 
 abbrev pub refusal : Cause → ℕ → Refusal
 refusal cause value = record { cause = cause; value = value }

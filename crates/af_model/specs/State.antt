@@ -1,10 +1,13 @@
 -- The state of the abstract server: its devices, its links, what was ever said to each link, and the requests that wait.
-use Rattle.std.specs.Prelude.{ℕ, ◌+◌, ◌^◌, ℤ, Bool, false, List, [], ◌++◌, map, replicate, slice_get, slice_set, is_some, length}
+use Rattle.std.specs.Prelude.{ℕ, ◌+◌, ◌^◌, ℤ, pos, Bool, true, false, if◌then◌else◌, List, [], ◌++◌, map, replicate, slice_get, slice_set, is_some}
 use Rattle.std.specs.declared.option.Option.{Option}
 use Rattle.std.specs.declared.option.Option.TheVariants.{None, Some}
 use Rattle.af_sample.specs.declared.sample_type.SampleType.{SampleType}
 use Rattle.af_sample.specs.Heard.{Entry}
 use Rattle.af_context.specs.declared.Context.{Context}
+use Rattle.af_request.specs.declared.reply.Controls.{Controls}
+use Rattle.af_request.specs.declared.reply.Phone.{Phone}
+use Rattle.af_phone.specs.Lines.{quiet_line}
 use Rattle.af_outside.specs.declared.happening.Why.{Why}
 use Rattle.af_outside.specs.declared.script.DeviceSpec.{DeviceSpec}
 
@@ -29,6 +32,7 @@ pub record Completion : Type 0 where
 -- numbers too: only differences of times, and times modulo 2^32, are ever seen.
 -- What was accepted, captured and completed is history: all plays in the order of their acceptance, all samples since the
 -- begin, and all requests that had waited.
+-- Its controls act on what it captures and hands out. Its line, where it has one, has flags of its own.
 -- A device is dead once a capture or an emit of it has failed.
 pub record DeviceState : Type 0 where
   pub ty : SampleType
@@ -38,10 +42,13 @@ pub record DeviceState : Type 0 where
   pub accepted : List Entry
   pub captured : List ℤ
   pub completed : List Completion
+  pub controls : Controls
+  pub line : Option Phone
   pub is_dead : Bool
 
 -- An open link: its unread input, its unsent output, whether it may have something to read, why it is to be closed, how
--- many requests it has made, modulo 2^16, and its contexts in order of creation.
+-- many requests it has made, modulo 2^16, its contexts in order of creation, and for each number of a device the mask of the
+-- events that it selects.
 pub record LinkState : Type 0 where
   pub is_set_up : Bool
   pub rest : List ℕ
@@ -50,6 +57,7 @@ pub record LinkState : Type 0 where
   pub closing : Option Why
   pub sequence : ℕ
   pub contexts : List Context
+  pub selections : List ℕ
 
 -- A number for a link, open or not. What was said is history: all that was appended to the link's output since it was
 -- opened last, which stays behind a close.
@@ -90,13 +98,25 @@ device_set d f devices (Some device) = slice_set devices d (f device)
 abbrev pub with_device : ℕ → (DeviceState → DeviceState) → List DeviceState → List DeviceState
 with_device d f devices = device_set d f devices (slice_get devices d)
 
+-- no event is selected of any device
+abbrev pub none_selected : List ℕ
+none_selected = replicate 8 0
+
 -- a link that was just opened
 abbrev pub opened : LinkState
-opened = record { is_set_up = false; rest = []; pending = []; is_ready = false; closing = None; sequence = 0; contexts = [] }
+opened = record { is_set_up = false; rest = []; pending = []; is_ready = false; closing = None; sequence = 0; contexts = []; selections = none_selected }
 
--- a link that is to be closed, for its first cause; nothing more of its input is read
+-- a link that is to be closed, for its first cause; nothing more of its input is read, and no event is told it
 abbrev pub stopped : Why → LinkState → LinkState
-stopped cause l = record l { rest = []; closing = Some cause }
+stopped cause l = record l { rest = []; closing = Some cause; selections = none_selected }
+
+-- input and output are on, and both gains 0
+abbrev pub opening_controls : Controls
+opening_controls = record { input_on = true; output_on = true; input_gain = pos 0; output_gain = pos 0 }
+
+-- the line of a device that has one is quiet
+abbrev pub opening_line : Bool → Option Phone
+opening_line has_line = if has_line then Some quiet_line else None
 
 -- a device at its start
 abbrev pub opening_device : DeviceSpec → DeviceState
@@ -108,6 +128,8 @@ opening_device d = record {
   accepted = [];
   captured = [];
   completed = [];
+  controls = opening_controls;
+  line = opening_line d.line;
   is_dead = false;
 }
 
@@ -147,13 +169,17 @@ with_door k s d = with_slot k (record { link = d.link; said = d.around.said }) (
 abbrev pub links_of : List Slot → List (Option LinkState)
 links_of slots = map (λ slot. slot.link) slots
 
--- What decides whether a wake may come: how many devices there are, and which links are open.
+-- whether each device has a line
+abbrev pub lines_of : List DeviceState → List Bool
+lines_of devices = map (λ device. is_some device.line) devices
+
+-- What decides whether a wake may come: which devices are there, each with a line or not, and which links are open.
 pub record Outline : Type 0 where
-  pub devices : ℕ
+  pub lines : List Bool
   pub links : List Bool
 
-abbrev pub outline_with : ℕ → List (Option LinkState) → Outline
-outline_with devices links = record { devices = devices; links = map is_some links }
+abbrev pub outline_with : List Bool → List (Option LinkState) → Outline
+outline_with lines links = record { lines = lines; links = map is_some links }
 
 abbrev pub outline : State → Outline
-outline s = outline_with (length s.devices) (links_of s.slots)
+outline s = outline_with (lines_of s.devices) (links_of s.slots)

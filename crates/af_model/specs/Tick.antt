@@ -8,6 +8,7 @@ use Rattle.af_sample.specs.Heard.{Entry, heard}
 use Rattle.af_sample.specs.Samples.{bytes_of, samples}
 use Rattle.af_wait.specs.Waits.{without_first}
 use Rattle.af_model.specs.State.{DeviceState, Held, held_play, held_record, LinkState, State, Waiter, Around, Place, place, Door, door, door_at, with_door, with_device}
+use Rattle.af_model.specs.Controls.{let_out, taken_in}
 use Rattle.af_model.specs.Waiting.{is_due}
 use Rattle.af_model.specs.Play.{in_devices, tell_played, with_play}
 use Rattle.af_model.specs.Record.{give_record}
@@ -17,19 +18,19 @@ use Rattle.af_model.specs.Advance.{advance, or_else}
 abbrev pub next_sound : DeviceState → ℕ → List ℤ
 next_sound device n = map (heard device.accepted) (range_with_len device.now n)
 
--- the sound that a device hands out in n sample periods, in its sample type
+-- the sound that a device hands out in n sample periods, behind its output control and in its sample type
 abbrev pub sound : DeviceState → ℕ → List ℕ
-sound device n = bytes_of device.ty (next_sound device n)
+sound device n = bytes_of device.ty (let_out device.controls (next_sound device n))
 
 -- what a device captures in n sample periods: the samples of the bytes that came, or silence where none did
 abbrev pub capture_of : SampleType → ℕ → Option (List ℕ) → List ℤ
 capture_of ty n None = replicate n (pos 0)
 capture_of ty n (Some bytes) = samples ty bytes
 
--- a device behind the sample periods in which it captured these samples, dead or not
+-- a device behind the sample periods in which these samples came before its input control, dead or not
 abbrev pub later : List ℤ → Bool → DeviceState → DeviceState
 later captured is_dead device =
-    record device { now = device.now + length captured; captured = device.captured ++ captured; is_dead = is_dead }
+    record device { now = device.now + length captured; captured = device.captured ++ taken_in device.controls captured; is_dead = is_dead }
 
 -- what a device has accepted when it has completed a request that had waited: a play is accepted now
 abbrev pub with_held : Held → ℕ → List Entry → List Entry
@@ -79,7 +80,7 @@ complete_by (suc n) d s = or_else s (complete_by n d) (complete_step d s)
 unfoldable pub complete_due : ℕ → State → State
 complete_due d s = complete_by (length s.waiting) d s
 
--- The sample periods of device d in which it captured these samples go by, behind which it is dead or not. Then the requests
+-- The sample periods of device d in which these samples came go by, behind which it is dead or not. Then the requests
 -- that are due complete, in the order in which they began to wait.
 abbrev pub tick : ℕ → List ℤ → Bool → State → State
 tick d captured is_dead s = complete_due d (record s { devices = with_device d (later captured is_dead) s.devices })

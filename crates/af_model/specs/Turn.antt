@@ -1,17 +1,19 @@
 -- A turn, phase by phase. Each phase takes its own happenings off the front of a log; the answers in them are the
 -- outside's, and all else is determined. What is behind a phase is the next state and the rest of the log, or nothing where
 -- the log does not go on as it must.
-use Rattle.std.specs.Prelude.{◌≡◌, ℕ, zero, suc, ◌+◌, Bool, true, false, not, List, [], ◌∷◌, ◌++◌, length, drop, if◌then◌else◌, ◌==◌, ◌&&◌, nat_le, nat_lt, ◌*◌, ℤ, slice_get}
+use Rattle.std.specs.Prelude.{◌≡◌, ℕ, zero, suc, ◌+◌, Bool, true, false, not, List, [], ◌∷◌, ◌++◌, length, drop, if◌then◌else◌, ◌==◌, ◌&&◌, nat_le, nat_lt, ◌*◌, ℤ, slice_get, option_and_then}
 use Rattle.std.specs.declared.option.Option.{Option}
 use Rattle.std.specs.declared.option.Option.TheVariants.{None, Some}
 use Rattle.af_outside.specs.declared.happening.Happening.{Happening}
-use Rattle.af_outside.specs.declared.happening.Happening.TheVariants.{Woke, Read, Wrote, Closed, Captured, Emitted}
+use Rattle.af_outside.specs.declared.happening.Happening.TheVariants.{Woke, Read, Wrote, Closed, Captured, Emitted, Hooked}
 use Rattle.af_outside.specs.declared.happening.ReadGot.{ReadGot}
 use Rattle.af_outside.specs.declared.happening.ReadGot.TheVariants.{Given, NotYet}
 use Rattle.af_outside.specs.declared.happening.Wake.{Wake}
-use Rattle.af_outside.specs.declared.happening.Wake.TheVariants.{Opened, Readable, Ticked, Idle, Stop}
+use Rattle.af_outside.specs.declared.happening.Wake.TheVariants.{Opened, Readable, Ticked, Line, Idle, Stop}
 use Rattle.af_outside.specs.declared.happening.Why.{Why}
 use Rattle.af_outside.specs.declared.happening.Why.TheVariants as why
+use Rattle.af_phone.specs.declared.line.LineChange.{LineChange}
+use Rattle.af_phone.specs.Lines.{hook_due, is_change}
 use Rattle.af_sample.specs.SampleTypes.{width_of}
 use Rattle.af_outside.specs.Told.{Log}
 use Rattle.af_outside.specs.Outside.{same_bytes}
@@ -19,6 +21,7 @@ use Rattle.af_model.specs.State.{State, DeviceState, Slot, LinkState, Around, Pl
 use Rattle.af_model.specs.Waiting.{is_waiting}
 use Rattle.af_model.specs.Advance.{advance, absorb, takes_more}
 use Rattle.af_model.specs.Tick.{sound, capture_of, tick}
+use Rattle.af_model.specs.Events.{hook_given, hook_refused, line_changes}
 
 -- a state, and the log that is left behind it
 pub record Behind (S : Type 0) : Type 0 where
@@ -90,11 +93,14 @@ write_phase k p (h ∷ log) =
 
 -- Closes: one, where the link is closing and nothing waits to be sent to it
 
+-- causes by number, so that they can be compared
+abbrev pub number_of : Why → ℕ
+number_of why.BadSetup = 0
+number_of why.Malformed = 1
+number_of why.Overrun = 2
+
 abbrev pub same_why : Why → Why → Bool
-same_why why.BadSetup why.BadSetup = true
-same_why why.BadSetup why.Malformed = false
-same_why why.Malformed why.BadSetup = false
-same_why why.Malformed why.Malformed = true
+same_why a b = number_of a == number_of b
 
 -- the cause of a link that is to be closed now
 abbrev pub close_due : LinkState → Option Why
@@ -146,12 +152,18 @@ abbrev pub is_closed_at : Option Bool → Bool
 is_closed_at None = false
 is_closed_at (Some is_open) = not is_open
 
--- whether a wake may come: a link is opened that is not open, may be read that is, and a device that is there ticks 1 to
--- 4096 frames
+-- whether a device is there and has a line
+abbrev pub has_line_at : Option Bool → Bool
+has_line_at None = false
+has_line_at (Some has_line) = has_line
+
+-- whether a wake may come: a link is opened that is not open, may be read that is, a device that is there ticks 1 to 4096
+-- frames, and a line that is there changes as lines do
 abbrev pub fits : Outline → Wake → Bool
 fits o (Opened k) = is_closed_at (slice_get o.links k)
 fits o (Readable k) = is_open_at (slice_get o.links k)
-fits o (Ticked d n) = nat_lt d o.devices && nat_le 1 n && nat_le n 4096
+fits o (Ticked d n) = nat_lt d (length o.lines) && nat_le 1 n && nat_le n 4096
+fits o (Line d change) = has_line_at (slice_get o.lines d) && is_change change
 fits o Idle = true
 fits o Stop = true
 
@@ -197,18 +209,60 @@ tick_phase d n (Some device) s log =
     if device.is_dead then behind (tick d (capture_of device.ty n None) true s) log
     else and_then (take_one (capture_by d n device) log) (after_capture d n device s)
 
+-- A line changes, and the links that select it are told
+
+abbrev pub line_phase : LineChange → ℕ → Option DeviceState → State → Log → Option (Behind State)
+line_phase change d None s log = None
+line_phase change d (Some device) s log = behind (line_changes change d device s) log
+
 -- what a wake does
 unfoldable pub wake_phase : Wake → State → Log → Option (Behind State)
 wake_phase (Opened k) s log = behind (with_slot k (record { link = Some opened; said = [] }) s) log
 wake_phase (Readable k) s log = behind (with_slot k (in_slot ready (slot_at k s)) s) log
 wake_phase (Ticked d n) s log = tick_phase d n (slice_get s.devices d) s log
+wake_phase (Line d change) s log = line_phase change d (slice_get s.devices d) s log
 wake_phase Idle s log = behind s log
 wake_phase Stop s log = behind s log
 
--- A whole turn: a wake that may come, with what it does, and then all links
+-- whether two flags are the same
+abbrev pub same_flag : Bool → Bool → Bool
+same_flag a b = if a then b else not b
+
+-- Hooks, behind all links: for each device by rising number whose line is live, and is wanted to have another hook than it was
+-- given, one hook call
+
+abbrev pub hook_wanted : DeviceState → Option Bool
+hook_wanted device = option_and_then hook_due device.line
+
+abbrev pub hook_by : ℕ → Bool → DeviceState → State → Happening → Option State
+hook_by d off device s (Hooked e wanted done) =
+    if e == d && same_flag wanted off then Some (if done then hook_given off d device s else hook_refused d s) else None
+hook_by d off device s _ = None
+
+abbrev pub hook_for : ℕ → DeviceState → Option Bool → State → Log → Option (Behind State)
+hook_for d device None s log = behind s log
+hook_for d device (Some off) s log = take_one (hook_by d off device s) log
+
+abbrev pub hook_at : ℕ → Option DeviceState → State → Log → Option (Behind State)
+hook_at d None s log = behind s log
+hook_at d (Some device) s log = hook_for d device (hook_wanted device) s log
+
+-- n devices from number d on
+unfoldable pub hook_from : ℕ → ℕ → State → Log → Option (Behind State)
+hook_from zero d s log = behind s log
+hook_from (suc n) d s log = and_then (hook_at d (slice_get s.devices d) s log) (hook_from n (d + 1))
+
+abbrev pub hook_all : State → Log → Option (Behind State)
+hook_all s log = hook_from (length s.devices) 0 s log
+
+-- behind a wake
+abbrev pub serve_and_hook : State → Log → Option (Behind State)
+serve_and_hook s log = and_then (serve_all s log) hook_all
+
+-- A whole turn: a wake that may come, with what it does, then all links, and then all hooks
 
 unfoldable pub turn : State → Log → Option (Behind State)
-turn s (Woke wake ∷ log) = if fits (outline s) wake then and_then (wake_phase wake s log) serve_all else None
+turn s (Woke wake ∷ log) = if fits (outline s) wake then and_then (wake_phase wake s log) serve_and_hook else None
 turn s _ = None
 
 -- the part of a log is exactly one turn from the state, whatever follows it, and leads to the next state

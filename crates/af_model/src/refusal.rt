@@ -12,10 +12,11 @@ pub enum Cause {
     BadIdChoice,
     BadMatch,
     TooManyAcs,
+    BadLine,
 }
 
 impl Cause {
-    /// Its code, 1 to 7.
+    /// Its code, 1 to 8.
     pub fn code(self) -> u8
         ensures { result ≡ code_of_cause self }
     {
@@ -27,6 +28,7 @@ impl Cause {
             Cause::BadIdChoice => 5,
             Cause::BadMatch => 6,
             Cause::TooManyAcs => 7,
+            Cause::BadLine => 8,
         }
     }
 }

@@ -7,7 +7,7 @@ use Rattle.std.specs.declared.option.Option.TheVariants.{None, Some}
 use Rattle.af_outside.specs.declared.script.DeviceSpec.{DeviceSpec}
 use Rattle.af_outside.specs.declared.script.Step.{Step}
 use Rattle.af_outside.specs.declared.station.KeptStation.{KeptStation}
-use Rattle.af_outside.specs.Outside.{Outside, Station, with_station, station_of, captured, capture_answered, emit_answered, same_bytes}
+use Rattle.af_outside.specs.Outside.{Outside, Station, with_station, station_of, captured, capture_answered, emit_answered, hook_answered, same_bytes}
 use Rattle.af_outside.specs.Tape.{KeptPeer, outside_of, kept_at, kept_station_of, stations_of}
 use Rattle.af_outside.proofs.Outsides.{same_bytes-refl}
 
@@ -43,3 +43,10 @@ pub emit_failed : (o o' : Outside) (d : ℕ) (station station' : Station) → st
 emit_failed o o' d station station' same flag e =
     subst (λ s. emit_answered o d s false ≡ Some o') same
     (ap (λ t. if t then Some (with_station o d (record station { fails_emit = false })) else None) flag ∙ ap (λ o. Some o) (sym e))
+
+-- a hook call fails where that is stated
+pub hook_failed : (o o' : Outside) (d : ℕ) (station station' : Station) → station ≡ station' → station.fails_hook ≡ true →
+    o' ≡ with_station o d (record station { fails_hook = false }) → hook_answered o d station' false ≡ Some o'
+hook_failed o o' d station station' same flag e =
+    subst (λ s. hook_answered o d s false ≡ Some o') same
+    (ap (λ t. if t then Some (with_station o d (record station { fails_hook = false })) else None) flag ∙ ap (λ o. Some o) (sym e))

@@ -1,12 +1,13 @@
 -- The outside that a script states: what its links and devices give, step by step, and how it answers the server's calls.
-use Rattle.std.specs.Prelude.{◌≡◌, ℕ, ◌≤◌, ◌<◌, ◌*◌, Bool, true, false, not, map, List, [], ◌∷◌, ◌++◌, length, take, drop, if◌then◌else◌, ◌==◌, ◌&&◌, is_some, slice_get, slice_set, replicate}
+use Rattle.std.specs.Prelude.{◌≡◌, ℕ, ◌≤◌, ◌<◌, ◌*◌, Bool, true, false, not, IsTrue, map, List, [], ◌∷◌, ◌++◌, length, take, drop, if◌then◌else◌, ◌==◌, ◌&&◌, is_some, slice_get, slice_set, replicate}
 use Rattle.std.specs.declared.option.Option.{Option}
 use Rattle.std.specs.declared.option.Option.TheVariants.{None, Some}
 use Rattle.af_sample.specs.declared.sample_type.SampleType.{SampleType}
 use Rattle.af_sample.specs.declared.sample_type.SampleType.TheVariants.{Mu255, Alaw, Lin16, Lin32}
 use Rattle.af_sample.specs.SampleTypes.{width_of}
+use Rattle.af_phone.specs.Lines.{is_change}
 use Rattle.af_outside.specs.declared.happening.Happening.{Happening}
-use Rattle.af_outside.specs.declared.happening.Happening.TheVariants.{Woke, Read, Wrote, Closed, Captured, Emitted}
+use Rattle.af_outside.specs.declared.happening.Happening.TheVariants.{Woke, Read, Wrote, Closed, Captured, Emitted, Hooked}
 use Rattle.af_outside.specs.declared.happening.ReadGot.{ReadGot}
 use Rattle.af_outside.specs.declared.happening.ReadGot.TheVariants.{Given, NotYet}
 use Rattle.af_outside.specs.declared.happening.Wake.{Wake}
@@ -21,12 +22,13 @@ pub record Peer : Type 0 where
   pub gives : List ℕ
 
 -- The far end of a device: its sample type, what the last tick states that it captures (silence where it states nothing),
--- and whether its next capture and its next emit are to fail.
+-- and whether its next capture, its next emit and the next hook of its line are to fail.
 pub record Station : Type 0 where
   pub ty : SampleType
   pub states : Option (List ℕ)
   pub fails_capture : Bool
   pub fails_emit : Bool
+  pub fails_hook : Bool
 
 -- a peer for each link that is open, and a station for each device
 pub record Outside : Type 0 where
@@ -35,7 +37,7 @@ pub record Outside : Type 0 where
 
 -- a device that nothing was stated of
 abbrev pub station_of : SampleType → Station
-station_of ty = record { ty = ty; states = None; fails_capture = false; fails_emit = false }
+station_of ty = record { ty = ty; states = None; fails_capture = false; fails_emit = false; fails_hook = false }
 
 -- no link is open, and nothing was stated of the devices
 abbrev pub outside_start : List DeviceSpec → Outside
@@ -80,8 +82,10 @@ abbrev pub stepped : Outside → Step → Outside
 stepped o (step.Open k) = opened_at o k (peer_at o k)
 stepped o (step.Send k bytes) = sent_at o k bytes (peer_at o k)
 stepped o (step.Tick d n captured) = with_station o d (record (station_at o d) { states = captured })
+stepped o (step.Line d change) = o
 stepped o (step.FailCapture d) = with_station o d (record (station_at o d) { fails_capture = true })
 stepped o (step.FailEmit d) = with_station o d (record (station_at o d) { fails_emit = true })
+stepped o (step.FailHook d) = with_station o d (record (station_at o d) { fails_hook = true })
 stepped o step.Idle = o
 
 -- the wake of a step; opening a link that is open, and sending on one that is not, wake as Idle
@@ -89,8 +93,10 @@ abbrev pub wake_of : Outside → Step → Wake
 wake_of o (step.Open k) = if is_some (peer_at o k) then wake.Idle else wake.Opened k
 wake_of o (step.Send k bytes) = if is_some (peer_at o k) then wake.Readable k else wake.Idle
 wake_of o (step.Tick d n captured) = wake.Ticked d n
+wake_of o (step.Line d change) = wake.Line d change
 wake_of o (step.FailCapture d) = wake.Idle
 wake_of o (step.FailEmit d) = wake.Idle
+wake_of o (step.FailHook d) = wake.Idle
 wake_of o step.Idle = wake.Idle
 
 -- how many bytes a frame of a device has
@@ -100,6 +106,14 @@ width_in (Some d) = width_of d.ty
 
 abbrev pub width_at : List DeviceSpec → ℕ → ℕ
 width_at config d = width_in (slice_get config d)
+
+-- whether a device has a telephone line; one that is not there has none
+abbrev pub line_in : Option DeviceSpec → Bool
+line_in None = false
+line_in (Some d) = d.line
+
+abbrev pub line_at : List DeviceSpec → ℕ → Bool
+line_at config d = line_in (slice_get config d)
 
 -- what a tick states is captured has as many bytes as its frames
 abbrev pub IsCapture : ℕ → Option (List ℕ) → Type 0
@@ -111,8 +125,10 @@ abbrev pub IsStep : List DeviceSpec → Step → Type 0
 IsStep config (step.Open k) = k < 32
 IsStep config (step.Send k bytes) = (k < 32) × (1 ≤ length bytes) × (length bytes ≤ 16384)
 IsStep config (step.Tick d n captured) = (d < length config) × (1 ≤ n) × (n ≤ 4096) × IsCapture (n * width_at config d) captured
+IsStep config (step.Line d change) = IsTrue (line_at config d) × IsTrue (is_change change)
 IsStep config (step.FailCapture d) = d < length config
 IsStep config (step.FailEmit d) = d < length config
+IsStep config (step.FailHook d) = IsTrue (line_at config d)
 IsStep config step.Idle = Unit {0}
 
 -- Answers
@@ -168,6 +184,11 @@ abbrev pub emit_answered : Outside → ℕ → Station → Bool → Option Outsi
 emit_answered o d station false = if station.fails_emit then Some (with_station o d (record station { fails_emit = false })) else None
 emit_answered o d station true = if station.fails_emit then None else Some o
 
+-- a hook call fails exactly where that is stated, once
+abbrev pub hook_answered : Outside → ℕ → Station → Bool → Option Outside
+hook_answered o d station false = if station.fails_hook then Some (with_station o d (record station { fails_hook = false })) else None
+hook_answered o d station true = if station.fails_hook then None else Some o
+
 -- the outside after a happening, where its answer is the one that the script states
 abbrev pub answered : Outside → Happening → Option Outside
 answered o (Woke w) = Some o
@@ -176,6 +197,7 @@ answered o (Wrote k offered took) = write_answered o offered took
 answered o (Closed k why) = Some (with_peer o k None)
 answered o (Captured d n got) = capture_answered o d (station_at o d) got
 answered o (Emitted d sound done) = emit_answered o d (station_at o d) done
+answered o (Hooked d off done) = hook_answered o d (station_at o d) done
 
 abbrev pub then_outside : Option Outside → (Outside → Option Outside) → Option Outside
 then_outside None f = None

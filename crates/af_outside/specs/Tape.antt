@@ -50,8 +50,10 @@ stated_by None = None
 stated_by (Some (step.Open k)) = None
 stated_by (Some (step.Send k bytes)) = None
 stated_by (Some (step.Tick d n captured)) = captured
+stated_by (Some (step.Line d change)) = None
 stated_by (Some (step.FailCapture d)) = None
 stated_by (Some (step.FailEmit d)) = None
+stated_by (Some (step.FailHook d)) = None
 stated_by (Some step.Idle) = None
 
 -- what the step with a number states, where there is a number
@@ -61,7 +63,7 @@ stated_at steps (Some number) = stated_by (slice_get steps number)
 
 -- a device that nothing was stated of
 abbrev pub kept_station_of : SampleType → KeptStation
-kept_station_of ty = record { ty = ty; tick = None; fails_capture = false; fails_emit = false }
+kept_station_of ty = record { ty = ty; tick = None; fails_capture = false; fails_emit = false; fails_hook = false }
 
 -- a station whose last tick is one of these steps
 abbrev pub kept_at : List Step → KeptStation → Station
@@ -70,6 +72,7 @@ kept_at steps kept = record {
   states = stated_at steps kept.tick;
   fails_capture = kept.fails_capture;
   fails_emit = kept.fails_emit;
+  fails_hook = kept.fails_hook;
 }
 
 abbrev pub stations_of : List Step → List KeptStation → List Station
@@ -85,8 +88,10 @@ abbrev pub sent_by : ℕ → Step → ℕ
 sent_by k (step.Open j) = 0
 sent_by k (step.Send j bytes) = if j == k then length bytes else 0
 sent_by k (step.Tick d n captured) = 0
+sent_by k (step.Line d change) = 0
 sent_by k (step.FailCapture d) = 0
 sent_by k (step.FailEmit d) = 0
+sent_by k (step.FailHook d) = 0
 sent_by k step.Idle = 0
 
 -- each far end has room for all that the steps send on its link

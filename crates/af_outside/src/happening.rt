@@ -1,5 +1,6 @@
 // What happens to the server: the wakes that begin its turns, and the answers that the outside gives to its calls.
 use crate::Bytes;
+use af_phone::LineChange;
 
 /// What begins a turn.
 #[derive(Clone, Copy, Debug, PartialEq, Eq)]
@@ -10,6 +11,8 @@ pub enum Wake {
     Readable(u8),
     /// So many sample periods of a device went by.
     Ticked(u8, u32),
+    /// The line of a device changes.
+    Line(u8, LineChange),
     Idle,
     Stop,
 }
@@ -21,6 +24,8 @@ pub enum Why {
     BadSetup,
     /// A front came to be read that is no request.
     Malformed,
+    /// An event met more bytes to send than there may be.
+    Overrun,
 }
 
 /// What a read gave.
@@ -57,6 +62,12 @@ pub enum Happening {
     Emitted {
         device: u8,
         sound: Bytes,
+        done: bool,
+    },
+    /// The hook of a device's line was to be off, or on.
+    Hooked {
+        device: u8,
+        off: bool,
         done: bool,
     },
 }

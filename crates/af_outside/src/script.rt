@@ -1,14 +1,17 @@
 // What a script states: its devices, and its steps.
 use crate::Bytes;
+use af_phone::LineChange;
 use af_sample::SampleType;
 use arrayvec::ArrayVec;
 
-/// A device of a configuration: its sample type, its rate in frames a second, and the device time at which it starts.
+/// A device of a configuration: its sample type, its rate in frames a second, the device time at which it starts, and whether
+/// it has a telephone line.
 #[derive(Clone, Copy, Debug, PartialEq, Eq)]
 pub struct DeviceSpec {
     pub ty: SampleType,
     pub rate: u32,
     pub start: u32,
+    pub line: bool,
 }
 
 impl Default for DeviceSpec {
@@ -17,6 +20,7 @@ impl Default for DeviceSpec {
             ty: SampleType::Lin16,
             rate: 8000,
             start: 0,
+            line: false,
         }
     }
 }
@@ -33,9 +37,13 @@ pub enum Step {
     Send(u8, Bytes),
     /// So many sample periods of a device go by. These bytes are what it captures, or else silence.
     Tick(u8, u32, Option<Bytes>),
+    /// The line of a device changes.
+    Line(u8, LineChange),
     /// The next capture of a device fails.
     FailCapture(u8),
     /// The next emit of a device fails.
     FailEmit(u8),
+    /// The next hook call on a device fails.
+    FailHook(u8),
     Idle,
 }

@@ -3,7 +3,7 @@ ghost use Rattle.std.specs.Prelude.{◌≡◌, List, length, map, option_map, sl
 ghost use Rattle.std.specs.declared.option.Option.TheVariants.{Some};
 ghost use Rattle.af_outside.specs.declared.script.Step.{Step};
 ghost use Rattle.af_outside.specs.World.{captured_of, is_done};
-ghost use Rattle.af_outside.specs.Outside.{capture_answered, captured, emit_answered, silent_byte, some_station, station_at, with_station};
+ghost use Rattle.af_outside.specs.Outside.{capture_answered, captured, emit_answered, hook_answered, silent_byte, some_station, station_at, with_station};
 ghost use Rattle.af_outside.specs.Tape.{KeptPeer, outside_of, kept_at, kept_station_of, stations_of, stated_at, stated_by};
 
 use crate::{Config, Put, Step};
@@ -19,6 +19,7 @@ pub(crate) struct KeptStation {
     tick: Option<usize>,
     fails_capture: bool,
     fails_emit: bool,
+    fails_hook: bool,
 }
 
 impl KeptStation {
@@ -31,6 +32,7 @@ impl KeptStation {
             tick: None,
             fails_capture: false,
             fails_emit: false,
+            fails_hook: false,
         }
     }
 
@@ -93,6 +95,18 @@ pub(crate) fn fail_emit(stations: &mut [KeptStation], device: u8)
     put_station(stations, device, station);
 }
 
+/// The next hook call on a device is to fail.
+pub(crate) fn fail_hook(stations: &mut [KeptStation], device: u8)
+    ensures { (far_ends : List KeptPeer) (steps : List Step)
+        → let old = outside_of far_ends (stations_of steps stations.old) in
+        outside_of far_ends (stations_of steps stations.new)
+        ≡ with_station old device (record (station_at old device) { fails_hook = true }) }
+{
+    let mut station = station_at(stations, device);
+    station.fails_hook = true;
+    put_station(stations, device, station);
+}
+
 /// Captures of a device as many bytes as there is room for.
 pub(crate) fn capture(
     stations: &mut [KeptStation],
@@ -125,6 +139,22 @@ pub(crate) fn emit(stations: &mut [KeptStation], device: u8) -> Put
     let mut station = station_at(stations, device);
     if station.fails_emit {
         station.fails_emit = false;
+        put_station(stations, device, station);
+        return Put::Failed;
+    }
+    Put::Done
+}
+
+/// Whether the line of a device takes its next hook.
+pub(crate) fn hook(stations: &mut [KeptStation], device: u8) -> Put
+    ensures { (far_ends : List KeptPeer) (steps : List Step)
+        → let old = outside_of far_ends (stations_of steps stations.old) in
+        hook_answered old device (station_at old device) (is_done result)
+        ≡ Some (outside_of far_ends (stations_of steps stations.new)) }
+{
+    let mut station = station_at(stations, device);
+    if station.fails_hook {
+        station.fails_hook = false;
         put_station(stations, device, station);
         return Put::Failed;
     }

@@ -1,7 +1,7 @@
 // A world in memory: it plays the steps of a script, answers as the script states, and keeps a log.
 ghost use Rattle.std.specs.Prelude.{◌≡◌, ◌≤◌, ◌<◌, ◌∷◌, [], List, length, replicate, slice_get, sum_by, is_some, IfOk, IfSome};
 ghost use Rattle.std.specs.declared.option.Option.TheVariants.{None, Some};
-ghost use Rattle.af_outside.specs.declared.happening.Happening.TheVariants.{Read, Wrote, Closed, Captured, Emitted};
+ghost use Rattle.af_outside.specs.declared.happening.Happening.TheVariants.{Read, Wrote, Closed, Captured, Emitted, Hooked};
 ghost use Rattle.af_outside.specs.declared.script.Step.{Step};
 ghost use Rattle.af_outside.specs.Told.{Grew, Rose};
 ghost use Rattle.af_outside.specs.World.{got_of, captured_of, is_done, GotFits};
@@ -17,8 +17,8 @@ use std::alloc::Global;
 use std::marker::Model;
 
 /// A world that plays the steps of a script. Its links give what the script sends on them, take all that is offered and
-/// never fail. Its devices capture what the script states, or silence, and fail where it says so: each is a counted fault,
-/// and the count stands still at 2^64 - 1.
+/// never fail. Its devices capture what the script states, or silence, their lines take each hook, and they fail where it says
+/// so: each is a counted fault, and the count stands still at 2^64 - 1.
 #[derive(Drop)]
 pub struct Tape {
     alloc: Global,
@@ -141,8 +141,10 @@ fn copied_step(alloc: Global, step: &Step) -> Result<Step, OutOfMemory>
             Step::Tick(*device, *frames, Some(captured))
         }
         Step::Tick(device, frames, None) => Step::Tick(*device, *frames, None),
+        Step::Line(device, change) => Step::Line(*device, *change),
         Step::FailCapture(device) => Step::FailCapture(*device),
         Step::FailEmit(device) => Step::FailEmit(*device),
+        Step::FailHook(device) => Step::FailHook(*device),
         Step::Idle => Step::Idle,
     };
     Ok(copy)
@@ -213,12 +215,17 @@ fn take_step(
             station::tick(stations, *device, number);
             Wake::Ticked(*device, *frames)
         }
+        Step::Line(device, change) => Wake::Line(*device, *change),
         Step::FailCapture(device) => {
             station::fail_capture(stations, *device);
             Wake::Idle
         }
         Step::FailEmit(device) => {
             station::fail_emit(stations, *device);
+            Wake::Idle
+        }
+        Step::FailHook(device) => {
+            station::fail_hook(stations, *device);
             Wake::Idle
         }
         Step::Idle => Wake::Idle,
@@ -312,6 +319,17 @@ fn emit_of(alloc: Global, device: u8, sound: &[u8], put: Put) -> Result<Happenin
     })
 }
 
+// What a hook call did.
+fn hook_of(device: u8, off: bool, put: Put) -> Happening
+    ensures { result ≡ Hooked device off (is_done put) }
+{
+    Happening::Hooked {
+        device,
+        off,
+        done: put == Put::Done,
+    }
+}
+
 // The count of faults after an answer, which stands still at the end of its type.
 fn faults_after(faults: u64, put: Put) -> u64
     ensures { result ≡ faults_after faults put }
@@ -398,6 +416,24 @@ impl World for Tape {
         let put = station::emit(&mut self.stations, device);
         self.device_faults = faults_after(self.device_faults, put);
         self.logbook.note(emit_of(self.alloc, device, sound, put));
+        put
+    }
+
+    fn hook(&mut self, device: u8, off: bool) -> Put
+        ensures log { Grew self.old.log (Hooked device off (is_done result) ∷ []) self.new.log }
+        ensures cause { result ≡ Put.Failed → Rose self.old.device_faults self.new.device_faults }
+        ensures leads { TapeLeadsTo self.old self.new }
+        ensures answered { answered self.old.outside (Hooked device off (is_done result)) ≡ Some self.new.outside }
+        ensures faults { self.new.device_faults ≡ faults_after self.old.device_faults result }
+        ensures rest { self.new ≡ record self.old {
+          log = self.new.log;
+          outside = self.new.outside;
+          device_faults = self.new.device_faults;
+        } }
+    {
+        let put = station::hook(&mut self.stations, device);
+        self.device_faults = faults_after(self.device_faults, put);
+        self.logbook.note(Ok(hook_of(device, off, put)));
         put
     }
 }

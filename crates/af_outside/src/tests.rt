@@ -1,5 +1,6 @@
 // What the outside in memory and the adapters do, on examples worked by hand.
 use super::*;
+use af_phone::LineChange;
 use af_sample::SampleType;
 use std::alloc::{AllocError, Global};
 use std::fmt::Write as _;
@@ -37,6 +38,7 @@ fn write_line(text: &mut String, happening: &Happening) -> Result<(), AllocError
             sound,
             done,
         } => writeln!(text, "emitted {device} {:?} {done}", sound.as_slice()),
+        Happening::Hooked { device, off, done } => writeln!(text, "hooked {device} {off} {done}"),
     }
 }
 
@@ -57,6 +59,7 @@ enum Act {
     Close(u8),
     Capture(u8, usize),
     Emit(u8),
+    Hook(u8, bool),
 }
 
 fn carry_out(tape: &mut Tape, act: Act) {
@@ -83,6 +86,9 @@ fn carry_out(tape: &mut Tape, act: Act) {
         Act::Emit(device) => {
             tape.emit(device, &[0, 0]);
         }
+        Act::Hook(device, off) => {
+            tape.hook(device, off);
+        }
     }
 }
 
@@ -94,6 +100,7 @@ fn a_tape_plays_a_script(rt: HostRuntime) -> Result<(), Fail> {
         ty: SampleType::Lin16,
         rate: 8000,
         start: 7,
+        line: false,
     });
     let steps = vec![in alloc;
         Step::Open(3),
@@ -210,6 +217,53 @@ fn devices_capture_what_is_stated_and_fail_once(rt: HostRuntime) -> Result<(), F
                emitted 1 [0, 0] false\n\
                emitted 1 [0, 0] true\n\
                captured 5 2 [0, 0]\n";
+    assert!(rt; tape.tells());
+    assert_eq!(rt; lines_of(alloc, tape.log())?.as_str(), log);
+    Ok(())
+}
+
+#[test]
+fn lines_change_and_a_hook_fails_once(rt: HostRuntime) -> Result<(), Fail> {
+    let alloc = rt.alloc();
+    let mut config = Config::new();
+    config.push(DeviceSpec::default());
+    config.push(DeviceSpec {
+        line: true,
+        ..Default::default()
+    });
+    let steps = vec![in alloc;
+        Step::Line(1, LineChange::Ring(true)),
+        Step::FailHook(1),
+        Step::FailHook(1),
+        Step::Line(1, LineChange::Digit(b'#')),
+        Step::Line(1, LineChange::Current(false)),
+    ]?;
+    let mut tape = Tape::new(alloc, &config, steps.as_slice())?;
+    let acts = [
+        Act::Step,
+        Act::Hook(1, true),
+        Act::Step,
+        Act::Step,
+        Act::Hook(0, true),
+        Act::Emit(1),
+        Act::Step,
+        Act::Hook(1, false),
+        Act::Hook(1, false),
+        Act::Step,
+    ];
+    for next in acts {
+        carry_out(&mut tape, next);
+    }
+    let log = "woke Line(1, Ring(true))\n\
+               hooked 1 true true\n\
+               woke Idle\n\
+               woke Idle\n\
+               hooked 0 true true\n\
+               emitted 1 [0, 0] true\n\
+               woke Line(1, Digit(35))\n\
+               hooked 1 false false\n\
+               hooked 1 false true\n\
+               woke Line(1, Current(false))\n";
     assert!(rt; tape.tells());
     assert_eq!(rt; lines_of(alloc, tape.log())?.as_str(), log);
     Ok(())

@@ -1,7 +1,7 @@
 // The world that the server lives in.
 ghost use Rattle.std.specs.Prelude.{◌≡◌, ◌≤◌, ◌<◌, ℕ, [], ◌∷◌, length};
 ghost use Rattle.std.specs.declared.option.Option.{Option};
-ghost use Rattle.af_outside.specs.declared.happening.Happening.TheVariants.{Woke, Read, Wrote, Closed, Captured, Emitted};
+ghost use Rattle.af_outside.specs.declared.happening.Happening.TheVariants.{Woke, Read, Wrote, Closed, Captured, Emitted, Hooked};
 ghost use Rattle.af_outside.specs.Told.{Log, Grew, Rose};
 ghost use Rattle.af_outside.specs.World.{got_of, took_of, captured_of, is_done, GotFits, TookFits};
 
@@ -29,7 +29,7 @@ pub trait World {
     /// How often a link has failed.
     ghost link_faults: { Self → ℕ };
 
-    /// How often a device has failed.
+    /// How often a device has failed: a capture, an emit, or a hook of its line.
     ghost device_faults: { Self → ℕ };
 
     /// Calls of this trait alone lead from the first world to the second. What they leave as it is, and how their answers
@@ -72,6 +72,12 @@ pub trait World {
     fn emit(&mut self, device: u8, sound: &[u8]) -> Put
         requires { 0 < length sound.now }
         ensures log { Grew (log self.old) (Emitted device sound.now (is_done result) ∷ []) (log self.new) }
+        ensures cause { result ≡ Put.Failed → Rose (device_faults self.old) (device_faults self.new) }
+        ensures leads { leads_to self.old self.new };
+
+    /// Gives the hook of a device's line, off or on.
+    fn hook(&mut self, device: u8, off: bool) -> Put
+        ensures log { Grew (log self.old) (Hooked device off (is_done result) ∷ []) (log self.new) }
         ensures cause { result ≡ Put.Failed → Rose (device_faults self.old) (device_faults self.new) }
         ensures leads { leads_to self.old self.new };
 

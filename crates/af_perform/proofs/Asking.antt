@@ -1,33 +1,34 @@
 -- A request that a frame of at most 16384 bytes asks has at most 16368 bytes of samples.
-use Rattle.std.proofs.Common.{◌≡◌, ℕ, ◌+◌, ◌*◌, ◌-◌, ◌≤◌, ◌==◌, Bool, true, false, cond, List, length, drop, take, option_and_then, IfSome, refl, sym, subst, arith, length-drop}
+use Rattle.std.proofs.Common.{◌≡◌, ℕ, ℤ, ◌+◌, ◌*◌, ◌-◌, ◌≤◌, ◌==◌, Bool, true, false, cond, List, length, drop, take, option_and_then, IfSome, refl, sym, subst, arith, length-drop}
 use Rattle.std.proofs.lemmas.List.{length-take}
 use Rattle.std.specs.declared.option.Option.{Option}
 use Rattle.std.specs.declared.option.Option.TheVariants.{None, Some}
 use Rattle.af_time.specs.declared.DevTime.{DevTime}
 use Rattle.af_request.specs.declared.request.Request.{Request}
 use Rattle.af_request.specs.declared.request.Request.TheVariants as code
-use Rattle.af_request.specs.Asked.{Asked, meaning, no_op, get_time, create_ac, change_ac, free_ac, play_run, record_run, select_events, set_controls, query_controls, hook_switch, query_phone}
+use Rattle.af_request.specs.Asked.{Asked, meaning}
 use Rattle.af_request.specs.Fields.{u8_at, u32_at}
 use Rattle.af_request.specs.Requests.{Row, row_of, asked_by, asked_in, HasRoom, no_op_row, get_time_row, create_ac_row, change_ac_row, free_ac_row, play_run_row, record_run_row, select_events_row, set_controls_row, query_controls_row, hook_switch_row, query_phone_row}
-use Rattle.af_model.specs.Perform.{performed, request_in}
 use Rattle.af_perform.specs.Waits.{is_done_at_once}
 use denote.Bor.{Bor}
 
 -- a request that is no play and no record
 pub at_once : (r : Request) → ((quiet : Bool) (ac : ℕ) (time : DevTime) (samples : Bor (List ℕ)) → r ≡ code.PlayRun quiet ac time samples → ⊥) →
-    ((blocking : Bool) (ac : ℕ) (time : DevTime) (nbytes : ℕ) → r ≡ code.RecordRun blocking ac time nbytes → ⊥) → is_done_at_once (meaning r) ≡ true
-at_once code.NoOp p q = refl
-at_once (code.GetTime device) p q = refl
-at_once (code.CreateAc device ac ty channels preempt play_gain record_gain) p q = refl
-at_once (code.ChangeAc mask ac preempt play_gain record_gain) p q = refl
-at_once (code.FreeAc ac) p q = refl
-at_once (code.PlayRun quiet ac time samples) p q = absurd (p quiet ac time samples refl)
-at_once (code.RecordRun blocking ac time nbytes) p q = absurd (q blocking ac time nbytes refl)
-at_once (code.SelectEvents device mask) p q = refl
-at_once (code.SetControls device mask input_on output_on input_gain output_gain) p q = refl
-at_once (code.QueryControls device) p q = refl
-at_once (code.HookSwitch device off) p q = refl
-at_once (code.QueryPhone device) p q = refl
+    ((blocking : Bool) (ac : ℕ) (time : DevTime) (nbytes : ℕ) → r ≡ code.RecordRun blocking ac time nbytes → ⊥) →
+    ((device mask input_on output_on : ℕ) (input_gain output_gain : ℤ) → r ≡ code.SetControls device mask input_on output_on input_gain output_gain → ⊥) →
+    ((device off : ℕ) → r ≡ code.HookSwitch device off → ⊥) → is_done_at_once (meaning r) ≡ true
+at_once code.NoOp p q c h = refl
+at_once (code.GetTime device) p q c h = refl
+at_once (code.CreateAc device ac ty channels preempt play_gain record_gain) p q c h = refl
+at_once (code.ChangeAc mask ac preempt play_gain record_gain) p q c h = refl
+at_once (code.FreeAc ac) p q c h = refl
+at_once (code.PlayRun quiet ac time samples) p q c h = absurd (p quiet ac time samples refl)
+at_once (code.RecordRun blocking ac time nbytes) p q c h = absurd (q blocking ac time nbytes refl)
+at_once (code.SelectEvents device mask) p q c h = refl
+at_once (code.SetControls device mask input_on output_on input_gain output_gain) p q c h = absurd (c device mask input_on output_on input_gain output_gain refl)
+at_once (code.QueryControls device) p q c h = refl
+at_once (code.HookSwitch device off) p q c h = absurd (h device off refl)
+at_once (code.QueryPhone device) p q c h = refl
 
 -- what a frame asks by a row, where it is one, has room
 abbrev Fits : List ℕ → Option Row → Type 0
@@ -61,23 +62,5 @@ row_room opcode frame few =
     (either frame (opcode == 11) _ _ (a_row frame (hook_switch_row frame) tt)
     (either frame (opcode == 12) _ _ (a_row frame (query_phone_row frame) tt) tt)))))))))))
 
-performed_room : (a : Asked) → HasRoom a → IfSome (performed a) HasRoom
-performed_room no_op h = h
-performed_room (get_time d) h = h
-performed_room (create_ac d ac ty channels preempt play_gain record_gain) h = h
-performed_room (change_ac mask ac preempt play_gain record_gain) h = h
-performed_room (free_ac ac) h = h
-performed_room (play_run quiet ac start bytes) h = h
-performed_room (record_run blocking ac start bytes) h = h
-performed_room (select_events d mask) h = tt
-performed_room (set_controls d mask input_on output_on input_gain output_gain) h = tt
-performed_room (query_controls d) h = tt
-performed_room (hook_switch d off) h = tt
-performed_room (query_phone d) h = tt
-
-performed_of : (o : Option Asked) → IfSome o HasRoom → IfSome (option_and_then performed o) HasRoom
-performed_of None h = tt
-performed_of (Some a) h = performed_room a h
-
-pub asked_room : (frame : List ℕ) (a : Asked) → length frame ≤ 16384 → Some a ≡ request_in frame → HasRoom a
-asked_room frame a few e = subst (λ o. IfSome o HasRoom) (sym e) (performed_of (asked_in frame) (row_room (u8_at 0 frame) frame few))
+pub asked_room : (frame : List ℕ) (a : Asked) → length frame ≤ 16384 → Some a ≡ asked_in frame → HasRoom a
+asked_room frame a few e = subst (λ o. IfSome o HasRoom) (sym e) (row_room (u8_at 0 frame) frame few)

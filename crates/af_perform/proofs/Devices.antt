@@ -1,9 +1,11 @@
 -- What devices and the states that they stand for have in common.
-use Rattle.std.proofs.Common.{◌≡◌, ℕ, zero, suc, false, ◌*◌, ◌≤◌, ◌<◌, List, [], ◌∷◌, length, get_or, slice_get, slice_set, map, refl, sym, ap, ◌∙◌, subst, arith}
+use Rattle.std.proofs.Common.{◌≡◌, ℕ, zero, suc, ◌*◌, ◌≤◌, ◌<◌, List, [], ◌∷◌, length, get_or, slice_get, slice_set, map, is_some, refl, sym, ap, ◌∙◌, subst, arith}
 use Rattle.std.proofs.lemmas.Option.{slice_get-get_or}
+use Rattle.std.specs.declared.option.Option.{Option}
 use Rattle.std.specs.declared.option.Option.TheVariants.{None, Some}
 use Rattle.af_sample.specs.declared.sample_type.SampleType.{SampleType}
 use Rattle.af_request.specs.declared.reply.DeviceInfo.{DeviceInfo}
+use Rattle.af_request.specs.declared.reply.Phone.{Phone}
 use Rattle.af_model.specs.State.{DeviceState, with_device, device_set}
 use Rattle.af_model.specs.Reply.{info_of, infos_of}
 use Rattle.af_perform.specs.Kept.{KeptDevice, StandsForDevice, kept_info}
@@ -22,9 +24,10 @@ same_infos [] [] h = refl
 same_infos [] (s ∷ ss) h = absurd h
 same_infos (d ∷ ds) [] h = absurd h
 same_infos (d ∷ ds) (s ∷ ss) h =
-    let with_type : SampleType → DeviceInfo = λ ty. record { ty = ty; channels = 1; line = false; rate = d.rate; horizon = d.rate * 4 } in
-    let with_rate : ℕ → DeviceInfo = λ rate. record { ty = s.ty; channels = 1; line = false; rate = rate; horizon = rate * 4 } in
-    let one : kept_info d ≡ info_of s = ap with_type h.0.ty ∙ ap with_rate h.0.rate in
+    let with_type : SampleType → DeviceInfo = λ ty. record { ty = ty; channels = 1; line = is_some d.line; rate = d.rate; horizon = d.rate * 4 } in
+    let with_rate : ℕ → DeviceInfo = λ rate. record { ty = s.ty; channels = 1; line = is_some d.line; rate = rate; horizon = rate * 4 } in
+    let with_phone : Option Phone → DeviceInfo = λ line. record { ty = s.ty; channels = 1; line = is_some line; rate = s.rate; horizon = s.rate * 4 } in
+    let one : kept_info d ≡ info_of s = ap with_type h.0.ty ∙ ap with_rate h.0.rate ∙ ap with_phone h.0.line in
     let rest = same_infos ds ss h.1 in
     ap (λ i. i ∷ map {A = KeptDevice} {B = DeviceInfo} kept_info ds) one ∙ ap (λ l. info_of s ∷ l) rest
 

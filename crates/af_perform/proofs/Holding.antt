@@ -8,7 +8,7 @@ use Rattle.af_wait.specs.declared.Wait.{Wait}
 use Rattle.af_wait.specs.Waits.{first_due, is_due, is_waiting, passed, without_first, without_link, without_taken}
 use Rattle.af_wait.proofs.WaitLemmas.{passed-link}
 use Rattle.af_model.specs.State.{Held, held_play, held_record}
-use Rattle.af_perform.specs.Waits.{KeptWait, has_waiting, kept_due, kept_passed, kept_wait, waits_of, worded}
+use Rattle.af_perform.specs.Waits.{KeptWait, has_waiting, kept_due, kept_passed, kept_wait, kept_without, waits_of, worded}
 
 -- what is held is of one kind
 pub play_is : (held : Held) (quiet : Bool) (start : ℕ) (sound : List ℤ) (preempt : Bool) → held_play quiet start sound preempt ≡ worded held → (whole : ℕ) × (held ≡ held_play quiet whole sound preempt) × (start ≡ whole % 2 ^ 32)
@@ -127,3 +127,12 @@ due_waits d (k ∷ ks) link e =
     or_true : (b : Bool) → (b || true) ≡ true
     or_true true = refl
     or_true false = refl
+
+-- a link is dropped
+pub kept_dropped : (room : List Held) (order : List Wait) (link : ℕ) → map (kept_wait room) (without_link order link) ≡ kept_without link (map (kept_wait room) order)
+kept_dropped room [] link = refl
+kept_dropped room (w ∷ order) link =
+    elim (w.link == link) as (λ b. map (kept_wait room) (cond (not b) (w ∷ without_link order link) (without_link order link)) ≡ cond (not b) (kept_wait room w ∷ kept_without link (map (kept_wait room) order)) (kept_without link (map (kept_wait room) order))) [
+      | true ↦ kept_dropped room order link
+      | false ↦ ap (λ l. kept_wait room w ∷ l) (kept_dropped room order link)
+    ]

@@ -1,5 +1,5 @@
 -- What is kept of links that wait goes on standing for them.
-use Rattle.std.proofs.Common.{◌≡◌, ◌≢◌, ℕ, zero, suc, ℤ, ◌+◌, ◌-◌, ◌*◌, ◌<◌, ◌≤◌, ◌==◌, ◌&&◌, ◌||◌, nat_le, Bool, true, false, cond, List, [], ◌∷◌, ◌++◌, length, map, find, slice_get, slice_set, refl, sym, ap, ◌∙◌, subst, arith, append_assoc, append-nil}
+use Rattle.std.proofs.Common.{◌≡◌, ◌≢◌, ℕ, zero, suc, ℤ, ◌+◌, ◌-◌, ◌*◌, ◌<◌, ◌≤◌, ◌==◌, ◌&&◌, ◌||◌, nat_le, Bool, true, false, not, cond, eqb-true, List, [], ◌∷◌, ◌++◌, length, map, find, slice_get, slice_set, refl, sym, ap, ◌∙◌, subst, arith, append_assoc, append-nil}
 use Rattle.std.proofs.lemmas.Bool.Decides.{nat_tests}
 use Rattle.std.specs.declared.option.Option.TheVariants.{None, Some}
 use Rattle.af_wait.specs.declared.Wait.{Wait}
@@ -9,7 +9,8 @@ use Rattle.af_model.specs.State.{DeviceState, Held, held_play, held_record, Wait
 use Rattle.af_model.specs.Reply.{horizon_of}
 use Rattle.af_model.specs.Waiting.{due, is_due, is_waiting}
 use Rattle.af_model.specs.Tick.{later}
-use Rattle.af_perform.specs.Waits.{KeptWait, has_waiting, kept_due, kept_passed, AreLater, AreLaterBut, AreNew, Grows, IsNear, StandsForWait, StandForWaits}
+use Rattle.af_model.specs.Events.{without_waiter}
+use Rattle.af_perform.specs.Waits.{KeptWait, has_waiting, kept_due, kept_passed, kept_without, AreLater, AreLaterBut, AreNew, Grows, IsNear, StandsForWait, StandForWaits}
 
 -- Devices change
 
@@ -208,6 +209,41 @@ length-waits devices [] [] h = refl
 length-waits devices [] (w ∷ ws) h = absurd h
 length-waits devices (k ∷ ks) [] h = absurd h
 length-waits devices (k ∷ ks) (w ∷ ws) h = ap suc (length-waits devices ks ws h.1)
+
+-- Dropping
+
+pub without_waits : (devices : List DeviceState) (link : ℕ) (ks : List KeptWait) (ws : List Waiter) → StandForWaits devices ks ws → StandForWaits devices (kept_without link ks) (without_waiter link ws)
+without_waits devices link [] [] h = tt
+without_waits devices link [] (w ∷ ws) h = absurd h
+without_waits devices link (k ∷ ks) [] h = absurd h
+without_waits devices link (k ∷ ks) (w ∷ ws) h =
+    subst (λ m. StandForWaits devices (cond (not (m == link)) (k ∷ kept_without link ks) (kept_without link ks)) (without_waiter link (w ∷ ws))) (sym h.0.link)
+    (elim (w.link == link) as (λ b. StandForWaits devices (cond (not b) (k ∷ kept_without link ks) (kept_without link ks)) (cond (not b) (w ∷ without_waiter link ws) (without_waiter link ws))) [
+      | true ↦ without_waits devices link ks ws h.1
+      | false ↦ (h.0, without_waits devices link ks ws h.1)
+    ])
+
+pub without_later : (link : ℕ) (ks : List KeptWait) → AreLater ks → AreLater (kept_without link ks)
+without_later link [] l = tt
+without_later link (k ∷ ks) l = elim (k.wait.link == link) as (λ b. AreLater (cond (not b) (k ∷ kept_without link ks) (kept_without link ks))) [ true ↦ without_later link ks l.1 | false ↦ (l.0, without_later link ks l.1) ]
+
+pub without_others : (link j : ℕ) (ks : List KeptWait) → j ≢ link → has_waiting (kept_without link ks) j ≡ has_waiting ks j
+without_others link j [] apart = refl
+without_others link j (k ∷ ks) apart =
+    elim (k.wait.link == link) as (λ b. (k.wait.link == link) ≡ b → has_waiting (cond (not b) (k ∷ kept_without link ks) (kept_without link ks)) j ≡ (k.wait.link == j || has_waiting ks j)) [
+      | true ↦ λ t.
+          let other : (k.wait.link == j) ≡ false = let is : k.wait.link ≡ link = eqb-true k.wait.link link t in grind (arith, nat_tests) in
+          without_others link j ks apart ∙ ap (λ b. b || has_waiting ks j) (sym other)
+      | false ↦ λ t. ap (λ b. k.wait.link == j || b) (without_others link j ks apart)
+    ] refl
+
+pub without_own : (link : ℕ) (ks : List KeptWait) → has_waiting (kept_without link ks) link ≡ false
+without_own link [] = refl
+without_own link (k ∷ ks) =
+    elim (k.wait.link == link) as (λ b. (k.wait.link == link) ≡ b → has_waiting (cond (not b) (k ∷ kept_without link ks) (kept_without link ks)) link ≡ false) [
+      | true ↦ λ t. without_own link ks
+      | false ↦ λ t. ap (λ b. b || has_waiting (kept_without link ks) link) t ∙ without_own link ks
+    ] refl
 
 -- Growing
 

@@ -132,7 +132,7 @@ told_at ds ks a l l' true s t h is e = (h, sym e)
 told_at ds ks a l l' false s t h is e = (h, ap (λ t. record l { pending = l.pending ++ reply_message 6 (played t) l.sequence }) (sym is) ∙ sym e)
 
 -- one device changes, but not its time and its rate
-device_changes : (ds : List KeptDevice) (ks : List KeptWait) (d : ℕ) (x' : KeptDevice) (a : Around) (s : DeviceState) (f : DeviceState → DeviceState) → StandAround ds ks a → slice_get a.devices d ≡ Some s →
+pub device_changes : (ds : List KeptDevice) (ks : List KeptWait) (d : ℕ) (x' : KeptDevice) (a : Around) (s : DeviceState) (f : DeviceState → DeviceState) → StandAround ds ks a → slice_get a.devices d ≡ Some s →
     StandsForDevice x' (f s) → (f s).now ≡ s.now → (f s).rate ≡ s.rate → StandForDevices (slice_set ds d x') (with_device d f a.devices) × StandForWaits (with_device d f a.devices) ks a.waiting
 device_changes ds ks d x' a s f h there stands now rate =
     subst (λ o. StandForDevices (slice_set ds d x') (device_set d f a.devices o) × StandForWaits (device_set d f a.devices o) ks a.waiting) (sym there)

@@ -5,7 +5,7 @@ use Rattle.std.specs.declared.option.Option.TheVariants.{None}
 use Rattle.std.proofs.lemmas.List.Elements.{All-push}
 use Rattle.std.proofs.lemmas.Bool.Decides.{nat_tests}
 use Rattle.af_model.specs.declared.refusal.Refusal.{Refusal}
-use Rattle.std.proofs.lemmas.List.{ext_get_or, length-replicate}
+use Rattle.std.proofs.lemmas.List.{ext_get_or, length-map, length-replicate}
 use Rattle.std.proofs.lemmas.List.FromFn.{length-map-range_with_len, get_or-map-range_with_len}
 use Rattle.af_time.specs.DeviceTime.{unwrap, IsMeant}
 use Rattle.af_time.proofs.WholeTimes.{meant_unwrap, unwrap_meant}
@@ -20,24 +20,27 @@ use Rattle.af_context.specs.declared.Context.{Context}
 use Rattle.af_outside.specs.declared.script.DeviceSpec.{DeviceSpec}
 use Rattle.af_buffers.specs.Horizons.{IsListedRate}
 use Rattle.af_buffers.specs.PlayBuffer.{Next, accepted_at, accepted_by, frames_beyond as play_beyond, frames_within, HandsOut, Hears, Plays}
-use Rattle.af_buffers.specs.RecordBuffer.{Last, Captures, frames_before, frames_beyond as record_beyond, samples_from}
+use Rattle.af_buffers.specs.RecordBuffer.{Last, Captures, Keeps, frames_before, frames_beyond as record_beyond, samples_from}
 use Rattle.af_buffers.proofs.Rooms.{horizon_of_rate, horizon_within}
 use Rattle.af_buffers.proofs.Hearing.{hears_silence, hears_play, hears_hand_out, gives_heard, frames_beyond-same as play_later, frames_within-same, size_hand_out}
 use Rattle.af_buffers.proofs.Windows.{keeps_silence, keeps_capture, reads_window, frames_before-same, frames_beyond-same as record_later, size_capture}
 use Rattle.af_model.specs.declared.refusal.Cause.{Cause}
 use Rattle.af_model.specs.declared.refusal.Cause.TheVariants.{BadValue}
-use Rattle.af_model.specs.State.{DeviceState, Held, opening_device}
+use Rattle.af_model.specs.State.{DeviceState, Held, opening_controls, opening_device, opening_line}
 use Rattle.af_model.specs.Checks.{check, first_refusal}
 use Rattle.af_model.specs.Play.{accepting, are_frames}
 use Rattle.af_model.specs.Record.{recorded_bytes, record_refusal}
+use Rattle.af_request.specs.declared.reply.Controls.{Controls}
+use Rattle.af_request.specs.declared.reply.Phone.{Phone}
+use Rattle.af_model.specs.Controls.{let_out, passed_on, taken_in}
 use Rattle.af_model.specs.Tick.{completing, later, next_sound, with_held}
 use Rattle.af_model.specs.NoLoss.{IsWholeAt}
 use Rattle.af_perform.specs.Kept.{KeptDevice, StandsForDevice}
 
 -- a device at its start
-pub starts : (spec : DeviceSpec) (next : Next) (last : Last) → IsListedRate spec.rate → spec.start < 2 ^ 32 → next.time ≡ spec.start → next.next ≡ replicate (spec.rate * 4) (pos 0) →
-    last.time ≡ spec.start → last.last ≡ replicate (spec.rate * 4) (pos 0) → StandsForDevice (record { ty = spec.ty; rate = spec.rate; next = next; last = last; is_dead = false }) (opening_device spec)
-starts spec next last listed word t1 n1 t2 n2 =
+pub starts : (spec : DeviceSpec) (next : Next) (last : Last) (controls : Controls) (line : Option Phone) → controls ≡ opening_controls → line ≡ opening_line spec.line → IsListedRate spec.rate → spec.start < 2 ^ 32 → next.time ≡ spec.start → next.next ≡ replicate (spec.rate * 4) (pos 0) →
+    last.time ≡ spec.start → last.last ≡ replicate (spec.rate * 4) (pos 0) → StandsForDevice (record { ty = spec.ty; rate = spec.rate; next = next; last = last; controls = controls; line = line; is_dead = false }) (opening_device spec)
+starts spec next last controls line same_controls same_line listed word t1 n1 t2 n2 =
     let horizon : (32000 ≤ spec.rate * 4) × (spec.rate * 4 ≤ 192000) = horizon_within (spec.rate * 4) (horizon_of_rate spec.rate listed) in
     let time : spec.start ≡ (spec.start + 2 ^ 32) % 2 ^ 32 = omega arith in
     record {
@@ -49,6 +52,8 @@ starts spec next last listed word t1 n1 t2 n2 =
       hears = hears_silence next (spec.start + 2 ^ 32) (spec.rate * 4) (omega arith) (t1 ∙ time) n1;
       keeps = keeps_silence last (spec.start + 2 ^ 32) (spec.rate * 4) (omega arith) (omega arith) (t2 ∙ time) n2;
       whole = λ k d low. absurd (omega arith);
+      controls = same_controls;
+      line = same_line;
       dead = refl;
     }
 
@@ -154,6 +159,8 @@ accepts d next start sound preempt word some few p s h =
       hears = heard;
       keeps = h.keeps;
       whole = h.whole;
+      controls = h.controls;
+      line = h.line;
       dead = h.dead;
     })
 
@@ -168,6 +175,8 @@ completes d s held h whole = record {
   hears = h.hears;
   keeps = h.keeps;
   whole = All-push (λ c. IsWholeAt (s.rate * 4) c.at c.held) s.completed (record { held = held; at = s.now }) h.whole whole;
+  controls = h.controls;
+  line = h.line;
   dead = h.dead;
 }
 
@@ -180,21 +189,34 @@ records d c start n s word h =
     (reads_window d.last s.captured s.begin s.now start n h.keeps word ∙ ap (λ m. window s.captured s.begin s.now m (unwrap s.now start) n) h.back)
 
 -- sample periods go by
-pub passes : (d : KeptDevice) (next : Next) (last : Last) (captured given : List ℤ) → length given ≡ length captured → HandsOut d.next next given → Captures d.last last captured →
+pub passes : (d : KeptDevice) (next : Next) (last : Last) (captured taken given : List ℤ) → taken ≡ taken_in d.controls captured → length given ≡ length captured → HandsOut d.next next given → Captures d.last last taken →
     (s : DeviceState) → StandsForDevice d s → StandsForDevice (record d { next = next; last = last }) (later captured s.is_dead s)
-passes d next last captured given same o more s h = record {
-  ty = h.ty;
-  rate = h.rate;
-  listed = h.listed;
-  ahead = size_hand_out d.next next given o ∙ h.ahead;
-  back = size_capture d.last last captured more ∙ h.back;
-  hears = subst (λ n. Hears next s.accepted (s.now + n)) same (hears_hand_out d.next next s.accepted s.now given h.hears o);
-  keeps = keeps_capture d.last last s.captured captured s.begin s.now h.keeps more;
-  whole = h.whole;
-  dead = h.dead;
-}
+passes d next last captured taken given is same o more s h =
+    let size : length taken ≡ length captured = ap length is ∙ length-map captured (passed_on d.controls.input_on d.controls.input_gain) in
+    let keeps : Keeps last (s.captured ++ taken) s.begin (s.now + length taken) = keeps_capture d.last last s.captured taken s.begin s.now h.keeps more in
+    record {
+      ty = h.ty;
+      rate = h.rate;
+      listed = h.listed;
+      ahead = size_hand_out d.next next given o ∙ h.ahead;
+      back = size_capture d.last last taken more ∙ h.back;
+      hears = subst (λ n. Hears next s.accepted (s.now + n)) same (hears_hand_out d.next next s.accepted s.now given h.hears o);
+      keeps = subst (λ n. Keeps last (s.captured ++ taken_in s.controls captured) s.begin (s.now + n)) size
+          (subst (λ xs. Keeps last (s.captured ++ xs) s.begin (s.now + length taken)) (is ∙ ap (λ (c : Controls). taken_in c captured) h.controls) keeps);
+      whole = h.whole;
+      controls = h.controls;
+      line = h.line;
+      dead = h.dead;
+    }
 
-pub hands_out : (d : KeptDevice) (next : Next) (given : List ℤ) (n : ℕ) → length given ≡ n → HandsOut d.next next given → (s : DeviceState) → StandsForDevice d s → given ≡ next_sound s n
-hands_out d next given n same o s h =
+pub hands_out : (d : KeptDevice) (next : Next) (given out : List ℤ) (n : ℕ) → length given ≡ n → out ≡ let_out d.controls given → HandsOut d.next next given → (s : DeviceState) → StandsForDevice d s → out ≡ let_out s.controls (next_sound s n)
+hands_out d next given out n same is o s h =
+    let all : given ≡ next_sound s n =
     ext_get_or (pos 0) given (next_sound s n) (same ∙ sym (length-map-range_with_len (heard s.accepted) s.now n))
-    (λ i low. gives_heard d.next next s.accepted s.now given h.hears o i low ∙ sym (get_or-map-range_with_len (heard s.accepted) s.now n i (s.now + i) (pos 0) (omega arith) refl))
+    (λ i low. gives_heard d.next next s.accepted s.now given h.hears o i low ∙ sym (get_or-map-range_with_len (heard s.accepted) s.now n i (s.now + i) (pos 0) (omega arith) refl)) in
+    is ∙ ap (let_out d.controls) all ∙ ap (λ (c : Controls). let_out c (next_sound s n)) h.controls
+
+-- silence is what is switched off
+pub silenced : (gain : ℤ) (xs : List ℤ) → replicate (length xs) (pos 0) ≡ map (passed_on false gain) xs
+silenced gain [] = refl
+silenced gain (x ∷ xs) = ap (λ l. pos 0 ∷ l) (silenced gain xs)

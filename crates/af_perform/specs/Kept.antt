@@ -1,12 +1,18 @@
 -- What the core keeps of a device and of a link.
-use Rattle.std.specs.Prelude.{◌≡◌, ℕ, ◌*◌, false, Bool, length}
+use Rattle.std.specs.Prelude.{◌≡◌, ℕ, ◌*◌, Bool, List, length, slice_get, is_some, Ok, Err, Result}
+use Rattle.std.specs.declared.option.Option.{Option}
+use Rattle.std.specs.declared.option.Option.TheVariants.{None, Some}
 use Rattle.af_sample.specs.declared.sample_type.SampleType.{SampleType}
 use Rattle.af_buffers.specs.Horizons.{IsListedRate}
 use Rattle.af_buffers.specs.PlayBuffer.{Next, Hears}
 use Rattle.af_buffers.specs.RecordBuffer.{Last, Keeps}
+use Rattle.af_request.specs.declared.reply.Controls.{Controls}
 use Rattle.af_request.specs.declared.reply.DeviceInfo.{DeviceInfo}
+use Rattle.af_request.specs.declared.reply.Phone.{Phone}
+use Rattle.af_model.specs.declared.refusal.Cause.TheVariants.{BadDevice, BadLine}
+use Rattle.af_model.specs.declared.refusal.Refusal.{Refusal}
 use Rattle.af_model.specs.State.{DeviceState}
-use Rattle.af_model.specs.Reply.{horizon_of}
+use Rattle.af_model.specs.Reply.{horizon_of, refusal}
 use Rattle.af_model.specs.NoLoss.{LosesNone}
 
 -- A device: the samples next from its time on, and the last ones up to then. The time is that of both.
@@ -15,6 +21,8 @@ pub record KeptDevice : Type 0 where
   pub rate : ℕ
   pub next : Next
   pub last : Last
+  pub controls : Controls
+  pub line : Option Phone
   pub is_dead : Bool
 
 -- A device stands for each state of which its time is the 32-bit word, its next samples are what is heard of the accepted plays
@@ -29,8 +37,22 @@ pub record StandsForDevice (d : KeptDevice) (s : DeviceState) : Type 0 where
   pub hears : Hears d.next s.accepted s.now
   pub keeps : Keeps d.last s.captured s.begin s.now
   pub whole : LosesNone s
+  pub controls : d.controls ≡ s.controls
+  pub line : d.line ≡ s.line
   pub dead : d.is_dead ≡ s.is_dead
 
 -- what the reply to a setup says of a device
 abbrev pub kept_info : KeptDevice → DeviceInfo
-kept_info d = record { ty = d.ty; channels = 1; line = false; rate = d.rate; horizon = d.rate * 4 }
+kept_info d = record { ty = d.ty; channels = 1; line = is_some d.line; rate = d.rate; horizon = d.rate * 4 }
+
+-- the line of a device, or why there is none
+abbrev pub line_or : ℕ → Option Phone → Result Phone Refusal
+line_or d None = Err (refusal BadLine d)
+line_or d (Some line) = Ok line
+
+abbrev pub device_line_or : ℕ → Option KeptDevice → Result Phone Refusal
+device_line_or d None = Err (refusal BadDevice d)
+device_line_or d (Some device) = line_or d device.line
+
+abbrev pub line_at : List KeptDevice → ℕ → Result Phone Refusal
+line_at ds d = device_line_or d (slice_get ds d)

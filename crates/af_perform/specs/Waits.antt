@@ -1,8 +1,8 @@
 -- The requests that wait, as the server keeps them.
-use Rattle.std.specs.Prelude.{◌≡◌, ℕ, ◌+◌, ◌-◌, ◌*◌, ◌%◌, ◌^◌, ◌<◌, ◌≤◌, Bool, true, false, ℤ, List, [], ◌∷◌, ◌++◌, length, map, slice_get, slice_index_or}
+use Rattle.std.specs.Prelude.{◌≡◌, ℕ, ◌+◌, ◌-◌, ◌*◌, ◌%◌, ◌^◌, ◌<◌, ◌≤◌, ◌==◌, Bool, true, false, ℤ, List, [], ◌∷◌, ◌++◌, length, map, filter, not, slice_get, slice_index_or}
 use Rattle.std.specs.declared.option.Option.TheVariants.{Some}
 use Rattle.af_sample.specs.SampleTypes.{width_of}
-use Rattle.af_request.specs.Asked.{Asked, play_run, record_run}
+use Rattle.af_request.specs.Asked.{Asked, play_run, record_run, set_controls, hook_switch}
 use Rattle.af_wait.specs.declared.Wait.{Wait}
 use Rattle.af_wait.specs.Waits.{is_due, is_waiting, passed}
 use Rattle.af_model.specs.State.{DeviceState, Held, held_play, held_record, Waiter}
@@ -23,10 +23,12 @@ abbrev pub IsHeld : What → Type 0
 IsHeld (Play quiet preempt) = Unit {0}
 IsHeld (Record context frames) = frames * width_of context.ty ≤ 16000
 
--- whether a request is no play and no record, and so can't wait
+-- whether a request leaves all but its link as it is: plays and records may wait, and controls and hooks are those of devices
 abbrev pub is_done_at_once : Asked → Bool
 is_done_at_once (play_run quiet ac start bytes) = false
 is_done_at_once (record_run blocking ac start bytes) = false
+is_done_at_once (set_controls d mask input_on output_on input_gain output_gain) = false
+is_done_at_once (hook_switch d off) = false
 is_done_at_once _ = true
 
 -- a link that waits: how long it has to, and for what; of the start only the 32-bit word is kept
@@ -52,6 +54,10 @@ kept_due device k = is_due device k.wait
 -- when n frames of a device have passed
 abbrev pub kept_passed : ℕ → ℕ → KeptWait → KeptWait
 kept_passed device n k = record k { wait = passed device n k.wait }
+
+-- the links that wait, without one of them
+abbrev pub kept_without : ℕ → List KeptWait → List KeptWait
+kept_without link ks = filter (λ k. not (k.wait.link == link)) ks
 
 -- each waits a frame or more still
 abbrev pub AreLater : List KeptWait → Type 0

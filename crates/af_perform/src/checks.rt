@@ -1,6 +1,7 @@
 // The checks of a request, in their order.
 ghost use Rattle.std.specs.Prelude.{◌≡◌};
 ghost use Rattle.af_model.specs.Reply.{refusal};
+ghost use Rattle.af_model.specs.ContextRequests.{named_gain};
 ghost use Rattle.af_model.specs.Checks.{check, check_gain, context_cause, first_refusal, names, where_named};
 
 use af_context::ContextFault;
@@ -34,6 +35,17 @@ pub fn where_named(mask: u8, bit: u8, refusal: Option<Refusal>) -> Option<Refusa
     ensures { result ≡ where_named mask bit refusal }
 {
     if names(mask, bit) { refusal } else { None }
+}
+
+/// A gain that the mask names.
+pub fn named_gain(mask: u8, bit: u8, gain: i16) -> Option<Gain>
+    ensures { result ≡ named_gain mask bit gain }
+{
+    if names(mask, bit) {
+        Gain::new(i32::from(gain))
+    } else {
+        None
+    }
 }
 
 /// The first check that fails.

@@ -4,12 +4,14 @@ ghost use Rattle.std.specs.declared.option.Option.TheVariants.{None};
 ghost use Rattle.af_sample.specs.Gains.{gain_of};
 ghost use Rattle.af_request.specs.Asked.{create_ac, change_ac, free_ac};
 ghost use Rattle.af_model.specs.State.{Around, place};
-ghost use Rattle.af_model.specs.ContextRequests.{creation_refusal, described, create, change_refusal, change, named_gain, named_preempt};
+ghost use Rattle.af_model.specs.ContextRequests.{creation_refusal, described, create, change_refusal, change, named_preempt};
 ghost use Rattle.af_model.specs.Perform.{done};
 ghost use Rattle.af_perform.specs.Waits.{KeptWait};
 ghost use Rattle.af_perform.specs.Places.{At, LeadsLink, StandAround};
 
-use crate::checks::{check, check_gain, context_refusal, first_refusal, names, where_named};
+use crate::checks::{
+    check, check_gain, context_refusal, first_refusal, named_gain, names, where_named,
+};
 use crate::device::Device;
 use crate::link::Link;
 use crate::scratch::Work;
@@ -123,17 +125,6 @@ fn change_refusal(link: &Link, asked: NewSettings) -> Option<Refusal>
             check(asked.preempt > 1, Cause::BadValue, u32::from(asked.preempt)),
         ),
     ])
-}
-
-// A gain that the mask names.
-fn named_gain(mask: u8, bit: u8, gain: i16) -> Option<Gain>
-    ensures { result ≡ named_gain mask bit gain }
-{
-    if names(mask, bit) {
-        Gain::new(i32::from(gain))
-    } else {
-        None
-    }
 }
 
 // Whether plays preempt from now on, where the mask names it.

@@ -1,21 +1,24 @@
 // A device, as the core keeps it.
-ghost use Rattle.std.specs.Prelude.{◌≡◌, ◌*◌, ◌≤◌, length, IfOk, true};
+ghost use Rattle.std.specs.Prelude.{◌≡◌, ◌*◌, ◌≤◌, length, IfOk, MatchOption, true};
 ghost use Rattle.af_time.specs.DeviceTime.{unwrap};
 ghost use Rattle.af_sample.specs.SampleTypes.{width_of};
 ghost use Rattle.af_buffers.specs.Horizons.{IsListedRate};
 ghost use Rattle.af_buffers.specs.PlayBuffer.{accepted_at, frames_beyond as play_beyond, frames_within};
 ghost use Rattle.af_buffers.specs.RecordBuffer.{frames_before, frames_beyond as record_beyond};
-ghost use Rattle.af_model.specs.State.{DeviceState, opening_device};
+ghost use Rattle.af_model.specs.State.{DeviceState, opening_controls, opening_device, opening_line};
 ghost use Rattle.af_model.specs.Play.{accepting};
 ghost use Rattle.af_model.specs.Record.{recorded_bytes};
+ghost use Rattle.af_model.specs.Controls.{let_out};
 ghost use Rattle.af_model.specs.Tick.{later, next_sound};
 ghost use Rattle.af_perform.specs.Kept.{StandsForDevice, kept_info};
 
+use crate::level::level;
 use af_buffers::{PlayBuffer, RecordBuffer};
 use af_context::Context;
 use af_outside::DeviceSpec;
-use af_request::DeviceInfo;
-use af_sample::{SampleType, convert_out, gain_run};
+use af_phone::Line;
+use af_request::{Controls, DeviceInfo};
+use af_sample::{Gain, SampleType, convert_out, gain_run};
 use af_time::{DevTime, OutOfMemory};
 use std::alloc::Global;
 use std::marker::Model;
@@ -26,6 +29,8 @@ pub struct Device {
     rate: u32,
     next: PlayBuffer,
     last: RecordBuffer,
+    controls: Controls,
+    line: Option<Line>,
     // a capture or an emit has failed
     is_dead: bool,
 }
@@ -37,9 +42,28 @@ impl Model for Device {
 
     ghost Value = { KeptDevice };
 
-    ghost view = { λ d. record { ty = d.ty; rate = d.rate; next = d.next; last = d.last; is_dead = d.is_dead } };
+    ghost view = { λ d. record { ty = d.ty; rate = d.rate; next = d.next; last = d.last; controls = d.controls; line = d.line; is_dead = d.is_dead } };
 
     ghost invariant = { λ d. IsListedRate d.rate };
+}
+
+// Input and output are on, and both gains 0.
+fn opening_controls() -> Controls
+    ensures { result ≡ opening_controls }
+{
+    Controls {
+        input_on: true,
+        output_on: true,
+        input_gain: Gain::default(),
+        output_gain: Gain::default(),
+    }
+}
+
+// The line of a device that has one is quiet.
+fn opening_line(has_line: bool) -> Option<Line>
+    ensures { result ≡ opening_line has_line }
+{
+    if has_line { Some(Line::new()) } else { None }
 }
 
 impl Device {
@@ -57,6 +81,8 @@ impl Device {
             rate: spec.rate,
             next,
             last,
+            controls: opening_controls(),
+            line: opening_line(spec.line),
             is_dead: false,
         })
     }
@@ -86,7 +112,7 @@ impl Device {
         DeviceInfo {
             ty: self.ty,
             channels: 1,
-            line: false,
+            line: self.line.is_some(),
             rate: self.rate,
             horizon: self.rate * 4,
         }
@@ -158,15 +184,51 @@ impl Device {
         convert_out(context.ty, samples, bytes);
     }
 
-    /// As many sample periods go by as samples were captured. These are kept, and the next ones are handed out.
-    pub fn pass(&mut self, captured: &[i16], sound: &mut [i16])
-        requires same { length sound.old ≡ length captured.now }
-        requires few { length captured.now ≤ 4096 }
-        ensures stands { (s : DeviceState) → StandsForDevice self.old s → StandsForDevice self.new (later captured.now s.is_dead s) }
-        ensures sound { (s : DeviceState) → StandsForDevice self.old s → sound.new ≡ next_sound s (length captured.now) }
+    /// As many sample periods go by as samples came. These are kept behind the input control, and the next ones are handed out
+    /// behind the output control.
+    pub fn pass(&mut self, captured: &mut [i16], sound: &mut [i16])
+        requires same { length sound.old ≡ length captured.old }
+        requires few { length captured.old ≤ 4096 }
+        ensures stands { (s : DeviceState) → StandsForDevice self.old s → StandsForDevice self.new (later captured.old s.is_dead s) }
+        ensures sound { (s : DeviceState) → StandsForDevice self.old s → sound.new ≡ let_out s.controls (next_sound s (length captured.old)) }
     {
+        level(self.controls.input_on, self.controls.input_gain, captured);
         self.last.capture(captured);
         self.next.hand_out(sound);
+        level(self.controls.output_on, self.controls.output_gain, sound);
+    }
+
+    pub fn controls(&self) -> Controls
+        ensures { result ≡ self.now.controls }
+    {
+        self.controls
+    }
+
+    pub fn set_controls(&mut self, controls: Controls)
+        ensures { self.new ≡ record self.old { controls = controls } }
+    {
+        self.controls = controls;
+    }
+
+    /// Its telephone line, where it has one.
+    pub fn line(&self) -> Option<Line>
+        ensures { result ≡ self.now.line }
+    {
+        self.line
+    }
+
+    /// The telephone line that it keeps, where it has one.
+    pub fn kept_line(&self) -> Option<&Line>
+        ensures { MatchOption result (self.now.line ≡ None) (λ line. self.now.line ≡ Some line.now) }
+    {
+        self.line.as_ref()
+    }
+
+    /// Its line, where it has one, becomes another.
+    pub fn set_line(&mut self, line: Option<Line>)
+        ensures { self.new ≡ record self.old { line = line } }
+    {
+        self.line = line;
     }
 
     /// A capture or an emit has failed.

@@ -9,6 +9,9 @@ ghost use Rattle.af_perform.specs.Places.{At, StandAround};
 
 use crate::context_requests::{NewContext, NewSettings, change_ac, create_ac, free_ac};
 use crate::device::Device;
+use crate::device_requests::{
+    NewControls, hook_switch, query_controls, query_phone, select_events, set_controls,
+};
 use crate::link::Link;
 use crate::play::play_run;
 use crate::record::record_run;
@@ -37,7 +40,7 @@ fn get_time(device: u8, devices: &[Device], link: &mut Link, work: &mut Work)
     link.reply(2, &Reply::Time { time }, &mut work.message);
 }
 
-// What a request does that is no play and no record.
+// What a request does that leaves all but its link as it is.
 fn done_at_once(request: &Request<'_>, devices: &[Device], link: &mut Link, work: &mut Work)
     requires room { length link.old.pending ≤ 16384 }
     ensures step { (k : ℕ) (ks : List KeptWait) (a : Around) → IsTrue (is_done_at_once (meaning request.now)) → StandAround devices.now ks a → At devices.now ks link.new (done k (meaning request.now) (place a link.old)) }
@@ -83,14 +86,14 @@ fn done_at_once(request: &Request<'_>, devices: &[Device], link: &mut Link, work
             change_ac(asked, link, work)
         }
         Request::FreeAc { ac } => free_ac(ac, link, work),
-        // Plays and records may wait. The others are not performed yet.
+        Request::SelectEvents { device, mask } => select_events(device, mask, devices, link, work),
+        Request::QueryControls { device } => query_controls(device, devices, link, work),
+        Request::QueryPhone { device } => query_phone(device, devices, link, work),
+        // Plays and records may wait, and the others change devices.
         Request::PlayRun { .. }
         | Request::RecordRun { .. }
-        | Request::SelectEvents { .. }
         | Request::SetControls { .. }
-        | Request::QueryControls { .. }
-        | Request::HookSwitch { .. }
-        | Request::QueryPhone { .. } => {}
+        | Request::HookSwitch { .. } => {}
     }
 }
 
@@ -127,6 +130,25 @@ fn done(
         } => record_run(
             number, blocking, ac, time, nbytes, devices, waits, link, work,
         ),
+        Request::SetControls {
+            device,
+            mask,
+            input_on,
+            output_on,
+            input_gain,
+            output_gain,
+        } => {
+            let asked = NewControls {
+                device,
+                mask,
+                input_on,
+                output_on,
+                input_gain,
+                output_gain,
+            };
+            set_controls(asked, devices, link, work)
+        }
+        Request::HookSwitch { device, off } => hook_switch(device, off, devices, link, work),
         _ => done_at_once(request, devices, link, work),
     }
 }

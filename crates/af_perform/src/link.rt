@@ -1,10 +1,14 @@
 // A link, as the core keeps it. There is one small method for each thing that becomes of a link.
-ghost use Rattle.std.specs.Prelude.{◌≡◌, ◌+◌, ◌≤◌, [], ◌∷◌, ◌++◌, length, drop, take, true, false, IfOk, OnOk, OnErr};
+ghost use Rattle.std.specs.Prelude.{◌≡◌, ◌+◌, ◌≤◌, nat_le, [], ◌∷◌, ◌++◌, length, drop, take, slice_set, true, false, IfOk, OnOk, OnErr};
+ghost use Rattle.std.specs.declared.option.Option.TheVariants.{Some};
 ghost use Rattle.af_context.specs.Contexts.{context_of, creation, is_in_use, reference, with_changed, with_settings, without_context};
 ghost use Rattle.af_request.specs.Answer.{meaning};
 ghost use Rattle.af_request.specs.Replies.{HasRoom};
 ghost use Rattle.af_wire.specs.Message.{error};
-ghost use Rattle.af_model.specs.State.{opened, stopped};
+ghost use Rattle.af_wire.specs.Event.{event_bytes};
+ghost use Rattle.af_phone.specs.Lines.{selects};
+ghost use Rattle.af_model.specs.State.{none_selected, opened, stopped};
+ghost use Rattle.af_model.specs.Events.{mask_of};
 ghost use Rattle.af_model.specs.Reply.{code_of_cause, reply_message};
 ghost use Rattle.af_model.specs.Perform.{counted};
 ghost use Rattle.af_model.specs.Advance.{takes_more, without_front};
@@ -14,12 +18,16 @@ use crate::buffer::Buffer;
 use af_context::{Context, ContextFault, Contexts};
 use af_model::Refusal;
 use af_outside::Why;
+use af_phone::event_for;
 use af_request::{Reply, write_reply};
 use af_sample::Gain;
 use af_time::OutOfMemory;
-use af_wire::write_error;
+use af_wire::{Event, EventKind, write_error, write_event};
 use std::alloc::Global;
 use std::marker::Model;
+
+/// The most devices.
+const DEVICES: usize = 8;
 
 #[derive(Drop)]
 pub struct Link {
@@ -30,6 +38,8 @@ pub struct Link {
     closing: Option<Why>,
     sequence: u16,
     contexts: Contexts,
+    // the masks of the events that it selects, by the numbers of the devices
+    selections: [u32; DEVICES],
 }
 
 impl Model for Link {
@@ -37,7 +47,7 @@ impl Model for Link {
 
     ghost Value = { LinkState };
 
-    ghost view = { λ a. record { is_set_up = a.is_set_up; rest = a.rest; pending = a.pending; is_ready = a.is_ready; closing = a.closing; sequence = a.sequence; contexts = a.contexts } };
+    ghost view = { λ a. record { is_set_up = a.is_set_up; rest = a.rest; pending = a.pending; is_ready = a.is_ready; closing = a.closing; sequence = a.sequence; contexts = a.contexts; selections = a.selections } };
 }
 
 impl Link {
@@ -54,6 +64,7 @@ impl Link {
             closing: None,
             sequence: 0,
             contexts: Contexts::new(),
+            selections: [0; DEVICES],
         })
     }
 
@@ -116,6 +127,7 @@ impl Link {
     {
         self.rest.clear();
         self.closing = Some(cause);
+        self.selections = [0; DEVICES];
     }
 
     /// The setup at the front of the input is taken off.
@@ -242,6 +254,53 @@ impl Link {
         self.contexts.free(ac)
     }
 
+    /// The mask of the events of a device that it selects is replaced.
+    pub fn select(&mut self, device: u8, mask: u32)
+        ensures { self.new ≡ record self.old { selections = slice_set self.old.selections device mask } }
+    {
+        if usize::from(device) < DEVICES {
+            self.selections[usize::from(device)] = mask;
+        }
+    }
+
+    /// Whether it selects events of a kind of a device.
+    pub fn selects(&self, device: u8, kind: EventKind) -> bool
+        ensures { result ≡ selects (mask_of self.now device) kind }
+    {
+        match self.selections.get(usize::from(device)) {
+            Some(mask) => event_for(*mask, kind),
+            None => false,
+        }
+    }
+
+    /// Whether an event still fits behind what waits to be sent.
+    pub fn has_room(&self) -> bool
+        ensures { result ≡ nat_le (length self.now.pending + 20) 49152 }
+    {
+        self.pending.as_slice().len() + 20 <= 49152
+    }
+
+    /// An event is told.
+    pub fn tell(&mut self, event: Event)
+        requires { length self.old.pending ≤ 49152 }
+        ensures told { self.new ≡ record self.old { pending = self.old.pending ++ event_bytes event self.old.sequence } }
+        ensures size { length self.new.pending ≡ length self.old.pending + 20 }
+    {
+        let mut message = [0; 20];
+        write_event(event, self.sequence, &mut message);
+        self.pending.append(&message);
+    }
+
+    /// The link is dropped: it is to be closed, and nothing of it is read or sent any more.
+    pub fn let_go(&mut self, cause: Why)
+        ensures { self.new ≡ record self.old { rest = []; pending = []; closing = Some cause; selections = none_selected } }
+    {
+        self.rest.clear();
+        self.pending.clear();
+        self.closing = Some(cause);
+        self.selections = [0; DEVICES];
+    }
+
     /// There is nothing to read.
     pub fn wait_for_bytes(&mut self)
         ensures { self.new ≡ record self.old { is_ready = false } }
@@ -275,5 +334,6 @@ impl Link {
         self.closing = None;
         self.sequence = 0;
         self.contexts.clear();
+        self.selections = [0; DEVICES];
     }
 }

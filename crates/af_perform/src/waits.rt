@@ -4,7 +4,7 @@ ghost use Rattle.std.specs.List.{All};
 ghost use Rattle.af_sample.specs.SampleTypes.{width_of};
 ghost use Rattle.af_wait.specs.Waits.{without_first};
 ghost use Rattle.af_model.specs.State.{held_play, held_record};
-ghost use Rattle.af_perform.specs.Waits.{has_waiting, kept_due, kept_passed, waits_of};
+ghost use Rattle.af_perform.specs.Waits.{has_waiting, kept_due, kept_passed, kept_without, waits_of};
 
 use crate::held::HeldRequest;
 use af_context::Context;
@@ -140,6 +140,13 @@ impl Waits {
         ensures { All (λ k. k.wait.link ≡ link → result.now ≡ k.held) self.now }
     {
         &self.held[usize::from(link)]
+    }
+
+    /// A link waits no more.
+    pub fn drop_link(&mut self, link: u8)
+        ensures { self.new ≡ kept_without link self.old }
+    {
+        self.order.drop_link(link);
     }
 
     /// The earliest of the requests that wait for a device and are due waits no more.

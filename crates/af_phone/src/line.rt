@@ -28,6 +28,20 @@ impl LineChange {
             LineChange::Digit(code) => is_digit(code),
         }
     }
+
+    /// The kind and the value of the event that tells the change: 1 or 0 for ringing and current that begin or end, and a
+    /// digit's code.
+    pub fn event(self) -> (EventKind, u32)
+        ensures kind { result.0 ≡ kind_of self }
+        ensures value { result.1 ≡ value_of self }
+        ensures stated { IsTrue (is_value result.0 result.1) }
+    {
+        match self {
+            LineChange::Ring(on) => (EventKind::Ring, u32::from(on)),
+            LineChange::Current(on) => (EventKind::Current, u32::from(on)),
+            LineChange::Digit(code) => (EventKind::Digit, u32::from(code)),
+        }
+    }
 }
 
 /// Whether a byte is the ASCII code of a digit, one of `0123456789*#ABCD`.
@@ -78,16 +92,11 @@ impl Line {
         ensures stated { IsTrue (is_value result.0 result.1) }
     {
         match change {
-            LineChange::Ring(on) => {
-                self.phone.ringing = on;
-                (EventKind::Ring, u32::from(on))
-            }
-            LineChange::Current(on) => {
-                self.phone.current = on;
-                (EventKind::Current, u32::from(on))
-            }
-            LineChange::Digit(code) => (EventKind::Digit, u32::from(code)),
+            LineChange::Ring(on) => self.phone.ringing = on,
+            LineChange::Current(on) => self.phone.current = on,
+            LineChange::Digit(_) => {}
         }
+        change.event()
     }
 
     /// The hook is wanted off, or on.

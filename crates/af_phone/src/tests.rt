@@ -46,6 +46,8 @@ fn digits_and_masks(rt: HostRuntime) {
     for code in b"/:@E+$a " {
         assert!(rt; !is_digit(*code) && !LineChange::Digit(*code).is_possible());
     }
+    assert_eq!(rt; LineChange::Ring(true).event(), (EventKind::Ring, 1));
+    assert_eq!(rt; LineChange::Digit(b'D').event(), (EventKind::Digit, 68));
     assert!(rt; event_for(15, EventKind::Hook) && event_for(8, EventKind::Digit));
     assert!(rt; !event_for(11, EventKind::Current) && !event_for(4294967280, EventKind::Ring));
 }

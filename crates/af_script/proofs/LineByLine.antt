@@ -48,7 +48,7 @@ words_none s ws other none =
     ap (λ t. cond t (option_map (with_device s) (device_of ws)) (cond (is_nil s.config) None (by_step s ws))) (ap (λ d. can_take_device s && d) other ∙ and_false (can_take_device s))
     ∙ ap (λ t. cond t None (by_step s ws)) none
 
-words_device : (s : Stated) (ws : List (List ℕ)) → can_take_device s ≡ true → is_device_line ws ≡ true → with_words s ws ≡ option_map (with_device s) (device_of ws)
+pub words_device : (s : Stated) (ws : List (List ℕ)) → can_take_device s ≡ true → is_device_line ws ≡ true → with_words s ws ≡ option_map (with_device s) (device_of ws)
 words_device s ws can device =
     ap (λ t. cond t (option_map (with_device s) (device_of ws)) (cond (is_nil s.config) None (by_step s ws))) (ap (λ c. c && is_device_line ws) can ∙ device)
 

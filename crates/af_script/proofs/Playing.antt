@@ -1,5 +1,5 @@
 -- A tape that is being run: the turns so far are a run, and their answers are those that the steps so far give.
-use Rattle.std.proofs.Common.{◌≡◌, suc, ◌<◌, true, List, [], ◌∷◌, ◌++◌, length, map, is_some, IfSome, All, refl, sym, ap, ◌∙◌, subst, append_assoc, append-nil, arith}
+use Rattle.std.proofs.Common.{◌≡◌, suc, ◌<◌, Bool, true, false, List, [], ◌∷◌, ◌++◌, length, map, is_some, IfSome, All, refl, sym, ap, ◌∙◌, subst, append_assoc, append-nil, arith}
 use Rattle.std.proofs.lemmas.List.Elements.{All-cons}
 use Rattle.std.specs.declared.option.Option.{Option}
 use Rattle.std.specs.declared.option.Option.TheVariants.{None, Some}
@@ -9,17 +9,18 @@ use Rattle.af_outside.specs.declared.script.DeviceSpec.{DeviceSpec}
 use Rattle.af_outside.specs.declared.script.Step.{Step}
 use Rattle.af_outside.specs.Told.{Log, Grew}
 use Rattle.af_outside.specs.Outside.{Outside, Peer, outside_start, TapeState, fresh, TakesStep, TapeLeadsTo, Answered, IsStep, stepped, wake_of, replayed}
-use Rattle.af_model.specs.State.{State, LinkState, opening, opening_device, links_of, outline, outline_with}
+use Rattle.af_model.specs.State.{State, LinkState, opening, opening_device, opening_line, lines_of, links_of, outline, outline_with}
 use Rattle.af_model.specs.Turn.{behind, turn, fits}
 use Rattle.af_model.specs.Run.{wakes}
 use Rattle.af_model.specs.NoLoss.{LosesNone, RunLosesNone, StateLosesNone}
 use Rattle.af_model.specs.Script.{AnswersTo, ScriptLog, OneLog}
 use Rattle.af_model.proofs.Running.{TurnsTo, turns_end_state, joined, joined-more, turns_more, turns_run, answers_more, replayed_answers}
 use Rattle.af_model.proofs.Alike.{Agree}
-use Rattle.af_model.proofs.Steps.{agree_start, step_fits}
+use Rattle.af_model.proofs.KeptLines.{turn_lines}
+use Rattle.af_model.proofs.Steps.{agree_start, line_of, step_fits}
 use Rattle.af_model.proofs.Unique.{turn_alike, one_log}
-use Rattle.af_perform.proofs.Devices.{stands_length}
-use Rattle.af_core.specs.Stands.{Kept, Stands, Turns, outline_of}
+use Rattle.af_core.specs.Stands.{Kept, Stands, Turns, kept_lines, outline_of}
+use Rattle.af_core.proofs.Turning.{same_lines}
 use Rattle.af_script.specs.Run.{HasOneLog}
 
 -- Of the steps of a script, those that were taken have had their turns.
@@ -34,13 +35,22 @@ pub record Plays (config : List DeviceSpec) (steps : List Step) (kept : Kept) (t
   pub stands : Stands kept state
   pub lossless : StateLosesNone state
   pub agree : Agree state tape.outside
-  pub devices : length kept.devices ≡ length config
+  pub lines : lines_of state.devices ≡ map line_of config
   pub links : length kept.links ≡ 32
 
 -- no device has completed a request at its start
 opening_loses_none : (config : List DeviceSpec) → All (λ device. LosesNone device) (map opening_device config)
 opening_loses_none [] = λ k d low. absurd (omega arith)
 opening_loses_none (c ∷ config) = All-cons (λ device. LosesNone device) (opening_device c) (map opening_device config) (λ k d low. absurd (omega arith)) (opening_loses_none config)
+
+-- a device has a line from the start just where it is stated to
+opening_has_line : (line : Bool) → is_some (opening_line line) ≡ line
+opening_has_line true = refl
+opening_has_line false = refl
+
+opening_lines : (config : List DeviceSpec) → lines_of (map opening_device config) ≡ map line_of config
+opening_lines [] = refl
+opening_lines (c ∷ config) = ap (λ b. b ∷ lines_of (map opening_device config)) (opening_has_line c.line) ∙ ap (λ bs. c.line ∷ bs) (opening_lines config)
 
 map_length : {A B : Type 0} (f : A → B) (xs : List A) → length (map f xs) ≡ length xs
 map_length f [] = refl
@@ -58,7 +68,7 @@ plays_start config steps kept tape stands e = subst (λ t. Plays config steps ke
   stands = stands;
   lossless = opening_loses_none config;
   agree = agree_start config;
-  devices = sym (stands_length kept.devices (opening config).devices stands.kept.devices) ∙ map_length _ config;
+  lines = opening_lines config;
   links = ap length (sym stands.kept.links);
 })
 
@@ -86,13 +96,11 @@ pub wake_fits : (config : List DeviceSpec) (steps : List Step) (kept : Kept) (ta
     All (IsStep config) steps → fits (outline_of kept) wake ≡ true
 wake_fits config steps kept tape after wake p t all =
     let s = step_taken tape wake after t in
-    let count : length p.state.devices ≡ length config = stands_length kept.devices p.state.devices p.stands.kept.devices ∙ p.devices in
     let whole : steps ≡ p.taken ++ s.step ∷ s.left = p.whole ∙ ap (λ l. p.taken ++ l) s.next in
     let allowed : IsStep config s.step = all_last (IsStep config) p.taken s.left s.step (subst (All (IsStep config)) whole all) in
     let peers : length tape.outside.peers ≡ 32 = sym (map_length {A = Option Peer} is_some tape.outside.peers) ∙ ap length p.agree ∙ map_length {A = Option LinkState} is_some (links_of p.state.slots) ∙ ap length p.stands.kept.links ∙ p.links in
-    let fit = step_fits config p.state tape.outside s.step p.agree peers count allowed in
-    let devices : length p.state.devices ≡ length kept.devices = stands_length kept.devices p.state.devices p.stands.kept.devices in
-    let same : outline p.state ≡ outline_of kept = ap (λ n. outline_with n (links_of p.state.slots)) devices ∙ ap (λ l. outline_with (length kept.devices) l) p.stands.kept.links in
+    let fit = step_fits config p.state tape.outside s.step p.agree peers p.lines allowed in
+    let same : outline p.state ≡ outline_of kept = ap (λ lines. outline_with lines (links_of p.state.slots)) (same_lines kept.devices p.state.devices p.stands.kept.devices) ∙ ap (λ l. outline_with (kept_lines kept.devices) l) p.stands.kept.links in
     subst (λ o. fits o wake ≡ true) same (subst (λ w. fits (outline p.state) w ≡ true) (sym s.is) fit)
 
 -- a log that is told grew from one that was told
@@ -150,7 +158,7 @@ plays_more config steps kept kept' tape mid after wake p t turns leads told =
       stands = from.stands;
       lossless = from.lossless;
       agree = agree_turn p.state from.next tape.outside after.outside s.step turns.part p.agree from.is_turn answers;
-      devices = turns.devices ∙ p.devices;
+      lines = turn_lines p.state (turns.part ++ []) (record { state = from.next; log = [] }) (from.is_turn []) ∙ p.lines;
       links = turns.links ∙ p.links;
     }
 

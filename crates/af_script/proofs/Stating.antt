@@ -1,20 +1,23 @@
 -- What a script states keeps to the limits of devices and steps.
-use Rattle.std.proofs.Common.{◌≡◌, ℕ, zero, suc, ◌+◌, ◌*◌, ◌<◌, ◌≤◌, Bool, true, false, cond, ◌&&◌, List, [], ◌∷◌, length, take, drop, refl, sym, ap, ◌∙◌, subst, arith, length-take}
+use Rattle.std.proofs.Common.{◌≡◌, ℕ, zero, suc, ◌+◌, ◌*◌, ◌<◌, ◌≤◌, Bool, true, false, cond, IsTrue, ◌&&◌, List, [], ◌∷◌, length, take, drop, refl, sym, ap, ◌∙◌, subst, arith, length-take}
 use Rattle.std.specs.Prelude.{Option, Some, None, option_map, option_and_then, Result, Ok, Err, All, nat_lt, nat_le, nat_eq}
 use Rattle.std.proofs.lemmas.Bool.{and_parts}
 use Rattle.std.proofs.lemmas.Bool.Decides.{nat_tests}
 use Rattle.std.proofs.lemmas.List.Elements.{All-nil, All-cons}
+use Rattle.af_sample.specs.declared.sample_type.SampleType.{SampleType}
 use Rattle.af_buffers.specs.Horizons.{IsListedRate}
+use Rattle.af_phone.specs.Lines.{is_digit}
+use Rattle.af_phone.specs.declared.line.LineChange.TheVariants as change
 use Rattle.af_outside.specs.declared.script.DeviceSpec.{DeviceSpec}
 use Rattle.af_outside.specs.declared.script.Step.{Step}
 use Rattle.af_outside.specs.declared.script.Step.TheVariants as step
-use Rattle.af_outside.specs.Outside.{IsStep, IsCapture, width_at}
+use Rattle.af_outside.specs.Outside.{IsStep, IsCapture, line_at, width_at}
 use Rattle.std.specs.Result.{result_ok}
 use Rattle.hex.specs.Hex.{decode_of}
 use Rattle.af_script.specs.declared.statement.Kind.{Kind}
 use Rattle.af_script.specs.declared.statement.Kind.TheVariants as kind
 use Rattle.af_script.specs.Words.{number_of, number_within, only_if, then_some, bytes_within}
-use Rattle.af_script.specs.Statement.{kind_of, is_device_kind, is_listed_rate, type_of, rate_of, device_at, device_with, device_of, link_of, device_number, open_of, send_of, capture_of, tick_of, fail_capture_of, fail_emit_of, idle_of, step_of_kind, step_of, is_device_line}
+use Rattle.af_script.specs.Statement.{kind_of, is_device_kind, is_listed_rate, type_of, rate_of, line_stated, device_at, device_with, device_of, link_of, device_number, line_number, switch_of, digit_of, open_of, send_of, capture_of, tick_of, ring_of, loop_of, dial_of, fail_capture_of, fail_emit_of, fail_hook_of, idle_of, step_of_kind, step_of, is_device_line}
 use Rattle.af_script.specs.Script.{Stated, Entry, most_devices, device_lines, with_first, each_says, first_number, with_steps, with_config, stated_by, script_of, entries}
 use Rattle.af_script.specs.Lines.{lines}
 use Rattle.af_script.proofs.LineByLine.{read_on}
@@ -59,16 +62,19 @@ rate_from word rate e =
     let b = only_if_from is_listed_rate a.0 rate a.2 in
     subst (λ r. is_listed_rate r ≡ true) b.1 b.0
 
+device_is : (ty : SampleType) (rate start : ℕ) (line : Bool) (d : DeviceSpec) → device_at ty rate start line ≡ d → is_listed_rate rate ≡ true → IsListedRate d.rate
+device_is ty rate start line d e listed = subst (λ (s : DeviceSpec). IsListedRate s.rate) e listed
+
 device_with_from : (arguments : List (List ℕ)) (d : DeviceSpec) → device_with arguments ≡ Some d → IsListedRate d.rate
 device_with_from [] d e = cc e
 device_with_from (ty ∷ []) d e = cc e
 device_with_from (ty ∷ rate ∷ []) d e = cc e
-device_with_from (ty ∷ rate ∷ start ∷ w ∷ ws) d e = cc e
-device_with_from (ty ∷ rate ∷ start ∷ []) d e =
-    let a = and_then_from (λ t. option_and_then (λ r. option_map (device_at t r) (number_within 0 4294967295 start)) (rate_of rate)) (type_of ty) d e in
-    let b = and_then_from (λ r. option_map (device_at a.0 r) (number_within 0 4294967295 start)) (rate_of rate) d a.2 in
-    let c = map_from (device_at a.0 b.0) (number_within 0 4294967295 start) d b.2 in
-    subst (λ (s : DeviceSpec). IsListedRate s.rate) c.2 (rate_from rate b.0 b.1)
+device_with_from (ty ∷ rate ∷ start ∷ line) d e =
+    let a = and_then_from (λ t. option_and_then (λ r. option_and_then (λ s. option_map (device_at t r s) (line_stated line)) (number_within 0 4294967295 start)) (rate_of rate)) (type_of ty) d e in
+    let b = and_then_from (λ r. option_and_then (λ s. option_map (device_at a.0 r s) (line_stated line)) (number_within 0 4294967295 start)) (rate_of rate) d a.2 in
+    let c = and_then_from (λ s. option_map (device_at a.0 b.0 s) (line_stated line)) (number_within 0 4294967295 start) d b.2 in
+    let f = map_from (device_at a.0 b.0 c.0) (line_stated line) d c.2 in
+    device_is a.0 b.0 c.0 f.0 d f.2 (rate_from rate b.0 b.1)
 
 device_from : (ws : List (List ℕ)) (d : DeviceSpec) → device_of ws ≡ Some d → IsListedRate d.rate
 device_from [] d e = cc e
@@ -150,6 +156,53 @@ fail_emit_from config (device ∷ []) s e =
     let a = map_from step.FailEmit (device_number config device) s e in
     subst (IsStep config) a.2 (device_number_from config device a.0 a.1)
 
+line_number_from : (config : List DeviceSpec) (word : List ℕ) (d : ℕ) → line_number config word ≡ Some d → IsTrue (line_at config d)
+line_number_from config word d e =
+    let a = and_then_from (only_if (line_at config)) (device_number config word) d e in
+    let b = only_if_from (line_at config) a.0 d a.2 in
+    subst (λ k. IsTrue (line_at config k)) b.1 b.0
+
+digit_from : (word : List ℕ) (code : ℕ) → digit_of word ≡ Some code → IsTrue (is_digit code)
+digit_from [] code e = cc e
+digit_from (c ∷ w ∷ ws) code e = cc e
+digit_from (c ∷ []) code e =
+    let b = only_if_from is_digit c code e in
+    subst (λ k. IsTrue (is_digit k)) b.1 b.0
+
+ring_from : (config : List DeviceSpec) (arguments : List (List ℕ)) (s : Step) → ring_of config arguments ≡ Some s → IsStep config s
+ring_from config [] s e = cc e
+ring_from config (device ∷ []) s e = cc e
+ring_from config (device ∷ on ∷ w ∷ ws) s e = cc e
+ring_from config (device ∷ on ∷ []) s e =
+    let a = and_then_from (λ d. option_map (λ b. step.Line d (change.Ring b)) (switch_of on)) (line_number config device) s e in
+    let b = map_from (λ b. step.Line a.0 (change.Ring b)) (switch_of on) s a.2 in
+    subst (IsStep config) b.2 (line_number_from config device a.0 a.1, refl)
+
+loop_from : (config : List DeviceSpec) (arguments : List (List ℕ)) (s : Step) → loop_of config arguments ≡ Some s → IsStep config s
+loop_from config [] s e = cc e
+loop_from config (device ∷ []) s e = cc e
+loop_from config (device ∷ on ∷ w ∷ ws) s e = cc e
+loop_from config (device ∷ on ∷ []) s e =
+    let a = and_then_from (λ d. option_map (λ b. step.Line d (change.Current b)) (switch_of on)) (line_number config device) s e in
+    let b = map_from (λ b. step.Line a.0 (change.Current b)) (switch_of on) s a.2 in
+    subst (IsStep config) b.2 (line_number_from config device a.0 a.1, refl)
+
+dial_from : (config : List DeviceSpec) (arguments : List (List ℕ)) (s : Step) → dial_of config arguments ≡ Some s → IsStep config s
+dial_from config [] s e = cc e
+dial_from config (device ∷ []) s e = cc e
+dial_from config (device ∷ digit ∷ w ∷ ws) s e = cc e
+dial_from config (device ∷ digit ∷ []) s e =
+    let a = and_then_from (λ d. option_map (λ c. step.Line d (change.Digit c)) (digit_of digit)) (line_number config device) s e in
+    let b = map_from (λ c. step.Line a.0 (change.Digit c)) (digit_of digit) s a.2 in
+    subst (IsStep config) b.2 (line_number_from config device a.0 a.1, digit_from digit b.0 b.1)
+
+fail_hook_from : (config : List DeviceSpec) (arguments : List (List ℕ)) (s : Step) → fail_hook_of config arguments ≡ Some s → IsStep config s
+fail_hook_from config [] s e = cc e
+fail_hook_from config (device ∷ w ∷ ws) s e = cc e
+fail_hook_from config (device ∷ []) s e =
+    let a = map_from step.FailHook (line_number config device) s e in
+    subst (IsStep config) a.2 (line_number_from config device a.0 a.1)
+
 idle_from : (config : List DeviceSpec) (arguments : List (List ℕ)) (s : Step) → idle_of arguments ≡ Some s → IsStep config s
 idle_from config [] s e = subst (IsStep config) (some_same e) tt
 idle_from config (w ∷ ws) s e = cc e
@@ -160,8 +213,12 @@ step_by_kind config (Some kind.Device) arguments s e = cc e
 step_by_kind config (Some kind.Open) arguments s e = open_from config arguments s e
 step_by_kind config (Some kind.Send) arguments s e = send_from config arguments s e
 step_by_kind config (Some kind.Tick) arguments s e = tick_from config arguments s e
+step_by_kind config (Some kind.Ring) arguments s e = ring_from config arguments s e
+step_by_kind config (Some kind.Loop) arguments s e = loop_from config arguments s e
+step_by_kind config (Some kind.Digit) arguments s e = dial_from config arguments s e
 step_by_kind config (Some kind.FailCapture) arguments s e = fail_capture_from config arguments s e
 step_by_kind config (Some kind.FailEmit) arguments s e = fail_emit_from config arguments s e
+step_by_kind config (Some kind.FailHook) arguments s e = fail_hook_from config arguments s e
 step_by_kind config (Some kind.Idle) arguments s e = idle_from config arguments s e
 
 step_from : (config : List DeviceSpec) (ws : List (List ℕ)) (s : Step) → step_of config ws ≡ Some s → IsStep config s

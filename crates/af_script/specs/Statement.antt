@@ -4,10 +4,12 @@ use Rattle.std.specs.List.{list_any}
 use Rattle.af_buffers.specs.Horizons.{listed_rates}
 use Rattle.af_sample.specs.declared.sample_type.SampleType.{SampleType}
 use Rattle.af_sample.specs.declared.sample_type.SampleType.TheVariants.{Mu255, Alaw, Lin16, Lin32}
+use Rattle.af_phone.specs.Lines.{is_digit}
+use Rattle.af_phone.specs.declared.line.LineChange.TheVariants as change
 use Rattle.af_outside.specs.declared.script.DeviceSpec.{DeviceSpec}
 use Rattle.af_outside.specs.declared.script.Step.{Step}
 use Rattle.af_outside.specs.declared.script.Step.TheVariants as step
-use Rattle.af_outside.specs.Outside.{width_at}
+use Rattle.af_outside.specs.Outside.{line_at, width_at}
 use Rattle.af_script.specs.declared.statement.Kind.{Kind}
 use Rattle.af_script.specs.declared.statement.Kind.TheVariants as kind
 use Rattle.af_script.specs.Words.{number_of, number_within, only_if, bytes_within}
@@ -19,8 +21,12 @@ kind_of name =
     else if bytes_eq name (codes "open") then Some kind.Open
     else if bytes_eq name (codes "send") then Some kind.Send
     else if bytes_eq name (codes "tick") then Some kind.Tick
+    else if bytes_eq name (codes "ring") then Some kind.Ring
+    else if bytes_eq name (codes "loop") then Some kind.Loop
+    else if bytes_eq name (codes "digit") then Some kind.Digit
     else if bytes_eq name (codes "failcapture") then Some kind.FailCapture
     else if bytes_eq name (codes "failemit") then Some kind.FailEmit
+    else if bytes_eq name (codes "failhook") then Some kind.FailHook
     else if bytes_eq name (codes "idle") then Some kind.Idle
     else None
 
@@ -36,8 +42,12 @@ is_device_kind (Some kind.Device) = true
 is_device_kind (Some kind.Open) = false
 is_device_kind (Some kind.Send) = false
 is_device_kind (Some kind.Tick) = false
+is_device_kind (Some kind.Ring) = false
+is_device_kind (Some kind.Loop) = false
+is_device_kind (Some kind.Digit) = false
 is_device_kind (Some kind.FailCapture) = false
 is_device_kind (Some kind.FailEmit) = false
+is_device_kind (Some kind.FailHook) = false
 is_device_kind (Some kind.Idle) = false
 
 -- a line whose first word is `device`
@@ -63,14 +73,20 @@ is_listed_rate rate = list_any (λ listed. rate == listed) listed_rates
 abbrev pub rate_of : List ℕ → Option ℕ
 rate_of word = option_and_then (only_if is_listed_rate) (number_of word)
 
--- a device of this type and rate, whose time begins here
-abbrev pub device_at : SampleType → ℕ → ℕ → DeviceSpec
-device_at ty rate start = record { ty = ty; rate = rate; start = start }
+-- whether the words behind `device TYPE RATE START` state a line: `line` does, and no word does not
+abbrev pub line_stated : List (List ℕ) → Option Bool
+line_stated [] = Some false
+line_stated (word ∷ []) = if bytes_eq word (codes "line") then Some true else None
+line_stated _ = None
 
--- the device of `device TYPE RATE START`, by the words that follow `device`
+-- a device of this type and rate, whose time begins here, with a line or without
+abbrev pub device_at : SampleType → ℕ → ℕ → Bool → DeviceSpec
+device_at ty rate start line = record { ty = ty; rate = rate; start = start; line = line }
+
+-- the device of `device TYPE RATE START`, or of the same with `line` as its last word, by the words that follow `device`
 abbrev pub device_with : List (List ℕ) → Option DeviceSpec
-device_with (ty ∷ rate ∷ start ∷ []) =
-    option_and_then (λ t. option_and_then (λ r. option_map (device_at t r) (number_within 0 (2 ^ 32 - 1) start)) (rate_of rate)) (type_of ty)
+device_with (ty ∷ rate ∷ start ∷ line) =
+    option_and_then (λ t. option_and_then (λ r. option_and_then (λ s. option_map (device_at t r s) (line_stated line)) (number_within 0 (2 ^ 32 - 1) start)) (rate_of rate)) (type_of ty)
 device_with _ = None
 
 -- the device that a line of this kind states, by the words that follow its name
@@ -96,6 +112,10 @@ link_of word = number_within 0 last_link word
 abbrev pub device_number : List DeviceSpec → List ℕ → Option ℕ
 device_number config word = option_and_then (only_if (λ d. nat_lt d (length config))) (number_of word)
 
+-- the number of one of these devices that has a line
+abbrev pub line_number : List DeviceSpec → List ℕ → Option ℕ
+line_number config word = option_and_then (only_if (line_at config)) (device_number config word)
+
 -- the step of `open K`, by the words that follow `open`
 abbrev pub open_of : List (List ℕ) → Option Step
 open_of (link ∷ []) = option_map step.Open (link_of link)
@@ -118,6 +138,33 @@ tick_of config (device ∷ frames ∷ capture) =
     option_and_then (λ d. option_and_then (λ n. option_map (step.Tick d n) (capture_of (n * width_at config d) capture)) (number_within 1 4096 frames)) (device_number config device)
 tick_of config _ = None
 
+-- `on` or `off`
+abbrev pub switch_of : List ℕ → Option Bool
+switch_of word =
+    if bytes_eq word (codes "on") then Some true
+    else if bytes_eq word (codes "off") then Some false
+    else None
+
+-- the digit of a word, one of `0123456789*#ABCD`
+abbrev pub digit_of : List ℕ → Option ℕ
+digit_of (code ∷ []) = only_if is_digit code
+digit_of _ = None
+
+-- the step of `ring D on` or `ring D off`
+abbrev pub ring_of : List DeviceSpec → List (List ℕ) → Option Step
+ring_of config (device ∷ on ∷ []) = option_and_then (λ d. option_map (λ b. step.Line d (change.Ring b)) (switch_of on)) (line_number config device)
+ring_of config _ = None
+
+-- the step of `loop D on` or `loop D off`
+abbrev pub loop_of : List DeviceSpec → List (List ℕ) → Option Step
+loop_of config (device ∷ on ∷ []) = option_and_then (λ d. option_map (λ b. step.Line d (change.Current b)) (switch_of on)) (line_number config device)
+loop_of config _ = None
+
+-- the step of `digit D C`
+abbrev pub dial_of : List DeviceSpec → List (List ℕ) → Option Step
+dial_of config (device ∷ digit ∷ []) = option_and_then (λ d. option_map (λ c. step.Line d (change.Digit c)) (digit_of digit)) (line_number config device)
+dial_of config _ = None
+
 -- the step of `failcapture D`
 abbrev pub fail_capture_of : List DeviceSpec → List (List ℕ) → Option Step
 fail_capture_of config (device ∷ []) = option_map step.FailCapture (device_number config device)
@@ -127,6 +174,11 @@ fail_capture_of config _ = None
 abbrev pub fail_emit_of : List DeviceSpec → List (List ℕ) → Option Step
 fail_emit_of config (device ∷ []) = option_map step.FailEmit (device_number config device)
 fail_emit_of config _ = None
+
+-- the step of `failhook D`
+abbrev pub fail_hook_of : List DeviceSpec → List (List ℕ) → Option Step
+fail_hook_of config (device ∷ []) = option_map step.FailHook (line_number config device)
+fail_hook_of config _ = None
 
 -- the step of `idle`
 abbrev pub idle_of : List (List ℕ) → Option Step
@@ -140,8 +192,12 @@ step_of_kind config (Some kind.Device) arguments = None
 step_of_kind config (Some kind.Open) arguments = open_of arguments
 step_of_kind config (Some kind.Send) arguments = send_of arguments
 step_of_kind config (Some kind.Tick) arguments = tick_of config arguments
+step_of_kind config (Some kind.Ring) arguments = ring_of config arguments
+step_of_kind config (Some kind.Loop) arguments = loop_of config arguments
+step_of_kind config (Some kind.Digit) arguments = dial_of config arguments
 step_of_kind config (Some kind.FailCapture) arguments = fail_capture_of config arguments
 step_of_kind config (Some kind.FailEmit) arguments = fail_emit_of config arguments
+step_of_kind config (Some kind.FailHook) arguments = fail_hook_of config arguments
 step_of_kind config (Some kind.Idle) arguments = idle_of arguments
 
 -- the step that the words of a line state, where these are the devices

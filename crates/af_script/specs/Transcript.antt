@@ -1,16 +1,17 @@
 -- The transcript of a log: a line for each happening that is seen outside.
-use Rattle.std.specs.Prelude.{ℕ, List, [], ◌∷◌, ◌++◌, codes, decimal, flat_map, Option, Some, None, if◌then◌else◌}
+use Rattle.std.specs.Prelude.{ℕ, Bool, true, false, List, [], ◌∷◌, ◌++◌, codes, decimal, flat_map, Option, Some, None, if◌then◌else◌}
 use Rattle.hex.specs.Hex.{encode_lower}
 use Rattle.af_outside.specs.declared.happening.Happening.{Happening}
-use Rattle.af_outside.specs.declared.happening.Happening.TheVariants.{Woke, Read, Wrote, Closed, Captured, Emitted}
+use Rattle.af_outside.specs.declared.happening.Happening.TheVariants.{Woke, Read, Wrote, Closed, Captured, Emitted, Hooked}
 use Rattle.af_outside.specs.declared.happening.Why.{Why}
-use Rattle.af_outside.specs.declared.happening.Why.TheVariants.{BadSetup, Malformed}
+use Rattle.af_outside.specs.declared.happening.Why.TheVariants.{BadSetup, Malformed, Overrun}
 use Rattle.af_outside.specs.Told.{Log}
 
 -- the word for why a link was closed
 abbrev pub cause_word : Why → List ℕ
 cause_word BadSetup = codes "setup"
 cause_word Malformed = codes "malformed"
+cause_word Overrun = codes "overrun"
 
 -- a line begins with a name, and a number between two spaces
 abbrev pub head_of : List ℕ → ℕ → List ℕ
@@ -35,6 +36,12 @@ abbrev pub captured_line : ℕ → Option (List ℕ) → List ℕ
 captured_line device None = line_of (codes "capture") device (codes "failed")
 captured_line device (Some bytes) = []
 
+-- the word for a hook that was to be off, or on, and was done or has failed
+abbrev pub hook_word : Bool → Bool → List ℕ
+hook_word off false = codes "failed"
+hook_word true true = codes "offhook"
+hook_word false true = codes "onhook"
+
 -- the line of a happening; wakes and reads have none
 abbrev pub line_for : Happening → List ℕ
 line_for (Woke wake) = []
@@ -44,6 +51,7 @@ line_for (Closed link why) = line_of (codes "closed") link (cause_word why)
 line_for (Captured device frames got) = captured_line device got
 line_for (Emitted device sound done) =
     if done then line_of (codes "emit") device (encode_lower sound) else line_of (codes "emit") device (codes "failed")
+line_for (Hooked device off done) = line_of (codes "hook") device (hook_word off done)
 
 -- the transcript of a log: the lines of its happenings, in order
 abbrev pub transcript : Log → List ℕ

@@ -3,7 +3,7 @@ ghost use Rattle.std.specs.Prelude.{◌≡◌, ◌≤◌, ◌<◌, length, decim
 ghost use Rattle.hex.specs.Hex.{encode_lower};
 ghost use Rattle.af_outside.specs.Told.{Rose};
 ghost use Rattle.af_outside.specs.Flow.{Written};
-ghost use Rattle.af_script.specs.Transcript.{transcript, line_for, line_of, head_of, taken_line, cause_word};
+ghost use Rattle.af_script.specs.Transcript.{transcript, line_for, line_of, head_of, taken_line, cause_word, hook_word};
 ghost use Rattle.af_script.specs.Printing.{Prints, filled};
 
 use af_outside::{Happening, Put, Sink, Why};
@@ -71,6 +71,12 @@ fn print_happening<K: Sink>(happening: &Happening, sink: &mut K) -> Result<(), B
             done: false,
             ..
         } => print_word(b"emit", *device, b"failed", sink),
+        Happening::Hooked { device, off, done } => print_word(
+            b"hook",
+            *device,
+            hook_word(*off, *done),
+            sink,
+        ),
     }
 }
 
@@ -82,6 +88,19 @@ fn cause(why: Why) -> &'static [u8]
     match why {
         Why::BadSetup => b"setup",
         Why::Malformed => b"malformed",
+        Why::Overrun => b"overrun",
+    }
+}
+
+/// The word for a hook that was to be off, or on, and was done or has failed.
+fn hook_word(off: bool, done: bool) -> &'static [u8]
+    ensures value { result.now ≡ hook_word off done }
+    ensures some { 0 < length result.now }
+{
+    match (off, done) {
+        (_, false) => b"failed",
+        (true, true) => b"offhook",
+        (false, true) => b"onhook",
     }
 }
 

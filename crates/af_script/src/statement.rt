@@ -1,13 +1,14 @@
 // What a line states: a device, or a step.
 ghost use Rattle.std.specs.Prelude.{◌≡◌, ◌≤◌, IfOk, length, bytes_eq};
-ghost use Rattle.af_outside.specs.Outside.{width_at};
+ghost use Rattle.af_outside.specs.Outside.{line_at, width_at};
 ghost use Rattle.af_script.specs.Lines.{words};
 ghost use Rattle.af_script.specs.Words.{bytes_within};
-ghost use Rattle.af_script.specs.Statement.{kind_of, type_of, device_with, device_number, link_of, rate_of, open_of, send_of, capture_of, tick_of, fail_capture_of, fail_emit_of, idle_of, step_of_kind};
+ghost use Rattle.af_script.specs.Statement.{kind_of, type_of, line_stated, device_with, device_number, line_number, link_of, rate_of, switch_of, digit_of, open_of, send_of, capture_of, tick_of, ring_of, loop_of, dial_of, fail_capture_of, fail_emit_of, fail_hook_of, idle_of, step_of_kind};
 
 use crate::lines::{next_word, one_word, two_words};
 use crate::number::{number, number_between};
 use af_outside::{Bytes, DeviceSpec, Step};
+use af_phone::{LineChange, is_digit};
 use af_sample::SampleType;
 use af_time::OutOfMemory;
 use hex::FromHexError;
@@ -23,8 +24,12 @@ pub enum Kind {
     Open,
     Send,
     Tick,
+    Ring,
+    Loop,
+    Digit,
     FailCapture,
     FailEmit,
+    FailHook,
     Idle,
 }
 
@@ -40,10 +45,18 @@ pub fn kind_named(name: &[u8]) -> Option<Kind>
         Some(Kind::Send)
     } else if is_word(name, b"tick") {
         Some(Kind::Tick)
+    } else if is_word(name, b"ring") {
+        Some(Kind::Ring)
+    } else if is_word(name, b"loop") {
+        Some(Kind::Loop)
+    } else if is_word(name, b"digit") {
+        Some(Kind::Digit)
     } else if is_word(name, b"failcapture") {
         Some(Kind::FailCapture)
     } else if is_word(name, b"failemit") {
         Some(Kind::FailEmit)
+    } else if is_word(name, b"failhook") {
+        Some(Kind::FailHook)
     } else if is_word(name, b"idle") {
         Some(Kind::Idle)
     } else {
@@ -63,11 +76,32 @@ pub fn device_stated(arguments: &[u8]) -> Option<DeviceSpec>
     ensures { result ≡ device_with (words arguments.now) }
 {
     let (ty, rest) = next_word(arguments)?;
-    let (rate, start) = two_words(rest)?;
+    let (rate, rest) = next_word(rest)?;
+    let (start, rest) = next_word(rest)?;
     let ty = sample_type(ty)?;
     let rate = listed_rate(rate)?;
     let start = number_between(0, u32::MAX, start)?;
-    Some(DeviceSpec { ty, rate, start })
+    let line = line_stated(rest)?;
+    Some(DeviceSpec {
+        ty,
+        rate,
+        start,
+        line,
+    })
+}
+
+/// Whether the words behind `device TYPE RATE START` state a line: `line` does, and no word does not.
+fn line_stated(arguments: &[u8]) -> Option<bool>
+    ensures { result ≡ line_stated (words arguments.now) }
+{
+    if next_word(arguments).is_none() {
+        return Some(false);
+    }
+    if is_word(one_word(arguments)?, b"line") {
+        Some(true)
+    } else {
+        None
+    }
 }
 
 /// The sample type that a word names.
@@ -115,6 +149,29 @@ fn device(config: &[DeviceSpec], word: &[u8]) -> Option<u8>
         Some(number as u8)
     } else {
         None
+    }
+}
+
+/// The number of one of these devices that has a line.
+fn line(config: &[DeviceSpec], word: &[u8]) -> Option<u8>
+    requires { length config.now ≤ 8 }
+    ensures { result ≡ line_number config.now word.now }
+{
+    let device = device(config, word)?;
+    if has_line(config, device) {
+        Some(device)
+    } else {
+        None
+    }
+}
+
+/// Whether a device has a line.
+fn has_line(config: &[DeviceSpec], device: u8) -> bool
+    ensures { result ≡ line_at config.now device }
+{
+    match config.get(device as usize) {
+        Some(device) => device.line,
+        None => false,
     }
 }
 
@@ -206,6 +263,62 @@ fn tick(alloc: Global, config: &[DeviceSpec], arguments: &[u8]) -> Result<Option
     Ok(capture(alloc, size, rest)?.map(|captured| Step::Tick(device, frames, captured)))
 }
 
+/// Whether a word is `on`, or `off`.
+fn switch(word: &[u8]) -> Option<bool>
+    ensures { result ≡ switch_of word.now }
+{
+    if is_word(word, b"on") {
+        Some(true)
+    } else if is_word(word, b"off") {
+        Some(false)
+    } else {
+        None
+    }
+}
+
+/// The digit of a word, by its ASCII code.
+fn digit(word: &[u8]) -> Option<u8>
+    ensures { result ≡ digit_of word.now }
+{
+    match word {
+        [code] if is_digit(*code) => Some(*code),
+        _ => None,
+    }
+}
+
+/// `ring D on` or `ring D off`
+fn ring(config: &[DeviceSpec], arguments: &[u8]) -> Option<Step>
+    requires { length config.now ≤ 8 }
+    ensures { result ≡ ring_of config.now (words arguments.now) }
+{
+    let (first, second) = two_words(arguments)?;
+    let device = line(config, first)?;
+    let on = switch(second)?;
+    Some(Step::Line(device, LineChange::Ring(on)))
+}
+
+/// `loop D on` or `loop D off`
+fn current(config: &[DeviceSpec], arguments: &[u8]) -> Option<Step>
+    requires { length config.now ≤ 8 }
+    ensures { result ≡ loop_of config.now (words arguments.now) }
+{
+    let (first, second) = two_words(arguments)?;
+    let device = line(config, first)?;
+    let on = switch(second)?;
+    Some(Step::Line(device, LineChange::Current(on)))
+}
+
+/// `digit D C`
+fn dial(config: &[DeviceSpec], arguments: &[u8]) -> Option<Step>
+    requires { length config.now ≤ 8 }
+    ensures { result ≡ dial_of config.now (words arguments.now) }
+{
+    let (first, second) = two_words(arguments)?;
+    let device = line(config, first)?;
+    let code = digit(second)?;
+    Some(Step::Line(device, LineChange::Digit(code)))
+}
+
 /// `failcapture D`
 fn fail_capture(config: &[DeviceSpec], arguments: &[u8]) -> Option<Step>
     requires { length config.now ≤ 8 }
@@ -222,6 +335,15 @@ fn fail_emit(config: &[DeviceSpec], arguments: &[u8]) -> Option<Step>
 {
     let device = device(config, one_word(arguments)?)?;
     Some(Step::FailEmit(device))
+}
+
+/// `failhook D`
+fn fail_hook(config: &[DeviceSpec], arguments: &[u8]) -> Option<Step>
+    requires { length config.now ≤ 8 }
+    ensures { result ≡ fail_hook_of config.now (words arguments.now) }
+{
+    let device = line(config, one_word(arguments)?)?;
+    Some(Step::FailHook(device))
 }
 
 /// `idle`
@@ -249,8 +371,12 @@ pub fn step_stated(
         Kind::Open => Ok(open(arguments)),
         Kind::Send => send(alloc, arguments),
         Kind::Tick => tick(alloc, config, arguments),
+        Kind::Ring => Ok(ring(config, arguments)),
+        Kind::Loop => Ok(current(config, arguments)),
+        Kind::Digit => Ok(dial(config, arguments)),
         Kind::FailCapture => Ok(fail_capture(config, arguments)),
         Kind::FailEmit => Ok(fail_emit(config, arguments)),
+        Kind::FailHook => Ok(fail_hook(config, arguments)),
         Kind::Idle => Ok(idle(arguments)),
     }
 }

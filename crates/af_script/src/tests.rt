@@ -3,6 +3,7 @@ ghost use Rattle.std.specs.Prelude.{None};
 
 use crate::{Script, ScriptFault, print_log, read_script};
 use af_outside::{Bytes, DeviceSpec, Happening, Put, ReadGot, Sink, Step, Wake, Why};
+use af_phone::LineChange;
 use af_sample::SampleType;
 use std::alloc::Global;
 use std::test::Fail;
@@ -87,7 +88,50 @@ fn reads_a_script(rt: HostRuntime) -> Result<(), Fail> {
 }
 
 fn spec(ty: SampleType, rate: u32, start: u32) -> DeviceSpec {
-    DeviceSpec { ty, rate, start }
+    DeviceSpec {
+        ty,
+        rate,
+        start,
+        line: false,
+    }
+}
+
+/// The change of the line of device 1 that a step is.
+fn change(step: Option<&Step>) -> Option<LineChange> {
+    match step {
+        Some(Step::Line(1, change)) => Some(*change),
+        _ => None,
+    }
+}
+
+#[test]
+fn reads_what_happens_on_a_line(rt: HostRuntime) -> Result<(), Fail> {
+    let text =
+        b"device mu255 8000 0\ndevice lin16 8000 7  line \nring 1 on\nring 01 off\nloop 1 on\nloop 1 off\ndigit 1 #\ndigit 1 D\nfailhook 1\n";
+    let script = read_script(rt.alloc(), text)?;
+    let lines = [
+        spec(SampleType::Mu255, 8000, 0),
+        DeviceSpec {
+            line: true,
+            ..spec(SampleType::Lin16, 8000, 7)
+        },
+    ];
+    assert_eq!(rt; script.config.as_slice(), lines.as_slice());
+    let steps = script.steps.as_slice();
+    let changes = [
+        LineChange::Ring(true),
+        LineChange::Ring(false),
+        LineChange::Current(true),
+        LineChange::Current(false),
+        LineChange::Digit(35),
+        LineChange::Digit(68),
+    ];
+    assert_eq!(rt; steps.len(), 7);
+    for (step, wanted) in steps.iter().zip(&changes) {
+        assert_eq!(rt; change(Some(step)), Some(*wanted));
+    }
+    assert!(rt; matches!(steps.get(6), Some(Step::FailHook(1))));
+    Ok(())
 }
 
 /// As many devices as there may be, of each type twice and of each rate.
@@ -140,7 +184,9 @@ fn numbers_the_first_faulty_line(rt: HostRuntime) {
         (b"\nopen 0\ndevice lin16 8000 0\n", 2),
         (b"device lin16 8000 0\nidle\ndevice lin16 8000 0\n", 3),
         (b"device lin16 8000\n", 1),
-        (b"device lin16 8000 0 line\n", 1),
+        (b"device lin16 8000 0 lines\n", 1),
+        (b"device lin16 8000 0 line line\n", 1),
+        (b"device lin16 8000 line 0\n", 1),
         (b"device lin8 8000 0\n", 1),
         (b"device lin16 44000 0\n", 1),
         (b"device lin16 8000 4294967296\n", 1),
@@ -172,6 +218,16 @@ fn numbers_the_first_faulty_line(rt: HostRuntime) {
             4,
         ),
         (b"device lin16 8000 0\nidle 0\n", 2),
+        (b"device lin16 8000 0\nring 0 on\n", 2),
+        (b"device lin16 8000 0\nfailhook 0\n", 2),
+        (b"device lin16 8000 0 line\nring 1 on\n", 2),
+        (b"device lin16 8000 0 line\nloop 0\n", 2),
+        (b"device lin16 8000 0 line\nring 0 ON\n", 2),
+        (b"device lin16 8000 0 line\nloop 0 1\n", 2),
+        (b"device lin16 8000 0 line\ndigit 0 a\n", 2),
+        (b"device lin16 8000 0 line\ndigit 0 12\n", 2),
+        (b"device lin16 8000 0 line\ndigit 0 E\n", 2),
+        (b"device lin16 8000 0 line\nfailhook 0 0\n", 2),
         (b"device lin16 8000 0\nend 0\n", 2),
         (b"device lin16 8000 0\nopen 31\nopen 32\nopen 33\n", 3),
         (b"device lin16 8000 0\nsend 31 00\nsend 32 00\n", 3),
@@ -238,6 +294,17 @@ fn happenings(alloc: Global) -> Result<Vec<Happening>, Fail> {
         link: 10,
         why: Why::Malformed,
     })?;
+    log.push(Happening::Closed {
+        link: 2,
+        why: Why::Overrun,
+    })?;
+    for (off, done) in [(true, true), (false, true), (true, false)] {
+        log.push(Happening::Hooked {
+            device: 5,
+            off,
+            done,
+        })?;
+    }
     log.push(Happening::Captured {
         device: 6,
         frames: 4096,
@@ -262,7 +329,7 @@ fn prints_a_line_for_what_is_seen(rt: HostRuntime) -> Result<(), Fail> {
     };
     assert_eq!(rt; print_log(&log, &mut paper), Put::Done);
     let wanted =
-        b"emit 0 00ff7fa0\nlink 31 010203\nwrite 5 failed\nclosed 0 setup\nclosed 10 malformed\ncapture 6 failed\nemit 7 failed\n";
+        b"emit 0 00ff7fa0\nlink 31 010203\nwrite 5 failed\nclosed 0 setup\nclosed 10 malformed\nclosed 2 overrun\nhook 5 offhook\nhook 5 onhook\nhook 5 failed\ncapture 6 failed\nemit 7 failed\n";
     assert_eq!(rt; paper.written.as_slice(), wanted.as_slice());
     Ok(())
 }

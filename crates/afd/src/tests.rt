@@ -1,4 +1,6 @@
 // The script command on examples worked by hand.
+mod controls;
+mod lines;
 mod waits;
 
 use crate::script::{ScriptEnd, afd_script};

@@ -24,3 +24,12 @@ returns-in-ChangeAc-clause-step c = λ k ks a once h.
 
 pub returns-in-FreeAc-clause-step : goal.returns-in-FreeAc-clause-step
 returns-in-FreeAc-clause-step c = λ k ks a once h. leads_at c.args.devices.now ks c.args.link.now _ (done k (meaning c.args.request.now)) a (rw c.in-FreeAc.is (c.free_ac.ensures.step k a)) h
+
+pub returns-in-SelectEvents-clause-step : goal.returns-in-SelectEvents-clause-step
+returns-in-SelectEvents-clause-step c = λ k ks a once h. rw c.in-SelectEvents.is (c.select_events.ensures.step k ks a h)
+
+pub returns-in-QueryControls-clause-step : goal.returns-in-QueryControls-clause-step
+returns-in-QueryControls-clause-step c = λ k ks a once h. rw c.in-QueryControls.is (c.query_controls.ensures.step k ks a h)
+
+pub returns-in-QueryPhone-clause-step : goal.returns-in-QueryPhone-clause-step
+returns-in-QueryPhone-clause-step c = λ k ks a once h. rw c.in-QueryPhone.is (c.query_phone.ensures.step k ks a h)

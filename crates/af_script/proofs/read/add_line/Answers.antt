@@ -1,15 +1,16 @@
-use Rattle.std.proofs.Common.{◌≡◌, ℕ, Bool, true, false, ◌&&◌, ◌==◌, List, [], ◌∷◌, ◌++◌, length, refl, sym, ap, ◌∙◌}
+use Rattle.std.proofs.Common.{◌≡◌, ℕ, Bool, true, false, ◌&&◌, ◌==◌, List, [], ◌∷◌, ◌++◌, length, cond, refl, sym, ap, ◌∙◌}
 use Rattle.std.specs.Prelude.{Option, Some, None, option_map, Result, Ok, Err, IfOk}
+use Rattle.std.proofs.lemmas.Bool.{and_parts}
 use Rattle.af_time.specs.declared.OutOfMemory.{OutOfMemory}
 use Rattle.af_outside.specs.declared.script.DeviceSpec.{DeviceSpec}
 use Rattle.af_outside.specs.declared.script.Step.{Step}
 use Rattle.af_script.specs.declared.statement.Kind.{Kind}
 use Rattle.af_script.specs.Lines.{words, is_nil}
 use Rattle.af_script.specs.Words.{then_some}
-use Rattle.af_script.specs.Statement.{kind_of, is_device_kind, step_of_kind}
+use Rattle.af_script.specs.Statement.{kind_of, is_device_kind, device_with, step_of_kind}
 use Rattle.af_script.specs.Script.{Stated, is_passed_over}
-use Rattle.af_script.specs.Reading.{with_step, with_words, can_take_device, with_line}
-use Rattle.af_script.proofs.LineByLine.{line_read, words_step}
+use Rattle.af_script.specs.Reading.{with_device, with_step, with_words, can_take_device, with_line}
+use Rattle.af_script.proofs.LineByLine.{line_read, words_device, words_step}
 use Rattle.af_script.proofs.read.add_line.Goals as goal
 
 abbrev stated : List DeviceSpec → List Step → Stated
@@ -44,6 +45,35 @@ line_step config seen steps held more line name arguments kind (Ok allowed) read
     ∙ ap (λ k. option_map (with_step s) (step_of_kind config k arguments)) (sym is_kind)
     ∙ pushed config steps (step_of_kind config (Some kind) arguments)
     ∙ ap (option_map (stated config)) is_step ∙ stated_some config more allowed
+
+with_devices : (config : List DeviceSpec) (steps : List Step) (o : Option DeviceSpec) → option_map (with_device (stated config steps)) o ≡ option_map (λ ds. stated ds steps) (option_map (λ device. config ++ device ∷ []) o)
+with_devices config steps None = refl
+with_devices config steps (Some device) = refl
+
+devices_some : (config : List DeviceSpec) (steps : List Step) (is_there : Bool) → option_map (λ ds. stated ds steps) (then_some is_there config) ≡ then_some is_there (stated config steps)
+devices_some config steps true = refl
+devices_some config steps false = refl
+
+-- a line that states a device
+line_device : (config more : List DeviceSpec) (steps held : List Step) (line name : List ℕ) (arguments : List (List ℕ)) (kind : Kind) (allowed : Bool)
+    → is_passed_over line ≡ false → words line ≡ name ∷ arguments → Some kind ≡ kind_of name → held ≡ steps
+    → (can_take_device (stated config held) && is_device_kind (Some kind)) ≡ true
+    → option_map (λ device. config ++ device ∷ []) (device_with arguments) ≡ then_some allowed more
+    → with_line (stated config steps) line ≡ then_some allowed (stated more steps)
+line_device config more steps held line name arguments kind allowed read named is_kind same further one =
+    let s = stated config steps in
+    let both = and_parts (can_take_device s) (is_device_kind (Some kind)) (ap (λ xs. can_take_device (stated config xs) && is_device_kind (Some kind)) (sym same) ∙ further) in
+    let device : is_device_kind (kind_of name) ≡ true = ap is_device_kind (sym is_kind) ∙ both.1 in
+    line_read s line read ∙ ap (with_words s) named ∙ words_device s (name ∷ arguments) both.0 device
+    ∙ ap (λ t. option_map (with_device s) (cond t (device_with arguments) None)) device
+    ∙ with_devices config steps (device_with arguments)
+    ∙ ap (option_map (λ ds. stated ds steps)) one ∙ devices_some more steps allowed
+
+pub returns-then-is_further_device : goal.returns-then-is_further_device
+returns-then-is_further_device c =
+    line_device c.args.config.now.items c.add_device.new.config.items c.args.steps.now.items c.deref.result.now c.args.line.now c.in-Some.name.now _ c.in-Some-kind_named.kind c.add_device.result
+    (sym c.passes_over.ensures ∙ c.if-passes_over.false) c.in-Some.ensures c.in-Some-kind_named.ensures c.deref.ensures.value
+    (sym c.is_further_device.ensures ∙ c.if-is_further_device.true) c.add_device.ensures
 
 pub returns : goal.returns
 returns c =

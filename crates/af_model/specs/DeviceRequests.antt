@@ -1,0 +1,68 @@
+-- SelectEvents, SetControls, QueryControls, HookSwitch and QueryPhone: the controls of a device, and its telephone line.
+use Rattle.std.specs.Prelude.{ℕ, ◌==◌, nat_lt, Bool, ℤ, [], ◌∷◌, slice_set, unwrap_or, option_map, if◌then◌else◌}
+use Rattle.std.specs.declared.option.Option.{Option}
+use Rattle.std.specs.declared.option.Option.TheVariants.{None, Some}
+use Rattle.af_request.specs.declared.reply.Controls.{Controls}
+use Rattle.af_request.specs.declared.reply.Phone.{Phone}
+use Rattle.af_request.specs.Answer.{plain, controls, phone}
+use Rattle.af_phone.specs.Lines.{wanting}
+use Rattle.af_model.specs.declared.refusal.Cause.TheVariants.{BadLine, BadValue}
+use Rattle.af_model.specs.declared.refusal.Refusal.{Refusal}
+use Rattle.af_model.specs.State.{DeviceState, Place, place}
+use Rattle.af_model.specs.Reply.{refusal, refused, replied}
+use Rattle.af_model.specs.Checks.{check, check_gain, first_refusal, names, refused_or, where_named}
+use Rattle.af_model.specs.ContextRequests.{named_gain}
+use Rattle.af_model.specs.Play.{in_devices}
+
+-- a request that names the line of a device is done with it, or refused where the device has none
+abbrev pub on_line : ℕ → ℕ → (Phone → Place → Place) → Option Phone → Place → Place
+on_line opcode d f None p = refused opcode (refusal BadLine d) p
+on_line opcode d f (Some line) p = f line p
+
+-- SelectEvents: the mask of events of a device is replaced
+abbrev pub select : ℕ → ℕ → Place → Place
+select d mask p = replied 8 plain (place p.around (record p.link { selections = slice_set p.link.selections d mask }))
+
+-- SetControls: the fields that the mask names are looked at: 1 input gain, 2 output gain, 4 input on, 8 output on
+unfoldable pub controls_refusal : ℕ → ℕ → ℕ → ℤ → ℤ → Option Refusal
+controls_refusal mask input_on output_on input_gain output_gain = first_refusal
+    (where_named mask 1 (check_gain input_gain)
+    ∷ where_named mask 2 (check_gain output_gain)
+    ∷ where_named mask 4 (check (nat_lt 1 input_on) BadValue input_on)
+    ∷ where_named mask 8 (check (nat_lt 1 output_on) BadValue output_on) ∷ [])
+
+-- the fields that the mask names are changed, and no others
+abbrev pub with_named : ℕ → ℕ → ℕ → ℤ → ℤ → Controls → Controls
+with_named mask input_on output_on input_gain output_gain c = record {
+  input_on = if names mask 4 then input_on == 1 else c.input_on;
+  output_on = if names mask 8 then output_on == 1 else c.output_on;
+  input_gain = unwrap_or (named_gain mask 1 input_gain) c.input_gain;
+  output_gain = unwrap_or (named_gain mask 2 output_gain) c.output_gain;
+}
+
+abbrev pub controlling : ℕ → ℕ → ℕ → ℤ → ℤ → DeviceState → DeviceState
+controlling mask input_on output_on input_gain output_gain device =
+    record device { controls = with_named mask input_on output_on input_gain output_gain device.controls }
+
+abbrev pub set_device_controls : ℕ → ℕ → ℕ → ℕ → ℤ → ℤ → DeviceState → Place → Place
+set_device_controls d mask input_on output_on input_gain output_gain device p =
+    refused_or 9 (controls_refusal mask input_on output_on input_gain output_gain)
+    (λ q. replied 9 plain (in_devices d (controlling mask input_on output_on input_gain output_gain) q)) p
+
+-- QueryControls
+abbrev pub tell_controls : DeviceState → Place → Place
+tell_controls device p = replied 10 (controls device.controls) p
+
+-- HookSwitch: a line that is dead is as one that is not there; the hook is wanted off or on
+abbrev pub switch_refusal : ℕ → ℕ → Phone → Option Refusal
+switch_refusal d off line = first_refusal (check line.dead BadLine d ∷ check (nat_lt 1 off) BadValue off ∷ [])
+
+abbrev pub wanting_hook : Bool → DeviceState → DeviceState
+wanting_hook off device = record device { line = option_map (wanting off) device.line }
+
+abbrev pub switch_hook : ℕ → ℕ → Phone → Place → Place
+switch_hook d off line p = refused_or 11 (switch_refusal d off line) (λ q. replied 11 plain (in_devices d (wanting_hook (off == 1)) q)) p
+
+-- QueryPhone
+abbrev pub tell_phone : Phone → Place → Place
+tell_phone line p = replied 12 (phone line) p

@@ -1,0 +1,37 @@
+use Rattle.std.proofs.Common.{◌≡◌, refl, sym, ap, ◌∙◌, rules}
+use Rattle.std.proofs.lemmas.List.{with_items_is}
+use Rattle.std.specs.Vec.{with_items}
+use Rattle.std.specs.declared.option.Option.TheVariants.{Some}
+use Rattle.std.specs.declared.result.Result.TheVariants.{Ok}
+use Rattle.af_outside.specs.declared.happening.Happening.TheVariants.{Hooked}
+use Rattle.af_outside.specs.World.{is_done}
+use Rattle.af_outside.specs.Outside.{answered, Outside}
+use Rattle.af_outside.specs.Tape.{outside_of, stations_of}
+use Rattle.af_outside.proofs.Tapes.{Answered-noted, faults_after-rises}
+use Rattle.af_outside.proofs.tape.TapeWorld.hook.Goals as goal
+
+abbrev old_outside : goal.After-note → Outside
+old_outside c = outside_of c.self.inside.far_ends.items (stations_of c.self.inside.steps.items c.self.inside.stations.items)
+
+abbrev new_outside : goal.After-note → Outside
+new_outside c = outside_of c.self.inside.far_ends.items (stations_of c.self.inside.steps.items (with_items c.self.inside.stations c.hook-put.new.stations).items)
+
+answered_here : (c : goal.After-note) → answered (old_outside c) (Hooked c.args.device c.args.off (is_done c.hook-put.result)) ≡ Some (new_outside c)
+answered_here c =
+    let tape = c.self.inside in
+    let kept : (with_items tape.stations c.hook-put.new.stations).items ≡ c.hook-put.new.stations = with_items_is tape.stations c.hook-put.new.stations (search rules) in
+    (rw c.deref_mut.ensures.value at c.hook-put.ensures tape.far_ends.items tape.steps.items)
+    ∙ ap (λ kept. Some (outside_of tape.far_ends.items (stations_of tape.steps.items kept))) (sym kept)
+
+pub returns-clause-leads : goal.returns-clause-leads
+returns-clause-leads c =
+    let tape = c.self.inside in
+    rw (← c.self.view_is) (record {
+      config = refl;
+      left = refl;
+      device_faults = rw c.faults_after-self-inside.ensures (faults_after-rises tape.device_faults c.hook-put.result (search rules));
+      answered = Answered-noted tape.logbook (Ok c.hook_of.result) c.note.new.self (Hooked c.args.device c.args.off (is_done c.hook-put.result)) (old_outside c) (new_outside c) c.note.ensures c.hook_of.ensures (answered_here c);
+    })
+
+pub returns-clause-answered : goal.returns-clause-answered
+returns-clause-answered c = rw (← c.self.view_is) (answered_here c)

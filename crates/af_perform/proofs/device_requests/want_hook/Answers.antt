@@ -1,0 +1,13 @@
+use Rattle.std.proofs.Common.{◌∙◌, ap, option_map, refl, rules}
+use Rattle.af_request.specs.Answer.{plain}
+use Rattle.af_phone.specs.Lines.{wanting}
+use Rattle.af_model.specs.DeviceRequests.{wanting_hook}
+use Rattle.af_perform.proofs.Devices.{device_at}
+use Rattle.af_perform.proofs.Requests.{stands_here}
+use Rattle.af_perform.proofs.Controlling.{changed_replied, relined}
+use Rattle.af_perform.proofs.device_requests.want_hook.Goals as goal
+
+pub returns-clause-step : goal.returns-clause-step
+returns-clause-step c = λ ks a s h there.
+    let stands = stands_here c.args.devices.now ks a c.args.device _ s h (device_at c.args.devices.now _ _ _ c.from.ensures (search rules)) there in
+    changed_replied c.args.devices.now ks _ _ c.args.link.now _ 11 c.args.device plain (wanting_hook c.args.off) a s c.from.ensures h there (relined (wanting c.args.off) _ _ _ s stands (c.wanting.ensures ∙ ap (option_map (wanting c.args.off)) c.line.ensures) c.set_line.ensures) refl refl c.reply.ensures

@@ -1,4 +1,5 @@
 pub mod Taking
+pub mod Wanting
 pub mod Doing
 pub mod Serving
 pub mod Telling

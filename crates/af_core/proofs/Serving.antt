@@ -1,6 +1,6 @@
 -- What each phase of a link's turn takes off a log.
-use Rattle.std.proofs.Common.{◌≡◌, ◌≢◌, ◌==◌, eqb-true, ℕ, zero, suc, ◌≤◌, ◌<◌, ◌+◌, ◌-◌, Bool, true, false, not, ◌&&◌, nat_le, is_none, cond, List, [], ◌∷◌, ◌++◌, length, take, slice_get, slice_set, get_or, refl, sym, ap, ◌∙◌, subst, arith, length-take-le}
-use Rattle.std.proofs.Math.Seq.{take-length}
+use Rattle.std.proofs.Common.{◌≡◌, ◌≢◌, ◌==◌, eqb-true, ℕ, zero, suc, ◌≤◌, ◌<◌, ◌+◌, ◌-◌, Bool, true, false, not, ◌&&◌, nat_le, nat_lt, ◌⊎◌, ⊎_elim, is_none, cond, List, [], ◌∷◌, ◌++◌, length, take, drop, slice_get, slice_set, get_or, refl, sym, ap, ◌∙◌, subst, arith, length-take-le}
+use Rattle.std.proofs.lemmas.List.{length-drop}
 use Rattle.std.proofs.lemmas.Option.{slice_get-get_or}
 use Rattle.std.proofs.lemmas.Bool.Decides.{nat_tests}
 use Rattle.std.specs.declared.option.Option.{Option}
@@ -9,22 +9,20 @@ use Rattle.af_outside.specs.declared.happening.Happening.TheVariants.{Read, Wrot
 use Rattle.af_outside.specs.declared.happening.ReadGot.{ReadGot}
 use Rattle.af_outside.specs.declared.happening.ReadGot.TheVariants.{Given}
 use Rattle.af_outside.specs.declared.happening.Why.{Why}
-use Rattle.af_outside.specs.declared.world.LinkTook.{LinkTook}
-use Rattle.af_outside.specs.declared.world.LinkTook.TheVariants.{Took}
-use Rattle.af_outside.specs.World.{TookFits, took_of, taken_count}
 use Rattle.af_outside.specs.Told.{Log, Grew}
 use Rattle.af_outside.proofs.Outsides.{same_bytes-refl, eq-refl}
 use Rattle.af_model.specs.State.{Place, Around, LinkState, place, opened, door, door_at, with_door}
 use Rattle.af_model.specs.Waiting.{is_waiting}
 use Rattle.af_model.specs.Advance.{absorb, advance, takes_more}
-use Rattle.af_model.specs.Turn.{behind, and_then, then_go, take_one, wants_read, is_read, read_by, read_phase, after_read, wants_write, write_by, write_phase, after_write, same_why, number_of, close_due, close_for, close_phase, serve_link, serve_open, serve_door, serve_from, serve_all, ready, in_open}
+use Rattle.af_model.specs.Turn.{behind, and_then, then_go, take_one, wants_read, is_read, read_by, read_phase, after_read, wants_write, sent, write_by, write_taken, write_phase, same_why, number_of, close_due, close_for, close_phase, serve_link, serve_open, serve_door, serve_from, serve_all, in_open}
 use Rattle.af_model.proofs.Tests.{both-true}
+use Rattle.af_model.proofs.Lists.{get-set_other}
 use Rattle.af_model.proofs.Slots.{some_link, slot_link, links_of-set, length-links_of}
 use Rattle.af_perform.specs.Kept.{KeptDevice}
 use Rattle.af_perform.specs.Waits.{KeptWait, has_waiting}
 use Rattle.af_perform.specs.Places.{At, StandAround}
 use Rattle.af_perform.proofs.Keeping.{same_waiting}
-use Rattle.af_core.specs.Stands.{AreSettled, AtDoor, IsSettled, StandsFor}
+use Rattle.af_core.specs.Stands.{AreSettled, AtDoor, IsSettled, StandsFor, writes_left}
 use Rattle.af_core.specs.Does.{Does}
 use Rattle.af_core.proofs.Doing.{does_nothing, does_one, does_more, does_then}
 
@@ -77,24 +75,45 @@ pub writes_nothing : (t : Option Log) (k : ℕ) (ds : List KeptDevice) (ks : Lis
 writes_nothing t k ds ks l idle =
     does_nothing t (At ds ks l) (At ds ks l) (write_phase k) behind (λ p. p) (λ p s. s) (λ p s log. write_phase-idle k p log (ap wants_write s.1 ∙ idle))
 
-pub writes : (a b : Option Log) (k : ℕ) (ds ds' : List KeptDevice) (ks ks' : List KeptWait) (l l' : LinkState) → wants_write l ≡ true → Grew a (Wrote k (length l.pending) (Some l.pending) ∷ []) b →
-    ((p : Place) → At ds ks l p → At ds' ks' l' (after_write k l.pending p)) → Does a b (At ds ks l) (At ds' ks' l') (write_phase k) (write_phase k)
-writes a b k ds ds' ks ks' l l' wants told step =
-    does_one (Wrote k (length l.pending) (Some l.pending)) (At ds ks l) (At ds' ks' l') (write_phase k) (write_phase k) (λ p. after_write k l.pending p) refl told step
+pub writes : (a b : Option Log) (k : ℕ) (ds ds' : List KeptDevice) (ks ks' : List KeptWait) (l l' : LinkState) (took : Option (List ℕ)) (f : Place → Place) → wants_write l ≡ true →
+    ((a : Around) → write_taken k took (place a l) ≡ Some (f (place a l))) → Grew a (Wrote k (length l.pending) took ∷ []) b →
+    ((a : Around) → StandAround ds ks a → At ds' ks' l' (f (place a l))) → Does a b (At ds ks l) (At ds' ks' l') (write_phase k) (write_phase k)
+writes a b k ds ds' ks ks' l l' took f wants takes told step =
+    does_one (Wrote k (length l.pending) took) (At ds ks l) (At ds' ks' l') (write_phase k) (write_phase k) f refl told (at_place ds ds' ks ks' l l' f step)
     (λ p s log.
     let e : wants_write p.link ≡ true = ap wants_write s.1 ∙ wants in
-    let here : write_by k p (Wrote k (length l.pending) (Some l.pending)) ≡ Some (after_write k l.pending p) =
-    subst (λ m. write_by k (place p.around m) (Wrote k (length l.pending) (Some l.pending)) ≡ Some (after_write k l.pending (place p.around m))) (sym s.1)
-    (rw (eq-refl k, eq-refl (length l.pending), same_bytes-refl l.pending)) in
-    ap (λ b. cond b (then_go (write_by k p (Wrote k (length l.pending) (Some l.pending))) (λ q. write_phase k q log)) (behind p (Wrote k (length l.pending) (Some l.pending) ∷ log))) e
+    let here : write_by k p (Wrote k (length l.pending) took) ≡ Some (f p) =
+    subst (λ m. write_by k (place p.around m) (Wrote k (length l.pending) took) ≡ Some (f (place p.around m))) (sym s.1)
+    (rw (eq-refl k, eq-refl (length l.pending)) (takes p.around)) in
+    ap (λ b. cond b (then_go (write_by k p (Wrote k (length l.pending) took)) (λ q. write_phase k q log)) (behind p (Wrote k (length l.pending) took ∷ log))) e
     ∙ ap (λ o. then_go o (λ q. write_phase k q log)) here)
 
--- all that was offered was taken
-pub whole_count : (took : LinkTook) (n : ℕ) → TookFits took n → taken_count took ≡ n
-whole_count (Took m) n e = e
+-- the first bytes that wait to be sent may be taken
+pub first_taken : (k n : ℕ) (p : Place) → n ≤ length p.link.pending → write_taken k (Some (take n p.link.pending)) p ≡ Some (advance k (place p.around (sent n p.link)))
+first_taken k n p within =
+    let count : length (take n p.link.pending) ≡ n = length-take-le n p.link.pending within in
+    rw (count, same_bytes-refl (take n p.link.pending)) refl
 
-pub whole_taken : (took : LinkTook) (xs : List ℕ) → TookFits took (length xs) → took_of took xs ≡ Some xs
-whole_taken (Took n) xs e = ap (λ m. Some (take m xs)) e ∙ ap (λ l. Some l) (take-length xs)
+-- a link whose first bytes were sent is not to be written again: it has nothing to send, or is stuck
+pub sent_idle : (n : ℕ) (l : LinkState) → n ≤ length l.pending → wants_write (sent n l) ≡ false
+sent_idle n l within =
+    elim (nat_lt n (length l.pending)) as (λ b. nat_lt n (length l.pending) ≡ b → (not (length (drop n l.pending) == 0) && not b) ≡ false) [
+      | true ↦ λ t. elim (length (drop n l.pending) == 0) as (λ b. (not b && false) ≡ false) [ true ↦ refl | false ↦ refl ]
+      | false ↦ λ t.
+          let none : length (drop n l.pending) ≡ 0 = let size = length-drop n l.pending in grind (arith, nat_tests) in
+          ap (λ m. not (m == 0) && true) none
+    ] refl
+
+-- there is a write to come where the link is to be written
+pub writes_some : (l : LinkState) → wants_write l ≡ true → 0 < writes_left l
+writes_some l wants = let one : writes_left l ≡ length l.rest + 1 = ap (λ b. length l.rest + (cond b 1 0)) wants in omega arith
+
+-- a bound on the writes to come falls with each write
+pub fewer_writes : (n : ℕ) (l l' : LinkState) → n ≤ length l.pending → wants_write l ≡ true → (l' ≡ sent n l) ⊎ (length l'.rest < length l.rest) → writes_left l' < writes_left l
+fewer_writes n l l' within wants answered =
+    let before : writes_left l ≡ length l.rest + 1 = ap (λ b. length l.rest + (cond b 1 0)) wants in
+    ⊎_elim (λ e. let after : writes_left l' ≡ length l.rest + 0 = ap writes_left e ∙ ap (λ b. length l.rest + (cond b 1 0)) (sent_idle n l within) in omega arith)
+    (λ less. elim (wants_write l') as (λ b. length l'.rest + (cond b 1 0) < writes_left l) [ true ↦ omega arith | false ↦ omega arith ]) answered
 
 -- Closes
 
@@ -192,13 +211,6 @@ link_here (x ∷ links) (suc i) d h = link_here links i d (omega arith)
 
 -- Links that are settled
 
-settled_other : (links : List (Option LinkState)) (k j : ℕ) (link : Option LinkState) → j ≢ k → slice_get (slice_set links k link) j ≡ slice_get links j
-settled_other [] k j link apart = refl
-settled_other (x ∷ links) zero zero link apart = absurd (apart refl)
-settled_other (x ∷ links) zero (suc j) link apart = refl
-settled_other (x ∷ links) (suc k) zero link apart = refl
-settled_other (x ∷ links) (suc k) (suc j) link apart = settled_other links k j link (λ e. apart (ap suc e))
-
 set_here : (links : List (Option LinkState)) (k : ℕ) (link : Option LinkState) (l : LinkState) → slice_get (slice_set links k link) k ≡ Some (Some l) → link ≡ Some l
 set_here [] k link l e = absurd cc
 set_here (x ∷ links) zero link l e = cc
@@ -214,7 +226,7 @@ settled_set ks ks' links k link h others one j l e =
           subst (λ i. IsSettled (has_waiting ks' i) l) (sym same) (one l (set_here links k link l (subst (λ i. slice_get (slice_set links k link) i ≡ Some (Some l)) same e)))
       | false ↦ λ t.
           let apart : j ≢ k = grind (arith, nat_tests) in
-          subst (λ b. IsSettled b l) (sym (others j apart)) (h j l (sym (settled_other links k j link apart) ∙ e))
+          subst (λ b. IsSettled b l) (sym (others j apart)) (h j l (sym (get-set_other links k j link apart) ∙ e))
     ] refl
 
 pub settled_here : (ks : List KeptWait) (links : List (Option LinkState)) (k n : ℕ) (d link : Option LinkState) → AreSettled ks links → n ≡ k → link ≡ get_or links k d → k < length links → (l : LinkState) → link ≡ Some l → IsSettled (has_waiting ks n) l
@@ -224,11 +236,12 @@ settled_here ks links k n d link h number is low l e =
 pub opened_settled : (waits : Bool) (link : Option LinkState) → link ≡ Some opened → (l : LinkState) → link ≡ Some l → IsSettled waits l
 opened_settled waits link is l e =
     let same : opened ≡ l = let both : Some opened ≡ Some l = sym is ∙ e in cc in
-    subst (IsSettled waits) same (record { short = λ t. omega arith; room = λ t. omega arith })
+    subst (IsSettled waits) same (record { bounds = record { rest = omega arith; pending = omega arith }; short = λ t. omega arith; room = λ t. omega arith })
 
-pub ready_settled : (waits : Bool) (old link : Option LinkState) → ((l : LinkState) → old ≡ Some l → IsSettled waits l) → link ≡ in_open ready old → (l : LinkState) → link ≡ Some l → IsSettled waits l
-ready_settled waits None link h is l e = let both : None ≡ Some l = sym is ∙ e in absurd cc
-ready_settled waits (Some m) link h is l e =
-    let same : ready m ≡ l = let both : Some (ready m) ≡ Some l = sym is ∙ e in cc in
-    let s = h m refl in
-    subst (IsSettled waits) same (record { short = s.short; room = s.room })
+-- a flag of a link is set, or cleared
+pub flag_settled : (f : LinkState → LinkState) (waits : Bool) (old link : Option LinkState) → ((l : LinkState) → IsSettled waits l → IsSettled waits (f l)) → ((l : LinkState) → old ≡ Some l → IsSettled waits l) → link ≡ in_open f old →
+    (l : LinkState) → link ≡ Some l → IsSettled waits l
+flag_settled f waits None link keeps h is l e = let both : None ≡ Some l = sym is ∙ e in absurd cc
+flag_settled f waits (Some m) link keeps h is l e =
+    let same : f m ≡ l = let both : Some (f m) ≡ Some l = sym is ∙ e in cc in
+    subst (IsSettled waits) same (keeps m (h m refl))

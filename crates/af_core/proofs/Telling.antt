@@ -9,6 +9,7 @@ use Rattle.af_phone.specs.declared.line.LineChange.{LineChange}
 use Rattle.af_phone.specs.Lines.{hook_due}
 use Rattle.af_outside.specs.declared.happening.Happening.TheVariants.{Hooked}
 use Rattle.af_outside.specs.declared.happening.Wake.TheVariants.{Line}
+use Rattle.af_outside.specs.declared.happening.Why.{Why}
 use Rattle.af_outside.specs.declared.happening.Why.TheVariants as why
 use Rattle.af_outside.specs.Told.{Log, Grew}
 use Rattle.af_outside.proofs.Outsides.{eq-refl}
@@ -27,11 +28,16 @@ use Rattle.af_core.specs.Does.{Does}
 use Rattle.af_core.proofs.Doing.{does_nothing, does_more, grew_nothing}
 
 -- a link is dropped
-pub drops_at : (ds : List KeptDevice) (ks ks' : List KeptWait) (k : ℕ) (e : Event) (a : Around) (l l' : LinkState) → nat_le (length l.pending + 20) 49152 ≡ false → ks' ≡ kept_without k ks →
-    l' ≡ record l { rest = []; pending = []; closing = Some why.Overrun; selections = none_selected } → StandAround ds ks a → At ds ks' l' (tell_selected k e (place a l))
-drops_at ds ks ks' k e a l l' full waits is h =
-    subst (λ b. At ds ks' l' (cond b (say (place a l) (event_bytes e l.sequence)) (dropped k why.Overrun (place a l)))) (sym full)
+pub drops_at : (ds : List KeptDevice) (ks ks' : List KeptWait) (k : ℕ) (cause : Why) (a : Around) (l l' : LinkState) → ks' ≡ kept_without k ks →
+    l' ≡ record l { rest = []; pending = []; closing = Some cause; selections = none_selected } → StandAround ds ks a → At ds ks' l' (dropped k cause (place a l))
+drops_at ds ks ks' k cause a l l' waits is h =
     ((h.0, subst (λ qs. StandForWaits a.devices qs (without_waiter k a.waiting)) (sym waits) (without_waits a.devices k ks a.waiting h.1)), sym is)
+
+-- a link that has no room for an event is
+pub overruns_at : (ds : List KeptDevice) (ks' : List KeptWait) (k : ℕ) (e : Event) (a : Around) (l l' : LinkState) → nat_le (length l.pending + 20) 49152 ≡ false →
+    At ds ks' l' (dropped k why.Overrun (place a l)) → At ds ks' l' (tell_selected k e (place a l))
+overruns_at ds ks' k e a l l' full h =
+    subst (λ b. At ds ks' l' (cond b (say (place a l) (event_bytes e l.sequence)) (dropped k why.Overrun (place a l)))) (sym full) h
 
 -- who waits when one link may have ended to
 pub sheds_others : (k j : ℕ) (ks ks' : List KeptWait) → Sheds k ks ks' → j ≢ k → has_waiting ks' j ≡ has_waiting ks j

@@ -7,7 +7,7 @@ use Rattle.std.specs.declared.option.Option.{Option}
 use Rattle.std.specs.declared.option.Option.TheVariants.{None, Some}
 use Rattle.af_outside.specs.declared.happening.Happening.TheVariants.{Woke, Captured, Emitted}
 use Rattle.af_outside.specs.declared.happening.Wake.{Wake}
-use Rattle.af_outside.specs.declared.happening.Wake.TheVariants.{Opened, Readable, Ticked, Idle, Stop}
+use Rattle.af_outside.specs.declared.happening.Wake.TheVariants.{Opened, Readable, Writable, Ticked, Idle, Stop}
 use Rattle.af_outside.specs.declared.script.DeviceSpec.{DeviceSpec}
 use Rattle.af_outside.specs.Told.{Log, Grew}
 use Rattle.af_outside.proofs.Outsides.{same_bytes-refl, eq-refl}
@@ -17,14 +17,14 @@ use Rattle.af_model.specs.Reply.{horizon_of}
 use Rattle.af_model.specs.Waiting.{due, AreDueLater}
 use Rattle.af_model.specs.NoLoss.{LosesNone}
 use Rattle.af_model.specs.Tick.{sound, tick, later, capture_of, complete_due}
-use Rattle.af_model.specs.Turn.{Behind, behind, and_then, take_one, turn, fits, is_open_at, wake_phase, tick_phase, is_capture, capture_by, after_capture, emit_by, serve_and_hook, ready, in_open, in_slot}
+use Rattle.af_model.specs.Turn.{Behind, behind, and_then, take_one, turn, fits, is_open_at, wake_phase, tick_phase, is_capture, capture_by, after_capture, emit_by, serve_and_hook, ready, writable, in_open, in_slot}
 use Rattle.af_model.specs.Run.{wakes}
 use Rattle.af_model.proofs.Running.{wakes-append-none}
 use Rattle.af_model.proofs.Slots.{slot_link, links_of-set, some_link}
 use Rattle.af_perform.specs.Kept.{KeptDevice, StandsForDevice}
 use Rattle.af_perform.specs.Waits.{KeptWait, kept_passed, waits_of, AreLater, StandForWaits}
 use Rattle.af_perform.specs.Places.{StandForDevices}
-use Rattle.af_core.specs.Stands.{AreSettled, Stands, StandsFor, StandForWaiting, Turns, kept_lines, outline_of}
+use Rattle.af_core.specs.Stands.{AreSettled, IsSettled, Stands, StandsFor, StandForWaiting, Turns, kept_lines, outline_of}
 use Rattle.af_sample.specs.SampleTypes.{width_of}
 use Rattle.af_sample.proofs.RunLemmas.{length-samples}
 use Rattle.af_core.specs.Does.{Does}
@@ -141,24 +141,44 @@ opens t k ds ks links links' e =
     (λ s h. record { devices = h.devices; waiting = h.waiting; links = links_of-set s.slots k (record { link = Some opened; said = [] }) ∙ ap (λ l. slice_set l k (Some opened)) h.links ∙ sym e })
     (λ s h log. refl)
 
--- a link that may be read is one of the links
+-- a link that is open is one of the links
+open_below : (links : List (Option LinkState)) (k : ℕ) → is_open_at (slice_get (map {A = Option LinkState} {B = Bool} is_some links) k) ≡ true → k < length links
+open_below [] k e = absurd cc
+open_below (x ∷ links) zero e = omega arith
+open_below (x ∷ links) (suc k) e = let lt = open_below links k e in omega arith
+
 pub read_below : (n : List Bool) (k : ℕ) (links : List (Option LinkState)) (wake : Wake) → wake ≡ Readable k → fits (outline_with n links) wake ≡ true → k < length links
-read_below n k links wake e fit = below links k (subst (λ w. fits (outline_with n links) w ≡ true) e fit)
-  where
-    below : (links : List (Option LinkState)) (k : ℕ) → is_open_at (slice_get (map {A = Option LinkState} {B = Bool} is_some links) k) ≡ true → k < length links
-    below [] k e = absurd cc
-    below (x ∷ links) zero e = omega arith
-    below (x ∷ links) (suc k) e = let lt = below links k e in omega arith
+read_below n k links wake e fit = open_below links k (subst (λ w. fits (outline_with n links) w ≡ true) e fit)
+
+pub write_below : (n : List Bool) (k : ℕ) (links : List (Option LinkState)) (wake : Wake) → wake ≡ Writable k → fits (outline_with n links) wake ≡ true → k < length links
+write_below n k links wake e fit = open_below links k (subst (λ w. fits (outline_with n links) w ≡ true) e fit)
+
+-- a wake that sets a flag of a link, or clears it
+flags : (t : Option Log) (k : ℕ) (f : LinkState → LinkState) (wake : Wake) (ds : List KeptDevice) (ks : List KeptWait) (links links' : List (Option LinkState)) (link : Option LinkState) →
+    ((s : State) (log : Log) → wake_phase wake s log ≡ behind (with_slot k (in_slot f (slot_at k s)) s) log) → some_link (slice_get links k) ≡ link → links' ≡ slice_set links k (in_open f link) →
+    Does t t (StandsFor ds ks links) (StandsFor ds ks links') (wake_phase wake) behind
+flags t k f wake ds ks links links' link does here e =
+    does_nothing t (StandsFor ds ks links) (StandsFor ds ks links') (wake_phase wake) behind (λ s. with_slot k (in_slot f (slot_at k s)) s)
+    (λ s h.
+    let same : (slot_at k s).link ≡ link = slot_link s.slots k ∙ ap (λ l. some_link (slice_get l k)) h.links ∙ here in
+    record { devices = h.devices; waiting = h.waiting; links = links_of-set s.slots k (in_slot f (slot_at k s)) ∙ ap (λ l. slice_set l k (in_open f (slot_at k s).link)) h.links ∙ ap (λ o. slice_set links k (in_open f o)) same ∙ sym e })
+    (λ s h log. does s log)
 
 pub readies : (t : Option Log) (k : ℕ) (ds : List KeptDevice) (ks : List KeptWait) (links links' : List (Option LinkState)) (link : Option LinkState) → some_link (slice_get links k) ≡ link → links' ≡ slice_set links k (in_open ready link) →
     Does t t (StandsFor ds ks links) (StandsFor ds ks links') (wake_phase (Readable k)) behind
 unfolding wake_phase
-readies t k ds ks links links' link here e =
-    does_nothing t (StandsFor ds ks links) (StandsFor ds ks links') (wake_phase (Readable k)) behind (λ s. with_slot k (in_slot ready (slot_at k s)) s)
-    (λ s h.
-    let same : (slot_at k s).link ≡ link = slot_link s.slots k ∙ ap (λ l. some_link (slice_get l k)) h.links ∙ here in
-    record { devices = h.devices; waiting = h.waiting; links = links_of-set s.slots k (in_slot ready (slot_at k s)) ∙ ap (λ l. slice_set l k (in_open ready (slot_at k s).link)) h.links ∙ ap (λ o. slice_set links k (in_open ready o)) same ∙ sym e })
-    (λ s h log. refl)
+readies t k ds ks links links' link here e = flags t k ready (Readable k) ds ks links links' link (λ s log. refl) here e
+
+pub unsticks : (t : Option Log) (k : ℕ) (ds : List KeptDevice) (ks : List KeptWait) (links links' : List (Option LinkState)) (link : Option LinkState) → some_link (slice_get links k) ≡ link → links' ≡ slice_set links k (in_open writable link) →
+    Does t t (StandsFor ds ks links) (StandsFor ds ks links') (wake_phase (Writable k)) behind
+unfolding wake_phase
+unsticks t k ds ks links links' link here e = flags t k writable (Writable k) ds ks links links' link (λ s log. refl) here e
+
+pub ready_settled : (waits : Bool) (l : LinkState) → IsSettled waits l → IsSettled waits (ready l)
+ready_settled waits l s = record { bounds = record { rest = s.bounds.rest; pending = s.bounds.pending }; short = s.short; room = s.room }
+
+pub writable_settled : (waits : Bool) (l : LinkState) → IsSettled waits l → IsSettled waits (writable l)
+writable_settled waits l s = record { bounds = record { rest = s.bounds.rest; pending = s.bounds.pending }; short = s.short; room = s.room }
 
 pub stays_idle : (t : Option Log) (ds : List KeptDevice) (ks : List KeptWait) (links : List (Option LinkState)) → Does t t (StandsFor ds ks links) (StandsFor ds ks links) (wake_phase Idle) behind
 unfolding wake_phase

@@ -15,7 +15,7 @@ use Rattle.af_model.specs.Run.{wakes}
 use Rattle.af_model.specs.NoLoss.{StateLosesNone}
 use Rattle.af_perform.specs.Kept.{KeptDevice}
 use Rattle.af_perform.specs.Waits.{KeptWait, has_waiting, kept_without, StandForWaits}
-use Rattle.af_perform.specs.Places.{StandForDevices, StandAround, At}
+use Rattle.af_perform.specs.Places.{StandForDevices, StandAround, At, IsBounded}
 
 -- a link's number, open or not, with what is around it
 abbrev pub AtDoor : List KeptDevice → List KeptWait → Option LinkState → Door → Type 0
@@ -28,8 +28,10 @@ StepsTo true None ds ks l = ⊥
 StepsTo false None ds ks l = Unit {0}
 StepsTo false (Some p) ds ks l = ⊥
 
--- A link that takes more has less than a whole frame unread. One that waits has room for the reply that it waits for.
+-- A link is within its bounds. One that takes more has less than a whole frame unread, and one that waits has room for the reply
+-- that it waits for.
 pub record IsSettled (waits : Bool) (l : LinkState) : Type 0 where
+  pub bounds : IsBounded l
   pub short : IsTrue (takes_more waits l) → length l.rest < 16384
   pub room : IsTrue waits → length l.pending ≤ 49152
 

@@ -10,7 +10,7 @@ ghost use Rattle.af_model.specs.Reply.{reply_message};
 ghost use Rattle.af_model.specs.Advance.{after_setup, after_frame, advance_step, advance, takes_more};
 ghost use Rattle.af_perform.specs.Kept.{kept_info};
 ghost use Rattle.af_perform.specs.Waits.{has_waiting, Grows, KeptWait};
-ghost use Rattle.af_perform.specs.Places.{StandAround, At};
+ghost use Rattle.af_perform.specs.Places.{StandAround, At, IsBounded};
 ghost use Rattle.af_core.specs.Stands.{StepsTo, IsSettled};
 
 use af_outside::Why;
@@ -157,6 +157,7 @@ fn advance_once(
     ensures same { IsFalse result → (devices.new ≡ devices.old) × (waits.new ≡ waits.old) × (link.new ≡ link.old) }
     ensures shorter { IsTrue result → length link.new.rest < length link.old.rest }
     ensures short { IsFalse result → IsTrue (takes_more (has_waiting waits.new number) link.new) → length link.new.rest < 16384 }
+    ensures bounds { IsFalse result → IsBounded link.new }
     ensures grows { Grows number waits.old waits.new }
     ensures calm { IsTrue result → IsTrue (has_waiting waits.new number) → length link.new.pending ≤ 16384 }
 {

@@ -3,17 +3,28 @@ ghost use Rattle.std.specs.Prelude.{◌≡◌, ◌≤◌, ◌<◌, List, length,
 ghost use Rattle.std.specs.declared.option.Option.TheVariants.{Some};
 ghost use Rattle.af_request.specs.declared.reply.Phone.{Phone};
 ghost use Rattle.af_model.specs.State.{Around, DeviceState, State, place};
-ghost use Rattle.af_model.specs.Events.{line_becomes, tell, tell_link, tell_selected};
+ghost use Rattle.af_model.specs.Events.{dropped, line_becomes, tell, tell_link, tell_selected};
 ghost use Rattle.af_perform.specs.Kept.{KeptDevice};
-ghost use Rattle.af_perform.specs.Waits.{has_waiting, AreLater};
+ghost use Rattle.af_perform.specs.Waits.{has_waiting, kept_without, AreLater};
 ghost use Rattle.af_perform.specs.Places.{At, StandAround};
-ghost use Rattle.af_core.specs.Stands.{AreSettled, IsSettled, Sheds, StandsFor};
+ghost use Rattle.af_core.specs.Stands.{AreSettled, IsSettled, Sheds, StandsFor, writes_left};
 
 use crate::slot::Slot;
 use af_outside::Why;
 use af_perform::{Device, Link, Waits};
 use af_phone::Line;
 use af_wire::{Event, EventKind};
+
+/// A link is dropped for a cause: it is to be closed, nothing of it is read or sent any more, and it waits no more.
+pub fn drop_link(number: u8, cause: Why, waits: &mut Waits, link: &mut Link)
+    ensures step { (ds : List KeptDevice) (a : Around) → StandAround ds waits.old a → At ds waits.new link.new (dropped number cause (place a link.old)) }
+    ensures settled { IsSettled (has_waiting waits.new number) link.new }
+    ensures without { waits.new ≡ kept_without number waits.old }
+    ensures silent { writes_left link.new ≡ 0 }
+{
+    link.let_go(cause);
+    waits.drop_link(number);
+}
 
 // A link is told an event that it selects, or is dropped where too much would wait to be sent to it then.
 fn tell_selected(number: u8, event: Event, waits: &mut Waits, link: &mut Link)
@@ -25,8 +36,7 @@ fn tell_selected(number: u8, event: Event, waits: &mut Waits, link: &mut Link)
     if link.has_room() {
         link.tell(event);
     } else {
-        link.let_go(Why::Overrun);
-        waits.drop_link(number);
+        drop_link(number, Why::Overrun, waits, link);
     }
 }
 

@@ -1,16 +1,16 @@
 // A link is served: a read, writes, and a close.
 ghost use Rattle.std.specs.Prelude.{◌≡◌, ◌≤◌, ◌<◌, List, length, IsTrue, if◌then◌else◌};
 ghost use Rattle.std.specs.declared.option.Option.TheVariants.{None, Some};
-ghost use Rattle.af_outside.specs.World.{taken_count};
 ghost use Rattle.af_model.specs.Turn.{behind, wants_write, read_phase, write_phase, close_phase, serve_link};
 ghost use Rattle.af_perform.specs.Kept.{KeptDevice};
-ghost use Rattle.af_perform.specs.Waits.{has_waiting, Grows, KeptWait};
+ghost use Rattle.af_perform.specs.Waits.{has_waiting, KeptWait, Touches};
 ghost use Rattle.af_perform.specs.Places.{At};
 ghost use Rattle.af_core.specs.Does.{Does};
 ghost use Rattle.af_core.specs.Stands.{AtDoor, IsSettled, writes_left};
 
 use crate::advance::advance;
-use af_outside::{LinkGot, LinkTook, World};
+use crate::events::drop_link;
+use af_outside::{LinkGot, LinkTook, Why, World};
 use af_perform::{Device, Link, Waits, Work};
 
 // One read, where the link is to be read.
@@ -29,7 +29,7 @@ fn read_link<W: World>(
     requires size { length input.old ≡ 16384 }
     ensures does { Does (W.log world.old) (W.log world.new) (At devices.old waits.old link.old) (At devices.new waits.new link.new) (read_phase number) behind }
     ensures settled { IsSettled (has_waiting waits.new number) link.new }
-    ensures grows { Grows number waits.old waits.new }
+    ensures touches { Touches number waits.old waits.new }
     ensures leads { W.leads_to world.old world.new }
 {
     if !link.wants_read(waits.is_waiting(number)) {
@@ -41,15 +41,11 @@ fn read_link<W: World>(
             advance(number, devices, waits, link, input, work)
         }
         LinkGot::NotYet => link.wait_for_bytes(),
-    }
-}
-
-// How many bytes were taken.
-fn taken(took: LinkTook) -> usize
-    ensures { result ≡ taken_count took }
-{
-    match took {
-        LinkTook::Took(n) => n,
+        LinkGot::Ended => {
+            link.wait_for_bytes();
+            link.stop(Why::Ended);
+        }
+        LinkGot::Failed => drop_link(number, Why::LinkFault, waits, link),
     }
 }
 
@@ -70,16 +66,20 @@ fn write_once<W: World>(
     requires size { length input.old ≡ 16384 }
     ensures does { Does (W.log world.old) (W.log world.new) (At devices.old waits.old link.old) (At devices.new waits.new link.new) (write_phase number) (write_phase number) }
     ensures settled { IsSettled (has_waiting waits.new number) link.new }
-    ensures grows { Grows number waits.old waits.new }
+    ensures touches { Touches number waits.old waits.new }
     ensures fewer { writes_left link.new < writes_left link.old }
     ensures leads { W.leads_to world.old world.new }
 {
-    let n = taken(world.write(number, link.pending()));
-    link.took(n);
-    advance(number, devices, waits, link, input, work);
+    match link.offer(number, world) {
+        LinkTook::Took(n) => {
+            link.took(n);
+            advance(number, devices, waits, link, input, work);
+        }
+        LinkTook::Failed => drop_link(number, Why::LinkFault, waits, link),
+    }
 }
 
-// Writes until nothing waits to be sent.
+// Writes until nothing waits to be sent, or the link is stuck.
 fn write_link<W: World>(
     number: u8,
     devices: &mut [Device],
@@ -95,7 +95,7 @@ fn write_link<W: World>(
     requires size { length input.old ≡ 16384 }
     ensures does { Does (W.log world.old) (W.log world.new) (At devices.old waits.old link.old) (At devices.new waits.new link.new) (write_phase number) behind }
     ensures settled { IsSettled (has_waiting waits.new number) link.new }
-    ensures grows { Grows number waits.old waits.new }
+    ensures touches { Touches number waits.old waits.new }
     ensures leads { W.leads_to world.old world.new }
 {
     while link.wants_write() {
@@ -133,7 +133,7 @@ pub fn serve_link<W: World>(
     requires size { length input.old ≡ 16384 }
     ensures does { Does (W.log world.old) (W.log world.new) (At devices.old waits.old link.old) (AtDoor devices.new waits.new (if result then None else Some link.new)) (serve_link number) behind }
     ensures settled { IsSettled (has_waiting waits.new number) link.new }
-    ensures grows { Grows number waits.old waits.new }
+    ensures touches { Touches number waits.old waits.new }
     ensures leads { W.leads_to world.old world.new }
 {
     read_link(number, devices, waits, link, input, work, world);

@@ -1,24 +1,26 @@
 // The core: all that the server keeps, and one turn.
-ghost use Rattle.std.specs.Prelude.{◌≡◌, ◌≤◌, ◌<◌, ◌↔◌, List, length, map, slice_get, All, IfOk, IsNone, IsTrue, IsSomeAnd, MatchOption, replicate};
+ghost use Rattle.std.specs.Prelude.{◌≡◌, ◌≤◌, ◌<◌, ◌↔◌, ℕ, List, length, map, slice_get, All, IfOk, IsNone, IsTrue, IsSomeAnd, MatchOption, is_some, replicate};
 ghost use Rattle.std.specs.declared.option.Option.TheVariants.{None, Some};
 ghost use Rattle.af_buffers.specs.Horizons.{IsListedRate};
 ghost use Rattle.af_buffers.specs.PlayBuffer.{Next, Hears};
 ghost use Rattle.af_buffers.specs.RecordBuffer.{Last, Keeps};
 ghost use Rattle.af_model.specs.State.{State, LinkState, opening, slot_at};
+ghost use Rattle.af_model.specs.More.{any_wants, has_more};
 ghost use Rattle.af_model.specs.Turn.{behind, fits, wake_phase};
 ghost use Rattle.af_core.specs.Does.{Does};
-ghost use Rattle.af_perform.specs.Waits.{waits_of, AreLater};
-ghost use Rattle.af_perform.specs.Places.{StandForDevices};
+ghost use Rattle.af_perform.specs.Waits.{has_waiting, waits_of, AreLater};
+ghost use Rattle.af_perform.specs.Places.{IsBounded, StandForDevices};
 ghost use Rattle.af_core.specs.Stands.{AreSettled, Stands, StandsFor, StandForWaiting, Turns, link_kept, outline_of};
 
 use crate::lines::{change_line, give_hooks};
-use crate::slot::{Slot, serve_slots};
+use crate::slot::{Slot, any_wants, serve_slots};
 use crate::tick::{TICK, tick};
 use af_buffers::{PlayBuffer, RecordBuffer};
 use af_context::Contexts;
 use af_outside::{Config, DeviceSpec, Wake, World};
 use af_perform::{Device, Scratch, Waits};
 use af_phone::Line;
+use af_session::Session;
 use af_time::OutOfMemory;
 use af_wait::Waiting;
 use std::alloc::Global;
@@ -97,6 +99,7 @@ fn wake_up<W: World>(
     match wake {
         Wake::Opened(number) => slots[number as usize].open(),
         Wake::Readable(number) => slots[number as usize].set_ready(),
+        Wake::Writable(number) => slots[number as usize].set_writable(),
         Wake::Ticked(number, frames) => {
             tick(number, frames, devices, waits, slots, scratch, world)
         }
@@ -160,7 +163,10 @@ impl Core {
                 Some(slot) => !slot.is_open(),
                 None => false,
             },
-            Wake::Readable(number) => match self.slots.get(number as usize) {
+            Wake::Readable(number) | Wake::Writable(number) => match self
+                .slots
+                .get(number as usize)
+            {
                 Some(slot) => slot.is_open(),
                 None => false,
             },
@@ -173,6 +179,26 @@ impl Core {
             },
             Wake::Idle | Wake::Stop => true,
         }
+    }
+
+    /// Whether a link is open.
+    pub fn is_open(&self, link: u8) -> bool
+        ensures kept { result ≡ is_some (link_kept self.now link) }
+        ensures shows { (s : State) → Stands self.now s → result ≡ is_some (slot_at link s).link }
+    {
+        match self.slots.get(usize::from(link)) {
+            Some(slot) => slot.is_open(),
+            None => false,
+        }
+    }
+
+    /// Whether there is more to do before anything else happens: whether some open link would be read, written or closed in a
+    /// turn that nothing wakes.
+    pub fn more(&self) -> bool
+        ensures kept { result ≡ any_wants 0 (has_waiting self.now.waits) self.now.links }
+        ensures shows { (s : State) → Stands self.now s → result ≡ has_more s }
+    {
+        any_wants(&self.waits, &self.slots)
     }
 
     /// The samples next of a device, which is there: what is heard of all accepted plays from its time on.
@@ -202,6 +228,15 @@ impl Core {
         self.devices[usize::from(device)].kept_line()
     }
 
+    /// The session of a link: what came in and was not read yet, and what was not sent yet. None where the link is not open.
+    pub fn session(&self, link: u8) -> Option<&Session>
+        ensures none { IsNone result ↔ (link_kept self.now link ≡ None) }
+        ensures shows { (s : State) → Stands self.now s →
+            MatchOption result ((slot_at link s).link ≡ None) (λ session. IsSomeAnd (slot_at link s).link (λ l. (session.now.rest ≡ l.rest) × (session.now.pending ≡ l.pending))) }
+    {
+        self.slots.get(usize::from(link))?.session()
+    }
+
     /// The contexts of a link. None where the link is not open.
     pub fn contexts(&self, link: u8) -> Option<&Contexts>
         ensures none { IsNone result ↔ (link_kept self.now link ≡ None) }
@@ -221,10 +256,11 @@ impl Core {
     }
 
     /// One turn: the wake with its effect, then each open link by rising number, and then the hooks of the devices' lines by rising
-    /// number. It answers nothing and takes no memory.
+    /// number. It answers nothing and takes no memory. No link ever has more than 32768 bytes unread or 65168 to be sent.
     pub fn turn<W: World>(&mut self, wake: Wake, world: &mut W)
         requires { IsTrue (fits (outline_of self.old) wake) }
         ensures turns { Turns (W.log world.old) (W.log world.new) wake self.old self.new }
+        ensures bounds { (k : ℕ) (l : LinkState) → link_kept self.new k ≡ Some l → IsBounded l }
         ensures leads { W.leads_to world.old world.new }
     {
         turn_parts(

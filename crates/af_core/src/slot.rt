@@ -6,9 +6,10 @@ ghost use Rattle.af_model.specs.State.{Around, DeviceState, LinkState, Waiter, o
 ghost use Rattle.af_model.specs.Waiting.{is_due};
 ghost use Rattle.af_model.specs.Tick.{complete_at};
 ghost use Rattle.af_model.specs.Events.{tell_open};
-ghost use Rattle.af_model.specs.Turn.{behind, serve_door, serve_all, ready, in_open};
+ghost use Rattle.af_model.specs.More.{any_wants, open_wants};
+ghost use Rattle.af_model.specs.Turn.{behind, serve_door, serve_all, ready, writable, in_open};
 ghost use Rattle.af_perform.specs.Kept.{KeptDevice};
-ghost use Rattle.af_perform.specs.Waits.{has_waiting, kept_due, AreLater, Grows};
+ghost use Rattle.af_perform.specs.Waits.{has_waiting, kept_due, AreLater, Grows, Touches};
 ghost use Rattle.af_perform.specs.Places.{StandAround};
 ghost use Rattle.af_core.specs.Does.{Does};
 ghost use Rattle.af_core.specs.Stands.{AreSettled, AtDoor, IsSettled, Sheds, StandsFor};
@@ -19,6 +20,7 @@ use crate::serve::serve_link;
 use af_context::Contexts;
 use af_outside::World;
 use af_perform::{Device, Link, Scratch, Waits};
+use af_session::Session;
 use af_time::OutOfMemory;
 use af_wire::Event;
 use std::alloc::Global;
@@ -65,6 +67,20 @@ impl Slot {
         self.is_open.then_some(self.link.contexts())
     }
 
+    /// The session of the link that is open here.
+    pub fn session(&self) -> Option<&Session>
+        ensures { MatchOption result (self.now ≡ None) (λ session. IsSomeAnd self.now (λ l. (session.now.rest ≡ l.rest) × (session.now.pending ≡ l.pending))) }
+    {
+        self.is_open.then_some(self.link.session())
+    }
+
+    /// Whether the link that is open here is to be read, written or closed.
+    pub fn wants_turn(&self, waits: bool) -> bool
+        ensures { result ≡ open_wants waits self.now }
+    {
+        self.is_open && self.link.wants_turn(waits)
+    }
+
     /// A link is open here from now on.
     pub fn open(&mut self)
         ensures { self.new ≡ Some opened }
@@ -79,6 +95,15 @@ impl Slot {
     {
         if self.is_open {
             self.link.set_ready();
+        }
+    }
+
+    /// The link that is open here may take something again.
+    pub fn set_writable(&mut self)
+        ensures { self.new ≡ in_open writable self.old }
+    {
+        if self.is_open {
+            self.link.set_writable();
         }
     }
 
@@ -143,7 +168,7 @@ impl Slot {
         requires settled { (l : LinkState) → self.old ≡ Some l → IsSettled (has_waiting waits.old number) l }
         ensures does { Does (W.log world.old) (W.log world.new) (AtDoor devices.old waits.old self.old) (AtDoor devices.new waits.new self.new) (serve_door number) behind }
         ensures settled { (l : LinkState) → self.new ≡ Some l → IsSettled (has_waiting waits.new number) l }
-        ensures grows { Grows number waits.old waits.new }
+        ensures touches { Touches number waits.old waits.new }
         ensures leads { W.leads_to world.old world.new }
     {
         if self.is_open {
@@ -159,6 +184,20 @@ impl Slot {
             self.is_open = !is_closed;
         }
     }
+}
+
+/// Whether any link is to be read, written or closed.
+pub fn any_wants(waits: &Waits, slots: &[Slot]) -> bool
+    requires { length slots.now ≤ 32 }
+    ensures { result ≡ any_wants 0 (has_waiting waits.now) slots.now }
+{
+    for number in 0..slots.len() {
+        let waits = waits.is_waiting(number as u8);
+        if slots[number].wants_turn(waits) {
+            return true;
+        }
+    }
+    false
 }
 
 /// The part of a turn of all links, by rising number.

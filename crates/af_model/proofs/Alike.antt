@@ -7,21 +7,21 @@ use Rattle.std.specs.declared.option.Option.TheVariants.{None, Some}
 use Rattle.af_outside.specs.declared.happening.Happening.{Happening}
 use Rattle.af_outside.specs.declared.happening.Happening.TheVariants.{Woke, Read, Wrote, Closed, Captured, Emitted, Hooked}
 use Rattle.af_outside.specs.declared.happening.ReadGot.{ReadGot}
-use Rattle.af_outside.specs.declared.happening.ReadGot.TheVariants.{Given, NotYet}
+use Rattle.af_outside.specs.declared.happening.ReadGot.TheVariants.{Given, NotYet, Ended, Failed}
 use Rattle.af_outside.specs.declared.happening.Why.{Why}
 use Rattle.af_outside.specs.declared.happening.Why.TheVariants as why
 use Rattle.af_outside.specs.declared.happening.Wake.{Wake}
-use Rattle.af_outside.specs.declared.happening.Wake.TheVariants.{Opened, Readable, Ticked, Line, Idle, Stop}
+use Rattle.af_outside.specs.declared.happening.Wake.TheVariants.{Opened, Readable, Writable, Ticked, Line, Idle, Stop}
 use Rattle.af_outside.specs.declared.script.Step.{Step}
 use Rattle.af_outside.specs.Told.{Log}
-use Rattle.af_outside.specs.Outside.{Outside, Peer, Station, answered, read_answered, write_answered, capture_answered, emit_answered, hook_answered, captured, station_at, with_station, peer_at, with_peer, gives_of, same_bytes}
+use Rattle.af_outside.specs.Outside.{Outside, Peer, Station, answered, answered_by, read_from, given_from, failed_from, written_to, taken_of, fresh_peer, some_peer, capture_answered, emit_answered, hook_answered, captured, station_at, with_station, peer_at, with_peer, same_bytes}
 use Rattle.af_sample.specs.SampleTypes.{width_of}
 use Rattle.af_model.specs.State.{State, Slot, Around, Place, Waiter, Door, with_device, LinkState, DeviceState, door, door_at, with_door, place, opened, slot_at, some_slot, with_slot, links_of}
 use Rattle.af_wait.specs.Waits.{without_first}
 use Rattle.af_model.specs.Waiting.{is_due, is_waiting}
 use Rattle.af_model.specs.Advance.{or_else}
 use Rattle.af_model.specs.Tick.{sound, capture_of, complete, complete_at, complete_by, complete_due, complete_first, complete_step, later, tick}
-use Rattle.af_model.specs.Turn.{Behind, behind, and_then, then_go, take_one, wants_read, is_read, read_by, read_phase, after_read, wants_write, write_by, write_taken, write_phase, after_write, same_why, close_due, close_by, close_for, close_phase, serve_link, serve_open, serve_door, serve_at, serve_from, serve_all, ready, in_open, in_slot, is_capture, capture_by, emit_by, after_capture, tick_phase, line_phase, wake_phase, same_flag, hook_wanted, hook_by, hook_for, hook_at, hook_from, hook_all, serve_and_hook}
+use Rattle.af_model.specs.Turn.{Behind, behind, and_then, then_go, take_one, wants_read, is_read, read_by, read_phase, after_read, wants_write, write_by, write_offered, write_taken, write_phase, after_write, same_why, close_due, close_by, close_for, close_phase, serve_link, serve_open, serve_door, serve_at, serve_from, serve_all, number_of, ready, writable, in_open, in_slot, is_capture, capture_by, emit_by, after_capture, tick_phase, line_phase, wake_phase, same_flag, hook_wanted, hook_by, hook_for, hook_at, hook_from, hook_all, serve_and_hook}
 use Rattle.af_wire.specs.declared.event.Event.{Event}
 use Rattle.af_wire.specs.declared.event.EventKind.{EventKind}
 use Rattle.af_wire.specs.declared.event.EventKind.TheVariants as kind
@@ -31,6 +31,7 @@ use Rattle.af_phone.specs.Lines.{changed, flag_value, hooked, kind_of, value_of}
 use Rattle.af_model.specs.Events.{event_at, hook_given, hook_refused, line_becomes, line_changes, tell, tell_at, tell_from, tell_open}
 use Rattle.af_model.specs.Script.{AnswersTo}
 use Rattle.af_model.proofs.Tests.{cond-some, cond-true, both-true, not_true, none_some, same_bytes-true}
+use Rattle.af_model.proofs.Parts.{then_inv}
 use Rattle.af_model.proofs.Slots.{links_of-set}
 
 -- two ends of a phase from one state
@@ -46,11 +47,6 @@ pub record Agreed {T : Type 0} (steps : List Step) (Q : T → Outside → Type 0
 abbrev pub GoesAlike : {S T : Type 0} → (S → Log → Option (Behind T)) → (S → Outside → Type 0) → (T → Outside → Type 0) → Type 0
 GoesAlike {S} {T} f P Q = (steps : List Step) (s : S) (o : Outside) (log1 log2 : Log) (b1 b2 : Behind T) (e1 e2 : Outside) →
     P s o → f s log1 ≡ Some b1 → f s log2 ≡ Some b2 → AnswersTo o log1 steps e1 → AnswersTo o log2 steps e2 → Agreed steps Q log1 log2 e1 e2 b1 b2
-
-module _ {S T : Type 0} where
-  then_inv : (x : Option (Behind S)) (g : S → Log → Option (Behind T)) (b : Behind T) → and_then x g ≡ Some b → (c : Behind S) × (x ≡ Some c) × (g c.state c.log ≡ Some b)
-  then_inv None g b e = absurd cc
-  then_inv (Some c) g b e = (c, refl, e)
 
 module _ {S T R : Type 0} where
   -- one phase after another
@@ -189,33 +185,92 @@ set-set [] k a b = refl
 set-set (x ∷ w) zero a b = refl
 set-set (x ∷ w) (suc k) a b = ap (λ v. x ∷ v) (set-set w k a b)
 
+-- Calls on a link
+
+peers_same : (peers : List (Option Peer)) (k : ℕ) → slice_set (map {A = Option Peer} {B = Bool} is_some peers) k (is_some (some_peer (slice_get peers k))) ≡ map {A = Option Peer} {B = Bool} is_some peers
+peers_same [] k = refl
+peers_same (x ∷ peers) zero = refl
+peers_same (x ∷ peers) (suc k) = ap (λ v. is_some x ∷ v) (peers_same peers k)
+
+-- a link's peer may change, where the link stays open or not as it is
+pub opens_stay : (o : Outside) (k : ℕ) (peer : Option Peer) → is_some peer ≡ is_some (peer_at o k) → opens (with_peer o k peer) ≡ opens o
+opens_stay o k peer same = opens-set o k peer ∙ ap (λ b. slice_set (opens o) k b) same ∙ peers_same o.peers k
+
+-- the peer that a call is answered by
+abbrev peer_or : Option Peer → Peer
+peer_or None = fresh_peer
+peer_or (Some peer) = peer
+
+-- a call that was answered: by the peer, and the links stay as open as they are
+record Called (o o' : Outside) (k : ℕ) (call : Peer → Option Peer) : Type 0 where
+  after : Peer
+  is : call (peer_or (peer_at o k)) ≡ Some after
+  opens : opens o' ≡ opens o
+
+record CalledBy (call : Peer → Option Peer) (peer peer' : Option Peer) : Type 0 where
+  after : Peer
+  is : call (peer_or peer) ≡ Some after
+  stays : is_some peer' ≡ is_some peer
+
+called_by : (call : Peer → Option Peer) (peer peer' : Option Peer) → answered_by call peer ≡ Some peer' → CalledBy call peer peer'
+called_by call None peer' e =
+    elim (call fresh_peer) as (λ x. call fresh_peer ≡ x → option_map (λ (q : Peer). (let none : Option Peer = None in none)) x ≡ Some peer' → CalledBy call None peer') [
+      | None ↦ λ i e. absurd (none_some e)
+      | Some q ↦ λ i e. let same : None ≡ peer' = cc in record { after = q; is = i; stays = ap is_some (sym same) }
+    ] refl e
+called_by call (Some peer) peer' e =
+    elim (call peer) as (λ x. call peer ≡ x → option_map (λ (q : Peer). Some q) x ≡ Some peer' → CalledBy call (Some peer) peer') [
+      | None ↦ λ i e. absurd (none_some e)
+      | Some q ↦ λ i e. let same : Some q ≡ peer' = cc in record { after = q; is = i; stays = ap is_some (sym same) }
+    ] refl e
+
+called : (o o' : Outside) (k : ℕ) (call : Peer → Option Peer) → option_map (with_peer o k) (answered_by call (peer_at o k)) ≡ Some o' → Called o o' k call
+called o o' k call e =
+    elim (answered_by call (peer_at o k)) as (λ x. answered_by call (peer_at o k) ≡ x → option_map (with_peer o k) x ≡ Some o' → Called o o' k call) [
+      | None ↦ λ i e. absurd (none_some e)
+      | Some peer' ↦ λ i e.
+          let c = called_by call (peer_at o k) peer' i in
+          let same : with_peer o k peer' ≡ o' = cc in
+          record { after = c.after; is = c.is; opens = ap opens (sym same) ∙ opens_stay o k peer' c.stays }
+    ] refl e
+
 -- Reads
 
-expected : List ℕ → ReadGot
-expected [] = NotYet
-expected (x ∷ xs) = Given (take 16384 (x ∷ xs))
+-- the one answer of a read that does not fail
+expected_given : List ℕ → Peer → ReadGot
+expected_given [] peer = cond peer.ends Ended NotYet
+expected_given (x ∷ xs) peer = Given (take 16384 (x ∷ xs))
 
-record ReadAnswered (w : List Bool) (o o' : Outside) (k : ℕ) (xs : List ℕ) (got : ReadGot) : Type 0 where
-  is : got ≡ expected xs
-  opens : opens o ≡ slice_set w k true → opens o' ≡ slice_set w k true
+-- the one answer of a read
+expected : Peer → ReadGot
+expected peer = cond peer.fails_read Failed (expected_given peer.gives peer)
 
-read_answer : (w : List Bool) (o o' : Outside) (k : ℕ) (xs : List ℕ) (got : ReadGot) → read_answered o k xs got ≡ Some o' → ReadAnswered w o o' k xs got
+failed_is : (got : ReadGot) (peer q : Peer) → failed_from got peer ≡ Some q → got ≡ Failed
+failed_is (Given bytes) peer q e = absurd (none_some e)
+failed_is NotYet peer q e = absurd (none_some e)
+failed_is Ended peer q e = absurd (none_some e)
+failed_is Failed peer q e = refl
+
+given_is : (got : ReadGot) (xs : List ℕ) (peer q : Peer) → given_from got xs peer ≡ Some q → got ≡ expected_given xs peer
+unfolding expected_given
+given_is (Given bytes) [] peer q e = absurd (none_some e)
+given_is (Given bytes) (x ∷ xs) peer q e = ap Given (same_bytes-true bytes (take 16384 (x ∷ xs)) (cond-some (same_bytes bytes (take 16384 (x ∷ xs))) (Some (record peer { gives = drop 16384 (x ∷ xs) })) q e).0)
+given_is NotYet [] peer q e = elim peer.ends as (λ b. cond b None (Some peer) ≡ Some q → NotYet ≡ cond b Ended NotYet) [ true ↦ λ e. absurd (none_some e) | false ↦ λ e. refl ] e
+given_is NotYet (x ∷ xs) peer q e = absurd (none_some e)
+given_is Ended [] peer q e = elim peer.ends as (λ b. cond b (Some peer) None ≡ Some q → Ended ≡ cond b Ended NotYet) [ true ↦ λ e. refl | false ↦ λ e. absurd (none_some e) ] e
+given_is Ended (x ∷ xs) peer q e = absurd (none_some e)
+given_is Failed xs peer q e = absurd (none_some e)
+
+read_is : (got : ReadGot) (peer q : Peer) → read_from got peer ≡ Some q → got ≡ expected peer
 unfolding expected
-read_answer w o o' k [] NotYet e = record { is = refl; opens = let same : o ≡ o' = cc in λ p. subst (λ x. opens x ≡ slice_set w k true) same p }
-read_answer w o o' k [] (Given bytes) e = absurd cc
-read_answer w o o' k (x ∷ xs) NotYet e = absurd cc
-read_answer w o o' k (x ∷ xs) (Given bytes) e =
-    let left : Peer = record { gives = drop 16384 (x ∷ xs) } in
-    let i = cond-some (same_bytes bytes (take 16384 (x ∷ xs))) (Some (with_peer o k (Some left))) o' e in
-    let j = i.1 in
-    let same : with_peer o k (Some left) ≡ o' = cc in
-    record {
-      is = ap Given (same_bytes-true bytes (take 16384 (x ∷ xs)) i.0);
-      opens = λ p. subst (λ y. opens y ≡ slice_set w k true) same (opens-set o k (Some left) ∙ ap (λ v. slice_set v k true) p ∙ set-set w k true true);
-    }
+read_is got peer q e =
+    elim peer.fails_read as (λ b. cond b (failed_from got peer) (given_from got peer.gives peer) ≡ Some q → got ≡ cond b Failed (expected_given peer.gives peer)) [
+      | true ↦ λ e. failed_is got peer q e
+      | false ↦ λ e. given_is got peer.gives peer q e
+    ] e
 
 read_one : (w : List Bool) (k : ℕ) (p : Place) (o : Outside) (h : Happening) (t : Place) → read_by k p h ≡ Some t →
-    TakesOne (read_by k) (AtPlace w k) (AtPlace w k) p o h (Read k (expected (gives_of (peer_at o k))))
+    TakesOne (read_by k) (AtPlace w k) (AtPlace w k) p o h (Read k (expected (peer_or (peer_at o k))))
 read_one w k p o (Woke wake) t e = absurd (none_some e)
 read_one w k p o (Hooked x off y) t e = absurd (none_some e)
 read_one w k p o (Wrote j offered took) t e = absurd (none_some e)
@@ -225,44 +280,50 @@ read_one w k p o (Emitted d sound done) t e = absurd (none_some e)
 read_one w k p o (Read j got) t e =
     let i = cond-some (j == k && is_read got) (Some (after_read k got p)) t e in
     let n : j ≡ k = eqb-true j k (both-true (j == k) (is_read got) i.0).0 in
-    let xs = gives_of (peer_at o k) in
-    let at_k : (o' : Outside) → answered o (Read j got) ≡ Some o' → read_answered o k xs got ≡ Some o' = λ o' a. subst (λ m. read_answered o m (gives_of (peer_at o m)) got ≡ Some o') n a in
+    let here : (o' : Outside) → answered o (Read j got) ≡ Some o' → Called o o' k (read_from got) =
+    λ o' a. called o o' k (read_from got) (subst (λ m. option_map (with_peer o m) (answered_by (read_from got) (peer_at o m)) ≡ Some o') n a) in
     record {
       quiet = refl;
-      is = λ o' a. ap (λ m. Read m got) n ∙ ap (Read k) (read_answer w o o' k xs got (at_k o' a)).is;
-      stands = λ t o' p' f a. (read_answer w o o' k xs got (at_k o' a)).opens p';
+      is = λ o' a. ap (λ m. Read m got) n ∙ ap (Read k) (read_is got (peer_or (peer_at o k)) (here o' a).after (here o' a).is);
+      stands = λ t o' p' f a. (here o' a).opens ∙ p';
     }
 
 read_alike : (w : List Bool) (k : ℕ) → GoesAlike (read_phase k) (AtPlace w k) (AtPlace w k)
 unfolding read_phase
 read_alike w k steps p o log1 log2 b1 b2 e1 e2 at f1 f2 r1 r2 =
     elim (wants_read (is_waiting p.around.waiting k) p.link) as (λ t. cond t (take_one (read_by k p) log1) (behind p log1) ≡ Some b1 → cond t (take_one (read_by k p) log2) (behind p log2) ≡ Some b2 → Agreed steps (AtPlace w k) log1 log2 e1 e2 b1 b2) [
-      | true ↦ λ f1 f2. alike_one (read_by k) (AtPlace w k) (AtPlace w k) (λ p o. Read k (expected (gives_of (peer_at o k)))) (read_one w k) steps p o log1 log2 b1 b2 e1 e2 at f1 f2 r1 r2
+      | true ↦ λ f1 f2. alike_one (read_by k) (AtPlace w k) (AtPlace w k) (λ p o. Read k (expected (peer_or (peer_at o k)))) (read_one w k) steps p o log1 log2 b1 b2 e1 e2 at f1 f2 r1 r2
       | false ↦ λ f1 f2. alike_nothing (λ (p : Place). p) (AtPlace w k) (AtPlace w k) (λ p o at. at) steps p o log1 log2 b1 b2 e1 e2 at f1 f2 r1 r2
     ] f1 f2
 
 -- Writes
 
-record WriteTaken (k offered : ℕ) (took : Option (List ℕ)) (p : Place) : Type 0 where
-  all : offered ≡ length p.link.pending
-  bytes : took ≡ Some p.link.pending
+-- the one answer of a write that offers these bytes
+expected_write : Peer → List ℕ → Option (List ℕ)
+expected_write peer pending = cond peer.fails_write None (Some (take (taken_of (length pending) peer.takes) pending))
 
-write_taken_inv : (k offered : ℕ) (took : Option (List ℕ)) (p t : Place) → write_taken k offered took p ≡ Some t → WriteTaken k offered took p
-write_taken_inv k offered None p t e = absurd (none_some e)
-write_taken_inv k offered (Some bytes) p t e =
-    let i = cond-some (offered == length p.link.pending && same_bytes bytes p.link.pending) (Some (after_write k bytes p)) t e in
-    let j = both-true (offered == length p.link.pending) (same_bytes bytes p.link.pending) i.0 in
-    record { all = eqb-true offered (length p.link.pending) j.0; bytes = ap (λ b. Some b) (same_bytes-true bytes p.link.pending j.1) }
+-- what was taken are the first bytes
+abbrev AreFirst : Option (List ℕ) → List ℕ → Type 0
+AreFirst None pending = Unit {0}
+AreFirst (Some bytes) pending = bytes ≡ take (length bytes) pending
 
-write_opens : (w : List Bool) (k offered : ℕ) (took : Option (List ℕ)) (o o' : Outside) → write_answered o offered took ≡ Some o' → opens o ≡ slice_set w k true → opens o' ≡ slice_set w k true
-write_opens w k offered None o o' e p = absurd (none_some e)
-write_opens w k offered (Some bytes) o o' e p =
-    let i = (cond-some (length bytes == offered) (Some o) o' e).1 in
-    let same : o ≡ o' = cc in
-    subst (λ x. opens x ≡ slice_set w k true) same p
+write_is : (took : Option (List ℕ)) (pending : List ℕ) (peer q : Peer) → written_to (length pending) took peer ≡ Some q → AreFirst took pending → took ≡ expected_write peer pending
+unfolding expected_write
+write_is None pending peer q e first =
+    ap (λ b. cond b None (Some (take (taken_of (length pending) peer.takes) pending))) (sym (cond-some peer.fails_write (Some (record peer { fails_write = false })) q e).0)
+write_is (Some bytes) pending peer q e first =
+    let room = taken_of (length pending) peer.takes in
+    let v = both-true (not peer.fails_write) (length bytes == room) (cond-some (not peer.fails_write && (length bytes == room)) _ q e).0 in
+    ap (λ x. Some x) (first ∙ ap (λ n. take n pending) (eqb-true (length bytes) room v.1))
+    ∙ ap (λ b. cond b None (Some (take room pending))) (sym (not_true peer.fails_write v.0))
+
+taken_first : (k : ℕ) (took : Option (List ℕ)) (p t : Place) → write_taken k took p ≡ Some t → AreFirst took p.link.pending
+taken_first k None p t e = tt
+taken_first k (Some bytes) p t e =
+    same_bytes-true bytes (take (length bytes) p.link.pending) (cond-some (same_bytes bytes (take (length bytes) p.link.pending)) (Some (after_write k bytes p)) t e).0
 
 write_one : (w : List Bool) (k : ℕ) (p : Place) (o : Outside) (h : Happening) (t : Place) → write_by k p h ≡ Some t →
-    TakesOne (write_by k) (AtPlace w k) (AtPlace w k) p o h (Wrote k (length p.link.pending) (Some p.link.pending))
+    TakesOne (write_by k) (AtPlace w k) (AtPlace w k) p o h (Wrote k (length p.link.pending) (expected_write (peer_or (peer_at o k)) p.link.pending))
 write_one w k p o (Woke wake) t e = absurd (none_some e)
 write_one w k p o (Hooked x off y) t e = absurd (none_some e)
 write_one w k p o (Read j got) t e = absurd (none_some e)
@@ -270,13 +331,20 @@ write_one w k p o (Closed j why) t e = absurd (none_some e)
 write_one w k p o (Captured d n got) t e = absurd (none_some e)
 write_one w k p o (Emitted d sound done) t e = absurd (none_some e)
 write_one w k p o (Wrote j offered took) t e =
-    let i = cond-some (j == k) (write_taken k offered took p) t e in
+    let pending = p.link.pending in
+    let i = cond-some (j == k) (write_offered k offered took p) t e in
     let n : j ≡ k = eqb-true j k i.0 in
-    let v = write_taken_inv k offered took p t i.1 in
+    let v = cond-some (offered == length pending) (write_taken k took p) t i.1 in
+    let all : offered ≡ length pending = eqb-true offered (length pending) v.0 in
+    let here : (o' : Outside) → answered o (Wrote j offered took) ≡ Some o' → Called o o' k (written_to (length pending) took) =
+    λ o' a. called o o' k (written_to (length pending) took)
+    (subst (λ m. option_map (with_peer o k) (answered_by (written_to m took) (peer_at o k)) ≡ Some o') all
+    (subst (λ m. option_map (with_peer o m) (answered_by (written_to offered took) (peer_at o m)) ≡ Some o') n a)) in
     record {
       quiet = refl;
-      is = λ o' a. ap (λ m. Wrote m offered took) n ∙ ap (λ m. Wrote k m took) v.all ∙ ap (Wrote k (length p.link.pending)) v.bytes;
-      stands = λ t o' p' f a. write_opens w k offered took o o' a p';
+      is = λ o' a. ap (λ m. Wrote m offered took) n ∙ ap (λ m. Wrote k m took) all
+          ∙ ap (Wrote k (length pending)) (write_is took pending (peer_or (peer_at o k)) (here o' a).after (here o' a).is (taken_first k took p t v.1));
+      stands = λ t o' p' f a. (here o' a).opens ∙ p';
     }
 
 write_idle : (w : List Bool) (k : ℕ) (steps : List Step) (p : Place) (o : Outside) (log1 log2 : Log) (b1 b2 : Behind Place) (e1 e2 : Outside) → wants_write p.link ≡ false →
@@ -312,7 +380,7 @@ write_alike w k steps p o (h1 ∷ log1) (h2 ∷ log2) b1 b2 e1 e2 at f1 f2 r1 r2
       | true ↦ λ wants.
           let i1 = write_inv k p h1 log1 b1 wants f1 in
           let i2 = write_inv k p h2 log2 b2 wants f2 in
-          let h = headed (write_by k) (AtPlace w k) (AtPlace w k) (λ p o. Wrote k (length p.link.pending) (Some p.link.pending)) (write_one w k) steps p o h1 h2 log1 log2 e1 e2 i1.0 i2.0 at i1.1 i2.1 r1 r2 in
+          let h = headed (write_by k) (AtPlace w k) (AtPlace w k) (λ p o. Wrote k (length p.link.pending) (expected_write (peer_or (peer_at o k)) p.link.pending)) (write_one w k) steps p o h1 h2 log1 log2 e1 e2 i1.0 i2.0 at i1.1 i2.1 r1 r2 in
           let next2 : write_phase k i1.0 log2 ≡ Some b2 = subst (λ q. write_phase k q log2 ≡ Some b2) (sym h.state) i2.2 in
           let a = write_alike w k steps i1.0 h.outside log1 log2 b1 b2 e1 e2 h.stands i1.2 next2 h.first h.second in
           record { outside = a.outside; stands = a.stands; state = a.state; first = a.first; second = a.second; same = λ e. ap (λ x. x ∷ log1) h.happening ∙ ap (λ r. h2 ∷ r) (a.same e) }
@@ -321,16 +389,24 @@ write_alike w k steps p o (h1 ∷ log1) (h2 ∷ log2) b1 b2 e1 e2 at f1 f2 r1 r2
 
 -- Closes
 
+-- the cause with a number
+cause_of : ℕ → Why
+cause_of zero = why.BadSetup
+cause_of (suc zero) = why.Malformed
+cause_of (suc (suc zero)) = why.Ended
+cause_of (suc (suc (suc zero))) = why.LinkFault
+cause_of (suc (suc (suc (suc n)))) = why.Overrun
+
+cause_of-number : (a : Why) → cause_of (number_of a) ≡ a
+unfolding cause_of
+cause_of-number why.BadSetup = refl
+cause_of-number why.Malformed = refl
+cause_of-number why.Ended = refl
+cause_of-number why.LinkFault = refl
+cause_of-number why.Overrun = refl
+
 same_why-true : (a b : Why) → same_why a b ≡ true → a ≡ b
-same_why-true why.BadSetup why.BadSetup e = refl
-same_why-true why.BadSetup why.Malformed e = absurd cc
-same_why-true why.BadSetup why.Overrun e = absurd cc
-same_why-true why.Malformed why.BadSetup e = absurd cc
-same_why-true why.Malformed why.Malformed e = refl
-same_why-true why.Malformed why.Overrun e = absurd cc
-same_why-true why.Overrun why.BadSetup e = absurd cc
-same_why-true why.Overrun why.Malformed e = absurd cc
-same_why-true why.Overrun why.Overrun e = refl
+same_why-true a b e = sym (cause_of-number a) ∙ ap cause_of (eqb-true (number_of a) (number_of b) e) ∙ cause_of-number b
 
 close_one : (w : List Bool) (k : ℕ) (cause : Why) (p : Place) (o : Outside) (h : Happening) (t : Door) → close_by k p.around cause h ≡ Some t →
     TakesOne (λ p. close_by k p.around cause) (AtPlace w k) (AtDoor w k) p o h (Closed k cause)
@@ -468,6 +544,7 @@ all_alike steps s o log1 log2 b1 b2 e1 e2 at f1 f2 r1 r2 = from_alike (length s.
 abbrev pub open_after : List Bool → Wake → List Bool
 open_after w (Opened k) = slice_set w k true
 open_after w (Readable k) = w
+open_after w (Writable k) = w
 open_after w (Ticked d n) = w
 open_after w (Line d change) = w
 open_after w Idle = w
@@ -480,8 +557,8 @@ in_open-some : (f : LinkState → LinkState) (link : Option LinkState) → is_so
 in_open-some f None = refl
 in_open-some f (Some l) = refl
 
-readied : (s : State) (k : ℕ) → open_links (slice_set s.slots k (in_slot ready (slot_at k s))) ≡ open_links s.slots
-readied s k = open_links-set s.slots k (in_slot ready (slot_at k s)) ∙ ap (λ b. slice_set (open_links s.slots) k b) (in_open-some ready (slot_at k s).link) ∙ open_links-same s.slots k
+flagged : (f : LinkState → LinkState) (s : State) (k : ℕ) → open_links (slice_set s.slots k (in_slot f (slot_at k s))) ≡ open_links s.slots
+flagged f s k = open_links-set s.slots k (in_slot f (slot_at k s)) ∙ ap (λ b. slice_set (open_links s.slots) k b) (in_open-some f (slot_at k s).link) ∙ open_links-same s.slots k
 
 station_opens : (o : Outside) (d : ℕ) (station : Station) → opens (with_station o d station) ≡ opens o
 station_opens o d station = refl
@@ -615,7 +692,8 @@ line_alike change d (Some device) steps s o log1 log2 b1 b2 e1 e2 at f1 f2 r1 r2
 pub wake_alike : (wake : Wake) → GoesAlike (wake_phase wake) (Woken wake) Agree
 unfolding wake_phase
 wake_alike (Opened k) = alike_nothing (λ s. with_slot k (record { link = Some opened; said = [] }) s) (Woken (Opened k)) Agree (λ s o at. at ∙ sym (open_links-set s.slots k (record { link = Some opened; said = [] })))
-wake_alike (Readable k) = alike_nothing (λ s. with_slot k (in_slot ready (slot_at k s)) s) (Woken (Readable k)) Agree (λ s o at. at ∙ sym (readied s k))
+wake_alike (Readable k) = alike_nothing (λ s. with_slot k (in_slot ready (slot_at k s)) s) (Woken (Readable k)) Agree (λ s o at. at ∙ sym (flagged ready s k))
+wake_alike (Writable k) = alike_nothing (λ s. with_slot k (in_slot writable (slot_at k s)) s) (Woken (Writable k)) Agree (λ s o at. at ∙ sym (flagged writable s k))
 wake_alike (Ticked d n) = λ steps s o log1 log2 b1 b2 e1 e2 at f1 f2 r1 r2. tick_alike d n (slice_get s.devices d) steps s o log1 log2 b1 b2 e1 e2 at f1 f2 r1 r2
 wake_alike (Line d change) = λ steps s o log1 log2 b1 b2 e1 e2 at f1 f2 r1 r2. line_alike change d (slice_get s.devices d) steps s o log1 log2 b1 b2 e1 e2 at f1 f2 r1 r2
 wake_alike Idle = alike_nothing (λ s. s) (Woken Idle) Agree (λ s o at. at)

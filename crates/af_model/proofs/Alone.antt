@@ -1,8 +1,7 @@
 -- A malformed client closes itself alone.
-use Rattle.std.proofs.Common.{◌≡◌, ◌≢◌, ℕ, zero, suc, Bool, true, false, not, cond, ◌&&◌, nat_le, List, [], ◌∷◌, length, take, is_none, slice_get, slice_set, refl, sym, ap, ◌∙◌, subst}
+use Rattle.std.proofs.Common.{◌≡◌, ◌≢◌, ℕ, Bool, true, false, not, cond, ◌&&◌, nat_le, [], length, take, is_none, refl, sym, ap, ◌∙◌, subst}
 use Rattle.std.specs.declared.option.Option.{Option}
 use Rattle.std.specs.declared.option.Option.TheVariants.{None, Some}
-use Rattle.af_outside.specs.declared.happening.Why.{Why}
 use Rattle.af_outside.specs.declared.happening.Why.TheVariants as why
 use Rattle.af_outside.specs.Told.{Log}
 use Rattle.af_wire.specs.declared.front.Front.{Front}
@@ -14,12 +13,13 @@ use Rattle.af_wire.specs.Message.{error}
 use Rattle.af_request.specs.Asked.{Asked}
 use Rattle.af_request.specs.Requests.{asked_in}
 use Rattle.af_request.specs.Answer.{setup}
-use Rattle.af_model.specs.State.{State, Slot, Place, Door, place, say, stopped, some_slot, slot_at, door_at, with_door}
+use Rattle.af_model.specs.State.{State, Place, Door, place, say, stopped, some_slot, slot_at, door_at, with_door}
 use Rattle.af_model.specs.Waiting.{is_waiting}
 use Rattle.af_model.specs.Reply.{infos_of, reply_message}
 use Rattle.af_model.specs.Advance.{advance_step, after_front, after_frame, after_setup, requested, takes_more, without_front}
 use Rattle.af_model.specs.Turn.{Behind, behind, and_then, serve_at, serve_door}
-use Rattle.af_model.proofs.Tests.{both-true, cond-some, none_some}
+use Rattle.af_model.proofs.Lists.{get-set_other}
+use Rattle.af_model.proofs.Tests.{both-true, cond-some, none-true, none_some}
 use Rattle.af_model.proofs.Advancing.{perform_closing}
 
 -- what is around a link, what it is owed, and that nothing more of its input is read
@@ -52,10 +52,6 @@ setup_alone (front.BadSetup value) p q none e c =
     let same : say (place p.around (stopped why.BadSetup p.link)) (error 1 value 0 0) ≡ q = cc in
     absurd (other_cause (ap (λ (r : Place). r.link.closing) same ∙ c))
 
-is_none-none : (o : Option Why) → is_none o ≡ true → o ≡ None
-is_none-none None e = refl
-is_none-none (Some x) e = absurd cc
-
 front_alone : (b : Bool) (k : ℕ) (p q : Place) → p.link.closing ≡ None → cond b (after_frame k (frame_front p.link.rest) p) (after_setup (setup_front p.link.rest) p) ≡ Some q → ClosesAlone p q
 front_alone true k p q none e = frame_alone k (frame_front p.link.rest) p q none e
 front_alone false k p q none e = setup_alone (setup_front p.link.rest) p q none e
@@ -65,23 +61,16 @@ closes_alone k p q e =
     let waits = is_waiting p.around.waiting k in
     let i = cond-some (takes_more waits p.link) (after_front k p) q e in
     let open_to = (both-true (not waits) (is_none p.link.closing && nat_le (length p.link.pending) 16384) i.0).1 in
-    let none = is_none-none p.link.closing (both-true (is_none p.link.closing) (nat_le (length p.link.pending) 16384) open_to).0 in
+    let none = none-true p.link.closing (both-true (is_none p.link.closing) (nat_le (length p.link.pending) 16384) open_to).0 in
     front_alone p.link.is_set_up k p q none i.1
 
 -- Serving a link changes no other
-
-other_slot : (slots : List Slot) (k j : ℕ) (x : Slot) → j ≢ k → some_slot (slice_get (slice_set slots k x) j) ≡ some_slot (slice_get slots j)
-other_slot [] k j x apart = refl
-other_slot (y ∷ slots) zero zero x apart = absurd (apart refl)
-other_slot (y ∷ slots) zero (suc j) x apart = refl
-other_slot (y ∷ slots) (suc k) zero x apart = refl
-other_slot (y ∷ slots) (suc k) (suc j) x apart = other_slot slots k j x (λ e. apart (ap suc e))
 
 served : (k j : ℕ) (s : State) (b : Behind State) (o : Option (Behind Door)) → j ≢ k → and_then o (λ d log. behind (with_door k s d) log) ≡ Some b → slot_at j b.state ≡ slot_at j s
 served k j s b None apart e = absurd (none_some e)
 served k j s b (Some d) apart e =
     let same : with_door k s d.state ≡ b.state = cc in
-    ap (slot_at j) (sym same) ∙ other_slot s.slots k j (record { link = d.state.link; said = d.state.around.said }) apart
+    ap (slot_at j) (sym same) ∙ ap some_slot (get-set_other s.slots k j (record { link = d.state.link; said = d.state.around.said }) apart)
 
 pub others_stay : (k j : ℕ) (s : State) (log : Log) (b : Behind State) → serve_at k s log ≡ Some b → j ≢ k → slot_at j b.state ≡ slot_at j s
 others_stay k j s log b e apart = served k j s b (serve_door k (door_at k s) log) apart e

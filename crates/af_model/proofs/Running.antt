@@ -8,9 +8,10 @@ use Rattle.af_outside.specs.declared.script.Step.{Step}
 use Rattle.af_outside.specs.Told.{Log}
 use Rattle.af_outside.specs.Outside.{Outside, answered, replayed, then_outside, stepped}
 use Rattle.af_model.specs.State.{State, opening}
-use Rattle.af_model.specs.Turn.{IsTurn}
+use Rattle.af_model.specs.Turn.{Behind, IsTurn}
 use Rattle.af_model.specs.Run.{wakes, end_by, end_state, then_end, IsRun}
 use Rattle.af_model.specs.Script.{AnswersTo}
+use Rattle.af_model.proofs.Tests.{none_some}
 
 pub wakes-append : (p q : Log) → wakes (p ++ q) ≡ wakes p + wakes q
 wakes-append [] q = omega arith
@@ -65,6 +66,11 @@ pub turns_run : (config : List DeviceSpec) (end : State) (parts : List Log) → 
 unfolding end_state
 turns_run config end parts h =
     ap (λ n. is_some (end_by n (opening config) (joined parts))) (wakes-joined (opening config) end parts h) ∙ ap is_some (turns_end (opening config) end parts h)
+
+-- a run begins with a turn
+pub run_inv : (x : Option (Behind State)) (f : State → Log → Option State) (e : State) → then_end x f ≡ Some e → (b : Behind State) × (x ≡ Some b) × (f b.state b.log ≡ Some e)
+run_inv None f e h = absurd (none_some h)
+run_inv (Some b) f e h = (b, refl, h)
 
 -- Answers, one part after the other
 

@@ -1,28 +1,24 @@
 -- A script's step opens the same links inside and outside, and its wake fits.
-use Rattle.std.proofs.Common.{◌≡◌, ℕ, zero, suc, ◌<◌, ◌≤◌, ◌&&◌, Bool, true, false, not, cond, List, [], ◌∷◌, ◌++◌, length, map, slice_get, slice_set, is_some, nat_lt, nat_le, refl, sym, ap, ◌∙◌, subst, arith, rules}
+use Rattle.std.proofs.Common.{◌≡◌, ℕ, zero, suc, ◌<◌, ◌≤◌, ◌&&◌, Bool, true, false, not, cond, List, [], ◌∷◌, length, map, slice_get, is_some, option_map, nat_lt, nat_le, refl, sym, ap, ◌∙◌, subst, arith, rules}
 use Rattle.std.proofs.lemmas.Grind.{common_steps}
 use Rattle.std.specs.declared.option.Option.{Option}
 use Rattle.std.specs.declared.option.Option.TheVariants.{None, Some}
 use Rattle.af_phone.specs.Lines.{is_change}
+use Rattle.af_outside.specs.declared.happening.Wake.{Wake}
 use Rattle.af_outside.specs.declared.happening.Wake.TheVariants as wake
 use Rattle.af_outside.specs.declared.script.DeviceSpec.{DeviceSpec}
 use Rattle.af_outside.specs.declared.script.Step.{Step}
-use Rattle.af_outside.specs.declared.script.Step.TheVariants.{Open, Send, Tick, Line, FailCapture, FailEmit, FailHook, Idle}
-use Rattle.af_outside.specs.Outside.{Outside, Peer, outside_start, peer_at, some_peer, opened_at, sent_at, stepped, wake_of, line_at, IsStep}
+use Rattle.af_outside.specs.declared.script.Step.TheVariants.{Open, Send, End, Room, Tick, Line, FailRead, FailWrite, FailCapture, FailEmit, FailHook, Idle}
+use Rattle.af_outside.specs.Outside.{Outside, Peer, outside_start, peer_at, some_peer, fresh_peer, opened_at, adjusted, sent, ending, taking, failing_read, failing_write, wake_where_open, stepped, wake_of, line_at, IsStep}
 use Rattle.af_model.specs.State.{State, opening, outline, lines_of}
 use Rattle.af_model.specs.Turn.{fits, has_line_at, is_open_at, is_closed_at}
-use Rattle.af_model.proofs.Alike.{Agree, Woken, opens, opens-set, open_after}
+use Rattle.af_model.proofs.Alike.{Agree, Woken, opens, opens-set, opens_stay, open_after}
 
 -- whether a link is open outside
 peer_is_open : (peers : List (Option Peer)) (k : ℕ) → is_some (some_peer (slice_get peers k)) ≡ is_open_at (slice_get (map {A = Option Peer} {B = Bool} is_some peers) k)
 peer_is_open [] k = refl
 peer_is_open (x ∷ peers) zero = refl
 peer_is_open (x ∷ peers) (suc k) = peer_is_open peers k
-
-open_stays : (w : List Bool) (k : ℕ) → is_open_at (slice_get w k) ≡ true → slice_set w k true ≡ w
-open_stays [] k e = refl
-open_stays (x ∷ w) zero e = ap (λ b. b ∷ w) (sym e)
-open_stays (x ∷ w) (suc k) e = ap (λ l. x ∷ l) (open_stays w k e)
 
 closed_at : (w : List Bool) (k : ℕ) → k < length w → is_open_at (slice_get w k) ≡ false → is_closed_at (slice_get w k) ≡ true
 closed_at [] k lt e = absurd (omega arith)
@@ -32,18 +28,30 @@ closed_at (x ∷ w) (suc k) lt e = closed_at w k (omega arith) e
 open_outside : (o : Outside) (k : ℕ) → is_some (peer_at o k) ≡ is_open_at (slice_get (opens o) k)
 open_outside o k = peer_is_open o.peers k
 
+-- what is stated of a link leaves the links as open as they are
+adjusted_opens : (o : Outside) (k : ℕ) (change : Peer → Peer) → opens (adjusted o k change) ≡ opens o
+adjusted_opens o k change = opens_stay o k (option_map change (peer_at o k)) (stays (peer_at o k))
+  where
+    stays : (peer : Option Peer) → is_some (option_map change peer) ≡ is_some peer
+    stays None = refl
+    stays (Some peer) = refl
+
+stated_opens : (o : Outside) (k : ℕ) (change : Peer → Peer) (w : Wake) → open_after (opens o) w ≡ opens o → opens (adjusted o k change) ≡ open_after (opens o) (wake_where_open o k w)
+stated_opens o k change w e =
+    adjusted_opens o k change ∙ sym (elim (is_some (peer_at o k)) as (λ b. open_after (opens o) (cond b w wake.Idle) ≡ opens o) [ true ↦ e | false ↦ refl ])
+
 -- the links that are open outside after a step
 stepped_opens : (o : Outside) (step : Step) → opens (stepped o step) ≡ open_after (opens o) (wake_of o step)
 stepped_opens o (Open k) =
     elim (peer_at o k) as (λ p. opens (opened_at o k p) ≡ open_after (opens o) (cond (is_some p) wake.Idle (wake.Opened k))) [
-      | None ↦ opens-set o k (Some (record { gives = [] }))
+      | None ↦ opens-set o k (Some fresh_peer)
       | Some peer ↦ refl
     ]
-stepped_opens o (Send k bytes) =
-    elim (peer_at o k) as (λ p. is_some p ≡ is_open_at (slice_get (opens o) k) → opens (sent_at o k bytes p) ≡ open_after (opens o) (cond (is_some p) (wake.Readable k) wake.Idle)) [
-      | None ↦ λ e. refl
-      | Some peer ↦ λ e. opens-set o k (Some (record { gives = peer.gives ++ bytes })) ∙ open_stays (opens o) k (sym e)
-    ] (open_outside o k)
+stepped_opens o (Send k bytes) = stated_opens o k (sent bytes) (wake.Readable k) refl
+stepped_opens o (End k) = stated_opens o k ending (wake.Readable k) refl
+stepped_opens o (Room k room) = stated_opens o k (taking room) (wake.Writable k) refl
+stepped_opens o (FailRead k) = adjusted_opens o k failing_read
+stepped_opens o (FailWrite k) = adjusted_opens o k failing_write
 stepped_opens o (Tick d n captured) = refl
 stepped_opens o (FailCapture d) = refl
 stepped_opens o (FailEmit d) = refl
@@ -70,6 +78,14 @@ length-lines : (config : List DeviceSpec) → length (map line_of config) ≡ le
 length-lines [] = refl
 length-lines (c ∷ config) = ap suc (length-lines config)
 
+-- the wake of a step that is stated of a link fits, where it does of a link that is open
+open_fits : (s : State) (o : Outside) (k : ℕ) (w : Wake) → Agree s o → fits (outline s) w ≡ is_open_at (slice_get (opens o) k) → fits (outline s) (wake_where_open o k w) ≡ true
+open_fits s o k w at e =
+    elim (is_some (peer_at o k)) as (λ b. b ≡ is_open_at (slice_get (opens o) k) → fits (outline s) (cond b w wake.Idle) ≡ true) [
+      | true ↦ λ is. e ∙ sym is
+      | false ↦ λ is. refl
+    ] (open_outside o k)
+
 -- the wake of a step that may stand in a script fits
 pub step_fits : (config : List DeviceSpec) (s : State) (o : Outside) (step : Step) → Agree s o → length o.peers ≡ 32 → lines_of s.devices ≡ map line_of config → IsStep config step → fits (outline s) (wake_of o step) ≡ true
 step_fits config s o (Open k) at l c f =
@@ -84,11 +100,11 @@ step_fits config s o (Open k) at l c f =
         same : (peers : List (Option Peer)) → length (map {A = Option Peer} {B = Bool} is_some peers) ≡ length peers
         same [] = refl
         same (x ∷ peers) = ap suc (same peers)
-step_fits config s o (Send k bytes) at l c f =
-    elim (peer_at o k) as (λ p. is_some p ≡ is_open_at (slice_get (opens o) k) → fits (outline s) (cond (is_some p) (wake.Readable k) wake.Idle) ≡ true) [
-      | None ↦ λ e. refl
-      | Some peer ↦ λ e. subst (λ w. is_open_at (slice_get w k) ≡ true) at (sym e)
-    ] (open_outside o k)
+step_fits config s o (Send k bytes) at l c f = open_fits s o k (wake.Readable k) at (ap (λ w. is_open_at (slice_get w k)) (sym at))
+step_fits config s o (End k) at l c f = open_fits s o k (wake.Readable k) at (ap (λ w. is_open_at (slice_get w k)) (sym at))
+step_fits config s o (Room k room) at l c f = open_fits s o k (wake.Writable k) at (ap (λ w. is_open_at (slice_get w k)) (sym at))
+step_fits config s o (FailRead k) at l c f = refl
+step_fits config s o (FailWrite k) at l c f = refl
 step_fits config s o (Line d change) at l c f = both (has_line_at (slice_get (lines_of s.devices) d)) (is_change change) (ap (λ lines. has_line_at (slice_get lines d)) c ∙ same_line config d ∙ f.0) f.1
   where
     both : (a b : Bool) → a ≡ true → b ≡ true → (a && b) ≡ true

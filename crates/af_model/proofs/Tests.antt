@@ -1,5 +1,5 @@
 -- What tests that came out true say.
-use Rattle.std.proofs.Common.{◌≡◌, ℕ, Bool, true, false, not, cond, ◌&&◌, ◌==◌, List, [], ◌∷◌, refl, eqb-true}
+use Rattle.std.proofs.Common.{◌≡◌, ℕ, Bool, true, false, not, cond, ◌&&◌, ◌==◌, List, [], ◌∷◌, is_none, refl, eqb-true}
 use Rattle.std.specs.declared.option.Option.{Option}
 use Rattle.std.specs.declared.option.Option.TheVariants.{None, Some}
 use Rattle.af_outside.specs.Outside.{same_bytes}
@@ -19,6 +19,13 @@ both-true false t e = absurd cc
 pub not_true : (b : Bool) → not b ≡ true → b ≡ false
 not_true true e = absurd cc
 not_true false e = refl
+
+pub none-true : {A : Type 0} (o : Option A) → is_none o ≡ true → o ≡ None
+none-true None e = refl
+none-true (Some x) e = absurd cc
+
+pub some_is : {A : Type 0} {a b : A} → Some a ≡ Some b → a ≡ b
+some_is e = cc
 
 pub none_some : {A : Type 0} {b : A} → None ≡ Some b → ⊥
 none_some e = cc

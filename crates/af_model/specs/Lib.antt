@@ -12,6 +12,10 @@ pub mod Advance
 pub mod Tick
 pub mod Events
 pub mod Turn
+pub mod More
 pub mod Run
 pub mod NoLoss
+pub mod Cutting
+pub mod Prefix
+pub mod Fold
 pub mod Script

@@ -46,14 +46,15 @@ pub record DeviceState : Type 0 where
   pub line : Option Phone
   pub is_dead : Bool
 
--- An open link: its unread input, its unsent output, whether it may have something to read, why it is to be closed, how
--- many requests it has made, modulo 2^16, its contexts in order of creation, and for each number of a device the mask of the
--- events that it selects.
+-- An open link: its unread input, its unsent output, whether it may have something to read, whether it is stuck, as its last
+-- write took less than was offered, why it is to be closed, how many requests it has made, modulo 2^16, its contexts in order
+-- of creation, and for each number of a device the mask of the events that it selects.
 pub record LinkState : Type 0 where
   pub is_set_up : Bool
   pub rest : List ℕ
   pub pending : List ℕ
   pub is_ready : Bool
+  pub is_stuck : Bool
   pub closing : Option Why
   pub sequence : ℕ
   pub contexts : List Context
@@ -104,7 +105,7 @@ none_selected = replicate 8 0
 
 -- a link that was just opened
 abbrev pub opened : LinkState
-opened = record { is_set_up = false; rest = []; pending = []; is_ready = false; closing = None; sequence = 0; contexts = []; selections = none_selected }
+opened = record { is_set_up = false; rest = []; pending = []; is_ready = false; is_stuck = false; closing = None; sequence = 0; contexts = []; selections = none_selected }
 
 -- a link that is to be closed, for its first cause; nothing more of its input is read, and no event is told it
 abbrev pub stopped : Why → LinkState → LinkState

@@ -1,15 +1,15 @@
 -- A turn, phase by phase. Each phase takes its own happenings off the front of a log; the answers in them are the
 -- outside's, and all else is determined. What is behind a phase is the next state and the rest of the log, or nothing where
 -- the log does not go on as it must.
-use Rattle.std.specs.Prelude.{◌≡◌, ℕ, zero, suc, ◌+◌, Bool, true, false, not, List, [], ◌∷◌, ◌++◌, length, drop, if◌then◌else◌, ◌==◌, ◌&&◌, nat_le, nat_lt, ◌*◌, ℤ, slice_get, option_and_then}
+use Rattle.std.specs.Prelude.{◌≡◌, ℕ, zero, suc, ◌+◌, Bool, true, false, not, List, [], ◌∷◌, ◌++◌, length, take, drop, if◌then◌else◌, ◌==◌, ◌&&◌, nat_le, nat_lt, ◌*◌, ℤ, slice_get, option_and_then}
 use Rattle.std.specs.declared.option.Option.{Option}
 use Rattle.std.specs.declared.option.Option.TheVariants.{None, Some}
 use Rattle.af_outside.specs.declared.happening.Happening.{Happening}
 use Rattle.af_outside.specs.declared.happening.Happening.TheVariants.{Woke, Read, Wrote, Closed, Captured, Emitted, Hooked}
 use Rattle.af_outside.specs.declared.happening.ReadGot.{ReadGot}
-use Rattle.af_outside.specs.declared.happening.ReadGot.TheVariants.{Given, NotYet}
+use Rattle.af_outside.specs.declared.happening.ReadGot.TheVariants.{Given, NotYet, Ended, Failed}
 use Rattle.af_outside.specs.declared.happening.Wake.{Wake}
-use Rattle.af_outside.specs.declared.happening.Wake.TheVariants.{Opened, Readable, Ticked, Line, Idle, Stop}
+use Rattle.af_outside.specs.declared.happening.Wake.TheVariants.{Opened, Readable, Writable, Ticked, Line, Idle, Stop}
 use Rattle.af_outside.specs.declared.happening.Why.{Why}
 use Rattle.af_outside.specs.declared.happening.Why.TheVariants as why
 use Rattle.af_phone.specs.declared.line.LineChange.{LineChange}
@@ -17,11 +17,11 @@ use Rattle.af_phone.specs.Lines.{hook_due, is_change}
 use Rattle.af_sample.specs.SampleTypes.{width_of}
 use Rattle.af_outside.specs.Told.{Log}
 use Rattle.af_outside.specs.Outside.{same_bytes}
-use Rattle.af_model.specs.State.{State, DeviceState, Slot, LinkState, Around, Place, Door, door, door_at, with_door, Outline, place, opened, slot_at, with_slot, outline}
+use Rattle.af_model.specs.State.{State, DeviceState, Slot, LinkState, Around, Place, Door, door, door_at, with_door, Outline, place, opened, stopped, slot_at, with_slot, outline}
 use Rattle.af_model.specs.Waiting.{is_waiting}
 use Rattle.af_model.specs.Advance.{advance, absorb, takes_more}
 use Rattle.af_model.specs.Tick.{sound, capture_of, tick}
-use Rattle.af_model.specs.Events.{hook_given, hook_refused, line_changes}
+use Rattle.af_model.specs.Events.{dropped, hook_given, hook_refused, line_changes}
 
 -- a state, and the log that is left behind it
 pub record Behind (S : Type 0) : Type 0 where
@@ -55,10 +55,15 @@ wants_read waits l = l.is_ready && takes_more waits l
 abbrev pub is_read : ReadGot → Bool
 is_read (Given bytes) = nat_lt 0 (length bytes) && nat_le (length bytes) 16384
 is_read NotYet = true
+is_read Ended = true
+is_read Failed = true
 
+-- bytes are absorbed; a link that has ended is to be closed once it was sent what it is owed, and one that failed is dropped
 abbrev pub after_read : ℕ → ReadGot → Place → Place
 after_read k (Given bytes) p = absorb k bytes p
 after_read k NotYet p = place p.around (record p.link { is_ready = false })
+after_read k Ended p = place p.around (stopped why.Ended (record p.link { is_ready = false }))
+after_read k Failed p = dropped k why.LinkFault p
 
 abbrev pub read_by : ℕ → Place → Happening → Option Place
 read_by k p (Read link got) = if link == k && is_read got then Some (after_read k got p) else None
@@ -67,23 +72,31 @@ read_by k p _ = None
 unfoldable pub read_phase : ℕ → Place → Log → Option (Behind Place)
 read_phase k p log = if wants_read (is_waiting p.around.waiting k) p.link then take_one (read_by k p) log else behind p log
 
--- Writes: of all that waits to be sent, as long as anything does
+-- Writes: of all that waits to be sent, as long as anything does and the link is not stuck
 
 abbrev pub wants_write : LinkState → Bool
-wants_write l = not (length l.pending == 0)
+wants_write l = not (length l.pending == 0) && not l.is_stuck
+
+-- so many bytes are sent; where they were fewer than wait to be, the link is stuck
+abbrev pub sent : ℕ → LinkState → LinkState
+sent n l = record l { pending = drop n l.pending; is_stuck = nat_lt n (length l.pending) }
 
 -- the bytes that were taken are sent, and requests are performed again
 abbrev pub after_write : ℕ → List ℕ → Place → Place
-after_write k bytes p = advance k (place p.around (record p.link { pending = drop (length bytes) p.link.pending }))
+after_write k bytes p = advance k (place p.around (sent (length bytes) p.link))
 
--- all that waits to be sent is offered, and all that is offered is taken
-abbrev pub write_taken : ℕ → ℕ → Option (List ℕ) → Place → Option Place
-write_taken k offered None p = None
-write_taken k offered (Some bytes) p =
-    if offered == length p.link.pending && same_bytes bytes p.link.pending then Some (after_write k bytes p) else None
+-- the first bytes that wait to be sent are taken; a link to which a write failed is dropped
+abbrev pub write_taken : ℕ → Option (List ℕ) → Place → Option Place
+write_taken k None p = Some (dropped k why.LinkFault p)
+write_taken k (Some bytes) p =
+    if same_bytes bytes (take (length bytes) p.link.pending) then Some (after_write k bytes p) else None
+
+-- all that waits to be sent is offered
+abbrev pub write_offered : ℕ → ℕ → Option (List ℕ) → Place → Option Place
+write_offered k offered took p = if offered == length p.link.pending then write_taken k took p else None
 
 abbrev pub write_by : ℕ → Place → Happening → Option Place
-write_by k p (Wrote link offered took) = if link == k then write_taken k offered took p else None
+write_by k p (Wrote link offered took) = if link == k then write_offered k offered took p else None
 write_by k p _ = None
 
 abbrev pub write_phase : ℕ → Place → Log → Option (Behind Place)
@@ -97,7 +110,9 @@ write_phase k p (h ∷ log) =
 abbrev pub number_of : Why → ℕ
 number_of why.BadSetup = 0
 number_of why.Malformed = 1
-number_of why.Overrun = 2
+number_of why.Ended = 2
+number_of why.LinkFault = 3
+number_of why.Overrun = 4
 
 abbrev pub same_why : Why → Why → Bool
 same_why a b = number_of a == number_of b
@@ -157,11 +172,12 @@ abbrev pub has_line_at : Option Bool → Bool
 has_line_at None = false
 has_line_at (Some has_line) = has_line
 
--- whether a wake may come: a link is opened that is not open, may be read that is, a device that is there ticks 1 to 4096
--- frames, and a line that is there changes as lines do
+-- whether a wake may come: a link is opened that is not open, may be read or written that is, a device that is there ticks
+-- 1 to 4096 frames, and a line that is there changes as lines do
 abbrev pub fits : Outline → Wake → Bool
 fits o (Opened k) = is_closed_at (slice_get o.links k)
 fits o (Readable k) = is_open_at (slice_get o.links k)
+fits o (Writable k) = is_open_at (slice_get o.links k)
 fits o (Ticked d n) = nat_lt d (length o.lines) && nat_le 1 n && nat_le n 4096
 fits o (Line d change) = has_line_at (slice_get o.lines d) && is_change change
 fits o Idle = true
@@ -170,6 +186,10 @@ fits o Stop = true
 -- a link may have something to read
 abbrev pub ready : LinkState → LinkState
 ready l = record l { is_ready = true }
+
+-- a link may take something again
+abbrev pub writable : LinkState → LinkState
+writable l = record l { is_stuck = false }
 
 -- what becomes of a link, where it is open
 abbrev pub in_open : (LinkState → LinkState) → Option LinkState → Option LinkState
@@ -219,6 +239,7 @@ line_phase change d (Some device) s log = behind (line_changes change d device s
 unfoldable pub wake_phase : Wake → State → Log → Option (Behind State)
 wake_phase (Opened k) s log = behind (with_slot k (record { link = Some opened; said = [] }) s) log
 wake_phase (Readable k) s log = behind (with_slot k (in_slot ready (slot_at k s)) s) log
+wake_phase (Writable k) s log = behind (with_slot k (in_slot writable (slot_at k s)) s) log
 wake_phase (Ticked d n) s log = tick_phase d n (slice_get s.devices d) s log
 wake_phase (Line d change) s log = line_phase change d (slice_get s.devices d) s log
 wake_phase Idle s log = behind s log

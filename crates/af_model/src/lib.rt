@@ -13,6 +13,9 @@ ghost use Rattle.af_model.specs.State.{Place, State, slot_at};
 ghost use Rattle.af_model.specs.Advance.{advance_step};
 ghost use Rattle.af_model.specs.Turn.{Behind, serve_at};
 ghost use Rattle.af_model.specs.Script.{ScriptLog};
+ghost use Rattle.af_model.specs.Cutting.{CutsAlike};
+ghost use Rattle.af_model.specs.Prefix.{TakesInOrder};
+ghost use Rattle.af_model.specs.Fold.{MixesAll};
 
 pub use refusal::{Cause, Refusal};
 
@@ -28,4 +31,22 @@ pub fn malformed_alone_law()
     ensures closes { (k : ℕ) (p q : Place) → advance_step k p ≡ Some q → q.link.closing ≡ Some why.Malformed →
         (q.around ≡ p.around) × (q.link.pending ≡ p.link.pending) × (q.link.rest ≡ []) }
     ensures others { (k j : ℕ) (s : State) (log : Log) (b : Behind State) → serve_at k s log ≡ Some b → j ≢ k → slot_at j b.state ≡ slot_at j s }
+{}
+
+/// A law of the definitions alone, of cutting: what comes to a link in two pieces, one right after the other, makes of it and of
+/// all around it what both make that come at once.
+pub fn cutting_law()
+    ensures { (k : ℕ) (p : Place) → CutsAlike k p }
+{}
+
+/// A law of the definitions alone, of prefixes: behind each run the bytes that a link took since it was opened last begin what was
+/// said to it since then, and the rest is what waits to be sent where the link is open and was not dropped.
+pub fn prefix_law()
+    ensures { (config : List DeviceSpec) (log : Log) → TakesInOrder config log }
+{}
+
+/// A law of the definitions alone, of what is heard: each emit in a run has the sound of all plays that its device has accepted at
+/// the end of the run, at the times that it hands out, behind the controls that the device had before that turn.
+pub fn fold_law()
+    ensures { (config : List DeviceSpec) (log : Log) → MixesAll config log }
 {}

@@ -1,18 +1,16 @@
 -- The far ends of a tape's links, and the outside that they make up.
-use Rattle.std.proofs.Common.{◌≡◌, ℕ, zero, suc, ◌+◌, ◌<◌, ◌≤◌, List, [], ◌∷◌, length, get_or, set, refl, sym, ap, ◌∙◌, subst, arith, slice_get, slice_set, take, drop, ◌++◌, true, false, is_some, replicate}
-use Rattle.std.proofs.Math.Seq.{map-set_same}
-use Rattle.std.proofs.lemmas.List.{map-set, map-append, replicate-append-replicate, length-replicate}
+use Rattle.std.proofs.Common.{◌≡◌, ℕ, zero, suc, ◌+◌, ◌<◌, ◌≤◌, List, [], ◌∷◌, length, get_or, set, refl, sym, ap, ◌∙◌, subst, arith, slice_get, slice_set, ◌++◌, false, is_some, replicate}
+use Rattle.std.proofs.lemmas.List.{map-set, set_past, map-append, replicate-append-replicate, length-replicate}
 use Rattle.std.proofs.lemmas.List.Sums.{sum_by-cons}
 use Rattle.std.proofs.lemmas.Option.{slice_get-get_or}
-use Rattle.std.specs.Prelude.{sum_by, if◌then◌else◌}
+use Rattle.std.specs.Prelude.{sum_by, if◌then◌else◌, option_map}
 use Rattle.std.specs.declared.option.Option.{Option}
 use Rattle.std.specs.declared.option.Option.TheVariants.{None, Some}
 use Rattle.af_outside.specs.declared.script.Step.{Step}
 use Rattle.af_outside.specs.declared.script.Step.TheVariants as step
-use Rattle.af_outside.specs.declared.happening.ReadGot.TheVariants.{Given, NotYet}
-use Rattle.af_outside.specs.Outside.{Outside, Peer, Station, peer_at, with_peer, gives_of, opened_at, sent_at, read_answered}
-use Rattle.af_outside.proofs.Outsides.{eq-refl, same_bytes-refl}
-use Rattle.af_outside.specs.Tape.{KeptPeer, peers_of, outside_of, HasRoom, sent_by, peer_sent, peer_given}
+use Rattle.af_outside.specs.Outside.{Outside, Peer, Station, adjusted, answered_by, fresh_peer, opened_at, peer_at, with_peer}
+use Rattle.af_outside.proofs.Outsides.{eq-refl}
+use Rattle.af_outside.specs.Tape.{KeptPeer, peers_of, outside_of, HasRoom, sent_by}
 
 -- the peer of a link is that of its far end
 pub peer_at-outside_of : (far_ends : List KeptPeer) (stations : List Station) (k : ℕ) (d : KeptPeer) → k < length far_ends → peer_at (outside_of far_ends stations) k ≡ (get_or far_ends k d).peer
@@ -75,50 +73,40 @@ HasRoom-sent far_ends k bytes d new steps below room more =
     let sent : sent_by k (step.Send k bytes) ≡ length bytes = ap (λ t. if t then length bytes else 0) (eq-refl k) in
     omega arith)
 
--- what is sent on a link that is open
-pub sent_here : (o : Outside) (k : ℕ) (bytes : List ℕ) (peer peer' : Option Peer) → is_some peer ≡ true → peer' ≡ peer_sent bytes peer → with_peer o k peer' ≡ sent_at o k bytes peer
-sent_here o k bytes None peer' some e = absurd cc
-sent_here o k bytes (Some peer) peer' some e = ap (with_peer o k) e
+-- a change of one far end's peer by a step
+pub adjusted_here : (far_ends : List KeptPeer) (stations : List Station) (k : ℕ) (d new : KeptPeer) (change : Peer → Peer) → k < length far_ends → new.peer ≡ option_map change (get_or far_ends k d).peer →
+    outside_of (slice_set far_ends k new) stations ≡ adjusted (outside_of far_ends stations) k change
+adjusted_here far_ends stations k d new change below e =
+    outside_of-set far_ends stations k new
+    ∙ ap (with_peer (outside_of far_ends stations) k) (e ∙ ap (option_map change) (sym (peer_at-outside_of far_ends stations k d below)))
 
-drop_taken : (n : ℕ) (xs : List ℕ) → drop (length (take n xs)) xs ≡ drop n xs
-drop_taken zero xs = refl
-drop_taken (suc n) [] = refl
-drop_taken (suc n) (x ∷ xs) = drop_taken n xs
+-- no peer past the far ends is set
+pub with_peer-past : (far_ends : List KeptPeer) (stations : List Station) (k : ℕ) (peer : Option Peer) → length far_ends ≤ k → with_peer (outside_of far_ends stations) k peer ≡ outside_of far_ends stations
+with_peer-past far_ends stations k peer past =
+    let counted = length-peers far_ends in
+    ap (λ (peers : List (Option Peer)). (let o : Outside = record { peers = peers; stations = stations } in o)) (set_past (peers_of far_ends) k peer (omega arith))
 
-first_bytes : (o : Outside) (k : ℕ) (xs : List ℕ) → 0 < length (take 16384 xs) → read_answered o k xs (Given (take 16384 xs)) ≡ Some (with_peer o k (Some (record { gives = drop 16384 xs })))
-first_bytes o k [] some = absurd (omega (arith, some))
-first_bytes o k (x ∷ xs) some = ap (λ t. if t then Some (with_peer o k (Some (record { gives = drop 16384 (x ∷ xs) }))) else None) (same_bytes-refl (take 16384 (x ∷ xs)))
+-- a step that is stated of a link past the far ends changes nothing
+pub adjusted_past : (far_ends : List KeptPeer) (stations : List Station) (k : ℕ) (change : Peer → Peer) → length far_ends ≤ k → outside_of far_ends stations ≡ adjusted (outside_of far_ends stations) k change
+adjusted_past far_ends stations k change past = sym (with_peer-past far_ends stations k _ past)
 
--- the first bytes of a link are the answer to a read
-pub read_bytes : (o : Outside) (k n room : ℕ) (bytes : List ℕ) (peer peer' : Option Peer) → room ≡ 16384 → n ≡ length (take room (gives_of peer)) → 0 < n → bytes ≡ take room (gives_of peer) → peer' ≡ peer_given n peer →
-    read_answered o k (gives_of peer) (Given bytes) ≡ Some (with_peer o k peer')
-read_bytes o k n room bytes None peer' whole count some given left =
-    let none : n ≡ 0 = count ∙ ap (λ m. length (take m (gives_of None))) whole in
-    absurd (omega arith)
-read_bytes o k n room bytes (Some peer) peer' whole count some given left =
-    let count' : n ≡ length (take 16384 peer.gives) = count ∙ ap (λ m. length (take m peer.gives)) whole in
-    rw (given ∙ ap (λ m. take m peer.gives) whole, left) (first_bytes o k peer.gives (omega arith) ∙ ap (λ (xs : List ℕ). Some (with_peer o k (Some (record { gives = xs })))) (sym (ap (λ m. drop m peer.gives) count' ∙ drop_taken 16384 peer.gives)))
+-- what a far end answers is what its link answers
+pub answered_here : (far_ends : List KeptPeer) (stations : List Station) (k : ℕ) (d new : KeptPeer) (call : Peer → Option Peer) → k < length far_ends →
+    answered_by call (get_or far_ends k d).peer ≡ Some new.peer →
+    option_map (with_peer (outside_of far_ends stations) k) (answered_by call (peer_at (outside_of far_ends stations) k)) ≡ Some (outside_of (slice_set far_ends k new) stations)
+answered_here far_ends stations k d new call below e =
+    ap (option_map (with_peer (outside_of far_ends stations) k)) (ap (answered_by call) (peer_at-outside_of far_ends stations k d below) ∙ e)
+    ∙ ap (λ (o : Outside). Some o) (sym (outside_of-set far_ends stations k new))
 
-none_left : (o : Outside) (k : ℕ) (xs : List ℕ) → length (take 16384 xs) ≡ 0 → read_answered o k xs NotYet ≡ Some o
-none_left o k [] none = refl
-none_left o k (x ∷ xs) none = absurd (omega (arith, none))
-
--- NotYet is the answer to a read of a link with nothing left
-pub read_nothing : (o : Outside) (k n room : ℕ) (peer : Option Peer) → room ≡ 16384 → n ≡ length (take room (gives_of peer)) → n ≡ 0 → read_answered o k (gives_of peer) NotYet ≡ Some o
-read_nothing o k n room peer whole count none = none_left o k (gives_of peer) (sym (count ∙ ap (λ m. length (take m (gives_of peer))) whole) ∙ none)
-
--- a link that gave nothing is as it was
-pub given_none : (n : ℕ) (peer : Option Peer) → n ≡ 0 → peer_given n peer ≡ peer
-given_none n None none = refl
-given_none n (Some peer) none = ap (λ m. Some (record { gives = drop m peer.gives })) none
-
--- nothing changes where a far end's peer stays
-pub outside_of-set_same : (far_ends : List KeptPeer) (stations : List Station) (k : ℕ) (d new : KeptPeer) → new.peer ≡ (get_or far_ends k d).peer → outside_of (slice_set far_ends k new) stations ≡ outside_of far_ends stations
-outside_of-set_same far_ends stations k d new same =
-    ap (λ (peers : List (Option Peer)). (let o : Outside = record { peers = peers; stations = stations } in o)) (map-set_same (λ (e : KeptPeer). e.peer) far_ends k new d same)
+-- a link past the far ends answers as one that is not open
+pub answered_past : (far_ends : List KeptPeer) (stations : List Station) (k : ℕ) (call : Peer → Option Peer) → length far_ends ≤ k → answered_by call None ≡ Some None →
+    option_map (with_peer (outside_of far_ends stations) k) (answered_by call (peer_at (outside_of far_ends stations) k)) ≡ Some (outside_of far_ends stations)
+answered_past far_ends stations k call past e =
+    ap (option_map (with_peer (outside_of far_ends stations) k)) (ap (answered_by call) (peer_at-past far_ends stations k past) ∙ e)
+    ∙ ap (λ (o : Outside). Some o) (with_peer-past far_ends stations k None past)
 
 -- what opening does to a link that is not open
-pub opened_here : (o : Outside) (k : ℕ) (peer peer' : Option Peer) → is_some peer ≡ false → peer' ≡ Some (record { gives = [] }) → with_peer o k peer' ≡ opened_at o k peer
+pub opened_here : (o : Outside) (k : ℕ) (peer peer' : Option Peer) → is_some peer ≡ false → peer' ≡ Some fresh_peer → with_peer o k peer' ≡ opened_at o k peer
 opened_here o k None peer' none e = ap (with_peer o k) e
 opened_here o k (Some peer) peer' none e = absurd cc
 

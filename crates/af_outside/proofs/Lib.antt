@@ -1,4 +1,5 @@
 pub mod Outsides
+pub mod Peers
 pub mod FarEnds
 pub mod Known
 pub mod Silence

@@ -1,5 +1,5 @@
 -- What steps and happenings do to a tape.
-use Rattle.std.proofs.Common.{◌≡◌, ℕ, suc, ◌+◌, ◌<◌, ◌≤◌, ◌^◌, List, [], ◌∷◌, drop, slice_get, map, replicate, ap, sym, ◌∙◌, subst, arith}
+use Rattle.std.proofs.Common.{◌≡◌, ℕ, suc, ◌+◌, ◌<◌, ◌≤◌, ◌^◌, List, [], ◌∷◌, drop, slice_get, map, replicate, ap, sym, ◌∙◌, subst, arith, Bool, true, false}
 use Rattle.std.proofs.Math.Seq.{drop-cons}
 use Rattle.std.proofs.lemmas.List.Sums.{sum_by-cons}
 use Rattle.std.proofs.lemmas.Option.{slice_get_within, get_or_from_slice_get}
@@ -14,8 +14,6 @@ use Rattle.af_outside.specs.declared.happening.Wake.{Wake}
 use Rattle.af_outside.specs.declared.script.DeviceSpec.{DeviceSpec}
 use Rattle.af_outside.specs.declared.script.Step.{Step}
 use Rattle.af_outside.specs.declared.station.KeptStation.{KeptStation}
-use Rattle.af_outside.specs.declared.flow.Put.{Put}
-use Rattle.af_outside.specs.declared.flow.Put.TheVariants as put
 use Rattle.af_outside.specs.Told.{Log}
 use Rattle.af_outside.specs.Outside.{Outside, TapeState, TakesStep, Answered, answered, fresh, station_of, stepped, then_outside, wake_of}
 use Rattle.af_outside.specs.Tape.{KeptPeer, HasRoom, Noted, faults_after, kept_station_of, outside_of, peers_of, sent_by, stations_of}
@@ -34,9 +32,9 @@ Answered-noted (Some before) (Ok x) (Some after) h o o' noted made leads = (
 )
 
 -- no answer moves a count of faults down
-pub faults_after-rises : (faults : ℕ) (put : Put) → faults < 2 ^ 64 → faults ≤ faults_after faults put
-faults_after-rises faults put.Done fits = omega arith
-faults_after-rises faults put.Failed fits = omega arith
+pub faults_after-rises : (faults : ℕ) (failed : Bool) → faults < 2 ^ 64 → faults ≤ faults_after faults failed
+faults_after-rises faults false fits = omega arith
+faults_after-rises faults true fits = omega arith
 
 -- the step with a number comes before those after it
 pub drop-next : (steps : List Step) (number : ℕ) (step : Step) → slice_get steps number ≡ Some step → drop number steps ≡ step ∷ drop (number + 1) steps
@@ -65,9 +63,9 @@ TakesStep-first old step left wake o first woken changed =
 -- what makes up a tape of which nothing was asked yet
 pub fresh-parts : (config config' : List DeviceSpec) (steps steps' : List Step) (log : Option Log) (far_ends : List KeptPeer) (kept : List KeptStation) → config' ≡ config → steps' ≡ steps →
     log ≡ Some [] → peers_of far_ends ≡ replicate 32 None → kept ≡ map (λ d. kept_station_of d.ty) config →
-    (let tape : TapeState = record { config = config'; left = steps'; log = log; outside = outside_of far_ends (stations_of steps' kept); device_faults = 0 } in tape) ≡ fresh config steps
+    (let tape : TapeState = record { config = config'; left = steps'; log = log; outside = outside_of far_ends (stations_of steps' kept); link_faults = 0; device_faults = 0 } in tape) ≡ fresh config steps
 fresh-parts config config' steps steps' log far_ends kept devices left told closed start =
     let stations : stations_of steps kept ≡ map (λ d. station_of d.ty) config = ap (stations_of steps) start ∙ stations_of-start steps config in
     rw (devices, left, told)
-    (ap (λ peers. (let tape : TapeState = record { config = config; left = steps; log = Some []; outside = record { peers = peers; stations = stations_of steps kept }; device_faults = 0 } in tape)) closed
-    ∙ ap (λ stations. (let tape : TapeState = record { config = config; left = steps; log = Some []; outside = record { peers = replicate 32 None; stations = stations }; device_faults = 0 } in tape)) stations)
+    (ap (λ peers. (let tape : TapeState = record { config = config; left = steps; log = Some []; outside = record { peers = peers; stations = stations_of steps kept }; link_faults = 0; device_faults = 0 } in tape)) closed
+    ∙ ap (λ stations. (let tape : TapeState = record { config = config; left = steps; log = Some []; outside = record { peers = replicate 32 None; stations = stations }; link_faults = 0; device_faults = 0 } in tape)) stations)

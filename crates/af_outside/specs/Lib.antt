@@ -8,4 +8,5 @@ pub mod Link
 pub mod Dial
 pub mod MemDial
 pub mod Real
+pub mod Kinds
 pub mod TapeLaws

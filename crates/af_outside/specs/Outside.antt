@@ -1,5 +1,5 @@
 -- The outside that a script states: what its links and devices give, step by step, and how it answers the server's calls.
-use Rattle.std.specs.Prelude.{◌≡◌, ℕ, ◌≤◌, ◌<◌, ◌*◌, Bool, true, false, not, IsTrue, map, List, [], ◌∷◌, ◌++◌, length, take, drop, if◌then◌else◌, ◌==◌, ◌&&◌, is_some, slice_get, slice_set, replicate}
+use Rattle.std.specs.Prelude.{◌≡◌, ℕ, ◌-◌, ◌≤◌, ◌<◌, ◌*◌, ◌^◌, min, Bool, true, false, not, IsTrue, map, List, [], ◌∷◌, ◌++◌, length, take, drop, if◌then◌else◌, ◌==◌, ◌&&◌, is_some, option_map, slice_get, slice_set, replicate}
 use Rattle.std.specs.declared.option.Option.{Option}
 use Rattle.std.specs.declared.option.Option.TheVariants.{None, Some}
 use Rattle.af_sample.specs.declared.sample_type.SampleType.{SampleType}
@@ -9,7 +9,7 @@ use Rattle.af_phone.specs.Lines.{is_change}
 use Rattle.af_outside.specs.declared.happening.Happening.{Happening}
 use Rattle.af_outside.specs.declared.happening.Happening.TheVariants.{Woke, Read, Wrote, Closed, Captured, Emitted, Hooked}
 use Rattle.af_outside.specs.declared.happening.ReadGot.{ReadGot}
-use Rattle.af_outside.specs.declared.happening.ReadGot.TheVariants.{Given, NotYet}
+use Rattle.af_outside.specs.declared.happening.ReadGot.TheVariants.{Given, NotYet, Ended, Failed}
 use Rattle.af_outside.specs.declared.happening.Wake.{Wake}
 use Rattle.af_outside.specs.declared.happening.Wake.TheVariants as wake
 use Rattle.af_outside.specs.declared.script.DeviceSpec.{DeviceSpec}
@@ -17,9 +17,14 @@ use Rattle.af_outside.specs.declared.script.Step.{Step}
 use Rattle.af_outside.specs.declared.script.Step.TheVariants as step
 use Rattle.af_outside.specs.Told.{Log}
 
--- the far end of an open link: the bytes that it has still to give
+-- The far end of an open link: the bytes that it has still to give, whether it ends after them, how many bytes it takes
+-- still (None is every byte), and whether its next read and its next write are to fail.
 pub record Peer : Type 0 where
   pub gives : List ℕ
+  pub ends : Bool
+  pub takes : Option ℕ
+  pub fails_read : Bool
+  pub fails_write : Bool
 
 -- The far end of a device: its sample type, what the last tick states that it captures (silence where it states nothing),
 -- and whether its next capture, its next emit and the next hook of its line are to fail.
@@ -34,6 +39,10 @@ pub record Station : Type 0 where
 pub record Outside : Type 0 where
   pub peers : List (Option Peer)
   pub stations : List Station
+
+-- the peer of a link that was just opened: it has nothing to give, takes every byte, and nothing was stated of it
+abbrev pub fresh_peer : Peer
+fresh_peer = record { gives = []; ends = false; takes = None; fails_read = false; fails_write = false }
 
 -- a device that nothing was stated of
 abbrev pub station_of : SampleType → Station
@@ -69,31 +78,62 @@ with_station o d station = record o { stations = slice_set o.stations d station 
 
 -- a link that is open stays as it is
 abbrev pub opened_at : Outside → ℕ → Option Peer → Outside
-opened_at o k None = with_peer o k (Some (record { gives = [] }))
+opened_at o k None = with_peer o k (Some fresh_peer)
 opened_at o k (Some peer) = o
 
--- what is sent on a link that is not open is gone
-abbrev pub sent_at : Outside → ℕ → List ℕ → Option Peer → Outside
-sent_at o k bytes None = o
-sent_at o k bytes (Some peer) = with_peer o k (Some (record { gives = peer.gives ++ bytes }))
+-- what is stated of a link that is not open is gone
+abbrev pub adjusted : Outside → ℕ → (Peer → Peer) → Outside
+adjusted o k change = with_peer o k (option_map change (peer_at o k))
+
+-- these bytes are sent by a peer
+abbrev pub sent : List ℕ → Peer → Peer
+sent bytes peer = record peer { gives = peer.gives ++ bytes }
+
+-- a peer ends after what it gives
+abbrev pub ending : Peer → Peer
+ending peer = record peer { ends = true }
+
+-- from now on a peer takes so many bytes in all, or every byte
+abbrev pub taking : Option ℕ → Peer → Peer
+taking room peer = record peer { takes = room }
+
+-- the next read of a peer fails
+abbrev pub failing_read : Peer → Peer
+failing_read peer = record peer { fails_read = true }
+
+-- the next write to a peer fails
+abbrev pub failing_write : Peer → Peer
+failing_write peer = record peer { fails_write = true }
 
 -- the outside after a step
 abbrev pub stepped : Outside → Step → Outside
 stepped o (step.Open k) = opened_at o k (peer_at o k)
-stepped o (step.Send k bytes) = sent_at o k bytes (peer_at o k)
+stepped o (step.Send k bytes) = adjusted o k (sent bytes)
+stepped o (step.End k) = adjusted o k ending
+stepped o (step.Room k room) = adjusted o k (taking room)
 stepped o (step.Tick d n captured) = with_station o d (record (station_at o d) { states = captured })
 stepped o (step.Line d change) = o
+stepped o (step.FailRead k) = adjusted o k failing_read
+stepped o (step.FailWrite k) = adjusted o k failing_write
 stepped o (step.FailCapture d) = with_station o d (record (station_at o d) { fails_capture = true })
 stepped o (step.FailEmit d) = with_station o d (record (station_at o d) { fails_emit = true })
 stepped o (step.FailHook d) = with_station o d (record (station_at o d) { fails_hook = true })
 stepped o step.Idle = o
 
--- the wake of a step; opening a link that is open, and sending on one that is not, wake as Idle
+-- the wake of a step that is stated of a link: of one that is not open it is Idle
+abbrev pub wake_where_open : Outside → ℕ → Wake → Wake
+wake_where_open o k w = if is_some (peer_at o k) then w else wake.Idle
+
+-- the wake of a step; opening a link that is open wakes as Idle
 abbrev pub wake_of : Outside → Step → Wake
 wake_of o (step.Open k) = if is_some (peer_at o k) then wake.Idle else wake.Opened k
-wake_of o (step.Send k bytes) = if is_some (peer_at o k) then wake.Readable k else wake.Idle
+wake_of o (step.Send k bytes) = wake_where_open o k (wake.Readable k)
+wake_of o (step.End k) = wake_where_open o k (wake.Readable k)
+wake_of o (step.Room k room) = wake_where_open o k (wake.Writable k)
 wake_of o (step.Tick d n captured) = wake.Ticked d n
 wake_of o (step.Line d change) = wake.Line d change
+wake_of o (step.FailRead k) = wake.Idle
+wake_of o (step.FailWrite k) = wake.Idle
 wake_of o (step.FailCapture d) = wake.Idle
 wake_of o (step.FailEmit d) = wake.Idle
 wake_of o (step.FailHook d) = wake.Idle
@@ -120,12 +160,21 @@ abbrev pub IsCapture : ℕ → Option (List ℕ) → Type 0
 IsCapture size None = Unit {0}
 IsCapture size (Some bytes) = length bytes ≡ size
 
+-- a number of bytes that a link may be stated to take
+abbrev pub IsRoom : Option ℕ → Type 0
+IsRoom None = Unit {0}
+IsRoom (Some n) = n < 2 ^ 32
+
 -- a step that may stand in a script with these devices
 abbrev pub IsStep : List DeviceSpec → Step → Type 0
 IsStep config (step.Open k) = k < 32
 IsStep config (step.Send k bytes) = (k < 32) × (1 ≤ length bytes) × (length bytes ≤ 16384)
+IsStep config (step.End k) = k < 32
+IsStep config (step.Room k room) = (k < 32) × IsRoom room
 IsStep config (step.Tick d n captured) = (d < length config) × (1 ≤ n) × (n ≤ 4096) × IsCapture (n * width_at config d) captured
 IsStep config (step.Line d change) = IsTrue (line_at config d) × IsTrue (is_change change)
+IsStep config (step.FailRead k) = k < 32
+IsStep config (step.FailWrite k) = k < 32
 IsStep config (step.FailCapture d) = d < length config
 IsStep config (step.FailEmit d) = d < length config
 IsStep config (step.FailHook d) = IsTrue (line_at config d)
@@ -139,23 +188,47 @@ same_bytes [] (y ∷ ys) = false
 same_bytes (x ∷ xs) [] = false
 same_bytes (x ∷ xs) (y ∷ ys) = x == y && same_bytes xs ys
 
--- the bytes that a link has still to give
-abbrev pub gives_of : Option Peer → List ℕ
-gives_of None = []
-gives_of (Some peer) = peer.gives
+-- What a read gives that does not fail: the first bytes that are left, all or 16384 of them. Where none is left it is Ended
+-- or NotYet, as the peer ends or not.
+abbrev pub given_from : ReadGot → List ℕ → Peer → Option Peer
+given_from (Given bytes) [] peer = None
+given_from (Given bytes) (x ∷ xs) peer =
+    if same_bytes bytes (take 16384 (x ∷ xs)) then Some (record peer { gives = drop 16384 (x ∷ xs) }) else None
+given_from NotYet [] peer = if peer.ends then None else Some peer
+given_from NotYet (x ∷ xs) peer = None
+given_from Ended [] peer = if peer.ends then Some peer else None
+given_from Ended (x ∷ xs) peer = None
+given_from Failed xs peer = None
 
--- a read gives the first bytes that are left, all or 16384 of them, and NotYet exactly where none is left
-abbrev pub read_answered : Outside → ℕ → List ℕ → ReadGot → Option Outside
-read_answered o k [] NotYet = Some o
-read_answered o k [] (Given bytes) = None
-read_answered o k (x ∷ xs) NotYet = None
-read_answered o k (x ∷ xs) (Given bytes) =
-    if same_bytes bytes (take 16384 (x ∷ xs)) then Some (with_peer o k (Some (record { gives = drop 16384 (x ∷ xs) }))) else None
+-- what a read gives that fails: no bytes are moved, and the next one does not fail
+abbrev pub failed_from : ReadGot → Peer → Option Peer
+failed_from (Given bytes) peer = None
+failed_from NotYet peer = None
+failed_from Ended peer = None
+failed_from Failed peer = Some (record peer { fails_read = false })
 
--- a write takes all that is offered
-abbrev pub write_answered : Outside → ℕ → Option (List ℕ) → Option Outside
-write_answered o offered None = None
-write_answered o offered (Some bytes) = if length bytes == offered then Some o else None
+-- the peer after a read with this answer; a read fails exactly where that is stated, once
+abbrev pub read_from : ReadGot → Peer → Option Peer
+read_from got peer = if peer.fails_read then failed_from got peer else given_from got peer.gives peer
+
+-- how many bytes are taken of so many that are offered: as many as there is room for
+abbrev pub taken_of : ℕ → Option ℕ → ℕ
+taken_of offered None = offered
+taken_of offered (Some room) = min offered room
+
+-- the peer after a write that offered so many bytes, of which these were taken; a write fails exactly where that is stated,
+-- once, and moves no bytes
+abbrev pub written_to : ℕ → Option (List ℕ) → Peer → Option Peer
+written_to offered None peer = if peer.fails_write then Some (record peer { fails_write = false }) else None
+written_to offered (Some bytes) peer =
+    if not peer.fails_write && (length bytes == taken_of offered peer.takes)
+    then Some (record peer { takes = option_map (λ room. room - length bytes) peer.takes })
+    else None
+
+-- the link after a call; one that is not open answers as if it was just opened, and stays closed
+abbrev pub answered_by : (Peer → Option Peer) → Option Peer → Option (Option Peer)
+answered_by call None = option_map (λ peer. None) (call fresh_peer)
+answered_by call (Some peer) = option_map (λ peer. Some peer) (call peer)
 
 -- in each sample type the encoding of 0 is one byte, repeated
 abbrev pub silent_byte : SampleType → ℕ
@@ -192,8 +265,8 @@ hook_answered o d station true = if station.fails_hook then None else Some o
 -- the outside after a happening, where its answer is the one that the script states
 abbrev pub answered : Outside → Happening → Option Outside
 answered o (Woke w) = Some o
-answered o (Read k got) = read_answered o k (gives_of (peer_at o k)) got
-answered o (Wrote k offered took) = write_answered o offered took
+answered o (Read k got) = option_map (with_peer o k) (answered_by (read_from got) (peer_at o k))
+answered o (Wrote k offered took) = option_map (with_peer o k) (answered_by (written_to offered took) (peer_at o k))
 answered o (Closed k why) = Some (with_peer o k None)
 answered o (Captured d n got) = capture_answered o d (station_at o d) got
 answered o (Emitted d sound done) = emit_answered o d (station_at o d) done
@@ -211,17 +284,18 @@ replayed o (h ∷ log) = then_outside (answered o h) (λ o. replayed o log)
 -- Tapes
 
 -- what a tape is seen as: its devices, the steps that are left, its log where it tells it, the outside that it is, and how
--- often a device has failed
+-- often a link and a device have failed
 pub record TapeState : Type 0 where
   pub config : List DeviceSpec
   pub left : List Step
   pub log : Option Log
   pub outside : Outside
+  pub link_faults : ℕ
   pub device_faults : ℕ
 
 -- a tape as it is made
 abbrev pub fresh : List DeviceSpec → List Step → TapeState
-fresh config steps = record { config = config; left = steps; log = Some []; outside = outside_start config; device_faults = 0 }
+fresh config steps = record { config = config; left = steps; log = Some []; outside = outside_start config; link_faults = 0; device_faults = 0 }
 
 -- a step is taken exactly where one is left; the wake is that step's
 abbrev pub TakesStep : TapeState → List Step → Option Wake → TapeState → Type 0
@@ -241,5 +315,6 @@ Answered (Some before) o (Some after) o' = (part : Log) × (after ≡ before ++ 
 pub record TapeLeadsTo (old new : TapeState) : Type 0 where
   pub config : new.config ≡ old.config
   pub left : new.left ≡ old.left
+  pub link_faults : old.link_faults ≤ new.link_faults
   pub device_faults : old.device_faults ≤ new.device_faults
   pub answered : Answered old.log old.outside new.log new.outside

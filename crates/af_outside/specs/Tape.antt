@@ -1,6 +1,6 @@
 -- What a tape keeps in memory: the far ends of its links, each with room for all that the steps have still to send, and the
 -- stations of its devices, whose last ticks stay among its steps.
-use Rattle.std.specs.Prelude.{◌≡◌, ℕ, ◌≤◌, Bool, true, false, List, [], ◌∷◌, ◌++◌, length, drop, map, sum_by, if◌then◌else◌, ◌==◌, slice_get}
+use Rattle.std.specs.Prelude.{◌≡◌, ℕ, ◌≤◌, Bool, true, false, List, [], ◌∷◌, length, map, sum_by, if◌then◌else◌, ◌==◌, slice_get}
 use Rattle.std.specs.declared.option.Option.{Option}
 use Rattle.std.specs.declared.option.Option.TheVariants.{None, Some}
 use Rattle.std.specs.declared.result.Result.{Result}
@@ -8,8 +8,10 @@ use Rattle.std.specs.declared.result.Result.TheVariants.{Ok, Err}
 use Rattle.af_time.specs.declared.OutOfMemory.{OutOfMemory}
 use Rattle.af_sample.specs.declared.sample_type.SampleType.{SampleType}
 use Rattle.af_outside.specs.declared.happening.Happening.{Happening}
-use Rattle.af_outside.specs.declared.flow.Put.{Put}
-use Rattle.af_outside.specs.declared.flow.Put.TheVariants as put
+use Rattle.af_outside.specs.declared.world.LinkGot.{LinkGot}
+use Rattle.af_outside.specs.declared.world.LinkGot.TheVariants as got
+use Rattle.af_outside.specs.declared.world.LinkTook.{LinkTook}
+use Rattle.af_outside.specs.declared.world.LinkTook.TheVariants as took
 use Rattle.af_outside.specs.declared.script.Step.{Step}
 use Rattle.af_outside.specs.declared.script.Step.TheVariants as step
 use Rattle.af_outside.specs.declared.station.KeptStation.{KeptStation}
@@ -22,20 +24,10 @@ pub record KeptPeer : Type 0 where
   pub peer : Option Peer
   pub room : ℕ
 
--- the peer of a link that is open, with these bytes to give
-abbrev pub peer_where : Bool → List ℕ → Option Peer
-peer_where true bytes = Some (record { gives = bytes })
-peer_where false bytes = None
-
--- the peer when these bytes were sent to it
-abbrev pub peer_sent : List ℕ → Option Peer → Option Peer
-peer_sent bytes None = None
-peer_sent bytes (Some peer) = Some (record { gives = peer.gives ++ bytes })
-
--- the peer when it gave so many bytes, where it has as many
-abbrev pub peer_given : ℕ → Option Peer → Option Peer
-peer_given n None = None
-peer_given n (Some peer) = Some (record { gives = drop n peer.gives })
+-- a peer that is there where the link is open
+abbrev pub peer_where : Bool → Peer → Option Peer
+peer_where true peer = Some peer
+peer_where false peer = None
 
 abbrev pub peers_of : List KeptPeer → List (Option Peer)
 peers_of far_ends = map (λ far_end. far_end.peer) far_ends
@@ -49,8 +41,12 @@ abbrev pub stated_by : Option Step → Option (List ℕ)
 stated_by None = None
 stated_by (Some (step.Open k)) = None
 stated_by (Some (step.Send k bytes)) = None
+stated_by (Some (step.End k)) = None
+stated_by (Some (step.Room k room)) = None
 stated_by (Some (step.Tick d n captured)) = captured
 stated_by (Some (step.Line d change)) = None
+stated_by (Some (step.FailRead k)) = None
+stated_by (Some (step.FailWrite k)) = None
 stated_by (Some (step.FailCapture d)) = None
 stated_by (Some (step.FailEmit d)) = None
 stated_by (Some (step.FailHook d)) = None
@@ -78,17 +74,33 @@ kept_at steps kept = record {
 abbrev pub stations_of : List Step → List KeptStation → List Station
 stations_of steps kept = map (kept_at steps) kept
 
--- the count of faults after an answer
-abbrev pub faults_after : ℕ → Put → ℕ
-faults_after faults put.Done = faults
-faults_after faults put.Failed = counted faults
+-- whether a read failed
+abbrev pub read_failed : LinkGot → Bool
+read_failed (got.Bytes n) = false
+read_failed got.NotYet = false
+read_failed got.Ended = false
+read_failed got.Failed = true
+
+-- whether a write failed
+abbrev pub write_failed : LinkTook → Bool
+write_failed (took.Took n) = false
+write_failed took.Failed = true
+
+-- the count of faults after a call that failed, or did not
+abbrev pub faults_after : ℕ → Bool → ℕ
+faults_after faults false = faults
+faults_after faults true = counted faults
 
 -- how many bytes a step sends on a link
 abbrev pub sent_by : ℕ → Step → ℕ
 sent_by k (step.Open j) = 0
 sent_by k (step.Send j bytes) = if j == k then length bytes else 0
+sent_by k (step.End j) = 0
+sent_by k (step.Room j room) = 0
 sent_by k (step.Tick d n captured) = 0
 sent_by k (step.Line d change) = 0
+sent_by k (step.FailRead j) = 0
+sent_by k (step.FailWrite j) = 0
 sent_by k (step.FailCapture d) = 0
 sent_by k (step.FailEmit d) = 0
 sent_by k (step.FailHook d) = 0

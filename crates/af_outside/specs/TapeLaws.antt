@@ -30,13 +30,14 @@ answered_trans (Some x) (Some y) (Some z) a b c p q = (
 
 -- no call leads anywhere by itself
 pub TapeLeadsTo-refl : (a : TapeState) → TapeLeadsTo a a
-TapeLeadsTo-refl a = record { config = refl; left = refl; device_faults = le_refl a.device_faults; answered = answered_refl a.log a.outside }
+TapeLeadsTo-refl a = record { config = refl; left = refl; link_faults = le_refl a.link_faults; device_faults = le_refl a.device_faults; answered = answered_refl a.log a.outside }
 
 -- calls after calls are calls
 pub TapeLeadsTo-trans : (a b c : TapeState) → TapeLeadsTo a b → TapeLeadsTo b c → TapeLeadsTo a c
 TapeLeadsTo-trans a b c p q = record {
   config = q.config ∙ p.config;
   left = q.left ∙ p.left;
+  link_faults = le_trans p.link_faults q.link_faults;
   device_faults = le_trans p.device_faults q.device_faults;
   answered = answered_trans a.log b.log c.log a.outside b.outside c.outside p.answered q.answered;
 }

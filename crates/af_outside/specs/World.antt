@@ -1,5 +1,5 @@
 -- What the answers of a world are in its log.
-use Rattle.std.specs.Prelude.{◌≡◌, ℕ, ◌≤◌, Bool, true, false, List, take}
+use Rattle.std.specs.Prelude.{ℕ, ◌≤◌, Bool, true, false, List, take}
 use Rattle.std.specs.declared.option.Option.{Option}
 use Rattle.std.specs.declared.option.Option.TheVariants.{None, Some}
 use Rattle.af_outside.specs.declared.happening.ReadGot.{ReadGot}
@@ -15,14 +15,13 @@ use Rattle.af_outside.specs.declared.world.LinkTook.TheVariants as took
 abbrev pub got_of : LinkGot → List ℕ → ReadGot
 got_of (got.Bytes n) into = happened.Given (take n into)
 got_of got.NotYet into = happened.NotYet
-
--- how many bytes a write took
-abbrev pub taken_count : LinkTook → ℕ
-taken_count (took.Took n) = n
+got_of got.Ended into = happened.Ended
+got_of got.Failed into = happened.Failed
 
 -- what a write took, of the piece that was offered
 abbrev pub took_of : LinkTook → List ℕ → Option (List ℕ)
 took_of (took.Took n) piece = Some (take n piece)
+took_of took.Failed piece = None
 
 -- what a capture gave, of the slice that was captured into
 abbrev pub captured_of : Put → List ℕ → Option (List ℕ)
@@ -37,7 +36,10 @@ is_done put.Failed = false
 abbrev pub GotFits : LinkGot → ℕ → Type 0
 GotFits (got.Bytes n) room = (1 ≤ n) × (n ≤ room)
 GotFits got.NotYet room = Unit {0}
+GotFits got.Ended room = Unit {0}
+GotFits got.Failed room = Unit {0}
 
--- a write takes all that was offered
+-- a write takes at most what was offered
 abbrev pub TookFits : LinkTook → ℕ → Type 0
-TookFits (took.Took n) offered = n ≡ offered
+TookFits (took.Took n) offered = n ≤ offered
+TookFits took.Failed offered = Unit {0}

@@ -9,6 +9,8 @@ pub enum Wake {
     Opened(u8),
     /// A link may have something to read.
     Readable(u8),
+    /// A link may take something again.
+    Writable(u8),
     /// So many sample periods of a device went by.
     Ticked(u8, u32),
     /// The line of a device changes.
@@ -24,6 +26,10 @@ pub enum Why {
     BadSetup,
     /// A front came to be read that is no request.
     Malformed,
+    /// A read met the end of what it gives.
+    Ended,
+    /// A read of it, or a write to it, failed.
+    LinkFault,
     /// An event met more bytes to send than there may be.
     Overrun,
 }
@@ -33,6 +39,8 @@ pub enum Why {
 pub enum ReadGot {
     Given(Bytes),
     NotYet,
+    Ended,
+    Failed,
 }
 
 /// A wake, or a call of the server with what the outside answered.

@@ -35,10 +35,18 @@ pub enum Step {
     Open(u8),
     /// These bytes are added to what a link gives.
     Send(u8, Bytes),
+    /// A link ends after the bytes that it gives.
+    End(u8),
+    /// From now on a link takes so many bytes in all, or every byte.
+    Room(u8, Option<u32>),
     /// So many sample periods of a device go by. These bytes are what it captures, or else silence.
     Tick(u8, u32, Option<Bytes>),
     /// The line of a device changes.
     Line(u8, LineChange),
+    /// The next read of a link fails.
+    FailRead(u8),
+    /// The next write to a link fails.
+    FailWrite(u8),
     /// The next capture of a device fails.
     FailCapture(u8),
     /// The next emit of a device fails.

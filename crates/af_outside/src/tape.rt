@@ -1,24 +1,26 @@
 // A world in memory: it plays the steps of a script, answers as the script states, and keeps a log.
-ghost use Rattle.std.specs.Prelude.{◌≡◌, ◌≤◌, ◌<◌, ◌∷◌, [], List, length, replicate, slice_get, sum_by, is_some, IfOk, IfSome};
-ghost use Rattle.std.specs.declared.option.Option.TheVariants.{None, Some};
-ghost use Rattle.af_outside.specs.declared.happening.Happening.TheVariants.{Read, Wrote, Closed, Captured, Emitted, Hooked};
+ghost use Rattle.std.specs.Prelude.{◌≡◌, ◌≤◌, ◌<◌, ◌∷◌, [], List, length, not, slice_get, is_some, IfOk, IfSome};
+ghost use Rattle.std.specs.declared.option.Option.TheVariants.{Some};
+ghost use Rattle.af_outside.specs.declared.happening.Happening.TheVariants.{Read, Wrote, Captured, Emitted, Hooked};
 ghost use Rattle.af_outside.specs.declared.script.Step.{Step};
 ghost use Rattle.af_outside.specs.Told.{Grew, Rose};
-ghost use Rattle.af_outside.specs.World.{got_of, captured_of, is_done, GotFits};
+ghost use Rattle.af_outside.specs.World.{got_of, took_of, captured_of, is_done, GotFits, TookFits};
 ghost use Rattle.af_outside.specs.Outside.{answered, stepped, wake_of, fresh, Station, TakesStep, TapeLeadsTo};
-ghost use Rattle.af_outside.specs.Tape.{HasRoom, peers_of, outside_of, stations_of, faults_after, sent_by};
+ghost use Rattle.af_outside.specs.Tape.{HasRoom, outside_of, stations_of, faults_after, read_failed, write_failed};
 
 use crate::far_end::FarEnd;
 use crate::logbook::Logbook;
 use crate::station::{self, KeptStation, new_stations};
-use crate::{Bytes, Config, Happening, LinkGot, LinkTook, Put, ReadGot, Step, Wake, Why, World};
+use crate::{
+    Bytes, Config, Happening, LinkGot, LinkTook, Put, ReadGot, Step, Wake, Why, World, links,
+};
 use af_time::OutOfMemory;
 use std::alloc::Global;
 use std::marker::Model;
 
-/// A world that plays the steps of a script. Its links give what the script sends on them, take all that is offered and
-/// never fail. Its devices capture what the script states, or silence, their lines take each hook, and they fail where it says
-/// so: each is a counted fault, and the count stands still at 2^64 - 1.
+/// A world that plays the steps of a script. Its links give what the script sends on them and end where it says so, and take
+/// as many bytes as it states, or all. Its devices capture what the script states, or silence, and their lines take each hook.
+/// Links and devices fail where it says so: each is a counted fault, and the counts stand still at 2^64 - 1.
 #[derive(Drop)]
 pub struct Tape {
     alloc: Global,
@@ -28,6 +30,7 @@ pub struct Tape {
     logbook: Logbook,
     far_ends: Vec<FarEnd>,
     stations: Vec<KeptStation>,
+    link_faults: u64,
     device_faults: u64,
 }
 
@@ -43,6 +46,7 @@ impl Model for Tape {
       left = drop a.taken a.steps.items;
       log = a.logbook;
       outside = outside_of a.far_ends.items (stations_of a.steps.items a.stations.items);
+      link_faults = a.link_faults;
       device_faults = a.device_faults;
     } };
 
@@ -55,7 +59,7 @@ impl Tape {
     pub fn new(alloc: Global, config: &Config, steps: &[Step]) -> Result<Tape, OutOfMemory>
         ensures { IfOk result (λ tape. tape ≡ fresh config.now.items steps.now) }
     {
-        let far_ends = closed_links(alloc, steps)?;
+        let far_ends = links::closed_links(alloc, steps)?;
         let stations = new_stations(alloc, config)?;
         Ok(Tape {
             alloc,
@@ -65,6 +69,7 @@ impl Tape {
             logbook: Logbook::new(alloc),
             far_ends,
             stations,
+            link_faults: 0,
             device_faults: 0,
         })
     }
@@ -94,54 +99,22 @@ impl Tape {
     }
 }
 
-// How many bytes a step sends on a link.
-fn bytes_sent(step: &Step, link: u8) -> usize
-    ensures { result ≡ sent_by link step.now }
-{
-    match step {
-        Step::Send(to, bytes) if *to == link => bytes.as_slice().len(),
-        _ => 0,
-    }
-}
-
-// How many bytes the steps send on a link, where memory may hold so many.
-fn all_bytes_sent(steps: &[Step], link: u8) -> Result<usize, OutOfMemory>
-    ensures { IfOk result (λ count. count ≡ sum_by (sent_by link) steps.now) }
-{
-    let mut count = 0usize;
-    for step in steps {
-        count = count
-            .checked_add(bytes_sent(step, link))
-            .ok_or(OutOfMemory)?;
-    }
-    Ok(count)
-}
-
-// 32 links that are not open, with memory for all that the steps send.
-fn closed_links(alloc: Global, steps: &[Step]) -> Result<Vec<FarEnd>, OutOfMemory>
-    ensures peers { IfOk result (λ far_ends. peers_of far_ends.items ≡ replicate 32 None) }
-    ensures room { IfOk result (λ far_ends. HasRoom far_ends.items steps.now) }
-{
-    let mut far_ends = Vec::with_capacity(alloc, 32)?;
-    for link in 0..32u8 {
-        let room = all_bytes_sent(steps, link)?;
-        far_ends.push(FarEnd::new(alloc, room)?)?;
-    }
-    Ok(far_ends)
-}
-
 fn copied_step(alloc: Global, step: &Step) -> Result<Step, OutOfMemory>
     ensures { IfOk result (λ copy. copy ≡ step.now) }
 {
     let copy = match step {
         Step::Open(link) => Step::Open(*link),
         Step::Send(link, bytes) => Step::Send(*link, Bytes::copied(alloc, bytes.as_slice())?),
+        Step::End(link) => Step::End(*link),
+        Step::Room(link, room) => Step::Room(*link, *room),
         Step::Tick(device, frames, Some(bytes)) => {
             let captured = Bytes::copied(alloc, bytes.as_slice())?;
             Step::Tick(*device, *frames, Some(captured))
         }
         Step::Tick(device, frames, None) => Step::Tick(*device, *frames, None),
         Step::Line(device, change) => Step::Line(*device, *change),
+        Step::FailRead(link) => Step::FailRead(*link),
+        Step::FailWrite(link) => Step::FailWrite(*link),
         Step::FailCapture(device) => Step::FailCapture(*device),
         Step::FailEmit(device) => Step::FailEmit(*device),
         Step::FailHook(device) => Step::FailHook(*device),
@@ -160,40 +133,6 @@ fn copied_steps(alloc: Global, steps: &[Step]) -> Result<Vec<Step>, OutOfMemory>
     Ok(copy)
 }
 
-// Opens a link, where it is not open yet.
-fn open(far_ends: &mut [FarEnd], link: u8) -> Wake
-    ensures wake { result ≡ wake_of (outside_of far_ends.old []) (Step.Open link) }
-    ensures outside { (stations : List Station)
-        → outside_of far_ends.new stations ≡ stepped (outside_of far_ends.old stations) (Step.Open link) }
-    ensures room { (steps : List Step) → HasRoom far_ends.old (Step.Open link ∷ steps) → HasRoom far_ends.new steps }
-{
-    let place = link as usize;
-    if place < far_ends.len() {
-        if far_ends[place].is_open() {
-            return Wake::Idle;
-        }
-        far_ends[place].open();
-    }
-    Wake::Opened(link)
-}
-
-// Sends bytes on a link, where it is open.
-fn send(far_ends: &mut [FarEnd], link: u8, bytes: &[u8]) -> Wake
-    requires { HasRoom far_ends.old (Step.Send link bytes.now ∷ []) }
-    ensures wake { result ≡ wake_of (outside_of far_ends.old []) (Step.Send link bytes.now) }
-    ensures outside { (stations : List Station)
-        → outside_of far_ends.new stations ≡ stepped (outside_of far_ends.old stations) (Step.Send link bytes.now) }
-    ensures room { (steps : List Step)
-        → HasRoom far_ends.old (Step.Send link bytes.now ∷ steps) → HasRoom far_ends.new steps }
-{
-    let place = link as usize;
-    if place >= far_ends.len() || !far_ends[place].is_open() {
-        return Wake::Idle;
-    }
-    far_ends[place].send(bytes);
-    Wake::Readable(link)
-}
-
 // What a step with a number does to the links and devices, and its wake.
 fn take_step(
     far_ends: &mut [FarEnd],
@@ -209,13 +148,17 @@ fn take_step(
     ensures room { (steps : List Step) → HasRoom far_ends.old (step.now ∷ steps) → HasRoom far_ends.new steps }
 {
     match step {
-        Step::Open(link) => open(far_ends, *link),
-        Step::Send(link, bytes) => send(far_ends, *link, bytes.as_slice()),
+        Step::Open(link) => links::open(far_ends, *link),
+        Step::Send(link, bytes) => links::send(far_ends, *link, bytes.as_slice()),
+        Step::End(link) => links::end(far_ends, *link),
+        Step::Room(link, room) => links::take(far_ends, *link, *room),
         Step::Tick(device, frames, _) => {
             station::tick(stations, *device, number);
             Wake::Ticked(*device, *frames)
         }
         Step::Line(device, change) => Wake::Line(*device, *change),
+        Step::FailRead(link) => links::fail_read(far_ends, *link),
+        Step::FailWrite(link) => links::fail_write(far_ends, *link),
         Step::FailCapture(device) => {
             station::fail_capture(stations, *device);
             Wake::Idle
@@ -232,37 +175,6 @@ fn take_step(
     }
 }
 
-// Gives the first bytes that are left for a link.
-fn give(far_ends: &mut [FarEnd], link: u8, into: &mut [u8]) -> LinkGot
-    requires { length into.old ≡ 16384 }
-    ensures answered { (stations : List Station)
-        → answered (outside_of far_ends.old stations) (Read link (got_of result into.new))
-        ≡ Some (outside_of far_ends.new stations) }
-    ensures bound { GotFits result (length into.new) }
-    ensures room { (steps : List Step) → HasRoom far_ends.old steps → HasRoom far_ends.new steps }
-{
-    let place = link as usize;
-    if place >= far_ends.len() {
-        return LinkGot::NotYet;
-    }
-    match far_ends[place].give(into) {
-        0 => LinkGot::NotYet,
-        count => LinkGot::Bytes(count),
-    }
-}
-
-// The link is not open from now on.
-fn close(far_ends: &mut [FarEnd], link: u8, why: Why)
-    ensures answered { (stations : List Station)
-        → answered (outside_of far_ends.old stations) (Closed link why) ≡ Some (outside_of far_ends.new stations) }
-    ensures room { (steps : List Step) → HasRoom far_ends.old steps → HasRoom far_ends.new steps }
-{
-    let place = link as usize;
-    if place < far_ends.len() {
-        far_ends[place].close();
-    }
-}
-
 // What a read of a link did, of the slice that was read into.
 fn read_of(alloc: Global, link: u8, got: LinkGot, into: &[u8]) -> Result<Happening, OutOfMemory>
     requires { GotFits got (length into.now) }
@@ -271,19 +183,26 @@ fn read_of(alloc: Global, link: u8, got: LinkGot, into: &[u8]) -> Result<Happeni
     let got = match got {
         LinkGot::Bytes(count) => ReadGot::Given(Bytes::copied(alloc, &into[..count])?),
         LinkGot::NotYet => ReadGot::NotYet,
+        LinkGot::Ended => ReadGot::Ended,
+        LinkGot::Failed => ReadGot::Failed,
     };
     Ok(Happening::Read { link, got })
 }
 
-// What a write to a link did, which took all.
-fn write_of(alloc: Global, link: u8, piece: &[u8]) -> Result<Happening, OutOfMemory>
-    requires { length piece.now ≤ 65536 }
-    ensures { IfOk result (λ happening. happening ≡ Wrote link (length piece.now) (Some piece.now)) }
+// What a write to a link did, of the piece that was offered.
+fn write_of(alloc: Global, link: u8, took: LinkTook, piece: &[u8]) -> Result<Happening, OutOfMemory>
+    requires bound { length piece.now ≤ 65536 }
+    requires fits { TookFits took (length piece.now) }
+    ensures { IfOk result (λ happening. happening ≡ Wrote link (length piece.now) (took_of took piece.now)) }
 {
+    let taken = match took {
+        LinkTook::Took(count) => Some(Bytes::copied(alloc, &piece[..count])?),
+        LinkTook::Failed => None,
+    };
     Ok(Happening::Wrote {
         link,
         offered: piece.len() as u32,
-        took: Some(Bytes::copied(alloc, piece)?),
+        took: taken,
     })
 }
 
@@ -330,23 +249,23 @@ fn hook_of(device: u8, off: bool, put: Put) -> Happening
     }
 }
 
-// The count of faults after an answer, which stands still at the end of its type.
-fn faults_after(faults: u64, put: Put) -> u64
-    ensures { result ≡ faults_after faults put }
+// The count of faults after a call, which stands still at the end of its type.
+fn faults_after(faults: u64, failed: bool) -> u64
+    ensures { result ≡ faults_after faults failed }
 {
-    match put {
-        Put::Done => faults,
-        Put::Failed => faults.saturating_add(1),
+    if failed {
+        faults.saturating_add(1)
+    } else {
+        faults
     }
 }
 
 impl World for Tape {
-    ghost use Rattle.std.proofs.Math.Nat.{le_refl};
     ghost use Rattle.af_outside.specs.TapeLaws.{TapeLeadsTo-refl, TapeLeadsTo-trans};
 
     ghost log = { λ tape. tape.log };
 
-    ghost link_faults = { λ _. 0 };
+    ghost link_faults = { λ tape. tape.link_faults };
 
     ghost device_faults = { λ tape. tape.device_faults };
 
@@ -356,7 +275,7 @@ impl World for Tape {
 
     ghost leads_on = { TapeLeadsTo-trans };
 
-    ghost link_faults_stay = { λ _ _ _. le_refl 0 };
+    ghost link_faults_stay = { λ _ _ leads. leads.link_faults };
 
     ghost device_faults_stay = { λ _ _ leads. leads.device_faults };
 
@@ -364,19 +283,49 @@ impl World for Tape {
         self.logbook.note(Ok(Happening::Woke(wake)));
     }
 
-    fn read(&mut self, link: u8, into: &mut [u8]) -> LinkGot {
-        let got = give(&mut self.far_ends, link, into);
+    fn read(&mut self, link: u8, into: &mut [u8]) -> LinkGot
+        requires { length into.old ≡ 16384 }
+        ensures log { Grew self.old.log (Read link (got_of result into.new) ∷ []) self.new.log }
+        ensures bound { GotFits result (length into.new) }
+        ensures cause { result ≡ LinkGot.Failed → Rose self.old.link_faults self.new.link_faults }
+        ensures leads { TapeLeadsTo self.old self.new }
+        ensures answered { answered self.old.outside (Read link (got_of result into.new)) ≡ Some self.new.outside }
+        ensures faults { self.new.link_faults ≡ faults_after self.old.link_faults (read_failed result) }
+        ensures rest { self.new ≡ record self.old {
+          log = self.new.log;
+          outside = self.new.outside;
+          link_faults = self.new.link_faults;
+        } }
+    {
+        let got = links::read(&mut self.far_ends, link, into);
+        self.link_faults = faults_after(self.link_faults, got == LinkGot::Failed);
         self.logbook.note(read_of(self.alloc, link, got, into));
         got
     }
 
-    fn write(&mut self, link: u8, piece: &[u8]) -> LinkTook {
-        self.logbook.note(write_of(self.alloc, link, piece));
-        LinkTook::Took(piece.len())
+    fn write(&mut self, link: u8, piece: &[u8]) -> LinkTook
+        requires some { 0 < length piece.now }
+        requires bound { length piece.now ≤ 65536 }
+        ensures log { Grew self.old.log (Wrote link (length piece.now) (took_of result piece.now) ∷ []) self.new.log }
+        ensures bound { TookFits result (length piece.now) }
+        ensures cause { result ≡ LinkTook.Failed → Rose self.old.link_faults self.new.link_faults }
+        ensures leads { TapeLeadsTo self.old self.new }
+        ensures answered { answered self.old.outside (Wrote link (length piece.now) (took_of result piece.now)) ≡ Some self.new.outside }
+        ensures faults { self.new.link_faults ≡ faults_after self.old.link_faults (write_failed result) }
+        ensures rest { self.new ≡ record self.old {
+          log = self.new.log;
+          outside = self.new.outside;
+          link_faults = self.new.link_faults;
+        } }
+    {
+        let took = links::write(&mut self.far_ends, link, piece);
+        self.link_faults = faults_after(self.link_faults, took == LinkTook::Failed);
+        self.logbook.note(write_of(self.alloc, link, took, piece));
+        took
     }
 
     fn close(&mut self, link: u8, why: Why) {
-        close(&mut self.far_ends, link, why);
+        links::close(&mut self.far_ends, link, why);
         self.logbook.note(Ok(Happening::Closed { link, why }));
     }
 
@@ -386,7 +335,7 @@ impl World for Tape {
         ensures cause { result ≡ Put.Failed → Rose self.old.device_faults self.new.device_faults }
         ensures leads { TapeLeadsTo self.old self.new }
         ensures answered { answered self.old.outside (Captured device frames (captured_of result into.new)) ≡ Some self.new.outside }
-        ensures faults { self.new.device_faults ≡ faults_after self.old.device_faults result }
+        ensures faults { self.new.device_faults ≡ faults_after self.old.device_faults (not (is_done result)) }
         ensures rest { self.new ≡ record self.old {
           log = self.new.log;
           outside = self.new.outside;
@@ -394,7 +343,7 @@ impl World for Tape {
         } }
     {
         let put = station::capture(&mut self.stations, &self.steps, device, into);
-        self.device_faults = faults_after(self.device_faults, put);
+        self.device_faults = faults_after(self.device_faults, put == Put::Failed);
         self.logbook
             .note(capture_of(self.alloc, device, frames, put, into));
         put
@@ -406,7 +355,7 @@ impl World for Tape {
         ensures cause { result ≡ Put.Failed → Rose self.old.device_faults self.new.device_faults }
         ensures leads { TapeLeadsTo self.old self.new }
         ensures answered { answered self.old.outside (Emitted device sound.now (is_done result)) ≡ Some self.new.outside }
-        ensures faults { self.new.device_faults ≡ faults_after self.old.device_faults result }
+        ensures faults { self.new.device_faults ≡ faults_after self.old.device_faults (not (is_done result)) }
         ensures rest { self.new ≡ record self.old {
           log = self.new.log;
           outside = self.new.outside;
@@ -414,7 +363,7 @@ impl World for Tape {
         } }
     {
         let put = station::emit(&mut self.stations, device);
-        self.device_faults = faults_after(self.device_faults, put);
+        self.device_faults = faults_after(self.device_faults, put == Put::Failed);
         self.logbook.note(emit_of(self.alloc, device, sound, put));
         put
     }
@@ -424,7 +373,7 @@ impl World for Tape {
         ensures cause { result ≡ Put.Failed → Rose self.old.device_faults self.new.device_faults }
         ensures leads { TapeLeadsTo self.old self.new }
         ensures answered { answered self.old.outside (Hooked device off (is_done result)) ≡ Some self.new.outside }
-        ensures faults { self.new.device_faults ≡ faults_after self.old.device_faults result }
+        ensures faults { self.new.device_faults ≡ faults_after self.old.device_faults (not (is_done result)) }
         ensures rest { self.new ≡ record self.old {
           log = self.new.log;
           outside = self.new.outside;
@@ -432,7 +381,7 @@ impl World for Tape {
         } }
     {
         let put = station::hook(&mut self.stations, device);
-        self.device_faults = faults_after(self.device_faults, put);
+        self.device_faults = faults_after(self.device_faults, put == Put::Failed);
         self.logbook.note(Ok(hook_of(device, off, put)));
         put
     }

@@ -15,6 +15,8 @@ fn write_line(text: &mut String, happening: &Happening) -> Result<(), AllocError
         Happening::Read { link, got } => match got {
             ReadGot::Given(bytes) => writeln!(text, "read {link} {:?}", bytes.as_slice()),
             ReadGot::NotYet => writeln!(text, "read {link} none"),
+            ReadGot::Ended => writeln!(text, "read {link} ended"),
+            ReadGot::Failed => writeln!(text, "read {link} failed"),
         },
         Happening::Wrote {
             link,
@@ -55,7 +57,7 @@ fn lines_of(alloc: Global, log: &[Happening]) -> Result<String, AllocError> {
 enum Act {
     Step,
     Read(u8),
-    Write(u8),
+    Write(u8, usize),
     Close(u8),
     Capture(u8, usize),
     Emit(u8),
@@ -72,8 +74,11 @@ fn carry_out(tape: &mut Tape, act: Act) {
             let mut into = [0u8; 16384];
             tape.read(link, &mut into);
         }
-        Act::Write(link) => {
-            tape.write(link, &[9, 8]);
+        Act::Write(link, count) => {
+            let piece = &[9, 8, 7, 6][..count.min(4)];
+            if !piece.is_empty() {
+                tape.write(link, piece);
+            }
         }
         Act::Close(link) => tape.close(link, Why::Malformed),
         Act::Capture(device, count) => {
@@ -122,7 +127,7 @@ fn a_tape_plays_a_script(rt: HostRuntime) -> Result<(), Fail> {
         Act::Step,
         Act::Read(3),
         Act::Read(3),
-        Act::Write(3),
+        Act::Write(3, 2),
         Act::Step,
         Act::Emit(0),
         Act::Step,
@@ -154,6 +159,180 @@ fn a_tape_plays_a_script(rt: HostRuntime) -> Result<(), Fail> {
                read 3 none\n\
                woke Idle\n\
                woke Stop\n";
+    assert!(rt; tape.tells());
+    assert_eq!(rt; lines_of(alloc, tape.log())?.as_str(), log);
+    Ok(())
+}
+
+#[test]
+fn a_link_ends_after_its_bytes_and_fails_once(rt: HostRuntime) -> Result<(), Fail> {
+    let alloc = rt.alloc();
+    let mut config = Config::new();
+    config.push(DeviceSpec::default());
+    let steps = vec![in alloc;
+        Step::Open(2),
+        Step::Send(2, Bytes::copied(alloc, &[1, 2])?),
+        Step::End(2),
+        Step::FailRead(2),
+        Step::Send(2, Bytes::copied(alloc, &[3])?),
+        Step::FailRead(2),
+        Step::Open(2),
+        Step::End(4),
+    ]?;
+    let mut tape = Tape::new(alloc, &config, steps.as_slice())?;
+    // a failed read moves no byte; the end comes after the last byte, and again after a byte that is sent later
+    let acts = [
+        Act::Step,
+        Act::Step,
+        Act::Step,
+        Act::Step,
+        Act::Read(2),
+        Act::Read(2),
+        Act::Read(2),
+        Act::Step,
+        Act::Read(2),
+        Act::Read(2),
+        Act::Step,
+        Act::Step,
+        Act::Read(2),
+        Act::Read(2),
+        Act::Step,
+        Act::Read(4),
+    ];
+    for next in acts {
+        carry_out(&mut tape, next);
+    }
+    let log = "woke Opened(2)\n\
+               woke Readable(2)\n\
+               woke Readable(2)\n\
+               woke Idle\n\
+               read 2 failed\n\
+               read 2 [1, 2]\n\
+               read 2 ended\n\
+               woke Readable(2)\n\
+               read 2 [3]\n\
+               read 2 ended\n\
+               woke Idle\n\
+               woke Idle\n\
+               read 2 failed\n\
+               read 2 ended\n\
+               woke Idle\n\
+               read 4 none\n";
+    assert!(rt; tape.tells());
+    assert_eq!(rt; lines_of(alloc, tape.log())?.as_str(), log);
+    Ok(())
+}
+
+#[test]
+fn a_link_takes_what_it_has_room_for_and_fails_once(rt: HostRuntime) -> Result<(), Fail> {
+    let alloc = rt.alloc();
+    let mut config = Config::new();
+    config.push(DeviceSpec::default());
+    let steps = vec![in alloc;
+        Step::Open(5),
+        Step::Room(5, Some(3)),
+        Step::FailWrite(5),
+        Step::FailWrite(5),
+        Step::Room(5, Some(1)),
+        Step::Room(5, None),
+    ]?;
+    let mut tape = Tape::new(alloc, &config, steps.as_slice())?;
+    // room is counted from its step on, whatever was taken before; a failed write takes none of it
+    let acts = [
+        Act::Step,
+        Act::Write(5, 2),
+        Act::Step,
+        Act::Write(5, 2),
+        Act::Step,
+        Act::Step,
+        Act::Write(5, 2),
+        Act::Write(5, 2),
+        Act::Write(5, 2),
+        Act::Step,
+        Act::Write(5, 4),
+        Act::Write(5, 1),
+        Act::Step,
+        Act::Write(5, 4),
+        Act::Write(40, 2),
+    ];
+    for next in acts {
+        carry_out(&mut tape, next);
+    }
+    let log = "woke Opened(5)\n\
+               wrote 5 2 [9, 8]\n\
+               woke Writable(5)\n\
+               wrote 5 2 [9, 8]\n\
+               woke Idle\n\
+               woke Idle\n\
+               wrote 5 2 failed\n\
+               wrote 5 2 [9]\n\
+               wrote 5 2 []\n\
+               woke Writable(5)\n\
+               wrote 5 4 [9]\n\
+               wrote 5 1 []\n\
+               woke Writable(5)\n\
+               wrote 5 4 [9, 8, 7, 6]\n\
+               wrote 40 2 [9, 8]\n";
+    assert!(rt; tape.tells());
+    assert_eq!(rt; lines_of(alloc, tape.log())?.as_str(), log);
+    Ok(())
+}
+
+#[test]
+fn a_link_that_is_opened_again_begins_anew(rt: HostRuntime) -> Result<(), Fail> {
+    let alloc = rt.alloc();
+    let mut config = Config::new();
+    config.push(DeviceSpec::default());
+    let steps = vec![in alloc;
+        Step::Open(0),
+        Step::Send(0, Bytes::copied(alloc, &[1])?),
+        Step::End(0),
+        Step::Room(0, Some(0)),
+        Step::FailRead(0),
+        Step::FailWrite(0),
+        Step::End(0),
+        Step::Room(0, None),
+        Step::FailRead(0),
+        Step::FailWrite(0),
+        Step::Open(0),
+    ]?;
+    let mut tape = Tape::new(alloc, &config, steps.as_slice())?;
+    // what is stated of a link that is not open is idle, and gone
+    let acts = [
+        Act::Step,
+        Act::Step,
+        Act::Step,
+        Act::Step,
+        Act::Step,
+        Act::Step,
+        Act::Close(0),
+        Act::Read(0),
+        Act::Step,
+        Act::Step,
+        Act::Step,
+        Act::Step,
+        Act::Step,
+        Act::Read(0),
+        Act::Write(0, 3),
+    ];
+    for next in acts {
+        carry_out(&mut tape, next);
+    }
+    let log = "woke Opened(0)\n\
+               woke Readable(0)\n\
+               woke Readable(0)\n\
+               woke Writable(0)\n\
+               woke Idle\n\
+               woke Idle\n\
+               closed 0 Malformed\n\
+               read 0 none\n\
+               woke Idle\n\
+               woke Idle\n\
+               woke Idle\n\
+               woke Idle\n\
+               woke Opened(0)\n\
+               read 0 none\n\
+               wrote 0 3 [9, 8, 7]\n";
     assert!(rt; tape.tells());
     assert_eq!(rt; lines_of(alloc, tape.log())?.as_str(), log);
     Ok(())

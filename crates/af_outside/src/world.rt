@@ -7,17 +7,20 @@ ghost use Rattle.af_outside.specs.World.{got_of, took_of, captured_of, is_done, 
 
 use crate::{Put, Wake, Why};
 
-/// What a read of a link gave: so many bytes, or none so far.
+/// What a read of a link gave: so many bytes, or none so far, or none ever again.
 #[derive(Clone, Copy, Debug, PartialEq, Eq)]
 pub enum LinkGot {
     Bytes(usize),
     NotYet,
+    Ended,
+    Failed,
 }
 
-/// What a write to a link did: so many bytes were taken.
+/// What a write to a link did: so many bytes were taken, or it failed.
 #[derive(Clone, Copy, Debug, PartialEq, Eq)]
 pub enum LinkTook {
     Took(usize),
+    Failed,
 }
 
 /// The outside of the server: its links and its devices. Each call adds exactly its one happening to the log, where the
@@ -26,7 +29,7 @@ pub trait World {
     /// The log so far, where it is told.
     ghost log: { Self → Option Log };
 
-    /// How often a link has failed.
+    /// How often a link has failed: a read, or a write.
     ghost link_faults: { Self → ℕ };
 
     /// How often a device has failed: a capture, an emit, or a hook of its line.
@@ -46,14 +49,16 @@ pub trait World {
         requires { length into.old ≡ 16384 }
         ensures log { Grew (log self.old) (Read link (got_of result into.new) ∷ []) (log self.new) }
         ensures bound { GotFits result (length into.new) }
+        ensures cause { result ≡ LinkGot.Failed → Rose (link_faults self.old) (link_faults self.new) }
         ensures leads { leads_to self.old self.new };
 
-    /// Offers a piece to a link, which takes all of it.
+    /// Offers a piece to a link, which takes its first bytes, or all of it, or none.
     fn write(&mut self, link: u8, piece: &[u8]) -> LinkTook
         requires some { 0 < length piece.now }
         requires bound { length piece.now ≤ 65536 }
         ensures log { Grew (log self.old) (Wrote link (length piece.now) (took_of result piece.now) ∷ []) (log self.new) }
         ensures bound { TookFits result (length piece.now) }
+        ensures cause { result ≡ LinkTook.Failed → Rose (link_faults self.old) (link_faults self.new) }
         ensures leads { leads_to self.old self.new };
 
     /// Closes a link for a cause.

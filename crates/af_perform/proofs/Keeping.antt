@@ -10,7 +10,8 @@ use Rattle.af_model.specs.Reply.{horizon_of}
 use Rattle.af_model.specs.Waiting.{due, is_due, is_waiting}
 use Rattle.af_model.specs.Tick.{later}
 use Rattle.af_model.specs.Events.{without_waiter}
-use Rattle.af_perform.specs.Waits.{KeptWait, has_waiting, kept_due, kept_passed, kept_without, AreLater, AreLaterBut, AreNew, Grows, IsNear, StandsForWait, StandForWaits}
+use Rattle.af_model.proofs.Lists.{get-set_other, get-set_same}
+use Rattle.af_perform.specs.Waits.{KeptWait, has_waiting, kept_due, kept_passed, kept_without, AreLater, AreLaterBut, AreNew, Grows, Touches, IsNear, StandsForWait, StandForWaits}
 
 -- Devices change
 
@@ -48,18 +49,6 @@ waits_set devices d s s' (k ∷ ks) (w ∷ ws) here now rate h =
 
 -- Time goes on
 
-at_other : (devices : List DeviceState) (d e : ℕ) (s' : DeviceState) → e ≢ d → slice_get (slice_set devices d s') e ≡ slice_get devices e
-at_other [] d e s' apart = refl
-at_other (x ∷ devices) zero zero s' apart = absurd (apart refl)
-at_other (x ∷ devices) zero (suc e) s' apart = refl
-at_other (x ∷ devices) (suc d) zero s' apart = refl
-at_other (x ∷ devices) (suc d) (suc e) s' apart = at_other devices d e s' (λ same. apart (ap suc same))
-
-at_same : (devices : List DeviceState) (d : ℕ) (s s' : DeviceState) → slice_get devices d ≡ Some s → slice_get (slice_set devices d s') d ≡ Some s'
-at_same [] d s s' here = absurd cc
-at_same (x ∷ devices) zero s s' here = refl
-at_same (x ∷ devices) (suc d) s s' here = at_same devices d s s' here
-
 near_later : (horizon now n : ℕ) (held : Held) → 32000 ≤ horizon → n ≤ 4096 → now < due horizon held → IsNear horizon now held → IsNear horizon (now + n) held
 near_later horizon now n (held_play quiet start sound preempt) far few before near =
     let a = near.0 in let b = near.1 in let c = near.2 in (omega arith, omega arith, c)
@@ -83,7 +72,7 @@ wait_passed devices d n s captured is_dead k w here size few far some h =
             device = h.device;
             held = h.held;
             state = later captured is_dead s;
-            here = ap (slice_get (slice_set devices d (later captured is_dead s))) number ∙ at_same devices d s (later captured is_dead s) here;
+            here = ap (slice_get (slice_set devices d (later captured is_dead s))) number ∙ get-set_same devices d s (later captured is_dead s) here;
             left = omega arith;
             near = subst (λ m. IsNear (s.rate * 4) (s.now + m) w.held) (sym size) (near_later (s.rate * 4) s.now n w.held far few (omega arith) near);
           })
@@ -96,7 +85,7 @@ wait_passed devices d n s captured is_dead k w here size few far some h =
             device = h.device;
             held = h.held;
             state = h.state;
-            here = at_other devices d w.device (later captured is_dead s) (let other : w.device ≢ d = grind (arith, nat_tests) in other) ∙ h.here;
+            here = get-set_other devices d w.device (later captured is_dead s) (let other : w.device ≢ d = grind (arith, nat_tests) in other) ∙ h.here;
             left = h.left;
             near = h.near;
           })
@@ -290,6 +279,23 @@ others_append link j (x ∷ xs) ys apart n = ap (λ b. x.wait.link == j || b) (o
 -- no other link begins to wait
 pub grows_others : (link j : ℕ) (old new : List KeptWait) → Grows link old new → j ≢ link → has_waiting new j ≡ has_waiting old j
 grows_others link j old new g apart = ap (λ ks. has_waiting ks j) g.is ∙ others_append link j old g.more apart g.are_new
+
+-- Touching
+
+pub touches_grown : (link : ℕ) (old new : List KeptWait) → Grows link old new → Touches link old new
+touches_grown link old new g = record { later = grows_later link old new g; others = λ j apart. grows_others link j old new g apart }
+
+pub touches_nothing : (link : ℕ) (ks : List KeptWait) → Touches link ks ks
+touches_nothing link ks = record { later = λ l. l; others = λ j apart. refl }
+
+pub touches_dropped : (link : ℕ) (old new : List KeptWait) → new ≡ kept_without link old → Touches link old new
+touches_dropped link old new is = record {
+  later = λ l. subst AreLater (sym is) (without_later link old l);
+  others = λ j apart. ap (λ ks. has_waiting ks j) is ∙ without_others link j old apart;
+}
+
+pub touches_on : (link : ℕ) (a b c : List KeptWait) → Touches link a b → Touches link b c → Touches link a c
+touches_on link a b c t u = record { later = λ l. u.later (t.later l); others = λ j apart. u.others j apart ∙ t.others j apart }
 
 -- How many are due
 

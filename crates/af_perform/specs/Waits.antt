@@ -1,5 +1,5 @@
 -- The requests that wait, as the server keeps them.
-use Rattle.std.specs.Prelude.{◌≡◌, ℕ, ◌+◌, ◌-◌, ◌*◌, ◌%◌, ◌^◌, ◌<◌, ◌≤◌, ◌==◌, Bool, true, false, ℤ, List, [], ◌∷◌, ◌++◌, length, map, filter, not, slice_get, slice_index_or}
+use Rattle.std.specs.Prelude.{◌≡◌, ◌≢◌, ℕ, ◌+◌, ◌-◌, ◌*◌, ◌%◌, ◌^◌, ◌<◌, ◌≤◌, ◌==◌, Bool, true, false, ℤ, List, [], ◌∷◌, ◌++◌, length, map, filter, not, slice_get, slice_index_or}
 use Rattle.std.specs.declared.option.Option.TheVariants.{Some}
 use Rattle.af_sample.specs.SampleTypes.{width_of}
 use Rattle.af_request.specs.Asked.{Asked, play_run, record_run, set_controls, hook_switch}
@@ -79,6 +79,11 @@ pub record Grows (link : ℕ) (old new : List KeptWait) : Type 0 where
   pub more : List KeptWait
   pub is : new ≡ old ++ more
   pub are_new : AreNew link more
+
+-- no other link began to wait or ended it, and each that waits does for a frame or more where each did
+pub record Touches (link : ℕ) (old new : List KeptWait) : Type 0 where
+  pub later : AreLater old → AreLater new
+  pub others : (j : ℕ) → j ≢ link → has_waiting new j ≡ has_waiting old j
 
 -- a request with the word of its start
 abbrev pub worded : Held → Held

@@ -1,7 +1,6 @@
 //! What the server keeps of its devices and links, and how requests are performed.
 #![tactic(auto)]
 
-mod buffer;
 mod checks;
 mod complete;
 mod context_requests;

@@ -1,5 +1,5 @@
 // A link, as the core keeps it. There is one small method for each thing that becomes of a link.
-ghost use Rattle.std.specs.Prelude.{◌≡◌, ◌+◌, ◌≤◌, nat_le, [], ◌∷◌, ◌++◌, length, drop, take, slice_set, true, false, IfOk, OnOk, OnErr};
+ghost use Rattle.std.specs.Prelude.{◌≡◌, ◌+◌, ◌≤◌, nat_le, IsTrue, [], ◌∷◌, ◌++◌, length, drop, take, slice_set, true, false, IfOk, OnOk, OnErr};
 ghost use Rattle.std.specs.declared.option.Option.TheVariants.{Some};
 ghost use Rattle.af_context.specs.Contexts.{context_of, creation, is_in_use, reference, with_changed, with_settings, without_context};
 ghost use Rattle.af_request.specs.Answer.{meaning};
@@ -7,20 +7,25 @@ ghost use Rattle.af_request.specs.Replies.{HasRoom};
 ghost use Rattle.af_wire.specs.Message.{error};
 ghost use Rattle.af_wire.specs.Event.{event_bytes};
 ghost use Rattle.af_phone.specs.Lines.{selects};
+ghost use Rattle.af_outside.specs.declared.happening.Happening.TheVariants.{Wrote};
+ghost use Rattle.af_outside.specs.Told.{Grew};
+ghost use Rattle.af_outside.specs.World.{took_of, TookFits};
 ghost use Rattle.af_model.specs.State.{none_selected, opened, stopped};
 ghost use Rattle.af_model.specs.Events.{mask_of};
 ghost use Rattle.af_model.specs.Reply.{code_of_cause, reply_message};
 ghost use Rattle.af_model.specs.Perform.{counted};
 ghost use Rattle.af_model.specs.Advance.{takes_more, without_front};
-ghost use Rattle.af_model.specs.Turn.{wants_read, wants_write, close_due, ready};
+ghost use Rattle.af_model.specs.More.{wants_turn};
+ghost use Rattle.af_model.specs.Turn.{wants_read, wants_write, close_due, ready, sent, writable};
+ghost use Rattle.af_perform.specs.Places.{IsBounded};
 
-use crate::buffer::Buffer;
 use af_context::{Context, ContextFault, Contexts};
 use af_model::Refusal;
-use af_outside::Why;
+use af_outside::{LinkTook, Why, World};
 use af_phone::event_for;
 use af_request::{Reply, write_reply};
 use af_sample::Gain;
+use af_session::Session;
 use af_time::OutOfMemory;
 use af_wire::{Event, EventKind, write_error, write_event};
 use std::alloc::Global;
@@ -29,12 +34,13 @@ use std::marker::Model;
 /// The most devices.
 const DEVICES: usize = 8;
 
+/// A link: its bytes, its flags, its contexts and what it selects. Its memory is taken when it is made.
 #[derive(Drop)]
 pub struct Link {
     is_set_up: bool,
-    rest: Buffer,
-    pending: Buffer,
+    session: Session,
     is_ready: bool,
+    is_stuck: bool,
     closing: Option<Why>,
     sequence: u16,
     contexts: Contexts,
@@ -43,24 +49,26 @@ pub struct Link {
 }
 
 impl Model for Link {
+    ghost use Rattle.std.specs.Prelude.{◌≤◌, length};
     ghost use Rattle.af_model.specs.State.{LinkState};
 
     ghost Value = { LinkState };
 
-    ghost view = { λ a. record { is_set_up = a.is_set_up; rest = a.rest; pending = a.pending; is_ready = a.is_ready; closing = a.closing; sequence = a.sequence; contexts = a.contexts; selections = a.selections } };
+    ghost invariant = { λ a. length a.session.pending ≤ 65168 };
+
+    ghost view = { λ a. record { is_set_up = a.is_set_up; rest = a.session.rest; pending = a.session.pending; is_ready = a.is_ready; is_stuck = a.is_stuck; closing = a.closing; sequence = a.sequence; contexts = a.contexts; selections = a.selections } };
 }
 
 impl Link {
     pub fn new(alloc: Global) -> Result<Link, OutOfMemory>
         ensures { IfOk result (λ l. l ≡ opened) }
     {
-        let rest = Buffer::new(alloc)?;
-        let pending = Buffer::new(alloc)?;
+        let session = Session::new(alloc)?;
         Ok(Link {
             is_set_up: false,
-            rest,
-            pending,
+            session,
             is_ready: false,
+            is_stuck: false,
             closing: None,
             sequence: 0,
             contexts: Contexts::new(),
@@ -77,17 +85,16 @@ impl Link {
     /// The input that was not read yet.
     pub fn rest(&self) -> &[u8]
         ensures bytes { result.now ≡ self.now.rest }
-        ensures bound { length self.now.rest ≤ 65536 }
+        ensures bound { length self.now.rest ≤ 32768 }
     {
-        self.rest.as_slice()
+        self.session.rest()
     }
 
-    /// The output that was not sent yet.
-    pub fn pending(&self) -> &[u8]
-        ensures bytes { result.now ≡ self.now.pending }
-        ensures bound { length self.now.pending ≤ 65536 }
+    /// The session: the input that was not read yet, and the output that was not sent yet.
+    pub fn session(&self) -> &Session
+        ensures { (result.now.rest ≡ self.now.rest) × (result.now.pending ≡ self.now.pending) }
     {
-        self.pending.as_slice()
+        &self.session
     }
 
     /// Whether it is to be read, where it waits or not.
@@ -100,32 +107,41 @@ impl Link {
     pub fn wants_write(&self) -> bool
         ensures { result ≡ wants_write self.now }
     {
-        !self.pending.as_slice().is_empty()
+        self.session.pending_len() != 0 && !self.is_stuck
     }
 
     /// Whether more of its input is taken off, where it waits or not.
     pub fn takes_more(&self, waits: bool) -> bool
-        ensures { result ≡ takes_more waits self.now }
+        ensures takes { result ≡ takes_more waits self.now }
+        ensures bounds { IsBounded self.now }
     {
-        !waits && self.closing.is_none() && self.pending.as_slice().len() <= 16384
+        let pending = self.session.pending_len();
+        !waits && self.closing.is_none() && pending <= 16384
     }
 
     /// The cause of a link that is to be closed now.
     pub fn close_due(&self) -> Option<Why>
         ensures { result ≡ close_due self.now }
     {
-        if self.pending.as_slice().is_empty() {
+        if self.session.pending_len() == 0 {
             self.closing
         } else {
             None
         }
     }
 
+    /// Whether it is to be read, written or closed.
+    pub fn wants_turn(&self, waits: bool) -> bool
+        ensures { result ≡ wants_turn waits self.now }
+    {
+        self.wants_read(waits) || self.wants_write() || self.close_due().is_some()
+    }
+
     /// The link is to be closed.
     pub fn stop(&mut self, cause: Why)
         ensures { self.new ≡ stopped cause self.old }
     {
-        self.rest.clear();
+        self.session.drop_front(self.session.rest().len());
         self.closing = Some(cause);
         self.selections = [0; DEVICES];
     }
@@ -135,7 +151,7 @@ impl Link {
         requires { 8 ≤ length self.old.rest }
         ensures { self.new ≡ record (without_front 8 self.old) { is_set_up = true } }
     {
-        self.rest.drop_front(8);
+        self.session.drop_front(8);
         self.is_set_up = true;
     }
 
@@ -146,24 +162,24 @@ impl Link {
         ensures front { front.new ≡ take (length front.old) self.old.rest }
     {
         let n = front.len();
-        front.copy_from_slice(&self.rest.as_slice()[..n]);
-        self.rest.drop_front(n);
+        front.copy_from_slice(&self.session.rest()[..n]);
+        self.session.drop_front(n);
     }
 
     /// More input comes.
     pub fn take_in(&mut self, bytes: &[u8])
-        requires { length self.old.rest + length bytes.now ≤ 65536 }
+        requires { length self.old.rest + length bytes.now ≤ 32768 }
         ensures { self.new ≡ record self.old { rest = self.old.rest ++ bytes.now } }
     {
-        self.rest.append(bytes);
+        self.session.take_in(bytes);
     }
 
     /// Bytes are to be sent.
     pub fn push(&mut self, bytes: &[u8])
-        requires { length self.old.pending + length bytes.now ≤ 65536 }
+        requires { length self.old.pending + length bytes.now ≤ 49152 + 16016 }
         ensures { self.new ≡ record self.old { pending = self.old.pending ++ bytes.now } }
     {
-        self.pending.append(bytes);
+        self.session.push_out(bytes);
     }
 
     /// One more request is made.
@@ -181,7 +197,7 @@ impl Link {
         ensures { self.new ≡ record self.old { pending = self.old.pending ++ reply_message opcode (meaning reply.now) self.old.sequence } }
     {
         let n = write_reply(opcode, reply, self.sequence, message);
-        self.pending.append(&message[..n]);
+        self.session.push_out(&message[..n]);
     }
 
     /// The request with this opcode is refused.
@@ -197,7 +213,7 @@ impl Link {
             self.sequence,
             &mut message,
         );
-        self.pending.append(&message);
+        self.session.push_out(&message);
     }
 
     /// The contexts.
@@ -277,7 +293,7 @@ impl Link {
     pub fn has_room(&self) -> bool
         ensures { result ≡ nat_le (length self.now.pending + 20) 49152 }
     {
-        self.pending.as_slice().len() + 20 <= 49152
+        self.session.pending_len() + 20 <= 49152
     }
 
     /// An event is told.
@@ -288,17 +304,15 @@ impl Link {
     {
         let mut message = [0; 20];
         write_event(event, self.sequence, &mut message);
-        self.pending.append(&message);
+        self.session.push_out(&message);
     }
 
     /// The link is dropped: it is to be closed, and nothing of it is read or sent any more.
     pub fn let_go(&mut self, cause: Why)
         ensures { self.new ≡ record self.old { rest = []; pending = []; closing = Some cause; selections = none_selected } }
     {
-        self.rest.clear();
-        self.pending.clear();
-        self.closing = Some(cause);
-        self.selections = [0; DEVICES];
+        self.stop(cause);
+        self.session.took(self.session.pending_len());
     }
 
     /// There is nothing to read.
@@ -315,12 +329,31 @@ impl Link {
         self.is_ready = true;
     }
 
-    /// The first n bytes of the output were sent.
+    /// Offers all of its output to its far end, which may take less.
+    pub fn offer<W: World>(&mut self, number: u8, world: &mut W) -> LinkTook
+        requires { IsTrue (wants_write self.old) }
+        ensures same { self.new ≡ self.old }
+        ensures log { Grew (W.log world.old) (Wrote number (length self.old.pending) (took_of result self.old.pending) ∷ []) (W.log world.new) }
+        ensures bound { TookFits result (length self.old.pending) }
+        ensures leads { W.leads_to world.old world.new }
+    {
+        world.write(number, self.session.pending())
+    }
+
+    /// The first n bytes of the output were sent. Where they were not all, the link is stuck.
     pub fn took(&mut self, n: usize)
         requires { n ≤ length self.old.pending }
-        ensures { self.new ≡ record self.old { pending = drop n self.old.pending } }
+        ensures { self.new ≡ sent n self.old }
     {
-        self.pending.drop_front(n);
+        self.is_stuck = n < self.session.pending_len();
+        self.session.took(n);
+    }
+
+    /// It may take something again.
+    pub fn set_writable(&mut self)
+        ensures { self.new ≡ writable self.old }
+    {
+        self.is_stuck = false;
     }
 
     /// The link is opened anew.
@@ -328,9 +361,9 @@ impl Link {
         ensures { self.new ≡ opened }
     {
         self.is_set_up = false;
-        self.rest.clear();
-        self.pending.clear();
+        self.session.clear();
         self.is_ready = false;
+        self.is_stuck = false;
         self.closing = None;
         self.sequence = 0;
         self.contexts.clear();

@@ -1,4 +1,3 @@
-pub mod Splitting
 pub mod LineByLine
 pub mod Stating
 pub mod Printing

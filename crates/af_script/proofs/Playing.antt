@@ -16,7 +16,9 @@ use Rattle.af_model.specs.NoLoss.{LosesNone, RunLosesNone, StateLosesNone}
 use Rattle.af_model.specs.Script.{AnswersTo, ScriptLog, OneLog}
 use Rattle.af_model.proofs.Running.{TurnsTo, turns_end_state, joined, joined-more, turns_more, turns_run, answers_more, replayed_answers}
 use Rattle.af_model.proofs.Alike.{Agree}
-use Rattle.af_model.proofs.KeptLines.{turn_lines}
+use Rattle.af_model.proofs.Waking.{turn_lines}
+use Rattle.af_model.proofs.Prefixing.{takes_in_order}
+use Rattle.af_model.proofs.Folding.{mixes_all}
 use Rattle.af_model.proofs.Steps.{agree_start, line_of, step_fits}
 use Rattle.af_model.proofs.Unique.{turn_alike, one_log}
 use Rattle.af_core.specs.Stands.{Kept, Stands, Turns, kept_lines, outline_of}
@@ -183,4 +185,4 @@ plays_end config steps kept tape after p t =
     let is_log : ScriptLog config steps log = record { is_run = turns_run config p.state p.parts p.turns; end = tape.outside; answers = subst (λ l. AnswersTo (outside_start config) log l tape.outside) all p.answers } in
     let one : OneLog config steps log = record { is_log = is_log; only = λ other o. one_log config steps other log o is_log } in
     let lossless : RunLosesNone config log = subst (λ o. IfSome o StateLosesNone) (sym (turns_end_state config p.state p.parts p.turns)) p.lossless in
-    subst (λ l. HasOneLog config steps l) (sym (ap (λ (x : TapeState). x.log) none.1 ∙ p.told)) (record { one = one; lossless = lossless })
+    subst (λ l. HasOneLog config steps l) (sym (ap (λ (x : TapeState). x.log) none.1 ∙ p.told)) (record { one = one; lossless = lossless; prefixes = takes_in_order config log; mixes = mixes_all config log })

@@ -1,8 +1,10 @@
 -- What is printed in several pieces.
-use Rattle.std.proofs.Common.{◌≡◌, ℕ, ◌+◌, ◌/◌, ◌%◌, ◌<◌, List, [], ◌∷◌, ◌++◌, length, take, drop, refl, sym, ap, ◌∙◌, subst, arith, append_assoc, append-nil}
+use Rattle.std.proofs.Common.{◌≡◌, ℕ, ◌+◌, ◌/◌, ◌%◌, ◌^◌, ◌<◌, true, false, List, [], ◌∷◌, ◌++◌, length, take, drop, refl, sym, ap, ◌∙◌, subst, arith, append_assoc, append-nil, length-append}
 use Rattle.std.proofs.lemmas.List.{take-append-drop, drop_more}
 use Rattle.std.proofs.lemmas.Grind.{flat_map-append}
-use Rattle.std.specs.Prelude.{Option, Some, None, Result, Ok, Err, IsErr, get_or}
+use Rattle.std.specs.Prelude.{Option, Some, None, Result, Ok, Err, IsErr, get_or, decimal, nat_lt}
+use Rattle.std.proofs.lemmas.Fmt.{decimal_digit, decimal_step_wide}
+use Rattle.std.proofs.lemmas.Bool.Decides.{nat_tests}
 use Rattle.hex.specs.Hex.{encode_with, encode_lower, lower_digits}
 use Rattle.af_outside.specs.Told.{Grew}
 use Rattle.af_script.specs.Printing.{Filled, Added, CutOff, Prints}
@@ -20,6 +22,15 @@ grew_on h h' None p q a b = tt
 grew_on h None (Some zs) p q a b = absurd b
 grew_on None (Some ys) (Some zs) p q a b = absurd a
 grew_on (Some xs) (Some ys) (Some zs) p q a b = b ∙ ap (λ l. l ++ q) a ∙ append_assoc xs p q
+
+-- a number has a digit
+pub some_digit : (n : ℕ) → n < 2 ^ 128 → 0 < length (decimal n)
+some_digit n h =
+    let fits : n < 10 ^ 64 = omega arith in
+    elim (nat_lt n 10) as (λ t. nat_lt n 10 ≡ t → 0 < length (decimal n)) [
+      | true ↦ λ e. let one = ap length (decimal_digit n (grind (arith, nat_tests))) in omega (arith, one)
+      | false ↦ λ e. let more = ap length (decimal_step_wide n (grind (arith, nat_tests)) fits) ∙ length-append (decimal (n / 10)) ((48 + n % 10) ∷ []) in omega (arith, more)
+    ] refl
 
 -- nothing was added
 pub added_none : (before : Filled) → Added before [] before

@@ -1,6 +1,6 @@
 -- What a script states keeps to the limits of devices and steps.
 use Rattle.std.proofs.Common.{◌≡◌, ℕ, zero, suc, ◌+◌, ◌*◌, ◌<◌, ◌≤◌, Bool, true, false, cond, IsTrue, ◌&&◌, List, [], ◌∷◌, length, take, drop, refl, sym, ap, ◌∙◌, subst, arith, length-take}
-use Rattle.std.specs.Prelude.{Option, Some, None, option_map, option_and_then, Result, Ok, Err, All, nat_lt, nat_le, nat_eq}
+use Rattle.std.specs.Prelude.{Option, Some, None, option_map, option_and_then, Result, Ok, Err, All, nat_lt, nat_le, nat_eq, bytes_eq, codes}
 use Rattle.std.proofs.lemmas.Bool.{and_parts}
 use Rattle.std.proofs.lemmas.Bool.Decides.{nat_tests}
 use Rattle.std.proofs.lemmas.List.Elements.{All-nil, All-cons}
@@ -11,13 +11,13 @@ use Rattle.af_phone.specs.declared.line.LineChange.TheVariants as change
 use Rattle.af_outside.specs.declared.script.DeviceSpec.{DeviceSpec}
 use Rattle.af_outside.specs.declared.script.Step.{Step}
 use Rattle.af_outside.specs.declared.script.Step.TheVariants as step
-use Rattle.af_outside.specs.Outside.{IsStep, IsCapture, line_at, width_at}
+use Rattle.af_outside.specs.Outside.{IsStep, IsCapture, IsRoom, line_at, width_at}
 use Rattle.std.specs.Result.{result_ok}
 use Rattle.hex.specs.Hex.{decode_of}
 use Rattle.af_script.specs.declared.statement.Kind.{Kind}
 use Rattle.af_script.specs.declared.statement.Kind.TheVariants as kind
 use Rattle.af_script.specs.Words.{number_of, number_within, only_if, then_some, bytes_within}
-use Rattle.af_script.specs.Statement.{kind_of, is_device_kind, is_listed_rate, type_of, rate_of, line_stated, device_at, device_with, device_of, link_of, device_number, line_number, switch_of, digit_of, open_of, send_of, capture_of, tick_of, ring_of, loop_of, dial_of, fail_capture_of, fail_emit_of, fail_hook_of, idle_of, step_of_kind, step_of, is_device_line}
+use Rattle.af_script.specs.Statement.{kind_of, is_device_kind, is_listed_rate, type_of, rate_of, line_stated, device_at, device_with, device_of, link_of, device_number, line_number, switch_of, digit_of, with_link, send_of, room_stated, room_of, capture_of, tick_of, ring_of, loop_of, dial_of, fail_capture_of, fail_emit_of, fail_hook_of, idle_of, step_of_kind, step_of, is_device_line}
 use Rattle.af_script.specs.Script.{Stated, Entry, most_devices, device_lines, with_first, each_says, first_number, with_steps, with_config, stated_by, script_of, entries}
 use Rattle.af_script.specs.Lines.{lines}
 use Rattle.af_script.proofs.LineByLine.{read_on}
@@ -84,13 +84,14 @@ device_from (name ∷ arguments) d e =
       | false ↦ λ h. cc h
     ]) e
 
-open_from : (config : List DeviceSpec) (arguments : List (List ℕ)) (s : Step) → open_of arguments ≡ Some s → IsStep config s
-open_from config [] s e = cc e
-open_from config (link ∷ w ∷ ws) s e = cc e
-open_from config (link ∷ []) s e =
-    let a = map_from step.Open (link_of link) s e in
+-- a step that names a link alone
+with_link_from : (config : List DeviceSpec) (make : ℕ → Step) (arguments : List (List ℕ)) (s : Step) → ((k : ℕ) → k < 32 → IsStep config (make k)) → with_link make arguments ≡ Some s → IsStep config s
+with_link_from config make [] s fits e = cc e
+with_link_from config make (link ∷ w ∷ ws) s fits e = cc e
+with_link_from config make (link ∷ []) s fits e =
+    let a = map_from make (link_of link) s e in
     let n = number_from 0 31 link a.0 a.1 in
-    subst (IsStep config) a.2 (omega (arith, n.1))
+    subst (IsStep config) a.2 (fits a.0 (omega (arith, n.1)))
 
 size_within : (low high m n : ℕ) → m ≡ n → nat_le low m ≡ true → nat_le m high ≡ true → (low ≤ n) × (n ≤ high)
 size_within low high m n e above below = (grind (arith, nat_tests), grind (arith, nat_tests))
@@ -112,6 +113,26 @@ send_from config (link ∷ hex ∷ []) s e =
     let n = number_from 0 31 link a.0 a.1 in
     let size = bytes_from 1 16384 hex b.0 b.1 in
     subst (IsStep config) b.2 (omega (arith, n.1), size.0, size.1)
+
+room_stated_from : (word : List ℕ) (room : Option ℕ) → room_stated word ≡ Some room → IsRoom room
+room_stated_from word room e =
+    (elim (bytes_eq word (codes "all")) as (λ t. cond t (Some None) (option_map Some (number_within 0 4294967295 word)) ≡ Some room → IsRoom room) [
+      | true ↦ λ h. subst IsRoom (some_same h) tt
+      | false ↦ λ h.
+          let a = map_from Some (number_within 0 4294967295 word) room h in
+          let n = number_from 0 4294967295 word a.0 a.1 in
+          subst IsRoom a.2 (omega (arith, n.1))
+    ]) e
+
+room_from : (config : List DeviceSpec) (arguments : List (List ℕ)) (s : Step) → room_of arguments ≡ Some s → IsStep config s
+room_from config [] s e = cc e
+room_from config (link ∷ []) s e = cc e
+room_from config (link ∷ room ∷ w ∷ ws) s e = cc e
+room_from config (link ∷ room ∷ []) s e =
+    let a = and_then_from (λ k. option_map (step.Room k) (room_stated room)) (link_of link) s e in
+    let b = map_from (step.Room a.0) (room_stated room) s a.2 in
+    let n = number_from 0 31 link a.0 a.1 in
+    subst (IsStep config) b.2 (omega (arith, n.1), room_stated_from room b.0 b.1)
 
 device_number_from : (config : List DeviceSpec) (word : List ℕ) (d : ℕ) → device_number config word ≡ Some d → d < length config
 device_number_from config word d e =
@@ -210,12 +231,16 @@ idle_from config (w ∷ ws) s e = cc e
 step_by_kind : (config : List DeviceSpec) (k : Option Kind) (arguments : List (List ℕ)) (s : Step) → step_of_kind config k arguments ≡ Some s → IsStep config s
 step_by_kind config None arguments s e = cc e
 step_by_kind config (Some kind.Device) arguments s e = cc e
-step_by_kind config (Some kind.Open) arguments s e = open_from config arguments s e
+step_by_kind config (Some kind.Open) arguments s e = with_link_from config step.Open arguments s (λ k below. below) e
 step_by_kind config (Some kind.Send) arguments s e = send_from config arguments s e
+step_by_kind config (Some kind.End) arguments s e = with_link_from config step.End arguments s (λ k below. below) e
+step_by_kind config (Some kind.Room) arguments s e = room_from config arguments s e
 step_by_kind config (Some kind.Tick) arguments s e = tick_from config arguments s e
 step_by_kind config (Some kind.Ring) arguments s e = ring_from config arguments s e
 step_by_kind config (Some kind.Loop) arguments s e = loop_from config arguments s e
 step_by_kind config (Some kind.Digit) arguments s e = dial_from config arguments s e
+step_by_kind config (Some kind.FailRead) arguments s e = with_link_from config step.FailRead arguments s (λ k below. below) e
+step_by_kind config (Some kind.FailWrite) arguments s e = with_link_from config step.FailWrite arguments s (λ k below. below) e
 step_by_kind config (Some kind.FailCapture) arguments s e = fail_capture_from config arguments s e
 step_by_kind config (Some kind.FailEmit) arguments s e = fail_emit_from config arguments s e
 step_by_kind config (Some kind.FailHook) arguments s e = fail_hook_from config arguments s e

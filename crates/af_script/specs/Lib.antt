@@ -1,8 +1,9 @@
-pub mod Lines
+pub use Rattle.af_text.specs.Lines
 pub mod Words
 pub mod Statement
 pub mod Script
 pub mod Reading
 pub mod Transcript
+pub mod Summary
 pub mod Printing
 pub mod Run

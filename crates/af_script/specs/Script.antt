@@ -1,10 +1,11 @@
 -- The script that a text is, or the line of its first fault.
-use Rattle.std.specs.Prelude.{◌≡◌, ℕ, zero, suc, ◌+◌, ◌==◌, Bool, false, ◌||◌, List, [], ◌∷◌, length, take, drop, Option, Some, None, Result, Ok, Err, if◌then◌else◌}
+use Rattle.std.specs.Prelude.{◌≡◌, ℕ, zero, suc, ◌+◌, ◌==◌, List, [], ◌∷◌, length, take, drop, Option, Result, Ok, Err, if◌then◌else◌}
 use Rattle.af_outside.specs.declared.script.DeviceSpec.{DeviceSpec}
 use Rattle.af_outside.specs.declared.script.Step.{Step}
 use Rattle.af_script.specs.declared.fault.ScriptFault.{ScriptFault}
 use Rattle.af_script.specs.declared.fault.ScriptFault.TheVariants as fault
-use Rattle.af_script.specs.Lines.{lines, words, is_nil}
+pub use Rattle.af_text.specs.Lines.{is_passed_over, with_first}
+use Rattle.af_text.specs.Lines.{lines, words}
 use Rattle.af_script.specs.Statement.{is_device_line, device_of, step_of}
 
 -- what a script states
@@ -16,15 +17,6 @@ pub record Stated : Type 0 where
 pub record Entry : Type 0 where
   pub number : ℕ
   pub words : List (List ℕ)
-
--- a comment begins with `#`
-abbrev pub is_comment : List ℕ → Bool
-is_comment [] = false
-is_comment (b ∷ line) = b == 35
-
--- comments are passed over, and lines without words
-abbrev pub is_passed_over : List ℕ → Bool
-is_passed_over line = is_comment line || is_nil (words line)
 
 -- the lines that are not passed over, where the first of all lines has this number
 abbrev pub entries : ℕ → List (List ℕ) → List Entry
@@ -41,12 +33,6 @@ abbrev pub device_lines : ℕ → List Entry → ℕ
 device_lines zero es = 0
 device_lines (suc most) [] = 0
 device_lines (suc most) (e ∷ es) = if is_device_line e.words then suc (device_lines most es) else 0
-
--- a value in front of those of the lines below, where each line has one
-abbrev pub with_first : {A : Type 0} → ℕ → Option A → Result (List A) ℕ → Result (List A) ℕ
-with_first number None rest = Err number
-with_first number (Some x) (Ok xs) = Ok (x ∷ xs)
-with_first number (Some x) (Err n) = Err n
 
 -- what each line says, or the number of the first that says nothing
 abbrev pub each_says : {A : Type 0} → (List (List ℕ) → Option A) → List Entry → Result (List A) ℕ

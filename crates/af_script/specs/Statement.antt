@@ -1,9 +1,6 @@
 -- What a line states by its words: a device, or a step.
-use Rattle.std.specs.Prelude.{ℕ, ◌*◌, ◌-◌, ◌^◌, nat_lt, ◌==◌, Bool, true, false, List, [], ◌∷◌, length, codes, bytes_eq, Option, Some, None, option_map, option_and_then, if◌then◌else◌}
-use Rattle.std.specs.List.{list_any}
-use Rattle.af_buffers.specs.Horizons.{listed_rates}
+use Rattle.std.specs.Prelude.{ℕ, ◌*◌, ◌-◌, ◌^◌, nat_lt, Bool, true, false, List, [], ◌∷◌, length, codes, bytes_eq, Option, Some, None, option_map, option_and_then, if◌then◌else◌}
 use Rattle.af_sample.specs.declared.sample_type.SampleType.{SampleType}
-use Rattle.af_sample.specs.declared.sample_type.SampleType.TheVariants.{Mu255, Alaw, Lin16, Lin32}
 use Rattle.af_phone.specs.Lines.{is_digit}
 use Rattle.af_phone.specs.declared.line.LineChange.TheVariants as change
 use Rattle.af_outside.specs.declared.script.DeviceSpec.{DeviceSpec}
@@ -12,6 +9,7 @@ use Rattle.af_outside.specs.declared.script.Step.TheVariants as step
 use Rattle.af_outside.specs.Outside.{line_at, width_at}
 use Rattle.af_script.specs.declared.statement.Kind.{Kind}
 use Rattle.af_script.specs.declared.statement.Kind.TheVariants as kind
+pub use Rattle.af_text.specs.Sound.{type_of, is_listed_rate, rate_of}
 use Rattle.af_script.specs.Words.{number_of, number_within, only_if, bytes_within}
 
 -- the kind of a line by its first word
@@ -20,10 +18,14 @@ kind_of name =
     if bytes_eq name (codes "device") then Some kind.Device
     else if bytes_eq name (codes "open") then Some kind.Open
     else if bytes_eq name (codes "send") then Some kind.Send
+    else if bytes_eq name (codes "end") then Some kind.End
+    else if bytes_eq name (codes "room") then Some kind.Room
     else if bytes_eq name (codes "tick") then Some kind.Tick
     else if bytes_eq name (codes "ring") then Some kind.Ring
     else if bytes_eq name (codes "loop") then Some kind.Loop
     else if bytes_eq name (codes "digit") then Some kind.Digit
+    else if bytes_eq name (codes "failread") then Some kind.FailRead
+    else if bytes_eq name (codes "failwrite") then Some kind.FailWrite
     else if bytes_eq name (codes "failcapture") then Some kind.FailCapture
     else if bytes_eq name (codes "failemit") then Some kind.FailEmit
     else if bytes_eq name (codes "failhook") then Some kind.FailHook
@@ -41,10 +43,14 @@ is_device_kind None = false
 is_device_kind (Some kind.Device) = true
 is_device_kind (Some kind.Open) = false
 is_device_kind (Some kind.Send) = false
+is_device_kind (Some kind.End) = false
+is_device_kind (Some kind.Room) = false
 is_device_kind (Some kind.Tick) = false
 is_device_kind (Some kind.Ring) = false
 is_device_kind (Some kind.Loop) = false
 is_device_kind (Some kind.Digit) = false
+is_device_kind (Some kind.FailRead) = false
+is_device_kind (Some kind.FailWrite) = false
 is_device_kind (Some kind.FailCapture) = false
 is_device_kind (Some kind.FailEmit) = false
 is_device_kind (Some kind.FailHook) = false
@@ -55,23 +61,6 @@ abbrev pub is_device_line : List (List ℕ) → Bool
 is_device_line words = is_device_kind (kind_of_words words)
 
 -- Devices
-
--- the sample type of a word
-abbrev pub type_of : List ℕ → Option SampleType
-type_of word =
-    if bytes_eq word (codes "mu255") then Some Mu255
-    else if bytes_eq word (codes "alaw") then Some Alaw
-    else if bytes_eq word (codes "lin16") then Some Lin16
-    else if bytes_eq word (codes "lin32") then Some Lin32
-    else None
-
--- whether a device can have this rate
-abbrev pub is_listed_rate : ℕ → Bool
-is_listed_rate rate = list_any (λ listed. rate == listed) listed_rates
-
--- the rate of a word, where it is listed
-abbrev pub rate_of : List ℕ → Option ℕ
-rate_of word = option_and_then (only_if is_listed_rate) (number_of word)
 
 -- whether the words behind `device TYPE RATE START` state a line: `line` does, and no word does not
 abbrev pub line_stated : List (List ℕ) → Option Bool
@@ -116,15 +105,32 @@ device_number config word = option_and_then (only_if (λ d. nat_lt d (length con
 abbrev pub line_number : List DeviceSpec → List ℕ → Option ℕ
 line_number config word = option_and_then (only_if (line_at config)) (device_number config word)
 
--- the step of `open K`, by the words that follow `open`
+-- a step that names a link alone, by the words that follow its name
+abbrev pub with_link : (ℕ → Step) → List (List ℕ) → Option Step
+with_link step (link ∷ []) = option_map step (link_of link)
+with_link step _ = None
+
+-- the step of `open K`
 abbrev pub open_of : List (List ℕ) → Option Step
-open_of (link ∷ []) = option_map step.Open (link_of link)
-open_of _ = None
+open_of arguments = with_link step.Open arguments
 
 -- the step of `send K HEX`
 abbrev pub send_of : List (List ℕ) → Option Step
 send_of (link ∷ hex ∷ []) = option_and_then (λ k. option_map (step.Send k) (bytes_within 1 16384 hex)) (link_of link)
 send_of _ = None
+
+-- the step of `end K`
+abbrev pub end_of : List (List ℕ) → Option Step
+end_of arguments = with_link step.End arguments
+
+-- how many bytes the last word of `room K N` states that a link takes, or every byte, which is `all`
+abbrev pub room_stated : List ℕ → Option (Option ℕ)
+room_stated word = if bytes_eq word (codes "all") then Some None else option_map Some (number_within 0 (2 ^ 32 - 1) word)
+
+-- the step of `room K N` or `room K all`
+abbrev pub room_of : List (List ℕ) → Option Step
+room_of (link ∷ room ∷ []) = option_and_then (λ k. option_map (step.Room k) (room_stated room)) (link_of link)
+room_of _ = None
 
 -- what the words that follow `tick D N` state is captured: so many bytes, or nothing
 abbrev pub capture_of : ℕ → List (List ℕ) → Option (Option (List ℕ))
@@ -165,6 +171,14 @@ abbrev pub dial_of : List DeviceSpec → List (List ℕ) → Option Step
 dial_of config (device ∷ digit ∷ []) = option_and_then (λ d. option_map (λ c. step.Line d (change.Digit c)) (digit_of digit)) (line_number config device)
 dial_of config _ = None
 
+-- the step of `failread K`
+abbrev pub fail_read_of : List (List ℕ) → Option Step
+fail_read_of arguments = with_link step.FailRead arguments
+
+-- the step of `failwrite K`
+abbrev pub fail_write_of : List (List ℕ) → Option Step
+fail_write_of arguments = with_link step.FailWrite arguments
+
 -- the step of `failcapture D`
 abbrev pub fail_capture_of : List DeviceSpec → List (List ℕ) → Option Step
 fail_capture_of config (device ∷ []) = option_map step.FailCapture (device_number config device)
@@ -191,10 +205,14 @@ step_of_kind config None arguments = None
 step_of_kind config (Some kind.Device) arguments = None
 step_of_kind config (Some kind.Open) arguments = open_of arguments
 step_of_kind config (Some kind.Send) arguments = send_of arguments
+step_of_kind config (Some kind.End) arguments = end_of arguments
+step_of_kind config (Some kind.Room) arguments = room_of arguments
 step_of_kind config (Some kind.Tick) arguments = tick_of config arguments
 step_of_kind config (Some kind.Ring) arguments = ring_of config arguments
 step_of_kind config (Some kind.Loop) arguments = loop_of config arguments
 step_of_kind config (Some kind.Digit) arguments = dial_of config arguments
+step_of_kind config (Some kind.FailRead) arguments = fail_read_of arguments
+step_of_kind config (Some kind.FailWrite) arguments = fail_write_of arguments
 step_of_kind config (Some kind.FailCapture) arguments = fail_capture_of config arguments
 step_of_kind config (Some kind.FailEmit) arguments = fail_emit_of config arguments
 step_of_kind config (Some kind.FailHook) arguments = fail_hook_of config arguments

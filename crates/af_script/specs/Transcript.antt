@@ -3,15 +3,19 @@ use Rattle.std.specs.Prelude.{ℕ, Bool, true, false, List, [], ◌∷◌, ◌++
 use Rattle.hex.specs.Hex.{encode_lower}
 use Rattle.af_outside.specs.declared.happening.Happening.{Happening}
 use Rattle.af_outside.specs.declared.happening.Happening.TheVariants.{Woke, Read, Wrote, Closed, Captured, Emitted, Hooked}
+use Rattle.af_outside.specs.declared.happening.ReadGot.{ReadGot}
+use Rattle.af_outside.specs.declared.happening.ReadGot.TheVariants as got
 use Rattle.af_outside.specs.declared.happening.Why.{Why}
-use Rattle.af_outside.specs.declared.happening.Why.TheVariants.{BadSetup, Malformed, Overrun}
+use Rattle.af_outside.specs.declared.happening.Why.TheVariants as why
 use Rattle.af_outside.specs.Told.{Log}
 
 -- the word for why a link was closed
 abbrev pub cause_word : Why → List ℕ
-cause_word BadSetup = codes "setup"
-cause_word Malformed = codes "malformed"
-cause_word Overrun = codes "overrun"
+cause_word why.BadSetup = codes "setup"
+cause_word why.Malformed = codes "malformed"
+cause_word why.Ended = codes "ended"
+cause_word why.LinkFault = codes "fault"
+cause_word why.Overrun = codes "overrun"
 
 -- a line begins with a name, and a number between two spaces
 abbrev pub head_of : List ℕ → ℕ → List ℕ
@@ -20,6 +24,13 @@ head_of name number = name ++ codes " " ++ decimal number ++ codes " "
 -- a line of a name, a number and a text
 abbrev pub line_of : List ℕ → ℕ → List ℕ → List ℕ
 line_of name number text = head_of name number ++ text ++ codes "\n"
+
+-- the line of a read of a link; it has one where it failed
+abbrev pub read_line : ℕ → ReadGot → List ℕ
+read_line link (got.Given bytes) = []
+read_line link got.NotYet = []
+read_line link got.Ended = []
+read_line link got.Failed = line_of (codes "read") link (codes "failed")
 
 -- the line of a link that took these bytes, if they are some
 abbrev pub taken_line : ℕ → List ℕ → List ℕ
@@ -42,10 +53,10 @@ hook_word off false = codes "failed"
 hook_word true true = codes "offhook"
 hook_word false true = codes "onhook"
 
--- the line of a happening; wakes and reads have none
+-- the line of a happening; a wake has none
 abbrev pub line_for : Happening → List ℕ
 line_for (Woke wake) = []
-line_for (Read link got) = []
+line_for (Read link got) = read_line link got
 line_for (Wrote link offered took) = wrote_line link took
 line_for (Closed link why) = line_of (codes "closed") link (cause_word why)
 line_for (Captured device frames got) = captured_line device got

@@ -1,26 +1,8 @@
 -- What the words of a line can be: numbers, and bytes in hexadecimal.
-use Rattle.std.specs.Prelude.{ℕ, nat_le, ◌&&◌, Bool, List, length, Option, Some, None, option_and_then, if◌then◌else◌}
-use Rattle.std.specs.Str.{all_ascii_digits}
-use Rattle.std.specs.Str.Parse.{digits_value}
+use Rattle.std.specs.Prelude.{ℕ, nat_le, ◌&&◌, List, length, Option, option_and_then}
 use Rattle.std.specs.Result.{result_ok}
 use Rattle.hex.specs.Hex.{decode_of}
-
--- a value, where it is there
-abbrev pub then_some : {A : Type 0} → Bool → A → Option A
-then_some is_there x = if is_there then Some x else None
-
--- a value, where the test holds of it
-abbrev pub only_if : {A : Type 0} → (A → Bool) → A → Option A
-only_if test x = then_some (test x) x
-
--- the number of a word of 1 to 10 decimal digits
-abbrev pub number_of : List ℕ → Option ℕ
-number_of word =
-    if nat_le 1 (length word) && nat_le (length word) 10 && all_ascii_digits word then Some (digits_value 10 word) else None
-
--- the number of a word, where it lies between these two
-abbrev pub number_within : ℕ → ℕ → List ℕ → Option ℕ
-number_within low high word = option_and_then (only_if (λ n. nat_le low n && nat_le n high)) (number_of word)
+pub use Rattle.af_text.specs.Words.{then_some, only_if, number_of, number_within}
 
 -- the bytes of a word of hexadecimal digits, where their number lies between these two
 abbrev pub bytes_within : ℕ → ℕ → List ℕ → Option (List ℕ)

@@ -2,19 +2,21 @@
 #![tactic(auto)]
 
 mod fault;
-mod lines;
-mod number;
 mod print;
 mod read;
 mod run;
 mod statement;
 mod steps;
+mod summary;
 
 pub use fault::ScriptFault;
 pub use print::print_log;
 pub use read::{Script, read_script};
 pub use run::run_tape;
 pub use steps::Steps;
+pub use summary::print_summary;
 
+#[cfg(test)]
+mod summary_tests;
 #[cfg(test)]
 mod tests;

@@ -3,10 +3,10 @@ ghost use Rattle.std.specs.Prelude.{◌≡◌, ◌≤◌, ◌<◌, length, decim
 ghost use Rattle.hex.specs.Hex.{encode_lower};
 ghost use Rattle.af_outside.specs.Told.{Rose};
 ghost use Rattle.af_outside.specs.Flow.{Written};
-ghost use Rattle.af_script.specs.Transcript.{transcript, line_for, line_of, head_of, taken_line, cause_word, hook_word};
+ghost use Rattle.af_script.specs.Transcript.{transcript, line_for, line_of, head_of, read_line, taken_line, cause_word, hook_word};
 ghost use Rattle.af_script.specs.Printing.{Prints, filled};
 
-use af_outside::{Happening, Put, Sink, Why};
+use af_outside::{Happening, Put, ReadGot, Sink, Why};
 use itoa::Buffer;
 
 /// How many bytes are written in hexadecimal at once.
@@ -14,7 +14,7 @@ const CHUNK: usize = 1024;
 
 /// The sink has failed.
 #[derive(Clone, Copy, Debug, PartialEq, Eq)]
-struct Broken;
+pub(crate) struct Broken;
 
 /// Prints the transcript of a log. Failed comes only where the sink has failed; then a prefix was written.
 pub fn print_log<K: Sink>(log: &[Happening], sink: &mut K) -> Put
@@ -43,8 +43,8 @@ fn print_happening<K: Sink>(happening: &Happening, sink: &mut K) -> Result<(), B
     ensures { Prints result (filled (K.held sink.old) (K.faults sink.old)) (line_for happening.now) (filled (K.held sink.new) (K.faults sink.new)) }
 {
     match happening {
-        Happening::Woke(_) | Happening::Read { .. } | Happening::Captured { got: Some(_), .. } =>
-            Ok(()),
+        Happening::Woke(_) | Happening::Captured { got: Some(_), .. } => Ok(()),
+        Happening::Read { link, got } => print_read(*link, got, sink),
         Happening::Wrote {
             link,
             took: None,
@@ -88,6 +88,8 @@ fn cause(why: Why) -> &'static [u8]
     match why {
         Why::BadSetup => b"setup",
         Why::Malformed => b"malformed",
+        Why::Ended => b"ended",
+        Why::LinkFault => b"fault",
         Why::Overrun => b"overrun",
     }
 }
@@ -101,6 +103,16 @@ fn hook_word(off: bool, done: bool) -> &'static [u8]
         (_, false) => b"failed",
         (true, true) => b"offhook",
         (false, true) => b"onhook",
+    }
+}
+
+/// Prints the line of a read of a link, which has one where it failed.
+fn print_read<K: Sink>(link: u8, got: &ReadGot, sink: &mut K) -> Result<(), Broken>
+    ensures { Prints result (filled (K.held sink.old) (K.faults sink.old)) (read_line link got.now) (filled (K.held sink.new) (K.faults sink.new)) }
+{
+    match got {
+        ReadGot::Given(_) | ReadGot::NotYet | ReadGot::Ended => Ok(()),
+        ReadGot::Failed => print_word(b"read", link, b"failed", sink),
     }
 }
 
@@ -142,12 +154,12 @@ fn print_head<K: Sink>(name: &[u8], number: u8, sink: &mut K) -> Result<(), Brok
 {
     put(name, sink)?;
     put(b" ", sink)?;
-    print_number(number, sink)?;
+    print_number(number as u128, sink)?;
     put(b" ", sink)
 }
 
 /// Prints a number in decimal digits.
-fn print_number<K: Sink>(number: u8, sink: &mut K) -> Result<(), Broken>
+pub(crate) fn print_number<K: Sink>(number: u128, sink: &mut K) -> Result<(), Broken>
     ensures { Prints result (filled (K.held sink.old) (K.faults sink.old)) (decimal number) (filled (K.held sink.new) (K.faults sink.new)) }
 {
     let mut buffer = Buffer::new();
@@ -180,7 +192,7 @@ fn print_chunk<K: Sink>(bytes: &[u8], sink: &mut K) -> Result<(), Broken>
 }
 
 /// Adds a piece to the sink.
-fn put<K: Sink>(piece: &[u8], sink: &mut K) -> Result<(), Broken>
+pub(crate) fn put<K: Sink>(piece: &[u8], sink: &mut K) -> Result<(), Broken>
     requires { 0 < length piece.now }
     ensures { Prints result (filled (K.held sink.old) (K.faults sink.old)) piece.now (filled (K.held sink.new) (K.faults sink.new)) }
 {

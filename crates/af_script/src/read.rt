@@ -8,10 +8,10 @@ ghost use Rattle.af_script.specs.Words.{then_some};
 ghost use Rattle.af_script.specs.Statement.{is_device_kind, device_with, step_of_kind};
 ghost use Rattle.af_script.specs.Reading.{with_line, can_take_device};
 
-use crate::lines::{next_line, next_word, passes_over};
 use crate::statement::{Kind, device_stated, kind_named, step_stated};
 use crate::{ScriptFault, Steps};
 use af_outside::{Config, DeviceSpec, Step};
+use af_text::{next_line, next_word, passes_over};
 use af_time::OutOfMemory;
 use arrayvec::ArrayVec;
 use std::alloc::Global;

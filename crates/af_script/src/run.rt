@@ -10,8 +10,8 @@ use af_time::OutOfMemory;
 use std::alloc::Global;
 
 /// Makes a core and takes one turn for each step of a tape, which was made with this configuration, of listed
-/// rates, and stands as it was made. At Ok the tape tells the one log that its script has, in which no request that had waited
-/// lost a sample.
+/// rates, and stands as it was made. At Ok the tape tells the one log that its script has. In it no request that had waited lost a
+/// sample, what each link took begins what was said to it, and each sound is the mix of all that was ever accepted.
 pub fn run_tape(alloc: Global, config: &Config, tape: &mut Tape) -> Result<(), OutOfMemory>
     requires rates { All (λ device. IsListedRate device.rate) config.now.items }
     requires made { tape.old ≡ fresh config.now.items tape.old.left }

@@ -1,15 +1,15 @@
 // What a line states: a device, or a step.
-ghost use Rattle.std.specs.Prelude.{◌≡◌, ◌≤◌, IfOk, length, bytes_eq};
+ghost use Rattle.std.specs.Prelude.{◌≡◌, ◌≤◌, IfOk, length};
 ghost use Rattle.af_outside.specs.Outside.{line_at, width_at};
 ghost use Rattle.af_script.specs.Lines.{words};
 ghost use Rattle.af_script.specs.Words.{bytes_within};
-ghost use Rattle.af_script.specs.Statement.{kind_of, type_of, line_stated, device_with, device_number, line_number, link_of, rate_of, switch_of, digit_of, open_of, send_of, capture_of, tick_of, ring_of, loop_of, dial_of, fail_capture_of, fail_emit_of, fail_hook_of, idle_of, step_of_kind};
+ghost use Rattle.af_script.specs.Statement.{kind_of, line_stated, device_with, device_number, line_number, link_of, switch_of, digit_of, open_of, send_of, end_of, room_stated, room_of, capture_of, tick_of, ring_of, loop_of, dial_of, fail_read_of, fail_write_of, fail_capture_of, fail_emit_of, fail_hook_of, idle_of, step_of_kind};
 
-use crate::lines::{next_word, one_word, two_words};
-use crate::number::{number, number_between};
 use af_outside::{Bytes, DeviceSpec, Step};
 use af_phone::{LineChange, is_digit};
-use af_sample::SampleType;
+use af_text::{
+    is_word, listed_rate, next_word, number, number_between, one_word, sample_type, two_words,
+};
 use af_time::OutOfMemory;
 use hex::FromHexError;
 use std::alloc::Global;
@@ -23,10 +23,14 @@ pub enum Kind {
     Device,
     Open,
     Send,
+    End,
+    Room,
     Tick,
     Ring,
     Loop,
     Digit,
+    FailRead,
+    FailWrite,
     FailCapture,
     FailEmit,
     FailHook,
@@ -43,6 +47,10 @@ pub fn kind_named(name: &[u8]) -> Option<Kind>
         Some(Kind::Open)
     } else if is_word(name, b"send") {
         Some(Kind::Send)
+    } else if is_word(name, b"end") {
+        Some(Kind::End)
+    } else if is_word(name, b"room") {
+        Some(Kind::Room)
     } else if is_word(name, b"tick") {
         Some(Kind::Tick)
     } else if is_word(name, b"ring") {
@@ -51,6 +59,10 @@ pub fn kind_named(name: &[u8]) -> Option<Kind>
         Some(Kind::Loop)
     } else if is_word(name, b"digit") {
         Some(Kind::Digit)
+    } else if is_word(name, b"failread") {
+        Some(Kind::FailRead)
+    } else if is_word(name, b"failwrite") {
+        Some(Kind::FailWrite)
     } else if is_word(name, b"failcapture") {
         Some(Kind::FailCapture)
     } else if is_word(name, b"failemit") {
@@ -62,13 +74,6 @@ pub fn kind_named(name: &[u8]) -> Option<Kind>
     } else {
         None
     }
-}
-
-/// Whether a word is this one.
-fn is_word(word: &[u8], wanted: &[u8]) -> bool
-    ensures { result ≡ bytes_eq word.now wanted.now }
-{
-    word == wanted
 }
 
 /// The device that the words behind `device` state.
@@ -101,33 +106,6 @@ fn line_stated(arguments: &[u8]) -> Option<bool>
         Some(true)
     } else {
         None
-    }
-}
-
-/// The sample type that a word names.
-fn sample_type(word: &[u8]) -> Option<SampleType>
-    ensures { result ≡ type_of word.now }
-{
-    if is_word(word, b"mu255") {
-        Some(SampleType::Mu255)
-    } else if is_word(word, b"alaw") {
-        Some(SampleType::Alaw)
-    } else if is_word(word, b"lin16") {
-        Some(SampleType::Lin16)
-    } else if is_word(word, b"lin32") {
-        Some(SampleType::Lin32)
-    } else {
-        None
-    }
-}
-
-/// The rate of a word, where it is listed.
-fn listed_rate(word: &[u8]) -> Option<u32>
-    ensures { result ≡ rate_of word.now }
-{
-    match number(word)? {
-        rate @ (8000 | 11025 | 16000 | 22050 | 32000 | 44100 | 48000) => Some(rate as u32),
-        _ => None,
     }
 }
 
@@ -225,6 +203,35 @@ fn send(alloc: Global, arguments: &[u8]) -> Result<Option<Step>, OutOfMemory>
     Ok(bytes_between(alloc, 1, 16384, second)?.map(|bytes| Step::Send(link, bytes)))
 }
 
+/// `end K`
+fn end(arguments: &[u8]) -> Option<Step>
+    ensures { result ≡ end_of (words arguments.now) }
+{
+    let link = link(one_word(arguments)?)?;
+    Some(Step::End(link))
+}
+
+/// How many bytes the last word of `room K N` states that a link takes, or every byte, which is Some(None).
+fn room_stated(word: &[u8]) -> Option<Option<u32>>
+    ensures { result ≡ room_stated word.now }
+{
+    if is_word(word, b"all") {
+        return Some(None);
+    }
+    let count = number_between(0, u32::MAX, word)?;
+    Some(Some(count))
+}
+
+/// `room K N` or `room K all`
+fn room(arguments: &[u8]) -> Option<Step>
+    ensures { result ≡ room_of (words arguments.now) }
+{
+    let (first, second) = two_words(arguments)?;
+    let link = link(first)?;
+    let room = room_stated(second)?;
+    Some(Step::Room(link, room))
+}
+
 /// What the words behind `tick D N` state is captured: so many bytes, or with no words nothing, which is Some(None).
 fn capture(
     alloc: Global,
@@ -319,6 +326,22 @@ fn dial(config: &[DeviceSpec], arguments: &[u8]) -> Option<Step>
     Some(Step::Line(device, LineChange::Digit(code)))
 }
 
+/// `failread K`
+fn fail_read(arguments: &[u8]) -> Option<Step>
+    ensures { result ≡ fail_read_of (words arguments.now) }
+{
+    let link = link(one_word(arguments)?)?;
+    Some(Step::FailRead(link))
+}
+
+/// `failwrite K`
+fn fail_write(arguments: &[u8]) -> Option<Step>
+    ensures { result ≡ fail_write_of (words arguments.now) }
+{
+    let link = link(one_word(arguments)?)?;
+    Some(Step::FailWrite(link))
+}
+
 /// `failcapture D`
 fn fail_capture(config: &[DeviceSpec], arguments: &[u8]) -> Option<Step>
     requires { length config.now ≤ 8 }
@@ -370,10 +393,14 @@ pub fn step_stated(
         Kind::Device => Ok(None),
         Kind::Open => Ok(open(arguments)),
         Kind::Send => send(alloc, arguments),
+        Kind::End => Ok(end(arguments)),
+        Kind::Room => Ok(room(arguments)),
         Kind::Tick => tick(alloc, config, arguments),
         Kind::Ring => Ok(ring(config, arguments)),
         Kind::Loop => Ok(current(config, arguments)),
         Kind::Digit => Ok(dial(config, arguments)),
+        Kind::FailRead => Ok(fail_read(arguments)),
+        Kind::FailWrite => Ok(fail_write(arguments)),
         Kind::FailCapture => Ok(fail_capture(config, arguments)),
         Kind::FailEmit => Ok(fail_emit(config, arguments)),
         Kind::FailHook => Ok(fail_hook(config, arguments)),

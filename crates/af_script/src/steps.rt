@@ -21,7 +21,7 @@ impl Model for Steps {
 
 impl Steps {
     /// These steps.
-    pub(crate) fn of(kept: Vec<Step>) -> Steps
+    pub fn of(kept: Vec<Step>) -> Steps
         ensures { result ≡ kept.items }
     {
         Steps { kept }

@@ -134,6 +134,22 @@ fn reads_what_happens_on_a_line(rt: HostRuntime) -> Result<(), Fail> {
     Ok(())
 }
 
+#[test]
+fn reads_what_is_stated_of_a_link(rt: HostRuntime) -> Result<(), Fail> {
+    let text =
+        b"device lin16 8000 0\nend 00\nroom 31 0\nroom 007 4294967295\nroom 7 all\nfailread 1\nfailwrite 02";
+    let script = read_script(rt.alloc(), text)?;
+    let steps = script.steps.as_slice();
+    assert_eq!(rt; steps.len(), 6);
+    assert!(rt; matches!(steps.first(), Some(Step::End(0))));
+    assert!(rt; matches!(steps.get(1), Some(Step::Room(31, Some(0)))));
+    assert!(rt; matches!(steps.get(2), Some(Step::Room(7, Some(4294967295)))));
+    assert!(rt; matches!(steps.get(3), Some(Step::Room(7, None))));
+    assert!(rt; matches!(steps.get(4), Some(Step::FailRead(1))));
+    assert!(rt; matches!(steps.get(5), Some(Step::FailWrite(2))));
+    Ok(())
+}
+
 /// As many devices as there may be, of each type twice and of each rate.
 const EIGHT_DEVICES: &[u8] =
     b"device mu255 8000 0\ndevice alaw 11025 1\ndevice lin16 16000 2\ndevice lin32 22050 3\n\
@@ -228,7 +244,20 @@ fn numbers_the_first_faulty_line(rt: HostRuntime) {
         (b"device lin16 8000 0 line\ndigit 0 12\n", 2),
         (b"device lin16 8000 0 line\ndigit 0 E\n", 2),
         (b"device lin16 8000 0 line\nfailhook 0 0\n", 2),
-        (b"device lin16 8000 0\nend 0\n", 2),
+        (b"device lin16 8000 0\nend 31\nend 32\n", 3),
+        (b"device lin16 8000 0\nend 0 0\n", 2),
+        (
+            b"device lin16 8000 0\nroom 0 4294967295\nroom 0 4294967296\n",
+            3,
+        ),
+        (b"device lin16 8000 0\nroom 0\n", 2),
+        (b"device lin16 8000 0\nroom 0 ALL\n", 2),
+        (b"device lin16 8000 0\nroom 0 all 1\n", 2),
+        (b"device lin16 8000 0\nroom 32 1\n", 2),
+        (b"device lin16 8000 0\nfailread\n", 2),
+        (b"device lin16 8000 0\nfailread 32\n", 2),
+        (b"device lin16 8000 0\nfailwrite 0 1\n", 2),
+        (b"end 0\ndevice lin16 8000 0\n", 1),
         (b"device lin16 8000 0\nopen 31\nopen 32\nopen 33\n", 3),
         (b"device lin16 8000 0\nsend 31 00\nsend 32 00\n", 3),
     ];
@@ -265,14 +294,14 @@ fn happenings(alloc: Global) -> Result<Vec<Happening>, Fail> {
         sound,
         done: true,
     })?;
-    log.push(Happening::Read {
-        link: 3,
-        got: ReadGot::NotYet,
-    })?;
+    let given = ReadGot::Given(Bytes::copied(alloc, &[8])?);
+    for got in [ReadGot::NotYet, ReadGot::Ended, ReadGot::Failed, given] {
+        log.push(Happening::Read { link: 3, got })?;
+    }
     let took = Some(Bytes::copied(alloc, &[1, 2, 3])?);
     log.push(Happening::Wrote {
         link: 31,
-        offered: 3,
+        offered: 5,
         took,
     })?;
     let took = Some(Bytes::copied(alloc, &[])?);
@@ -286,18 +315,15 @@ fn happenings(alloc: Global) -> Result<Vec<Happening>, Fail> {
         offered: 9,
         took: None,
     })?;
-    log.push(Happening::Closed {
-        link: 0,
-        why: Why::BadSetup,
-    })?;
-    log.push(Happening::Closed {
-        link: 10,
-        why: Why::Malformed,
-    })?;
-    log.push(Happening::Closed {
-        link: 2,
-        why: Why::Overrun,
-    })?;
+    for (link, why) in [
+        (0, Why::BadSetup),
+        (10, Why::Malformed),
+        (1, Why::Ended),
+        (30, Why::LinkFault),
+        (2, Why::Overrun),
+    ] {
+        log.push(Happening::Closed { link, why })?;
+    }
     for (off, done) in [(true, true), (false, true), (true, false)] {
         log.push(Happening::Hooked {
             device: 5,
@@ -329,7 +355,7 @@ fn prints_a_line_for_what_is_seen(rt: HostRuntime) -> Result<(), Fail> {
     };
     assert_eq!(rt; print_log(&log, &mut paper), Put::Done);
     let wanted =
-        b"emit 0 00ff7fa0\nlink 31 010203\nwrite 5 failed\nclosed 0 setup\nclosed 10 malformed\nclosed 2 overrun\nhook 5 offhook\nhook 5 onhook\nhook 5 failed\ncapture 6 failed\nemit 7 failed\n";
+        b"emit 0 00ff7fa0\nread 3 failed\nlink 31 010203\nwrite 5 failed\nclosed 0 setup\nclosed 10 malformed\nclosed 1 ended\nclosed 30 fault\nclosed 2 overrun\nhook 5 offhook\nhook 5 onhook\nhook 5 failed\ncapture 6 failed\nemit 7 failed\n";
     assert_eq!(rt; paper.written.as_slice(), wanted.as_slice());
     Ok(())
 }
@@ -339,13 +365,13 @@ fn stops_where_the_sink_fails(rt: HostRuntime) -> Result<(), Fail> {
     let log = happenings(rt.alloc())?;
     let mut paper = Paper {
         written: Vec::new(rt.alloc()),
-        room: 25,
+        room: 39,
         faults: 0,
     };
     assert_eq!(rt; print_log(&log, &mut paper), Put::Failed);
     assert_eq!(rt;
         paper.written.as_slice(),
-        b"emit 0 00ff7fa0\nlink 31 ".as_slice()
+        b"emit 0 00ff7fa0\nread 3 failed\nlink 31 ".as_slice()
     );
     assert_eq!(rt; paper.faults, 1);
     Ok(())

@@ -15,7 +15,7 @@ use Rattle.afd.specs.Run.{TellsLogOf}
 
 tells_at : (text : List ℕ) (script : Stated) (told : Option Log) → script_of text ≡ Ok script → HasOneLog script.config script.steps told → TellsLogOf text told
 tells_at text script None e h = h
-tells_at text script (Some log) e h = record { script = script; is_script = e; one = h.one; lossless = h.lossless }
+tells_at text script (Some log) e h = record { script = script; is_script = e; one = h.one; lossless = h.lossless; prefixes = h.prefixes; mixes = h.mixes }
 
 -- the tape that was made of a text's script and run tells its log
 pub tells_log : (text : List ℕ) (config : List DeviceSpec) (steps : List Step) (tape : TapeState) (told : Option Log) → script_of text ≡ Ok (record { config = config; steps = steps }) →

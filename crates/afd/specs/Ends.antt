@@ -5,6 +5,8 @@ use Rattle.std.specs.declared.option.Option.TheVariants.{Some}
 use Rattle.af_outside.specs.Told.{Log, Gave, Grew, Rose}
 use Rattle.af_outside.specs.Flow.{IsSpent, GrewByPrefix}
 use Rattle.af_model.specs.NoLoss.{RunLosesNone}
+use Rattle.af_model.specs.Prefix.{TakesInOrder}
+use Rattle.af_model.specs.Fold.{MixesAll}
 use Rattle.af_model.specs.Script.{OneLog}
 use Rattle.af_script.specs.Script.{Stated, script_of}
 use Rattle.af_script.specs.Transcript.{transcript}
@@ -33,12 +35,15 @@ pub record GaveTooMuch (before after : Option (List ℕ)) : Type 0 where
   pub gave : Gave before text after
   pub beyond : longest_script < length text
 
--- the text is a script, and this is its one log, in which no request that had waited lost a sample
+-- The text is a script, and this is its one log. No request that had waited lost a sample in it, what each link took begins what was
+-- said to it, and each sound is the mix of all that was ever accepted.
 pub record IsLogOf (text : List ℕ) (log : Log) : Type 0 where
   pub script : Stated
   pub is_script : script_of text ≡ Ok script
   pub one : OneLog script.config script.steps log
   pub lossless : RunLosesNone script.config log
+  pub prefixes : TakesInOrder script.config log
+  pub mixes : MixesAll script.config log
 
 -- all that the source gave is a script, and the transcript of its one log was written
 pub record RanWhole (left left' held held' : Option (List ℕ)) : Type 0 where

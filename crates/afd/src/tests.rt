@@ -1,6 +1,8 @@
 // The script command on examples worked by hand.
 mod controls;
 mod lines;
+mod links;
+mod session;
 mod waits;
 
 use crate::script::{ScriptEnd, afd_script};

@@ -28,6 +28,7 @@ returns-clause-step c = λ a h.
 
 pub returns-clause-settled : goal.returns-clause-settled
 returns-clause-settled c = record {
+  bounds = c.loop-test.ensures.bounds refl;
   short = c.loop-test.ensures.short refl;
   room = λ waits.
       let same = c.loop-test.ensures.same refl in

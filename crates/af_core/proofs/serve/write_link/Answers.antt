@@ -1,5 +1,5 @@
 use Rattle.std.proofs.Common.{arith, rules}
-use Rattle.af_perform.proofs.Keeping.{grows_on}
+use Rattle.af_perform.proofs.Keeping.{touches_on}
 use Rattle.af_core.proofs.Doing.{does_more}
 use Rattle.af_core.proofs.Serving.{writes_nothing}
 use Rattle.af_core.proofs.serve.write_link.Goals as goal
@@ -11,7 +11,7 @@ loop-devices-preserved g c = record {
   size = omega arith;
   settled = c.write_once.ensures.settled;
   leads = g.met.W.World.leads_on _ _ _ c.loop-devices.invariant.leads c.write_once.ensures.leads;
-  grows = grows_on _ _ _ _ c.loop-devices.invariant.grows c.write_once.ensures.grows;
+  touches = touches_on _ _ _ _ c.loop-devices.invariant.touches c.write_once.ensures.touches;
   does = does_more c.loop-devices.invariant.does c.write_once.ensures.does;
 }
 

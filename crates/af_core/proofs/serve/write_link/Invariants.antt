@@ -1,6 +1,6 @@
 use Rattle.std.proofs.Common.{◌≡◌, ◌<◌, ◌≤◌, length}
 use Rattle.af_model.specs.Turn.{write_phase}
-use Rattle.af_perform.specs.Waits.{has_waiting, Grows}
+use Rattle.af_perform.specs.Waits.{has_waiting, Touches}
 use Rattle.af_perform.specs.Places.{At}
 use Rattle.af_core.specs.Stands.{IsSettled, writes_left}
 use Rattle.af_core.specs.Does.{Does}
@@ -12,7 +12,7 @@ invariant-loop-devices g l = record {
   count : length l.devices ≤ 8;
   size : length l.input ≡ 16384;
   settled : IsSettled (has_waiting l.waits l.number) l.link;
-  grows : Grows l.number l.initial.waits l.waits;
+  touches : Touches l.number l.initial.waits l.waits;
   leads : g.W.World.leads_to l.initial.world l.world;
   does : Does (g.W.World.log l.initial.world) (g.W.World.log l.world) (At l.initial.devices l.initial.waits l.initial.link) (At l.devices l.waits l.link) (write_phase l.number) (write_phase l.number);
 }

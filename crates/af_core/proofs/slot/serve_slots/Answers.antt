@@ -1,5 +1,4 @@
 use Rattle.std.proofs.Common.{◌-◌, length, refl, arith}
-use Rattle.af_perform.proofs.Keeping.{grows_later, grows_others}
 use Rattle.af_core.proofs.Serving.{settled_here, settled_set, next_served, all_served, link_here}
 use Rattle.af_core.proofs.slot.serve_slots.Goals as goal
 
@@ -7,8 +6,8 @@ pub loop-number-preserved : goal.loop-number-preserved
 loop-number-preserved g c = record {
   count = omega arith;
   leads = g.met.W.World.leads_on _ _ _ c.loop-number.invariant.leads c.serve.ensures.leads;
-  later = grows_later _ _ _ c.serve.ensures.grows c.loop-number.invariant.later;
-  settled = settled_set c.loop-number.waits _ c.loop-number.slots c.loop-number.number _ c.loop-number.invariant.settled (λ j apart. grows_others c.loop-number.number j c.loop-number.waits _ c.serve.ensures.grows apart) c.serve.ensures.settled;
+  later = c.serve.ensures.touches.later c.loop-number.invariant.later;
+  settled = settled_set c.loop-number.waits _ c.loop-number.slots c.loop-number.number _ c.loop-number.invariant.settled c.serve.ensures.touches.others c.serve.ensures.settled;
   does = next_served _ _ _ _ _ c.loop-number.number _ _ _ _ _ _ _ _ _ _ (omega arith) (link_here c.loop-number.slots c.loop-number.number _ (omega arith)) c.loop-number.invariant.does c.serve.ensures.does;
 }
 

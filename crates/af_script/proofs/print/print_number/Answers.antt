@@ -1,11 +1,11 @@
 use Rattle.std.proofs.Common.{◌<◌, length, arith, sym, ◌∙◌, subst}
-use Rattle.std.proofs.lemmas.Fmt.{decimal_nonempty}
 use Rattle.af_script.specs.Printing.{Prints, filled}
+use Rattle.af_script.proofs.Printing.{some_digit}
 use Rattle.af_script.proofs.print.print_number.Goals as goal
 
 pub put-requires : goal.put-requires
 put-requires g c =
-    subst (λ t. 0 < length t) (sym (c.as_bytes.ensures.value ∙ c.format.ensures.text)) (decimal_nonempty c.args.number (omega arith))
+    subst (λ t. 0 < length t) (sym (c.as_bytes.ensures.value ∙ c.format.ensures.text)) (some_digit c.args.number (omega arith))
 
 pub returns : goal.returns
 returns g c =

@@ -72,11 +72,11 @@ line_device config more steps held line name arguments kind allowed read named i
 pub returns-then-is_further_device : goal.returns-then-is_further_device
 returns-then-is_further_device c =
     line_device c.args.config.now.items c.add_device.new.config.items c.args.steps.now.items c.deref.result.now c.args.line.now c.in-Some.name.now _ c.in-Some-kind_named.kind c.add_device.result
-    (sym c.passes_over.ensures ∙ c.if-passes_over.false) c.in-Some.ensures c.in-Some-kind_named.ensures c.deref.ensures.value
+    (sym c.passes_over.ensures ∙ c.if-passes_over.false) c.in-Some.ensures.split c.in-Some-kind_named.ensures c.deref.ensures.value
     (sym c.is_further_device.ensures ∙ c.if-is_further_device.true) c.add_device.ensures
 
 pub returns : goal.returns
 returns c =
     line_step c.args.config.now.items c.deref-2.result.now c.args.steps.now.items c.deref.result.now c.add_step.new.steps.items c.args.line.now c.in-Some.name.now _ c.in-Some-kind_named.kind c.add_step.result
-    (sym c.passes_over.ensures ∙ c.if-passes_over.false) c.in-Some.ensures c.in-Some-kind_named.ensures c.deref.ensures.value c.deref-2.ensures.0
+    (sym c.passes_over.ensures ∙ c.if-passes_over.false) c.in-Some.ensures.split c.in-Some-kind_named.ensures c.deref.ensures.value c.deref-2.ensures.0
     (sym c.is_further_device.ensures ∙ c.if-is_further_device.false) (some_device c.args.config.now.items (sym c.is_empty.ensures ∙ c.if-is_empty.false)) c.add_step.ensures

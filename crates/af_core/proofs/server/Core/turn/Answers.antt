@@ -1,10 +1,15 @@
-use Rattle.std.proofs.Common.{◌≡◌, ◌≤◌, ◌++◌, ◌∙◌, List, length, take, drop, ap, sym, subst, arith}
+use Rattle.std.proofs.Common.{◌≡◌, ◌≤◌, slice_get, option_and_then, ◌++◌, ◌∙◌, List, length, take, drop, ap, sym, subst, arith}
 use Rattle.std.specs.declared.option.Option.{Option}
+use Rattle.std.specs.declared.option.Option.TheVariants.{Some}
 use Rattle.af_model.specs.State.{State, LinkState}
 use Rattle.af_perform.specs.Kept.{KeptDevice}
 use Rattle.af_core.specs.Stands.{AreSettled, StandsFor}
 use Rattle.af_core.proofs.Turning.{written}
+use Rattle.af_core.proofs.Wanting.{kept_open}
 use Rattle.af_core.proofs.server.Core.turn.Goals as goal
+
+pub turn_parts-requires-clause-settled : goal.turn_parts-requires-clause-settled
+turn_parts-requires-clause-settled g c = subst (λ (xs : List (Option LinkState)). AreSettled c.self.inside.waits xs) (sym c.deref_mut-2.ensures.value) c.self.invariant.2
 
 pub invariant_of-self : goal.invariant_of-self
 invariant_of-self g c =
@@ -21,3 +26,9 @@ invariant_of-self g c =
       c.turn_parts.ensures.later,
       subst (λ (xs : List KeptDevice). (s : State) × StandsFor xs waits (take c.self.inside.slots.len (links ++ drop (length links) c.self.inside.slots.items)) s) (sym devices_are) (subst (λ (xs : List (Option LinkState)). (s : State) × StandsFor ds waits xs s) (sym links_are) c.turn_parts.ensures.stands),
     )
+
+pub returns-clause-bounds : goal.returns-clause-bounds
+returns-clause-bounds g c = λ k l e.
+    let links = c.turn_parts.new.slots in
+    let links_are : take c.self.inside.slots.len (links ++ drop (length links) c.self.inside.slots.items) ≡ links = written c.self.inside.slots.len links (drop (length links) c.self.inside.slots.items) (c.turn_parts.auto.slots ∙ c.deref_mut-2.ensures.len) in
+    (c.turn_parts.ensures.settled k l (kept_open links k l (subst (λ (xs : List (Option LinkState)). option_and_then (λ (link : Option LinkState). link) (slice_get xs k) ≡ Some l) links_are e))).bounds

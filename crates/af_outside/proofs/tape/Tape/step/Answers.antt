@@ -35,6 +35,7 @@ returns c =
       left = drop tape.taken tape.steps.items;
       log = tape.logbook;
       outside = outside_of tape.far_ends.items (stations_of tape.steps.items tape.stations.items);
+      link_faults = tape.link_faults;
       device_faults = tape.device_faults;
     } in
     let left = drop (tape.taken + 1) tape.steps.items in

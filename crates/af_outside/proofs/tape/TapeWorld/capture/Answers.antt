@@ -1,4 +1,5 @@
 use Rattle.std.proofs.Common.{◌≡◌, refl, sym, ap, ◌∙◌, rules}
+use Rattle.std.proofs.Math.Nat.{le_refl}
 use Rattle.std.proofs.lemmas.List.{with_items_is}
 use Rattle.std.specs.Vec.{with_items}
 use Rattle.std.specs.declared.option.Option.TheVariants.{Some}
@@ -28,7 +29,8 @@ returns-clause-leads c =
     rw (← c.self.view_is) (record {
       config = refl;
       left = refl;
-      device_faults = rw c.faults_after-self-inside.ensures (faults_after-rises tape.device_faults c.capture-put.result (search rules));
+      link_faults = le_refl tape.link_faults;
+      device_faults = rw c.faults_after-self-inside.ensures (faults_after-rises tape.device_faults _ (search rules));
       answered = Answered-noted tape.logbook c.capture_of.result c.note.new.self (Captured c.args.device c.args.frames (captured_of c.capture-put.result c.capture-put.new.into)) (old_outside c) (new_outside c) c.note.ensures c.capture_of.ensures (answered_here c);
     })
 

@@ -19,6 +19,7 @@ returns-clause-leads c =
     rw (← c.self.view_is) (record {
       config = refl;
       left = refl;
+      link_faults = le_refl tape.link_faults;
       device_faults = le_refl tape.device_faults;
       answered = Answered-noted tape.logbook (Ok (Closed c.args.link c.args.why)) c.note.new.self (Closed c.args.link c.args.why)
           (outside_of tape.far_ends.items stations) (outside_of far_ends.items stations) c.note.ensures refl (leads ∙ ap (λ ends. Some (outside_of ends stations)) (sym kept));

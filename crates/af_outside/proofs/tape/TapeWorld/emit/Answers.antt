@@ -1,4 +1,5 @@
 use Rattle.std.proofs.Common.{◌≡◌, refl, sym, ap, ◌∙◌, rules}
+use Rattle.std.proofs.Math.Nat.{le_refl}
 use Rattle.std.proofs.lemmas.List.{with_items_is}
 use Rattle.std.specs.Vec.{with_items}
 use Rattle.std.specs.declared.option.Option.TheVariants.{Some}
@@ -28,7 +29,8 @@ returns-clause-leads c =
     rw (← c.self.view_is) (record {
       config = refl;
       left = refl;
-      device_faults = rw c.faults_after-self-inside.ensures (faults_after-rises tape.device_faults c.emit-put.result (search rules));
+      link_faults = le_refl tape.link_faults;
+      device_faults = rw c.faults_after-self-inside.ensures (faults_after-rises tape.device_faults _ (search rules));
       answered = Answered-noted tape.logbook c.emit_of.result c.note.new.self (Emitted c.args.device c.args.sound.now (is_done c.emit-put.result)) (old_outside c) (new_outside c) c.note.ensures c.emit_of.ensures (answered_here c);
     })
 

@@ -1,0 +1,132 @@
+-- The script that an exercise makes of a seed and a number of turns.
+use Rattle.std.specs.Prelude.{ℕ, zero, suc, ◌+◌, ◌-◌, ◌*◌, ◌/◌, ◌%◌, ◌^◌, nat_lt, ◌==◌, ℤ, pos, ◌-ℤ◌, Bool, true, false, List, [], ◌∷◌, ◌++◌, map, Option, Some, None, if◌then◌else◌}
+use Rattle.std.specs.Int.{w16, to_be_bytes}
+use Rattle.rand_core.specs.Pcg32Seed.{pcg32_seed}
+use Rattle.rand_pcg.specs.Lcg.{Lcg}
+use Rattle.rand_pcg.specs.Pcg.{pcg32, pcg32_of_seed}
+use Rattle.af_sample.specs.declared.sample_type.SampleType.TheVariants.{Lin16}
+use Rattle.af_request.specs.Asked.{get_time, create_ac, play_run, record_run, select_events}
+use Rattle.af_request.specs.Fields.{i16_bytes}
+use Rattle.af_request.specs.Requests.{request_bytes}
+use Rattle.af_phone.specs.declared.line.LineChange.TheVariants as change
+use Rattle.af_outside.specs.declared.script.DeviceSpec.{DeviceSpec}
+use Rattle.af_outside.specs.declared.script.Step.{Step}
+use Rattle.af_outside.specs.declared.script.Step.TheVariants as step
+use Rattle.af_script.specs.Script.{Stated}
+
+-- the device time at which the device starts: it passes 2^32 after 7296 frames
+abbrev pub start_time : ℕ
+start_time = 4294960000
+
+-- the one device: `lin16 8000 4294960000 line`
+abbrev pub exercised : List DeviceSpec
+exercised = record { ty = Lin16; rate = 8000; start = start_time; line = true } ∷ []
+
+-- the links
+abbrev pub links : List ℕ
+links = 0 ∷ 1 ∷ 2 ∷ 3 ∷ []
+
+-- a setup of version 1.0
+abbrev pub setup : List ℕ
+setup = 0x41 ∷ 0x46 ∷ 0x42 ∷ 0 ∷ 0 ∷ 1 ∷ 0 ∷ 0 ∷ []
+
+-- the plays of link 3 preempt, those of the others mix
+abbrev pub preempts : ℕ → ℕ
+preempts link = if link == 3 then 1 else 0
+
+-- what a link sends first: a setup, a CreateAC of context 1 for 16-bit samples of one channel with gains of 0, and a
+-- SelectEvents of every kind of event
+unfoldable pub greeting : ℕ → List ℕ
+greeting link =
+    setup ++ request_bytes (create_ac 0 1 2 1 (preempts link) (pos 0) (pos 0)) ++ request_bytes (select_events 0 15)
+
+-- each link is opened, and each greets
+unfoldable pub first_steps : List Step
+first_steps = map step.Open links ++ map (λ link. step.Send link (greeting link)) links
+
+-- the same bytes so many times
+abbrev pub repeated : ℕ → List ℕ → List ℕ
+repeated zero bytes = []
+repeated (suc n) bytes = bytes ++ repeated n bytes
+
+-- a device time so many frames before another, and then so many on
+abbrev pub time_about : ℕ → ℕ → ℕ → ℕ
+time_about time before on = ((time + (2 ^ 32 - before)) % 2 ^ 32 + on) % 2 ^ 32
+
+-- how many frames a tick has
+abbrev pub tick_frames : ℕ → ℕ
+tick_frames y = 1 + y % 512
+
+-- a tick of 1 to 512 frames, in which each captured sample has the same pattern
+unfoldable pub tick_drawn : ℕ → Step
+tick_drawn y = step.Tick 0 (tick_frames y) (Some (repeated (tick_frames y) (to_be_bytes w16 (y / 512 % 65536))))
+
+-- the bytes of a sample between -10000 and 10000
+abbrev pub sample_bytes : ℕ → List ℕ
+sample_bytes y = i16_bytes (pos (y % 20001) -ℤ pos 10000)
+
+-- a Play with a reply, of 100 equal samples, that begins 2000 frames before the device's time or up to 35999 frames later
+unfoldable pub play_drawn : ℕ → ℕ → ℕ → Step
+play_drawn link y time =
+    step.Send link (request_bytes (play_run false 1 (time_about time 2000 (y % 36000)) (repeated 100 (sample_bytes y))))
+
+-- a Record of 50 frames that waits for them, and begins 1000 frames before the device's time or up to 1999 frames later
+unfoldable pub record_drawn : ℕ → ℕ → ℕ → Step
+record_drawn link y time = step.Send link (request_bytes (record_run true 1 (time_about time 1000 (y % 2000)) 100))
+
+-- a GetTime
+unfoldable pub time_asked : ℕ → Step
+time_asked link = step.Send link (request_bytes (get_time 0))
+
+-- a decimal digit is dialled
+unfoldable pub digit_drawn : ℕ → Step
+digit_drawn y = step.Line 0 (change.Digit (48 + y % 10))
+
+-- a link takes 100 bytes from now on, or every byte
+unfoldable pub room_drawn : ℕ → ℕ → Step
+room_drawn link y = step.Room link (if y % 16 == 0 then Some 100 else None)
+
+-- the step of one of eight choices
+abbrev pub step_chosen : ℕ → ℕ → ℕ → ℕ → Step
+step_chosen choice link y time =
+    if nat_lt choice 3 then tick_drawn y
+    else if choice == 3 then play_drawn link y time
+    else if choice == 4 then record_drawn link y time
+    else if choice == 5 then time_asked link
+    else if choice == 6 then digit_drawn y
+    else room_drawn link y
+
+-- the step of a turn at a device time: x says which link it is of and which step, y what it has
+unfoldable pub turn_step : ℕ → ℕ → ℕ → Step
+turn_step x y time = step_chosen (x / 4 % 8) (x % 4) y time
+
+-- how many frames go by in a step
+abbrev pub frames_in : Step → ℕ
+frames_in (step.Tick device frames captured) = frames
+frames_in _ = 0
+
+-- the word that a generator draws
+unfoldable pub drawn : Lcg → ℕ
+drawn g = (pcg32 g).0
+
+-- the generator behind a draw
+unfoldable pub moved_on : Lcg → Lcg
+moved_on g = (pcg32 g).1
+
+-- the generator of a seed
+unfoldable pub seeded : ℕ → Lcg
+seeded seed = pcg32_of_seed (pcg32_seed 16 seed)
+
+-- the step that a generator draws at a device time: first x, and then y
+abbrev pub step_drawn : Lcg → ℕ → Step
+step_drawn g time = turn_step (drawn g) (drawn (moved_on g)) time
+
+-- so many steps that a generator draws, from a device time on
+abbrev pub steps_drawn : ℕ → Lcg → ℕ → List Step
+steps_drawn zero g time = []
+steps_drawn (suc turns) g time =
+    step_drawn g time ∷ steps_drawn turns (moved_on (moved_on g)) ((time + frames_in (step_drawn g time)) % 2 ^ 32)
+
+-- the script of a seed and so many turns
+unfoldable pub generated : ℕ → ℕ → Stated
+generated seed turns = record { config = exercised; steps = first_steps ++ steps_drawn turns (seeded seed) start_time }

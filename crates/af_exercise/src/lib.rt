@@ -1,0 +1,9 @@
+//! Exercises: scripts that are made of the words of a generator, so that a seed and a number of turns stand for a large one.
+#![tactic(auto)]
+
+mod generate;
+
+pub use generate::make_script;
+
+#[cfg(test)]
+mod tests;

@@ -1,0 +1,5 @@
+pub mod Stating
+pub mod Configuration
+pub mod Kept
+pub mod Reading
+pub mod Pacing

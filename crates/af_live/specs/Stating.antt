@@ -1,0 +1,70 @@
+-- What the words of a line of a configuration state: a device, and what stands behind it.
+use Rattle.std.specs.Prelude.{ℕ, ◌-◌, ◌^◌, Bool, true, false, List, [], ◌∷◌, codes, bytes_eq, Option, Some, None, option_map, option_and_then, if◌then◌else◌}
+use Rattle.af_sample.specs.declared.sample_type.SampleType.{SampleType}
+use Rattle.af_text.specs.Words.{number_within}
+use Rattle.af_text.specs.Sound.{type_of, rate_of}
+use Rattle.af_outside.specs.declared.script.DeviceSpec.{DeviceSpec}
+use Rattle.af_outside.specs.Kinds.{Backing, silence, two_files}
+
+-- the devices of a server, and what stands behind each, in the same order
+pub record Settings : Type 0 where
+  pub config : List DeviceSpec
+  pub kinds : List Backing
+
+-- a device, and what stands behind it
+pub record Placed : Type 0 where
+  pub spec : DeviceSpec
+  pub kind : Backing
+
+-- how a device line ends: whether it states a telephone line, and what stands behind the device
+pub record Ending : Type 0 where
+  pub line : Bool
+  pub kind : Backing
+
+-- no word comes behind `silent`
+abbrev pub silent_of : List (List ℕ) → Option Backing
+silent_of [] = Some silence
+silent_of (name ∷ names) = None
+
+-- the names of two files come behind `files`
+abbrev pub files_of : List (List ℕ) → Option Backing
+files_of (input ∷ output ∷ []) = Some (two_files input output)
+files_of _ = None
+
+-- `silent`, or `files INPUT OUTPUT`
+abbrev pub kind_of : List (List ℕ) → Option Backing
+kind_of [] = None
+kind_of (word ∷ names) =
+    if bytes_eq word (codes "silent") then silent_of names
+    else if bytes_eq word (codes "files") then files_of names
+    else None
+
+-- with a telephone line, or with none
+abbrev pub ending_with : Bool → Backing → Ending
+ending_with line kind = record { line = line; kind = kind }
+
+-- `KIND`, or `line KIND`
+abbrev pub ending_of : List (List ℕ) → Option Ending
+ending_of [] = None
+ending_of (word ∷ rest) =
+    if bytes_eq word (codes "line") then option_map (ending_with true) (kind_of rest)
+    else option_map (ending_with false) (kind_of (word ∷ rest))
+
+-- a device of this type and rate, whose time begins here
+abbrev pub device_at : SampleType → ℕ → ℕ → DeviceSpec
+device_at ty rate start = record { ty = ty; rate = rate; start = start; line = false }
+
+-- a device that ends so
+abbrev pub placed_at : DeviceSpec → Ending → Placed
+placed_at device ending = record { spec = record device { line = ending.line }; kind = ending.kind }
+
+-- the device of `device TYPE RATE START KIND`, or of `device TYPE RATE START line KIND`, by the words behind `device`
+abbrev pub device_with : List (List ℕ) → Option Placed
+device_with (ty ∷ rate ∷ start ∷ ending) =
+    option_and_then (λ t. option_and_then (λ r. option_and_then (λ s. option_map (placed_at (device_at t r s)) (ending_of ending)) (number_within 0 (2 ^ 32 - 1) start)) (rate_of rate)) (type_of ty)
+device_with _ = None
+
+-- the device that the words of a line state
+abbrev pub device_of : List (List ℕ) → Option Placed
+device_of [] = None
+device_of (name ∷ arguments) = if bytes_eq name (codes "device") then device_with arguments else None

@@ -1,0 +1,148 @@
+// What a line of a configuration states: a device, and what stands behind it.
+ghost use Rattle.std.specs.Prelude.{◌≡◌, IfOk, IfSome, MatchOption, None, option_map, string_bytes};
+ghost use Rattle.std.specs.Str.{IsUtf8, is_utf8};
+ghost use Rattle.af_buffers.specs.Horizons.{IsListedRate};
+ghost use Rattle.af_text.specs.Lines.{words};
+ghost use Rattle.af_live.specs.Stating.{device_of, device_with, placed_at, ending_of, kind_of, silent_of, files_of};
+ghost use Rattle.af_live.specs.Kept.{placed, backing, ending};
+
+use af_outside::DeviceSpec;
+use af_text::{is_word, listed_rate, next_word, number_between, sample_type, two_words};
+use af_time::OutOfMemory;
+use std::alloc::Global;
+use std::str;
+
+/// What stands behind a device.
+#[derive(Drop)]
+pub enum HeldKind {
+    Silent,
+    Files { input: String, output: String },
+}
+
+/// A device of a configuration.
+#[derive(Drop)]
+pub struct Device {
+    pub spec: DeviceSpec,
+    pub kind: HeldKind,
+}
+
+/// How a device line ends: whether it states a telephone line, and what stands behind the device.
+#[derive(Drop)]
+struct Ending {
+    line: bool,
+    kind: HeldKind,
+}
+
+/// The device that a line of text states.
+pub fn device_stated(alloc: Global, line: &[u8]) -> Result<Option<Device>, OutOfMemory>
+    requires { IsUtf8 line.now }
+    ensures value { IfOk result (λ device. option_map placed device ≡ device_of (words line.now)) }
+    ensures listed { IfOk result (λ device. IfSome device (λ d. IsListedRate d.spec.rate)) }
+{
+    let Some((name, arguments)) = next_word(line) else {
+        return Ok(None);
+    };
+    if !is_word(name, b"device") {
+        return Ok(None);
+    }
+    let Some((spec, rest)) = front_stated(arguments) else {
+        return Ok(None);
+    };
+    Ok(ending_stated(alloc, rest)?.map(|ending| Device {
+        spec: DeviceSpec {
+            line: ending.line,
+            ..spec
+        },
+        kind: ending.kind,
+    }))
+}
+
+/// The device of `TYPE RATE START`, with no telephone line, and what comes behind these words.
+fn front_stated(arguments: &[u8]) -> Option<(DeviceSpec, &[u8])>
+    ensures value { MatchOption result (device_with (words arguments.now) ≡ None) (λ found. device_with (words arguments.now) ≡ option_map (placed_at found.0) (ending_of (words found.1.now))) }
+    ensures listed { IfSome result (λ found. IsListedRate found.0.rate) }
+    ensures text { IsUtf8 arguments.now → IfSome result (λ found. IsUtf8 found.1.now) }
+{
+    let (ty, rest) = next_word(arguments)?;
+    let (rate, rest) = next_word(rest)?;
+    let (start, rest) = next_word(rest)?;
+    let spec = DeviceSpec {
+        ty: sample_type(ty)?,
+        rate: listed_rate(rate)?,
+        start: number_between(0, u32::MAX, start)?,
+        line: false,
+    };
+    Some((spec, rest))
+}
+
+/// `KIND`, or `line KIND`
+fn ending_stated(alloc: Global, arguments: &[u8]) -> Result<Option<Ending>, OutOfMemory>
+    requires { IsUtf8 arguments.now }
+    ensures { IfOk result (λ stated. option_map ending stated ≡ ending_of (words arguments.now)) }
+{
+    let Some((word, rest)) = next_word(arguments) else {
+        return Ok(None);
+    };
+    if is_word(word, b"line") {
+        Ok(kind_stated(alloc, rest)?.map(|kind| Ending { line: true, kind }))
+    } else {
+        Ok(kind_stated(alloc, arguments)?.map(|kind| Ending { line: false, kind }))
+    }
+}
+
+/// `silent`, or `files INPUT OUTPUT`
+fn kind_stated(alloc: Global, arguments: &[u8]) -> Result<Option<HeldKind>, OutOfMemory>
+    requires { IsUtf8 arguments.now }
+    ensures { IfOk result (λ kind. option_map backing kind ≡ kind_of (words arguments.now)) }
+{
+    let Some((word, names)) = next_word(arguments) else {
+        return Ok(None);
+    };
+    if is_word(word, b"silent") {
+        Ok(silent_stated(names))
+    } else if is_word(word, b"files") {
+        files_stated(alloc, names)
+    } else {
+        Ok(None)
+    }
+}
+
+/// No words, behind `silent`.
+fn silent_stated(names: &[u8]) -> Option<HeldKind>
+    ensures { option_map backing result ≡ silent_of (words names.now) }
+{
+    match next_word(names) {
+        None => Some(HeldKind::Silent),
+        Some(_) => None,
+    }
+}
+
+/// `INPUT OUTPUT`, behind `files`.
+fn files_stated(alloc: Global, names: &[u8]) -> Result<Option<HeldKind>, OutOfMemory>
+    requires { IsUtf8 names.now }
+    ensures { IfOk result (λ kind. option_map backing kind ≡ files_of (words names.now)) }
+{
+    match two_words(names) {
+        Some((input, output)) => Ok(Some(HeldKind::Files {
+            input: name(alloc, input)?,
+            output: name(alloc, output)?,
+        })),
+        None => Ok(None),
+    }
+}
+
+/// A copy of a name.
+fn name(alloc: Global, word: &[u8]) -> Result<String, OutOfMemory>
+    requires { IsUtf8 word.now }
+    ensures { IfOk result (λ name. string_bytes name ≡ word.now) }
+{
+    let text = str::from_utf8(word).unwrap();
+    Ok(String::from_str(alloc, text)?)
+}
+
+/// Whether a line is text, in UTF-8.
+pub fn is_text(line: &[u8]) -> bool
+    ensures { result ≡ is_utf8 line.now }
+{
+    str::from_utf8(line).is_ok()
+}

@@ -1,0 +1,56 @@
+// How many frames of a device are due, by the readings of a clock.
+ghost use Rattle.std.specs.Prelude.{◌≡◌};
+ghost use Rattle.af_live.specs.Pacing.{begun, due_at, after_due};
+
+use std::marker::Model;
+
+/// How many frames a device may be asked for at once.
+const MOST_FRAMES: u128 = 4096;
+
+const NANOS_A_SECOND: u128 = 1_000_000_000;
+
+/// The pace of a device: how many of its frames have been due since a clock was read first.
+#[derive(Drop)]
+pub struct Pace {
+    rate: u32,
+    first: Option<u64>,
+    answered: u128,
+}
+
+impl Model for Pace {
+    ghost use Rattle.std.specs.Prelude.{◌<◌, ◌^◌};
+    ghost use Rattle.af_live.specs.Pacing.{PaceState};
+
+    ghost Value = { PaceState };
+
+    ghost view = { λ p. record { rate = p.rate; first = p.first; answered = p.answered } };
+
+    ghost invariant = { λ p. p.answered < 2 ^ 96 };
+}
+
+impl Pace {
+    /// The pace of so many frames a second, of which none was due yet.
+    pub fn new(rate: u32) -> Pace
+        ensures { result ≡ begun rate }
+    {
+        Pace {
+            rate,
+            first: None,
+            answered: 0,
+        }
+    }
+
+    /// The frames that are due at this reading of the clock, in nanoseconds, and were not answered yet: at most 4096, the
+    /// others at later readings. The first reading is where the time begins. A reading before it counts as the first.
+    pub fn due(&mut self, nanos: u64) -> u32
+        ensures value { result ≡ due_at self.old nanos }
+        ensures later { self.new ≡ after_due self.old nanos }
+    {
+        let first = *self.first.get_or_insert(nanos);
+        let elapsed = u128::from(nanos.saturating_sub(first));
+        let gone_by = elapsed * u128::from(self.rate) / NANOS_A_SECOND;
+        let due = gone_by.saturating_sub(self.answered).min(MOST_FRAMES);
+        self.answered += due;
+        due as u32
+    }
+}

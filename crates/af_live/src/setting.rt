@@ -1,0 +1,76 @@
+// What a server is started with: its devices, and what stands behind each.
+ghost use Rattle.std.specs.Prelude.{◌≡◌, ◌<◌, [], length, slice_get, Some, IsTrue, nat_eq, OnOk};
+ghost use Rattle.af_outside.specs.Kinds.{backing_of};
+ghost use Rattle.af_live.specs.Kept.{placed};
+ghost use Rattle.af_live.specs.Reading.{with_device};
+
+use crate::device::{Device, HeldKind};
+use af_outside::{Config, Kind};
+use af_time::OutOfMemory;
+use arrayvec::ArrayVec;
+use std::alloc::Global;
+use std::marker::Model;
+
+/// The devices of a server, and what stands behind each of them.
+#[derive(Drop)]
+pub struct Setting {
+    config: Config,
+    kinds: Vec<HeldKind>,
+}
+
+impl Model for Setting {
+    ghost use Rattle.std.specs.Prelude.{◌≡◌, length, map};
+    ghost use Rattle.af_live.specs.Stating.{Settings};
+    ghost use Rattle.af_live.specs.Kept.{backing};
+
+    ghost Value = { Settings };
+
+    ghost view = { λ s. record { config = s.config.items; kinds = map backing s.kinds.items } };
+
+    ghost invariant = { λ s. length s.kinds.items ≡ length s.config.items };
+}
+
+impl Setting {
+    /// No devices so far.
+    pub(crate) fn new(alloc: Global) -> Setting
+        ensures config { result.config ≡ [] }
+        ensures kinds { result.kinds ≡ [] }
+    {
+        Setting {
+            config: ArrayVec::new(),
+            kinds: Vec::new(alloc),
+        }
+    }
+
+    /// Adds a device at the end, of which there may be 8. Where memory runs out nothing is promised of the setting.
+    pub(crate) fn add(&mut self, device: Device) -> Result<(), OutOfMemory>
+        requires { length self.old.config < 8 }
+        ensures { OnOk result (self.new ≡ with_device self.old (placed device)) }
+    {
+        self.kinds.push(device.kind)?;
+        self.config.push(device.spec);
+        Ok(())
+    }
+
+    /// The devices.
+    pub fn config(&self) -> &Config
+        ensures config { result.now.items ≡ self.now.config }
+        ensures kinds { length self.now.kinds ≡ length self.now.config }
+    {
+        &self.config
+    }
+
+    /// What stands behind a device, which is one of these.
+    pub fn kind(&self, device: u8) -> Kind<'_>
+        requires { device < length self.now.config }
+        ensures { slice_get self.now.kinds device ≡ Some (backing_of result) }
+    {
+        match &self.kinds[device as usize] {
+            HeldKind::Silent => Kind::Silent,
+            HeldKind::Files { input, output } => Kind::Files {
+                input: input.as_str(),
+                output: output.as_str(),
+            },
+        }
+    }
+}

@@ -1,0 +1,123 @@
+-- Small runs, computed: link 0 sets up and switches the output off, and then a tick hands silence out, or the link is slow and fails.
+use Rattle.std.proofs.Common.{◌≡◌, ℕ, true, false, List, [], ◌∷◌, ◌++◌, is_some, refl, pos}
+use Rattle.std.specs.declared.option.Option.{Option}
+use Rattle.std.specs.declared.option.Option.TheVariants.{None, Some}
+use Rattle.af_sample.specs.declared.sample_type.SampleType.TheVariants.{Lin16}
+use Rattle.af_sample.specs.Heard.{Entry, heard}
+use Rattle.af_wire.specs.Message.{head}
+use Rattle.af_outside.specs.declared.happening.Happening.TheVariants.{Woke, Read, Wrote, Closed, Captured, Emitted}
+use Rattle.af_outside.specs.declared.happening.ReadGot.TheVariants.{Given, NotYet}
+use Rattle.af_outside.specs.declared.happening.Wake.TheVariants.{Opened, Readable, Writable, Ticked, Idle}
+use Rattle.af_outside.specs.declared.happening.Why.TheVariants as why
+use Rattle.af_outside.specs.declared.script.DeviceSpec.{DeviceSpec}
+use Rattle.af_outside.specs.Told.{Log}
+use Rattle.af_model.specs.State.{Place, State, opened, place, slot_at}
+use Rattle.af_model.specs.Reply.{reply_message}
+use Rattle.af_model.specs.DeviceRequests.{controls_refusal}
+use Rattle.af_model.specs.Advance.{absorb, advance}
+use Rattle.af_model.specs.Tick.{complete_due}
+use Rattle.af_model.specs.Turn.{close_phase, hook_from, read_phase, serve_from, serve_link, turn, wake_phase}
+use Rattle.af_model.specs.Run.{end_state, IsRun}
+use Rattle.af_model.specs.Prefix.{taken}
+
+abbrev config : List DeviceSpec
+config = record { ty = Lin16; rate = 8000; start = 0; line = false } ∷ []
+
+-- a setup, and SetControls of device 0 with its output off
+abbrev sent : List ℕ
+sent = 0x41 ∷ 0x46 ∷ 0x42 ∷ 0 ∷ 0 ∷ 1 ∷ 0 ∷ 0 ∷ 9 ∷ 0 ∷ 0 ∷ 3 ∷ 8 ∷ 0 ∷ 0 ∷ 0 ∷ 0 ∷ 0 ∷ 0 ∷ 0 ∷ []
+
+-- the replies to both
+abbrev setup_reply : List ℕ
+setup_reply = 1 ∷ 0 ∷ 0 ∷ 0 ∷ 0 ∷ 0 ∷ 0 ∷ 5 ∷ 0 ∷ 1 ∷ 0 ∷ 0 ∷ 0 ∷ 0 ∷ 0 ∷ 1 ∷ 2 ∷ 1 ∷ 0 ∷ 0 ∷ 0 ∷ 0 ∷ 0x1F ∷ 0x40 ∷ 0 ∷ 0 ∷ 0x7D ∷ 0 ∷ []
+
+abbrev reply : List ℕ
+reply = 1 ∷ 9 ∷ 0 ∷ 1 ∷ 0 ∷ 0 ∷ 0 ∷ 0 ∷ []
+
+-- behind the setup and the request, the link takes all that is offered
+abbrev asked : Log
+asked = Woke (Opened 0) ∷ Woke (Readable 0) ∷ Read 0 (Given sent) ∷ []
+
+abbrev begin : Log
+begin = asked ++ Wrote 0 36 (Some (setup_reply ++ reply)) ∷ []
+
+-- the log, with the sound that is handed out in the end
+abbrev small : List ℕ → Log
+small out = begin ++ Woke (Ticked 0 2) ∷ Captured 0 2 (Some (0 ∷ 9 ∷ 0 ∷ 9 ∷ [])) ∷ Emitted 0 out true ∷ Read 0 NotYet ∷ []
+
+is_run : IsRun config (small (0 ∷ 0 ∷ 0 ∷ 0 ∷ []))
+unfolding end_state turn wake_phase serve_from serve_link read_phase close_phase hook_from advance complete_due reply_message head controls_refusal
+is_run = refl
+
+-- with another sound it is none
+no_run : is_some (end_state config (small (0 ∷ 0 ∷ 0 ∷ 1 ∷ []))) ≡ false
+unfolding end_state turn wake_phase serve_from serve_link read_phase close_phase hook_from advance complete_due reply_message head controls_refusal
+no_run = refl
+
+-- what was taken is all that was said
+took : taken 0 begin ≡ setup_reply ++ reply
+took = refl
+
+abbrev said_in : Option State → List ℕ
+said_in None = []
+said_in (Some s) = (slot_at 0 s).said
+
+was_said : said_in (end_state config begin) ≡ setup_reply ++ reply
+unfolding end_state turn wake_phase serve_from serve_link read_phase close_phase hook_from advance complete_due reply_message head controls_refusal
+was_said = refl
+
+-- a link that is opened again begins anew
+begun_anew : taken 0 (begin ++ Woke (Opened 0) ∷ []) ≡ []
+begun_anew = refl
+
+-- A slow link takes the first bytes, and is offered the rest once it may take some again. Then a write fails, and it is closed:
+-- what was said stays, and what it took begins it.
+abbrev slow : List ℕ → List ℕ → Log
+slow first left = asked ++ Wrote 0 36 (Some first) ∷ Woke Idle ∷ Read 0 NotYet ∷ Woke (Writable 0) ∷ Wrote 0 8 (Some left) ∷ Woke (Writable 0) ∷ Wrote 0 6 None ∷ Closed 0 why.LinkFault ∷ []
+
+slow_run : IsRun config (slow setup_reply (1 ∷ 9 ∷ []))
+unfolding end_state turn wake_phase serve_from serve_link read_phase close_phase hook_from advance complete_due reply_message head controls_refusal
+slow_run = refl
+
+slow_took : taken 0 (slow setup_reply (1 ∷ 9 ∷ [])) ≡ setup_reply ++ 1 ∷ 9 ∷ []
+slow_took = refl
+
+slow_said : said_in (end_state config (slow setup_reply (1 ∷ 9 ∷ []))) ≡ setup_reply ++ reply
+unfolding end_state turn wake_phase serve_from serve_link read_phase close_phase hook_from advance complete_due reply_message head controls_refusal
+slow_said = refl
+
+-- it takes no others
+slow_other : is_some (end_state config (slow setup_reply (9 ∷ 1 ∷ []))) ≡ false
+unfolding end_state turn wake_phase serve_from serve_link read_phase close_phase hook_from advance complete_due reply_message head controls_refusal
+slow_other = refl
+
+-- Without the case of a closing link, cutting would change what is unread: a malformed front closes, and a byte comes behind it.
+abbrev comes : List ℕ → Place → Place
+comes bytes p = advance 0 (place p.around (record p.link { rest = p.link.rest ++ bytes }))
+
+abbrev set_up : Place
+set_up = place (record { devices = []; waiting = []; said = [] }) (record opened { is_set_up = true })
+
+cut_leaves : (comes (5 ∷ []) (comes (9 ∷ 0 ∷ 0 ∷ 0 ∷ []) set_up)).link.rest ≡ 5 ∷ []
+unfolding advance
+cut_leaves = refl
+
+whole_leaves : (comes (9 ∷ 0 ∷ 0 ∷ 0 ∷ 5 ∷ []) set_up).link.rest ≡ []
+unfolding advance
+whole_leaves = refl
+
+cut_absorbs : (absorb 0 (5 ∷ []) (absorb 0 (9 ∷ 0 ∷ 0 ∷ 0 ∷ []) set_up)).link.rest ≡ []
+unfolding advance
+cut_absorbs = refl
+
+-- a play that is accepted behind a time changes nothing of it, and one that is accepted by then is mixed in
+abbrev plays : ℕ → Entry
+plays at = record { start = 0; samples = pos 7 ∷ pos 7 ∷ []; preempt = false; at = at }
+
+later_unheard : heard (plays 0 ∷ plays 2 ∷ []) 1 ≡ pos 7
+unfolding heard
+later_unheard = refl
+
+earlier_heard : heard (plays 0 ∷ plays 1 ∷ []) 1 ≡ pos 14
+unfolding heard
+earlier_heard = refl

@@ -1,0 +1,16 @@
+-- Lists in which the element at a place is another.
+use Rattle.std.proofs.Common.{◌≡◌, ◌≢◌, ℕ, zero, suc, List, [], ◌∷◌, slice_get, slice_set, refl, ap}
+use Rattle.std.specs.declared.option.Option.TheVariants.{Some}
+
+module _ {A : Type 0} where
+  pub get-set_other : (xs : List A) (j k : ℕ) (x : A) → k ≢ j → slice_get (slice_set xs j x) k ≡ slice_get xs k
+  get-set_other [] j k x apart = refl
+  get-set_other (y ∷ xs) zero zero x apart = absurd (apart refl)
+  get-set_other (y ∷ xs) zero (suc k) x apart = refl
+  get-set_other (y ∷ xs) (suc j) zero x apart = refl
+  get-set_other (y ∷ xs) (suc j) (suc k) x apart = get-set_other xs j k x (λ e. apart (ap suc e))
+
+  pub get-set_same : (xs : List A) (k : ℕ) (x y : A) → slice_get xs k ≡ Some x → slice_get (slice_set xs k y) k ≡ Some y
+  get-set_same [] k x y there = absurd cc
+  get-set_same (z ∷ xs) zero x y there = refl
+  get-set_same (z ∷ xs) (suc k) x y there = get-set_same xs k x y there

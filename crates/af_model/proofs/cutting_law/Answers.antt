@@ -1,0 +1,5 @@
+use Rattle.af_model.proofs.Cutting.{cutting}
+use Rattle.af_model.proofs.cutting_law.Goals as goal
+
+pub returns : goal.returns
+returns c = cutting

@@ -1,0 +1,5 @@
+use Rattle.af_model.proofs.Folding.{mixes_all}
+use Rattle.af_model.proofs.fold_law.Goals as goal
+
+pub returns : goal.returns
+returns c = mixes_all

@@ -1,0 +1,25 @@
+-- Whether the server has more to do before anything else happens.
+use Rattle.std.specs.Prelude.{ℕ, ◌+◌, Bool, false, ◌||◌, List, [], ◌∷◌, is_some}
+use Rattle.std.specs.declared.option.Option.{Option}
+use Rattle.std.specs.declared.option.Option.TheVariants.{None, Some}
+use Rattle.af_model.specs.State.{LinkState, State, links_of}
+use Rattle.af_model.specs.Waiting.{is_waiting}
+use Rattle.af_model.specs.Turn.{close_due, wants_read, wants_write}
+
+-- a link is to be read, or to be written, or to be closed
+abbrev pub wants_turn : Bool → LinkState → Bool
+wants_turn waits l = wants_read waits l || (wants_write l || is_some (close_due l))
+
+-- the same of one that may not be open
+abbrev pub open_wants : Bool → Option LinkState → Bool
+open_wants waits None = false
+open_wants waits (Some l) = wants_turn waits l
+
+-- of these links, of which the first has number k, any is; which of them wait is said by their numbers
+abbrev pub any_wants : ℕ → (ℕ → Bool) → List (Option LinkState) → Bool
+any_wants k waits [] = false
+any_wants k waits (link ∷ links) = open_wants (waits k) link || any_wants (k + 1) waits links
+
+-- some open link would go on in a turn that nothing wakes
+abbrev pub has_more : State → Bool
+has_more s = any_wants 0 (is_waiting s.waiting) (links_of s.slots)

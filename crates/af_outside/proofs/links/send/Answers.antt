@@ -1,0 +1,17 @@
+use Rattle.std.proofs.Common.{arith}
+use Rattle.af_outside.specs.Outside.{sent}
+use Rattle.af_outside.proofs.FarEnds.{adjusted_here, adjusted_past, HasRoom-sent, HasRoom-less}
+use Rattle.af_outside.proofs.links.send.Goals as goal
+
+pub returns-then-place-far_ends-clause-outside : goal.returns-then-place-far_ends-clause-outside
+returns-then-place-far_ends-clause-outside c = λ stations.
+    adjusted_here c.args.far_ends.now stations c.args.link c.index-far_ends-place.result c.send.new.self (sent c.args.bytes.now) (omega arith) c.send.ensures.peer
+
+pub returns-then-place-far_ends-clause-room : goal.returns-then-place-far_ends-clause-room
+returns-then-place-far_ends-clause-room c = λ steps room. HasRoom-sent _ _ _ c.index-far_ends-place.result _ steps (omega arith) room c.send.ensures.room
+
+pub returns-else-place-far_ends-clause-outside : goal.returns-else-place-far_ends-clause-outside
+returns-else-place-far_ends-clause-outside c = λ stations. adjusted_past c.args.far_ends.now stations c.args.link (sent c.args.bytes.now) (omega arith)
+
+pub returns-else-place-far_ends-clause-room : goal.returns-else-place-far_ends-clause-room
+returns-else-place-far_ends-clause-room c = λ steps room. HasRoom-less _ _ steps room

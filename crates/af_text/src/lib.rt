@@ -1,0 +1,14 @@
+//! Texts of lines and words, as scripts and configurations are: their lines, the words of a line, and the words that are
+//! numbers, sample types and rates.
+#![tactic(auto)]
+
+mod lines;
+mod numbers;
+mod sound;
+
+pub use lines::{is_word, next_line, next_word, one_word, passes_over, two_words};
+pub use numbers::{number, number_between};
+pub use sound::{listed_rate, sample_type};
+
+#[cfg(test)]
+mod tests;

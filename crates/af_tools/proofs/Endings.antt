@@ -3,21 +3,26 @@ use Rattle.std.proofs.Common.{◌≡◌, ℕ, zero, suc, ◌+◌, ◌*◌, ◌/�
 use Rattle.std.specs.Prelude.{Result, Ok, Err}
 use Rattle.std.proofs.lemmas.Bool.Decides.{nat_tests}
 use Rattle.std.specs.declared.option.Option.{Option}
+use Rattle.std.specs.declared.option.Option.TheVariants.{None, Some}
 use Rattle.af_sample.specs.declared.sample_type.SampleType.{SampleType}
 use Rattle.af_request.specs.declared.reply.DeviceInfo.{DeviceInfo}
-use Rattle.af_request.specs.Asked.{Asked, free_ac, get_time, play_run}
+use Rattle.af_request.specs.declared.reply.Phone.{Phone}
+use Rattle.af_request.specs.Asked.{Asked, free_ac, get_time, play_run, query_controls}
 use Rattle.af_request.specs.Answer.{Answer}
 use Rattle.af_lib.specs.declared.fault.ConnFault.{ConnFault}
 use Rattle.af_lib.specs.declared.fault.ConnFault.TheVariants as fault
-use Rattle.af_lib.specs.Calls.{as_done, as_time}
+use Rattle.af_lib.specs.Calls.{as_controls, as_done, as_phone, as_time}
 use Rattle.af_tools.specs.declared.end.ToolEnd.{ToolEnd}
 use Rattle.af_tools.specs.declared.end.ToolEnd.TheVariants as end
 use Rattle.af_tools.specs.declared.job.PlayJob.{PlayJob}
 use Rattle.af_tools.specs.declared.job.RecordJob.{RecordJob}
-use Rattle.af_tools.specs.Course.{Course, Finish, Wire, answer_on, answered_by, asks, behind, done, end_of, fault_end, no_device, not_dialled, refused, too_long}
+use Rattle.af_tools.specs.declared.job.SetJob.{SetJob}
+use Rattle.af_tools.specs.declared.standing.Standing.{Standing}
+use Rattle.af_tools.specs.Course.{Course, Finish, Wire, answer_on, answered_by, asks, behind, done, end_of, fault_end, mismatch, no_device, not_dialled, refused, too_long}
 use Rattle.af_tools.specs.Play.{blocks, cut, most_bytes, play_context, played_on, plays}
 use Rattle.af_tools.specs.Record.{block_lengths, ends_row, peak, record_context, recorded_on, records}
-use Rattle.af_tools.specs.Ends.{Ended, EndsByReply, Followed, IsAnswered, is_of_play, is_of_record, is_of_reply, is_outer}
+use Rattle.af_tools.specs.Set.{asks_line, asks_where, control_request, hooks, set_on, states_controls}
+use Rattle.af_tools.specs.Ends.{Ended, EndsByReply, Followed, IsAnswered, is_of_play, is_of_writer, is_of_reply, is_outer}
 
 -- the finish that an end of a reply tells of
 abbrev told_by : ToolEnd → Finish
@@ -31,6 +36,7 @@ finish_told : (finish : Finish) → is_of_reply (end_of finish) ≡ true → fin
 finish_told done is = cc
 finish_told not_dialled is = cc
 finish_told (no_device devices) is = cc
+finish_told (mismatch from to) is = cc
 finish_told too_long is = cc
 finish_told (refused fault.LinkFault) is = cc
 finish_told (refused fault.LinkEnded) is = refl
@@ -128,6 +134,26 @@ recorded_finish job device w next more =
     records_finish job _ _ [] (block_lengths job.block job.frames) v _ (λ v.
     asked_finish (free_ac 1) as_done v _ (λ _ v. more v))))
 
+where_finish : (b : Bool) (asked : Asked) (w : Wire) (next : Unit {0} → Wire → Course) → ((x : Unit {0}) (v : Wire) → IsDoneOrRefused (next x v).finish) → IsDoneOrRefused (asks_where b asked w next).finish
+where_finish true asked w next more = asked_finish asked as_done w next more
+where_finish false asked w next more = more tt w
+
+hook_finish : (device : ℕ) (off : Option Bool) (w : Wire) (next : Unit {0} → Wire → Course) → ((x : Unit {0}) (v : Wire) → IsDoneOrRefused (next x v).finish) → IsDoneOrRefused (hooks device off w next).finish
+hook_finish device (Some off) w next more = asked_finish _ as_done w next more
+hook_finish device None w next more = more tt w
+
+line_finish : (b : Bool) (device : ℕ) (w : Wire) (next : Option Phone → Wire → Course) → ((x : Option Phone) (v : Wire) → IsDoneOrRefused (next x v).finish) → IsDoneOrRefused (asks_line b device w next).finish
+line_finish true device w next more = asked_finish _ as_phone w _ (λ phone v. more (Some phone) v)
+line_finish false device w next more = more None w
+
+pub set_finish : (job : SetJob) (device : DeviceInfo) (w : Wire) (next : Standing → Wire → Course) → ((s : Standing) (v : Wire) → IsDoneOrRefused (next s v).finish) → IsDoneOrRefused (set_on job device w next).finish
+unfolding set_on
+set_finish job device w next more =
+    where_finish (states_controls job) (control_request job) w _ (λ _ v.
+    hook_finish job.device job.hook_off v _ (λ _ v.
+    asked_finish (query_controls job.device) as_controls v _ (λ controls v.
+    line_finish device.line job.device v _ (λ phone v. more _ v))))
+
 -- where nothing from outside ended the tool and each request got its reply, the tool is done
 pub is_done : (course : Course) (how : ToolEnd) (s s' h h' : Option (List ℕ)) → Followed course how s s' h h' → IsDoneOrRefused course.finish → IsAnswered course → is_outer how ≡ false → how ≡ end.Done
 is_done course how s s' h h' f finish answered inner = elim finish [
@@ -152,18 +178,18 @@ inner_play end.TooLong is link read sink = refl
 inner_play end.SinkFault is link read sink = absurd (sink refl)
 inner_play end.OutOfMemory is link read sink = cc
 
-pub inner_record : (how : ToolEnd) → is_of_record how ≡ true → (how ≡ end.LinkFault → ⊥) → (how ≡ end.SinkFault → ⊥) → is_outer how ≡ false
-inner_record end.Done is link sink = refl
-inner_record end.Usage is link sink = cc
-inner_record end.DialFault is link sink = cc
-inner_record end.LinkFault is link sink = absurd (link refl)
-inner_record end.LinkEnded is link sink = refl
-inner_record (end.NoDevice devices) is link sink = refl
-inner_record (end.RateMismatch from to) is link sink = cc
-inner_record (end.Refused code value) is link sink = refl
-inner_record (end.BadReply header first) is link sink = refl
-inner_record end.EventFlood is link sink = refl
-inner_record end.ReadFault is link sink = cc
-inner_record end.TooLong is link sink = cc
-inner_record end.SinkFault is link sink = absurd (sink refl)
-inner_record end.OutOfMemory is link sink = cc
+pub inner_writer : (how : ToolEnd) → is_of_writer how ≡ true → (how ≡ end.LinkFault → ⊥) → (how ≡ end.SinkFault → ⊥) → is_outer how ≡ false
+inner_writer end.Done is link sink = refl
+inner_writer end.Usage is link sink = cc
+inner_writer end.DialFault is link sink = cc
+inner_writer end.LinkFault is link sink = absurd (link refl)
+inner_writer end.LinkEnded is link sink = refl
+inner_writer (end.NoDevice devices) is link sink = refl
+inner_writer (end.RateMismatch from to) is link sink = cc
+inner_writer (end.Refused code value) is link sink = refl
+inner_writer (end.BadReply header first) is link sink = refl
+inner_writer end.EventFlood is link sink = refl
+inner_writer end.ReadFault is link sink = cc
+inner_writer end.TooLong is link sink = cc
+inner_writer end.SinkFault is link sink = absurd (sink refl)
+inner_writer end.OutOfMemory is link sink = cc

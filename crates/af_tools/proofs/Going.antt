@@ -127,6 +127,10 @@ wire_behind old new input a sequence ring rest =
     ap₂ (λ (s : ℕ) (r : RingState). (let w : Wire = record { sequence = s; ring = r; input = a } in w)) sequence ring
     ∙ ap (λ (i : List ℕ). (let w : Wire = record { sequence = following old.sequence; ring = (next_message (wire_of old input)).ring; input = i } in w)) rest
 
+-- what is known of an answer, where the link did not fail
+abbrev pub Known : {X : Type 0} → Result X ConnFault → Wire → Option (List ℕ) → (List ℕ → Wire) → Result X ConnFault → Type 0
+Known answer after left wire result = result ≢ Err fault.LinkFault → (a : List ℕ) × (left ≡ Some a) × (result ≡ answer) × (wire a ≡ after)
+
 -- a message is sent, and what follows goes by its answer
 module _ {X : Type 0} (part : Part X) (bytes : List ℕ) (answer : Result X ConnFault) (after : Wire) (is : (next : X → Wire → Course) → part next ≡ sending bytes (answered_by answer after next))
     (left' : Option (List ℕ)) (wire : List ℕ → Wire) (sent sent' held : Option (List ℕ)) where
@@ -171,9 +175,8 @@ module _ {X : Type 0} (part : Part X) (bytes : List ℕ) (answer : Result X Conn
     sink = grew_none held;
   }
 
-  -- what is known of an answer, where the link did not fail
-  abbrev pub IsKnown : Result X ConnFault → Type 0
-  IsKnown result = result ≢ Err fault.LinkFault → (a : List ℕ) × (left' ≡ Some a) × (result ≡ answer) × (wire a ≡ after)
+  abbrev IsKnown : Result X ConnFault → Type 0
+  IsKnown result = Known answer after left' wire result
 
   refused_by : (f : ConnFault) → Sends {X = X} (Err f) sent bytes sent' → IsKnown (Err f) → (let r : Result X ConnFault = Err f in r ≢ Err fault.LinkFault) → Goes {X = X} part (Err (fault_end f)) left' wire sent sent' held held
   refused_by f sends known sound = exchange_refused f (sends.whole sound) (known sound).2
@@ -192,6 +195,15 @@ asks_is : {X : Type 0} (asked : Asked) (value_of : Answer → Option X) (w : Wir
 unfolding asks
 asks_is asked value_of w next = refl
 
+pub asked_known : {L X : Type 0} (left sent : L → Option (List ℕ)) (faults : L → ℕ) (asked : Asked) (value_of : Answer → Option X) (old new : ConnState L) (input : List ℕ) (result : Result X ConnFault) →
+    Called left sent faults asked value_of old new result → old.cause ≡ None → left old.link ≡ Some input →
+    Known (answer_on asked value_of (wire_of old input)) (behind (wire_of old input)) (left new.link) (wire_of new) result
+asked_known left sent faults asked value_of old new input result called usable told = λ sound.
+    let both = told_both (left old.link) (left new.link) input _ told called.tells (called.answers usable sound) in
+    let facts = both.2 in
+    let kept = called.keeps usable in
+    (both.0, both.1, facts.0, wire_behind old new input both.0 (ap (λ (c : ConnState _). c.sequence) kept) facts.1 facts.2)
+
 -- a request and its answer are a part of a tool
 pub asked_goes : {L X : Type 0} (left sent : L → Option (List ℕ)) (faults : L → ℕ) (asked : Asked) (value_of : Answer → Option X) (old new : ConnState L) (input : List ℕ) (held : Option (List ℕ)) (result : Result X ConnFault) →
     Called left sent faults asked value_of old new result → old.cause ≡ None → left old.link ≡ Some input →
@@ -199,15 +211,18 @@ pub asked_goes : {L X : Type 0} (left sent : L → Option (List ℕ)) (faults : 
 asked_goes left sent faults asked value_of old new input held result called usable told =
     let w = wire_of old input in
     exchange_goes (asks asked value_of w) (request_bytes asked) (answer_on asked value_of w) (behind w) (asks_is asked value_of w) (left new.link) (wire_of new) (sent old.link) (sent new.link) held result (called.sends usable)
-    (λ sound.
-    let both = told_both (left old.link) (left new.link) input _ told called.tells (called.answers usable sound) in
-    let facts = both.2 in
-    let kept = called.keeps usable in
-    (both.0, both.1, facts.0, wire_behind old new input both.0 (ap (λ (c : ConnState _). c.sequence) kept) facts.1 facts.2))
+    (asked_known left sent faults asked value_of old new input result called usable told)
 
 connects_is : (input : List ℕ) (next : List DeviceInfo → Wire → Course) → connects input next ≡ sending setup_bytes (answered_by (answered as_devices 0 0 (next_message (unused input)).found) (set_up input) next)
 unfolding connects
 connects_is input next = refl
+
+pub setup_known : {L : Type 0} (left sent : L → Option (List ℕ)) (faults : L → ℕ) (old new : L) (ring : RingState) (input : List ℕ) (result : Result (List DeviceInfo) ConnFault) →
+    IsSetUp left sent faults old new ring result → left old ≡ Some input → Known (answered as_devices 0 0 (next_message (unused input)).found) (set_up input) (left new) (λ i. record { sequence = 0; ring = ring; input = i }) result
+setup_known left sent faults old new ring input result is told = λ sound.
+    let both = told_both (left old) (left new) input _ told is.tells (is.answers sound) in
+    let facts = both.2 in
+    (both.0, both.1, facts.0, ap₂ (λ (r : RingState) (i : List ℕ). (let w : Wire = record { sequence = 0; ring = r; input = i } in w)) facts.1 facts.2)
 
 -- a setup and its answer are a part of a tool
 pub setup_goes : {L : Type 0} (left sent : L → Option (List ℕ)) (faults : L → ℕ) (old new : L) (ring : RingState) (input : List ℕ) (held : Option (List ℕ)) (result : Result (List DeviceInfo) ConnFault) →
@@ -215,7 +230,4 @@ pub setup_goes : {L : Type 0} (left sent : L → Option (List ℕ)) (faults : L 
     Goes {X = List DeviceInfo} (connects input) (ended result) (left new) (λ i. record { sequence = 0; ring = ring; input = i }) (sent old) (sent new) held held
 setup_goes left sent faults old new ring input held result is told =
     exchange_goes (connects input) setup_bytes (answered as_devices 0 0 (next_message (unused input)).found) (set_up input) (connects_is input) (left new) (λ i. record { sequence = 0; ring = ring; input = i }) (sent old) (sent new) held result is.sends
-    (λ sound.
-    let both = told_both (left old) (left new) input _ told is.tells (is.answers sound) in
-    let facts = both.2 in
-    (both.0, both.1, facts.0, ap₂ (λ (r : RingState) (i : List ℕ). (let w : Wire = record { sequence = 0; ring = r; input = i } in w)) facts.1 facts.2))
+    (setup_known left sent faults old new ring input result is told)

@@ -10,4 +10,9 @@ pub mod Tops
 pub mod RecordTail
 pub mod Parsed
 pub mod Naming
+pub mod Setting
 pub mod Running
+pub mod Pairing
+pub mod Passing
+pub mod PassTop
+pub mod Relaying

@@ -1,9 +1,10 @@
 -- The tool that the first word names.
-use Rattle.std.proofs.Common.{◌≡◌, Bool, true, false, ◌&&◌, List, [], ◌∷◌, slice_get, is_some, codes, sym, ap, ◌∙◌, subst, refl, if◌then◌else◌}
+use Rattle.std.proofs.Common.{◌≡◌, Bool, true, false, ◌&&◌, List, [], ◌∷◌, slice_get, is_some, option_and_then, ap, ◌∙◌, subst, refl, sym}
 use Rattle.std.specs.Prelude.{Option, Some, None}
-use Rattle.std.specs.Str.{bytes_eq}
-use Rattle.clap.specs.Words.{Text, takes}
-use Rattle.af_tools.specs.Words.{Job, aplay_app, aplay_job, arecord_app, arecord_job, is_spelled, is_taken, job}
+use Rattle.std.specs.Option.{option_map_or}
+use Rattle.clap.specs.Words.{Text, matches_of, takes}
+use Rattle.af_tools.specs.declared.tool.Tool.{Tool}
+use Rattle.af_tools.specs.Words.{Job, is_spelled, is_taken, job, job_in, tool_app, tool_named}
 
 -- words whose first is known
 pub record IsNamed (words : List Text) (name : Text) : Type 0 where
@@ -14,25 +15,32 @@ pub is_named : (words : List Text) (name : Text) → Some name ≡ slice_get wor
 is_named [] name e = cc
 is_named (x ∷ words) name e = let same : x ≡ name = cc in record { rest = words; is = ap (λ (y : Text). y ∷ words) same }
 
-pub job_named : (words : List Text) (name : Text) → IsNamed words name →
-    job words ≡ (if bytes_eq name (codes "aplay") then aplay_job words else if bytes_eq name (codes "arecord") then arecord_job words else None)
+-- the job of words, by the tool that they name
+pub job_named : (words : List Text) (name : Text) (found : Option Tool) → IsNamed words name → found ≡ tool_named name → job words ≡ option_and_then (λ tool. job_in tool (matches_of (tool_app tool) words)) found
 unfolding job
-job_named words name n = subst (λ (w : List Text). job w ≡ (if bytes_eq name (codes "aplay") then aplay_job w else if bytes_eq name (codes "arecord") then arecord_job w else None)) (sym n.is) refl
+job_named words name found n e = subst (λ (w : List Text). job w ≡ option_and_then (λ tool. job_in tool (matches_of (tool_app tool) w)) found) (sym n.is) (ap (λ (t : Option Tool). option_and_then (λ tool. job_in tool (matches_of (tool_app tool) (name ∷ n.rest))) t) (sym e))
 
-pub taken_named : (words : List Text) (name : Text) → IsNamed words name →
-    is_taken words ≡ (if bytes_eq name (codes "aplay") then takes aplay_app words else if bytes_eq name (codes "arecord") then takes arecord_app words else false)
+pub taken_named : (words : List Text) (name : Text) (found : Option Tool) → IsNamed words name → found ≡ tool_named name → is_taken words ≡ option_map_or (λ tool. takes (tool_app tool) words) found false
 unfolding is_taken
-taken_named words name n = subst (λ (w : List Text). is_taken w ≡ (if bytes_eq name (codes "aplay") then takes aplay_app w else if bytes_eq name (codes "arecord") then takes arecord_app w else false)) (sym n.is) refl
+taken_named words name found n e = subst (λ (w : List Text). is_taken w ≡ option_map_or (λ tool. takes (tool_app tool) w) found false) (sym n.is) (ap (λ (t : Option Tool). option_map_or (λ tool. takes (tool_app tool) (name ∷ n.rest)) t false) (sym e))
 
 pub none_taken : (words : List Text) → None ≡ slice_get words 0 → is_spelled words ≡ false
 unfolding is_taken
 none_taken [] e = refl
 none_taken (x ∷ words) e = cc
 
--- words are not spelled where what takes them is no job
-pub unspelled : (words : List Text) (taken : Bool) (j : Option Job) → is_taken words ≡ taken → job words ≡ j → (taken ≡ true → j ≡ None) → is_spelled words ≡ false
-unspelled words true j t e none = ap (λ (b : Bool). b && is_some (job words)) t ∙ ap (λ (o : Option Job). is_some o) (e ∙ none refl)
-unspelled words false j t e none = ap (λ (b : Bool). b && is_some (job words)) t
-
+-- words are not spelled where their command does not take them, or where they are no job
 pub untaken : (words : List Text) → is_taken words ≡ false → is_spelled words ≡ false
 untaken words t = ap (λ (b : Bool). b && is_some (job words)) t
+
+and_false : (b : Bool) → (b && false) ≡ false
+and_false true = refl
+and_false false = refl
+
+pub no_job : (words : List Text) → job words ≡ None → is_spelled words ≡ false
+no_job words e = ap (λ (o : Option Job). is_taken words && is_some o) e ∙ and_false (is_taken words)
+
+-- a command that would have to want memory in order to refuse the words, and does not, does not take them
+pub not_taken : {K : Type 0} (b : Bool) (kind memory : K) → (b ≡ true → kind ≡ memory) → (kind ≡ memory → ⊥) → b ≡ false
+not_taken true kind memory passes other = absurd (other (passes refl))
+not_taken false kind memory passes other = refl

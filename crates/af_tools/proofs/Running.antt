@@ -1,5 +1,5 @@
 -- A tool that dials its server.
-use Rattle.std.proofs.Common.{◌≡◌, ◌≢◌, ℕ, ◌≤◌, ◌⊎◌, inl, inr, true, false, List, [], ◌∷◌, ◌++◌, length, slice_get, sym, ap, ◌∙◌, subst, refl, arith, length-append}
+use Rattle.std.proofs.Common.{◌≡◌, ◌≢◌, ℕ, ◌≤◌, ◌⊎◌, inl, inr, true, false, List, [], ◌∷◌, ◌++◌, length, slice_get, sym, ap, ap₂, ◌∙◌, subst, refl, arith, length-append}
 use Rattle.std.specs.Prelude.{Result, Ok, Err}
 use Rattle.std.specs.declared.option.Option.{Option}
 use Rattle.std.specs.declared.option.Option.TheVariants.{None, Some}
@@ -13,18 +13,18 @@ use Rattle.af_tools.specs.declared.end.ToolEnd.{ToolEnd}
 use Rattle.af_tools.specs.declared.end.ToolEnd.TheVariants as end
 use Rattle.af_tools.specs.declared.job.Task.{Task}
 use Rattle.af_tools.specs.declared.job.Task.TheVariants as task
-use Rattle.af_tools.specs.Course.{Course, Finish, Wire, answered_by, connects, dials, done, end_of, ends, no_device, not_dialled, on_device, next_message, refused, set_up, too_long, unused, writing}
+use Rattle.af_tools.specs.Course.{Course, Finish, Wire, answered_by, connects, dials, done, end_of, ends, mismatch, no_device, not_dialled, on_device, next_message, refused, set_up, too_long, unused, writing}
 use Rattle.af_tools.specs.Play.{aplay_course, most_bytes, played}
 use Rattle.af_tools.specs.Record.{arecord_course}
-use Rattle.af_tools.specs.Words.{Job}
-use Rattle.af_tools.specs.Run.{EndsByDevice, IsServed, Ran, is_of_run, run_course, task_course}
+use Rattle.af_tools.specs.Set.{aset_course, standing_text}
+use Rattle.af_tools.specs.Run.{EndsByDevice, EndsByRates, RanOne, is_of_run, one_course, task_course}
 use Rattle.af_tools.specs.Ends.{Ended, Followed, is_outer}
 use Rattle.af_tools.proofs.Growing.{grew_none}
 use Rattle.af_tools.proofs.Going.{ended_early}
-use Rattle.af_tools.proofs.Endings.{IsDoneOrRefused, played_finish, recorded_finish}
+use Rattle.af_tools.proofs.Endings.{IsDoneOrRefused, played_finish, recorded_finish, set_finish}
 
 -- what a link was sent in all is its entry
-gave_entry : (back back' : Option (List (List ℕ))) (before after : Option (List ℕ)) (first sends : List ℕ) → before ≡ Some first → Grew before sends after → GrewBack back after back' → Grew back ((first ++ sends) ∷ []) back'
+pub gave_entry : (back back' : Option (List (List ℕ))) (before after : Option (List ℕ)) (first sends : List ℕ) → before ≡ Some first → Grew before sends after → GrewBack back after back' → Grew back ((first ++ sends) ∷ []) back'
 gave_entry back back' before None first sends is grew entry = subst (λ (b : Option (List (List ℕ))). Grew back ((first ++ sends) ∷ []) b) (sym entry) tt
 gave_entry back back' None (Some all) first sends is grew entry = cc is
 gave_entry back back' (Some x) (Some all) first sends is grew entry =
@@ -45,7 +45,7 @@ grew_nothing before after first sends is grew same =
 
 module _ (next : List DeviceInfo → Wire → Course) (how : ToolEnd) (links' links'' : Option (List ToldLink)) (before after held held' : Option (List ℕ)) (back back' back'' : Option (List (List ℕ))) where
   first_ran : (link : ToldLink) (rest : List ToldLink) → before ≡ Some link.sent → links' ≡ Some rest → Followed (connects link.gives next) how before after held held' → back' ≡ back → GrewBack back' after back'' → links'' ≡ links' → (how ≡ end.OutOfMemory → after ≡ before) →
-      Ran (dials (link ∷ rest) next) how (link ∷ rest) links'' held held' back back''
+      RanOne (dials (link ∷ rest) next) how (link ∷ rest) links'' held held' back back''
   first_ran link rest is_sent is_rest f is_back entry is_links memory = record {
     sends = f.sends;
     output = f.output;
@@ -58,12 +58,12 @@ module _ (next : List DeviceInfo → Wire → Course) (how : ToolEnd) (links' li
   -- the first link was dialled, used, and given back
   pub ran_over : {F : Type 0} (left_of sent_of : F → Option (List ℕ)) (far : F) (links : List ToldLink) → IsFirstOf left_of sent_of far (Some links) links' → sent_of far ≡ before →
       ((input : List ℕ) → left_of far ≡ Some input → Followed (connects input next) how before after held held') → back' ≡ back → GrewBack back' after back'' → links'' ≡ links' → (how ≡ end.OutOfMemory → after ≡ before) →
-      Ran (dials links next) how links links'' held held' back back''
+      RanOne (dials links next) how links links'' held held' back back''
   ran_over left_of sent_of far [] first sent follows is_back entry is_links memory = absurd first
   ran_over left_of sent_of far (link ∷ rest) first sent follows is_back entry is_links memory = first_ran link rest (sym sent ∙ first.1) first.2 (follows link.gives first.0) is_back entry is_links memory
 
 -- nothing was dialled, or no link was had
-pub ran_early : (course : Course) (how : ToolEnd) (links : List ToldLink) (links' : Option (List ToldLink)) (held : Option (List ℕ)) (back back' : Option (List (List ℕ))) → is_outer how ≡ true → links' ≡ Some links → back' ≡ back → Ran course how links links' held held back back'
+pub ran_early : (course : Course) (how : ToolEnd) (links : List ToldLink) (links' : Option (List ToldLink)) (held : Option (List ℕ)) (back back' : Option (List (List ℕ))) → is_outer how ≡ true → links' ≡ Some links → back' ≡ back → RanOne course how links links' held held back back'
 ran_early course how links links' held back back' outer same is = record {
   sends = [];
   output = [];
@@ -74,10 +74,10 @@ ran_early course how links links' held back back' outer same is = record {
 }
 
 -- the finish of a course whose source gives no more than it may
-abbrev IsShort : Finish → Type 0
+abbrev pub IsShort : Finish → Type 0
 IsShort finish = finish ≢ too_long
 
-short_of : (finish : Finish) → IsDoneOrRefused finish → IsShort finish
+pub short_of : (finish : Finish) → IsDoneOrRefused finish → IsShort finish
 short_of finish (inl is) e = let bad : done ≡ too_long = sym is ∙ e in cc
 short_of finish (inr r) e = let bad : refused r.0 ≡ too_long = sym r.1 ∙ e in cc
 
@@ -86,32 +86,30 @@ device_short None n next more e = cc
 device_short (Some d) n next more e = short_of (next d).finish (more d) e
 
 task_short : (t : Task) (devices : List DeviceInfo) (bytes : List ℕ) (w : Wire) → length bytes ≤ most_bytes → IsShort (task_course t devices bytes w).finish
-unfolding aplay_course arecord_course
+unfolding aplay_course arecord_course aset_course
 task_short (task.Play job) devices bytes w few =
     device_short (slice_get devices job.device) (length devices) _ (λ d. played_finish job d bytes w (λ frames start _. writing (played frames start) (ends done)) few (λ frames start v. inl refl))
 task_short (task.Record job) devices bytes w few =
     device_short (slice_get devices job.device) (length devices) _ (λ d. recorded_finish job d w (λ _. ends done) (λ v. inl refl))
+task_short (task.Set job) devices bytes w few =
+    device_short (slice_get devices job.device) (length devices) _ (λ d. set_finish job d w (λ standing _. writing (standing_text standing) (ends done)) (λ s v. inl refl))
 
 setup_short : (r : Result (List DeviceInfo) ConnFault) (w : Wire) (next : List DeviceInfo → Wire → Course) → ((devices : List DeviceInfo) (v : Wire) → IsShort (next devices v).finish) → IsShort (answered_by r w next).finish
 setup_short (Ok devices) w next more = more devices w
 setup_short (Err f) w next more = λ e. cc
 
-run_short : (j : Job) (links : List ToldLink) (bytes : List ℕ) → length bytes ≤ most_bytes → IsShort (run_course j links bytes).finish
+pub one_short : (t : Task) (links : List ToldLink) (bytes : List ℕ) → length bytes ≤ most_bytes → IsShort (one_course t links bytes).finish
 unfolding connects
-run_short j [] bytes few = λ e. cc
-run_short j (link ∷ links) bytes few = setup_short (answered as_devices 0 0 (next_message (unused link.gives)).found) (set_up link.gives) _ (λ devices v. task_short j.task devices bytes v few)
+one_short t [] bytes few = λ e. cc
+one_short t (link ∷ links) bytes few = setup_short (answered as_devices 0 0 (next_message (unused link.gives)).found) (set_up link.gives) _ (λ devices v. task_short t devices bytes v few)
 
-served_done : (finish : Finish) → finish ≢ not_dialled → ((n : ℕ) → finish ≢ no_device n) → ((f : ConnFault) → finish ≢ refused f) → IsShort finish → finish ≡ done
-served_done done dialled there answered short = refl
-served_done not_dialled dialled there answered short = absurd (dialled refl)
-served_done (no_device n) dialled there answered short = absurd (there n refl)
-served_done too_long dialled there answered short = absurd (short refl)
-served_done (refused f) dialled there answered short = absurd (answered f refl)
-
--- a tool that is served is done, unless something from outside ends it
-pub run_done : (j : Job) (links : List ToldLink) (bytes sends output : List ℕ) (how : ToolEnd) → length bytes ≤ most_bytes → IsServed (run_course j links bytes) → Ended (run_course j links bytes) how sends output → is_outer how ≡ false → how ≡ end.Done
-run_done j links bytes sends output how few served e inner =
-    (e.whole inner).0 ∙ ap end_of (served_done (run_course j links bytes).finish served.dialled served.there served.answered (run_short j links bytes few))
+pub served_done : (finish : Finish) → finish ≢ not_dialled → ((n : ℕ) → finish ≢ no_device n) → ((a b : ℕ) → finish ≢ mismatch a b) → ((f : ConnFault) → finish ≢ refused f) → IsShort finish → finish ≡ done
+served_done done dialled there even answered short = refl
+served_done not_dialled dialled there even answered short = absurd (dialled refl)
+served_done (no_device n) dialled there even answered short = absurd (there n refl)
+served_done (mismatch a b) dialled there even answered short = absurd (even a b refl)
+served_done too_long dialled there even answered short = absurd (short refl)
+served_done (refused f) dialled there even answered short = absurd (answered f refl)
 
 -- the ends from outside that a tool has
 pub run_cases : (how : ToolEnd) → is_of_run how ≡ true → (how ≡ end.DialFault → ⊥) → (how ≡ end.LinkFault → ⊥) → (how ≡ end.ReadFault → ⊥) → (how ≡ end.SinkFault → ⊥) → (is_outer how ≡ false) ⊎ (how ≡ end.OutOfMemory)
@@ -121,7 +119,7 @@ run_cases end.DialFault is dial link read sink = absurd (dial refl)
 run_cases end.LinkFault is dial link read sink = absurd (link refl)
 run_cases end.LinkEnded is dial link read sink = inl refl
 run_cases (end.NoDevice devices) is dial link read sink = inl refl
-run_cases (end.RateMismatch from to) is dial link read sink = cc
+run_cases (end.RateMismatch from to) is dial link read sink = inl refl
 run_cases (end.Refused code value) is dial link read sink = inl refl
 run_cases (end.BadReply header first) is dial link read sink = inl refl
 run_cases end.EventFlood is dial link read sink = inl refl
@@ -134,6 +132,7 @@ device_told : (finish : Finish) (n : ℕ) → end.NoDevice n ≡ end_of finish �
 device_told done n e = cc
 device_told not_dialled n e = cc
 device_told (no_device m) n e = let same : n ≡ m = cc in ap (λ (k : ℕ). no_device k) (sym same)
+device_told (mismatch from to) n e = cc
 device_told too_long n e = cc
 device_told (refused fault.LinkFault) n e = cc
 device_told (refused fault.LinkEnded) n e = cc
@@ -151,6 +150,33 @@ pub device_of : (course : Course) (how : ToolEnd) (sends output : List ℕ) → 
 device_of course how sends output e = record {
   only = λ n is. device_told course.finish n (sym is ∙ (e.whole (inner_device how n is)).0);
   always = λ n is. elim (is_outer how) as (λ b. is_outer how ≡ b → (how ≡ end.NoDevice n) ⊎ (is_outer how ≡ true)) [
+    | true ↦ λ outer. inr outer
+    | false ↦ λ inner. inl ((e.whole inner).0 ∙ ap end_of is)
+  ] refl;
+}
+
+rates_told : (finish : Finish) (a b : ℕ) → end.RateMismatch a b ≡ end_of finish → finish ≡ mismatch a b
+rates_told done a b e = cc
+rates_told not_dialled a b e = cc
+rates_told (no_device m) a b e = cc
+rates_told (mismatch x y) a b e = let one : a ≡ x = cc in let other : b ≡ y = cc in ap₂ (λ (k l : ℕ). mismatch k l) (sym one) (sym other)
+rates_told too_long a b e = cc
+rates_told (refused fault.LinkFault) a b e = cc
+rates_told (refused fault.LinkEnded) a b e = cc
+rates_told (refused (fault.ServerError code value)) a b e = cc
+rates_told (refused (fault.BadReply header first)) a b e = cc
+rates_told (refused fault.OutOfMemory) a b e = cc
+rates_told (refused fault.EventFlood) a b e = cc
+rates_told (refused (fault.Spent first)) a b e = cc
+
+inner_rates : (how : ToolEnd) (a b : ℕ) → how ≡ end.RateMismatch a b → is_outer how ≡ false
+inner_rates how a b is = ap is_outer is
+
+-- an end for two rates is that of the course, and of no other
+pub rates_of : (course : Course) (how : ToolEnd) (sends output : List ℕ) → Ended course how sends output → EndsByRates course how
+rates_of course how sends output e = record {
+  only = λ a b is. rates_told course.finish a b (sym is ∙ (e.whole (inner_rates how a b is)).0);
+  always = λ a b is. elim (is_outer how) as (λ t. is_outer how ≡ t → (how ≡ end.RateMismatch a b) ⊎ (is_outer how ≡ true)) [
     | true ↦ λ outer. inr outer
     | false ↦ λ inner. inl ((e.whole inner).0 ∙ ap end_of is)
   ] refl;

@@ -9,11 +9,13 @@ use Rattle.af_tools.specs.declared.end.ToolEnd.{ToolEnd}
 use Rattle.af_tools.specs.declared.end.ToolEnd.TheVariants as end
 use Rattle.af_tools.specs.declared.job.PlayJob.{PlayJob}
 use Rattle.af_tools.specs.declared.job.RecordJob.{RecordJob}
+use Rattle.af_tools.specs.declared.job.SetJob.{SetJob}
 use Rattle.af_tools.specs.Course.{Course, Wire, done, ends, no_device, on_device, writing}
 use Rattle.af_tools.specs.Device.{device_or_end}
 use Rattle.af_tools.specs.Play.{aplay_course, played, played_on}
 use Rattle.af_tools.specs.Record.{arecord_course, recorded_on}
-use Rattle.af_tools.specs.Ends.{Followed, is_of_blocks, is_of_records, is_of_report}
+use Rattle.af_tools.specs.Set.{aset_course, set_on, standing_text}
+use Rattle.af_tools.specs.Ends.{Followed, is_of_blocks, is_of_link, is_of_records, is_of_report}
 use Rattle.af_tools.proofs.Growing.{grew_none}
 use Rattle.af_tools.proofs.Going.{ended_at_once}
 
@@ -72,6 +74,15 @@ module _ (devices : List DeviceInfo) (w : Wire) where
   unfolding arecord_course
   arecord_missing job get = ap (λ (o : Option DeviceInfo). on_device o (length devices) (λ device. recorded_on job device w (λ _. ends done))) get
 
+  pub aset_there : (job : SetJob) (device : DeviceInfo) → slice_get devices job.device ≡ Some device →
+      aset_course job devices w ≡ set_on job device w (λ standing _. writing (standing_text standing) (ends done))
+  unfolding aset_course
+  aset_there job device get = ap (λ (o : Option DeviceInfo). on_device o (length devices) (λ device. set_on job device w (λ standing _. writing (standing_text standing) (ends done)))) get
+
+  pub aset_missing : (job : SetJob) → slice_get devices job.device ≡ None → aset_course job devices w ≡ ends (no_device (length devices))
+  unfolding aset_course
+  aset_missing job get = ap (λ (o : Option DeviceInfo). on_device o (length devices) (λ device. set_on job device w (λ standing _. writing (standing_text standing) (ends done)))) get
+
 pub followed_same : (c d : Course) (how : ToolEnd) (s s' h h' : Option (List ℕ)) → d ≡ c → Followed c how s s' h h' → Followed d how s s' h h'
 followed_same c d how s s' h h' is f = subst (λ (x : Course). Followed x how s s' h h') (sym is) f
 
@@ -106,3 +117,6 @@ never_blocks how is n e = let bad : false ≡ true = ap is_of_blocks (sym e) ∙
 
 pub never_records : (how : ToolEnd) → is_of_records how ≡ true → (n : ℕ) → how ≡ end.NoDevice n → ⊥
 never_records how is n e = let bad : false ≡ true = ap is_of_records (sym e) ∙ is in cc
+
+pub never_link : (how : ToolEnd) → is_of_link how ≡ true → (n : ℕ) → how ≡ end.NoDevice n → ⊥
+never_link how is n e = let bad : false ≡ true = ap is_of_link (sym e) ∙ is in cc

@@ -29,6 +29,8 @@ pub data Finish : Type 0 where
   done : Finish
   not_dialled : Finish
   no_device : (devices : ℕ) → Finish
+  -- two devices have these different rates
+  mismatch : (from to : ℕ) → Finish
   too_long : Finish
   -- a request was answered with this fault
   refused : (fault : ConnFault) → Finish
@@ -116,5 +118,6 @@ abbrev pub end_of : Finish → ToolEnd
 end_of done = end.Done
 end_of not_dialled = end.DialFault
 end_of (no_device devices) = end.NoDevice devices
+end_of (mismatch from to) = end.RateMismatch from to
 end_of too_long = end.TooLong
 end_of (refused fault) = fault_end fault

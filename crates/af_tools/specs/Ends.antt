@@ -106,11 +106,12 @@ is_of_play end.TooLong = true
 is_of_play end.SinkFault = true
 is_of_play how = is_of_link how
 
-abbrev pub is_of_record : ToolEnd → Bool
-is_of_record end.Done = true
-is_of_record (end.NoDevice devices) = true
-is_of_record end.SinkFault = true
-is_of_record how = is_of_link how
+-- the ends of a tool that reads no source
+abbrev pub is_of_writer : ToolEnd → Bool
+is_of_writer end.Done = true
+is_of_writer (end.NoDevice devices) = true
+is_of_writer end.SinkFault = true
+is_of_writer how = is_of_link how
 
 -- Where a request is answered with a fault, the tool ends with it, unless something from outside has ended it; and it ends so
 -- only there.

@@ -1,7 +1,11 @@
 pub mod Course
 pub mod Play
 pub mod Record
+pub mod Set
 pub mod Ends
+pub mod Pass
+pub mod Both
+pub mod Pair
 pub mod Fill
 pub mod Device
 pub mod Talk

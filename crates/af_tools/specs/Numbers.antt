@@ -1,5 +1,5 @@
 -- The values of words: numbers, gains and sample types.
-use Rattle.std.specs.Prelude.{ℕ, ℤ, pos, neg_ℤ, nat_le, ◌==◌, ◌&&◌, List, [], ◌∷◌, length, Option, Some, None, option_map, if◌then◌else◌, codes}
+use Rattle.std.specs.Prelude.{Bool, true, false, ℕ, ℤ, pos, neg_ℤ, nat_le, ◌==◌, ◌&&◌, List, [], ◌∷◌, length, Option, Some, None, option_map, if◌then◌else◌, codes}
 use Rattle.std.specs.Str.{all_ascii_digits, bytes_eq}
 use Rattle.std.specs.Str.Parse.{digits_value}
 use Rattle.af_sample.specs.declared.sample_type.SampleType.{SampleType}
@@ -23,6 +23,10 @@ type_in text =
     else if bytes_eq text (codes "lin16") then Some Lin16
     else if bytes_eq text (codes "lin32") then Some Lin32
     else None
+
+-- a switch, by the word for it and the word against it
+abbrev pub switch_in : (when otherwise : List ℕ) → List ℕ → Option Bool
+switch_in when otherwise text = if bytes_eq text when then Some true else if bytes_eq text otherwise then Some false else None
 
 -- a value that need not be there
 abbrev pub if_there : {X : Type 0} → (List ℕ → Option X) → Option (List ℕ) → Option (Option X)

@@ -5,44 +5,68 @@ use Rattle.std.specs.declared.option.Option.TheVariants.{Some}
 use Rattle.clap.specs.Words.{Text}
 use Rattle.af_outside.specs.Told.{Grew}
 use Rattle.af_outside.specs.Flow.{IsSpent}
-use Rattle.af_outside.specs.Dial.{ToldLink}
+use Rattle.af_outside.specs.Dial.{GrewBack, ToldLink}
 use Rattle.af_request.specs.declared.reply.DeviceInfo.{DeviceInfo}
 use Rattle.af_tools.specs.declared.end.ToolEnd.{ToolEnd}
 use Rattle.af_tools.specs.declared.end.ToolEnd.TheVariants as end
 use Rattle.af_tools.specs.declared.job.Task.{Task}
 use Rattle.af_tools.specs.declared.job.Task.TheVariants as task
 use Rattle.af_tools.specs.declared.run.Call.{Call}
-use Rattle.af_tools.specs.Course.{Course, Wire, dials, no_device, not_dialled}
+use Rattle.af_tools.specs.Course.{Course, Wire, dials, mismatch, no_device, not_dialled}
 use Rattle.af_tools.specs.Play.{aplay_course}
 use Rattle.af_tools.specs.Record.{arecord_course}
-use Rattle.af_tools.specs.Words.{Job}
+use Rattle.af_tools.specs.Set.{aset_course}
+use Rattle.af_tools.specs.declared.run.Call.TheVariants as call
+use Rattle.af_tools.specs.declared.job.PassJob.{PassJob}
+use Rattle.af_lib.specs.Calls.{setup_bytes}
+use Rattle.af_tools.specs.Pass.{IsPaced, Relay, alone, apass_course, dials_to, on_from, on_to, relay_course}
+use Rattle.af_tools.specs.Words.{Job, one, relay}
+use Rattle.af_tools.specs.Pair.{is_of_pass}
 use Rattle.af_tools.specs.Ends.{Ended, IsAnswered, is_of_play, is_outer}
 
 -- the job of a call
 abbrev pub meaning : Call → Job
-meaning call = record { server = call.server.now; task = call.task }
+meaning (call.One server task) = one server.now task
+meaning (call.Relay from to job) = relay from.now to.now job
 
 -- the course of a task on a server that was set up
 abbrev pub task_course : Task → List DeviceInfo → List ℕ → Wire → Course
 task_course (task.Play job) devices bytes w = aplay_course job devices bytes w
 task_course (task.Record job) devices bytes w = arecord_course job devices w
+task_course (task.Set job) devices bytes w = aset_course job devices w
 
--- the course of a tool: it dials its server, sets the link up, and does its task
-abbrev pub run_course : Job → List ToldLink → List ℕ → Course
-run_course job links bytes = dials links (λ devices w. task_course job.task devices bytes w)
+-- the course of a tool with one server: it dials it, sets the link up, and does its task
+abbrev pub one_course : Task → List ToldLink → List ℕ → Course
+one_course task links bytes = dials links (λ devices w. task_course task devices bytes w)
+
+-- the course of a tool, by its job, the links that a dial gives, and the bytes of the source
+abbrev pub run_course : Job → List ToldLink → List ℕ → Relay
+run_course (one server task) links bytes = alone (one_course task links bytes)
+run_course (relay from to job) links bytes = relay_course job links
 
 -- the values of a task that the buffer rests on are in their ranges
 abbrev pub IsRanged : Task → Type 0
 IsRanged (task.Play job) = (1 ≤ job.block) × (job.block ≤ 4000)
 IsRanged (task.Record job) = (1 ≤ job.block) × (job.block ≤ 4000) × (1 ≤ job.stop_blocks) × (job.stop_blocks ≤ 1000000)
+IsRanged (task.Set job) = ⊤
+
+-- an address can be dialled
+abbrev pub IsAddress : Text → Type 0
+IsAddress server = (1 ≤ length server) × (length server ≤ 64)
 
 abbrev pub IsCall : Call → Type 0
-IsCall call = IsRanged call.task × (1 ≤ length call.server.now) × (length call.server.now ≤ 64)
+IsCall (call.One server task) = IsRanged task × IsAddress server.now
+IsCall (call.Relay from to job) = IsPaced job × IsAddress from.now × IsAddress to.now
 
 -- aplay reads its source to the end
 abbrev pub IsReadWhole : Task → Option (List ℕ) → Type 0
 IsReadWhole (task.Play job) left = IsSpent left
 IsReadWhole (task.Record job) left = ⊤
+IsReadWhole (task.Set job) left = ⊤
+
+abbrev pub IsRead : Job → Option (List ℕ) → Type 0
+IsRead (one server task) left = IsReadWhole task left
+IsRead (relay from to job) left = ⊤
 
 -- the ends of a tool that has a link
 abbrev pub is_of_far : ToolEnd → Bool
@@ -52,7 +76,17 @@ is_of_far how = is_of_play how
 -- the ends of a tool whose words were taken
 abbrev pub is_of_run : ToolEnd → Bool
 is_of_run end.DialFault = true
+is_of_run (end.RateMismatch from to) = true
 is_of_run how = is_of_far how
+
+-- the ends of a relay that has a second link, and of one that dials
+abbrev pub is_of_over : ToolEnd → Bool
+is_of_over end.OutOfMemory = true
+is_of_over how = is_of_pass how
+
+abbrev pub is_of_relay : ToolEnd → Bool
+is_of_relay end.DialFault = true
+is_of_relay how = is_of_over how
 
 -- the ends of the program
 abbrev pub is_of_af : ToolEnd → Bool
@@ -61,21 +95,68 @@ is_of_af how = is_of_run how
 
 -- Each link that was dialled was given back: none, and then nothing was sent; or the first, having been sent this besides what
 -- it had been sent before.
-abbrev pub GaveBack : List ToldLink → Option (List ToldLink) → List ℕ → Option (List (List ℕ)) → Option (List (List ℕ)) → Type 0
-GaveBack links links' sends back back' =
+abbrev pub GaveOne : List ToldLink → Option (List ToldLink) → List ℕ → Option (List (List ℕ)) → Option (List (List ℕ)) → Type 0
+GaveOne links links' sends back back' =
     ((sends ≡ []) × (links' ≡ Some links) × (back' ≡ back))
     ⊎ ((link : ToldLink) × (rest : List ToldLink) × (links ≡ link ∷ rest) × (links' ≡ Some rest) × Grew back ((link.sent ++ sends) ∷ []) back')
 
--- A tool ran: what it sent and wrote are those of its course, or prefixes where something from outside ended it, and its link
--- was given back.
-pub record Ran (course : Course) (how : ToolEnd) (links : List ToldLink) (links' : Option (List ToldLink)) (held held' : Option (List ℕ)) (back back' : Option (List (List ℕ))) : Type 0 where
+-- A tool with one server ran: what it sent and wrote are those of its course, or prefixes where something from outside ended it,
+-- and its link was given back.
+pub record RanOne (course : Course) (how : ToolEnd) (links : List ToldLink) (links' : Option (List ToldLink)) (held held' : Option (List ℕ)) (back back' : Option (List (List ℕ))) : Type 0 where
   pub sends : List ℕ
   pub output : List ℕ
   pub ended : Ended course how sends output
   pub sink : Grew held output held'
-  pub link : GaveBack links links' sends back back'
+  pub link : GaveOne links links' sends back back'
   -- memory runs out before any request was sent, and before the setup
   pub early : how ≡ end.OutOfMemory → sends ≡ []
+
+-- What a relay does behind the setup of its first link, which gives this and had been sent that: the second server is dialled, or
+-- not, and both links are given back in the order in which they were dialled.
+pub record RanTo (job : PassJob) (from : List DeviceInfo) (v : Wire) (how : ToolEnd) (links : List ToldLink) (links' : Option (List ToldLink)) (sent held held' : Option (List ℕ)) (back back' : Option (List (List ℕ))) : Type 0 where
+  pub sends_from : List ℕ
+  pub sends_to : List ℕ
+  pub output : List ℕ
+  pub recorded : Ended (on_from (dials_to links (λ to w. apass_course job from to v w))) how sends_from output
+  pub played : Ended (on_to (dials_to links (λ to w. apass_course job from to v w))) how sends_to output
+  pub sink : Grew held output held'
+  pub after : Option (List ℕ)
+  pub link : Grew sent sends_from after
+  pub between : Option (List (List ℕ))
+  pub first : GrewBack back after between
+  pub second : GaveOne links links' sends_to between back'
+  pub early : how ≡ end.OutOfMemory → (sends_from ≡ []) × (sends_to ≡ [])
+
+-- Each link that was dialled was given back, in the order of dialling: none, and then nothing was sent; or the first, having been
+-- sent this besides what it had been sent before, and then none or the second likewise.
+abbrev pub GaveBack : List ToldLink → Option (List ToldLink) → (sends_from sends_to : List ℕ) → Option (List (List ℕ)) → Option (List (List ℕ)) → Type 0
+GaveBack links links' sends_from sends_to back back' =
+    ((sends_from ≡ []) × (sends_to ≡ []) × (links' ≡ Some links) × (back' ≡ back))
+    ⊎ ((link : ToldLink) × (rest : List ToldLink) × (between : Option (List (List ℕ))) × (links ≡ link ∷ rest)
+    × Grew back ((link.sent ++ sends_from) ∷ []) between × GaveOne rest links' sends_to between back')
+
+-- memory runs out before any request was sent, and of a tool with one server before its setup
+abbrev pub IsEarly : Job → (sends_from sends_to : List ℕ) → Type 0
+IsEarly (one server task) sends_from sends_to = (sends_from ≡ []) × (sends_to ≡ [])
+IsEarly (relay from to job) sends_from sends_to = ((sends_from ≡ []) ⊎ (sends_from ≡ setup_bytes)) × (sends_to ≡ [])
+
+-- A tool ran: what it sent on its one or two links and what it wrote are those of its course, or prefixes where something from
+-- outside ended it, and the links were given back.
+pub record Ran (j : Job) (bytes : List ℕ) (how : ToolEnd) (links : List ToldLink) (links' : Option (List ToldLink)) (held held' : Option (List ℕ)) (back back' : Option (List (List ℕ))) : Type 0 where
+  pub sends_from : List ℕ
+  pub sends_to : List ℕ
+  pub output : List ℕ
+  pub recorded : Ended (on_from (run_course j links bytes)) how sends_from output
+  pub played : Ended (on_to (run_course j links bytes)) how sends_to output
+  pub sink : Grew held output held'
+  pub link : GaveBack links links' sends_from sends_to back back'
+  pub early : how ≡ end.OutOfMemory → IsEarly j sends_from sends_to
+
+-- where two devices have different rates, the tool ends with that, unless something from outside has ended it; and it ends so only
+-- there
+pub record EndsByRates (course : Course) (how : ToolEnd) : Type 0 where
+  pub only : (a b : ℕ) → how ≡ end.RateMismatch a b → course.finish ≡ mismatch a b
+  pub always : (a b : ℕ) → course.finish ≡ mismatch a b → (how ≡ end.RateMismatch a b) ⊎ (is_outer how ≡ true)
 
 -- where the device of a tool is not there, the tool ends with that, unless something from outside has ended it; and it ends so
 -- only there
@@ -83,12 +164,23 @@ pub record EndsByDevice (course : Course) (how : ToolEnd) : Type 0 where
   pub only : (n : ℕ) → how ≡ end.NoDevice n → course.finish ≡ no_device n
   pub always : (n : ℕ) → course.finish ≡ no_device n → (how ≡ end.NoDevice n) ⊎ (is_outer how ≡ true)
 
--- the one address of a job was asked for, unless memory ran out before
-abbrev pub AskedFor : Text → ToolEnd → Option (List Text) → Option (List Text) → Type 0
-AskedFor server how asked asked' = ((how ≡ end.OutOfMemory) × (asked' ≡ asked)) ⊎ Grew asked (server ∷ []) asked'
+-- the addresses of a job, in order
+abbrev pub servers_of : Job → List Text
+servers_of (one server task) = server ∷ []
+servers_of (relay from to job) = from ∷ to ∷ []
 
--- a link and the device are there, and each request gets the reply that it awaits
+-- The first of some addresses were asked for, in order: none only where memory ran out before, and all where the tool is done.
+pub record AskedFor (servers : List Text) (how : ToolEnd) (asked asked' : Option (List Text)) : Type 0 where
+  pub named : List Text
+  pub others : List Text
+  pub whole : servers ≡ named ++ others
+  pub grew : Grew asked named asked'
+  pub none : named ≡ [] → how ≡ end.OutOfMemory
+  pub all : how ≡ end.Done → others ≡ []
+
+-- a link and the device are there, two devices have one rate, and each request gets the reply that it awaits
 pub record IsServed (course : Course) : Type 0 where
   pub dialled : course.finish ≢ not_dialled
   pub there : (devices : ℕ) → course.finish ≢ no_device devices
+  pub even : (from to : ℕ) → course.finish ≢ mismatch from to
   pub answered : IsAnswered course

@@ -7,12 +7,16 @@ use Rattle.clap.specs.declared.builder.ArgAction.TheVariants.{SetTrue}
 use Rattle.af_tools.specs.declared.command.Kind.{Kind}
 use Rattle.af_tools.specs.declared.command.Kind.TheVariants.{Place, NeededOption, FreeOption, Flag}
 use Rattle.af_tools.specs.declared.command.Word.{Word}
+use Rattle.af_tools.specs.declared.job.PassJob.{PassJob}
 use Rattle.af_tools.specs.declared.job.PlayJob.{PlayJob}
 use Rattle.af_tools.specs.declared.job.RecordJob.{RecordJob}
+use Rattle.af_tools.specs.declared.job.SetJob.{SetJob}
 use Rattle.af_tools.specs.declared.job.Task.{Task}
 use Rattle.af_tools.specs.declared.job.Task.TheVariants as task
+use Rattle.af_tools.specs.declared.tool.Tool.{Tool}
+use Rattle.af_tools.specs.declared.tool.Tool.TheVariants as tool
 use Rattle.af_tools.specs.declared.words.Basics.{Basics}
-use Rattle.af_tools.specs.Numbers.{gain_in, if_there, number_in, or_else, type_in}
+use Rattle.af_tools.specs.Numbers.{gain_in, if_there, number_in, or_else, switch_in, type_in}
 
 -- `--id VALUE` or `--id=VALUE`
 abbrev pub option_rule : Text → Rule
@@ -58,6 +62,31 @@ arecord_app = with_rules (new_app (codes "arecord")) (
     rule_at (codes "stop-peak") FreeOption ∷
     rule_at (codes "stop-blocks") FreeOption ∷ [])
 
+-- the command of aset
+unfoldable pub aset_app : App
+aset_app = with_rules (new_app (codes "aset")) (
+    rule_at (codes "SERVER") Place ∷
+    rule_at (codes "device") FreeOption ∷
+    rule_at (codes "input-gain") FreeOption ∷
+    rule_at (codes "output-gain") FreeOption ∷
+    rule_at (codes "input") FreeOption ∷
+    rule_at (codes "output") FreeOption ∷
+    rule_at (codes "hook") FreeOption ∷ [])
+
+-- the command of apass
+unfoldable pub apass_app : App
+apass_app = with_rules (new_app (codes "apass")) (
+    rule_at (codes "FROM") Place ∷
+    rule_at (codes "TO") Place ∷
+    rule_at (codes "from-device") FreeOption ∷
+    rule_at (codes "to-device") FreeOption ∷
+    rule_at (codes "type") FreeOption ∷
+    rule_at (codes "gain") FreeOption ∷
+    rule_at (codes "blocks") NeededOption ∷
+    rule_at (codes "block") FreeOption ∷
+    rule_at (codes "delay") FreeOption ∷
+    rule_at (codes "slack") FreeOption ∷ [])
+
 -- a number between these two, or its default
 abbrev pub number_at : Text → (default low high : ℕ) → List Row → Option ℕ
 number_at id default low high rows = or_else default (number_in low high) (first_of id rows)
@@ -66,8 +95,8 @@ number_at id default low high rows = or_else default (number_in low high) (first
 abbrev pub address_in : Text → Option Text
 address_in text = if nat_le 1 (length text) && nat_le (length text) 64 then Some text else None
 
-abbrev pub server_at : List Row → Option Text
-server_at rows = option_and_then address_in (first_of (codes "SERVER") rows)
+abbrev pub address_at : Text → List Row → Option Text
+address_at id rows = option_and_then address_in (first_of id rows)
 
 -- what aplay and arecord have in common, where each value is in its range
 abbrev pub basics_of : List Row → Option Basics
@@ -107,34 +136,88 @@ record_job rows =
     (option_and_then (number_in 1 2147483647) (first_of (codes "frames") rows)))
     (basics_of rows)
 
--- what a tool is asked to do, and with which server
-pub record Job : Type 0 where
-  pub server : Text
-  pub task : Task
+-- the job of aset
+abbrev pub set_job : List Row → Option SetJob
+set_job rows =
+    option_and_then (λ device.
+    option_and_then (λ input_gain.
+    option_and_then (λ output_gain.
+    option_and_then (λ input_on.
+    option_and_then (λ output_on.
+    option_map (λ hook_off. record { device = device; input_gain = input_gain; output_gain = output_gain; input_on = input_on; output_on = output_on; hook_off = hook_off })
+    (if_there (switch_in (codes "off") (codes "on")) (first_of (codes "hook") rows)))
+    (if_there (switch_in (codes "on") (codes "off")) (first_of (codes "output") rows)))
+    (if_there (switch_in (codes "on") (codes "off")) (first_of (codes "input") rows)))
+    (if_there gain_in (first_of (codes "output-gain") rows)))
+    (if_there gain_in (first_of (codes "input-gain") rows)))
+    (number_at (codes "device") 0 0 7 rows)
 
--- the job of aplay with these words, where each value is in its range
-abbrev pub aplay_job : List Text → Option Job
-aplay_job words = option_and_then (λ server. option_map (λ job. record { server = server; task = task.Play job }) (play_job (matches_of aplay_app words))) (server_at (matches_of aplay_app words))
+-- the job of apass
+abbrev pub pass_job : List Row → Option PassJob
+pass_job rows =
+    option_and_then (λ from_device.
+    option_and_then (λ to_device.
+    option_and_then (λ ty.
+    option_and_then (λ gain.
+    option_and_then (λ blocks.
+    option_and_then (λ block.
+    option_and_then (λ delay.
+    option_map (λ slack. record { from_device = from_device; to_device = to_device; ty = ty; gain = gain; blocks = blocks; block = block; delay = delay; slack = slack })
+    (number_at (codes "slack") 100 0 3000 rows))
+    (number_at (codes "delay") 200 0 3000 rows))
+    (number_at (codes "block") 1000 1 4000 rows))
+    (option_and_then (number_in 1 1000000) (first_of (codes "blocks") rows)))
+    (or_else (pos 0) gain_in (first_of (codes "gain") rows)))
+    (if_there type_in (first_of (codes "type") rows)))
+    (number_at (codes "to-device") 0 0 7 rows))
+    (number_at (codes "from-device") 0 0 7 rows)
 
-abbrev pub arecord_job : List Text → Option Job
-arecord_job words = option_and_then (λ server. option_map (λ job. record { server = server; task = task.Record job }) (record_job (matches_of arecord_app words))) (server_at (matches_of arecord_app words))
+-- what a tool is asked to do: a task with one server, or to pass blocks from one server to another
+pub data Job : Type 0 where
+  one : (server : Text) (task : Task) → Job
+  relay : (from to : Text) (job : PassJob) → Job
+
+-- a task with one server, where both are there
+abbrev pub job_with : Option Task → List Row → Option Job
+job_with found rows = option_and_then (λ task. option_map (λ server. one server task) (address_at (codes "SERVER") rows)) found
+
+-- a relay, where both servers are there
+abbrev pub relay_with : Option PassJob → List Row → Option Job
+relay_with found rows = option_and_then (λ job. option_and_then (λ from. option_map (λ to. relay from to job) (address_at (codes "TO") rows)) (address_at (codes "FROM") rows)) found
+
+-- the job of a tool, by the matches of its command, where each value is in its range
+abbrev pub job_in : Tool → List Row → Option Job
+job_in tool.Play rows = job_with (option_map (λ job. task.Play job) (play_job rows)) rows
+job_in tool.Record rows = job_with (option_map (λ job. task.Record job) (record_job rows)) rows
+job_in tool.Set rows = job_with (option_map (λ job. task.Set job) (set_job rows)) rows
+job_in tool.Pass rows = relay_with (pass_job rows) rows
+
+-- the tool with a name
+abbrev pub tool_named : Text → Option Tool
+tool_named name =
+    if bytes_eq name (codes "aplay") then Some tool.Play
+    else if bytes_eq name (codes "arecord") then Some tool.Record
+    else if bytes_eq name (codes "aset") then Some tool.Set
+    else if bytes_eq name (codes "apass") then Some tool.Pass
+    else None
+
+-- the command of a tool
+abbrev pub tool_app : Tool → App
+tool_app tool.Play = aplay_app
+tool_app tool.Record = arecord_app
+tool_app tool.Set = aset_app
+tool_app tool.Pass = apass_app
 
 -- The job of some words, the first of which names a tool: that of the matches that clap defines for them, where each value is in
 -- its range.
 unfoldable pub job : List Text → Option Job
 job [] = None
-job (name ∷ words) =
-    if bytes_eq name (codes "aplay") then aplay_job (name ∷ words)
-    else if bytes_eq name (codes "arecord") then arecord_job (name ∷ words)
-    else None
+job (name ∷ words) = option_and_then (λ tool. job_in tool (matches_of (tool_app tool) (name ∷ words))) (tool_named name)
 
 -- the command of the named tool takes the words
 unfoldable pub is_taken : List Text → Bool
 is_taken [] = false
-is_taken (name ∷ words) =
-    if bytes_eq name (codes "aplay") then takes aplay_app (name ∷ words)
-    else if bytes_eq name (codes "arecord") then takes arecord_app (name ∷ words)
-    else false
+is_taken (name ∷ words) = option_map_or (λ tool. takes (tool_app tool) (name ∷ words)) (tool_named name) false
 
 -- the words are spelled: they name a tool, its command takes them, and each value is in its range
 abbrev pub is_spelled : List Text → Bool

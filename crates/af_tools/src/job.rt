@@ -39,9 +39,44 @@ pub struct RecordJob {
     pub stop_blocks: u32,
 }
 
+/// To set the controls of a device, and its hook. What is not stated stays.
+#[derive(Clone, Copy, Debug, PartialEq, Eq)]
+pub struct SetJob {
+    /// The number of the device, 0..7.
+    pub device: u8,
+    pub input_gain: Option<Gain>,
+    pub output_gain: Option<Gain>,
+    pub input_on: Option<bool>,
+    pub output_on: Option<bool>,
+    /// Whether the hook is to be off.
+    pub hook_off: Option<bool>,
+}
+
+/// To pass blocks from a device of one server to a device of another.
+#[derive(Clone, Copy, Debug, PartialEq, Eq)]
+pub struct PassJob {
+    /// The number of the device that is recorded, 0..7.
+    pub from_device: u8,
+    /// The number of the device that is played to, 0..7.
+    pub to_device: u8,
+    /// The type of the samples, or that of the device that is recorded.
+    pub ty: Option<SampleType>,
+    /// By how much what is recorded is made louder.
+    pub gain: Gain,
+    /// How many blocks, 1..1000000.
+    pub blocks: u32,
+    /// The frames of a block, 1..4000.
+    pub block: u32,
+    /// The milliseconds from the other server's time to where a block is played, 0..3000.
+    pub delay: u32,
+    /// By how many milliseconds the relay may drift from that, 0..3000.
+    pub slack: u32,
+}
+
 /// What a tool is asked to do.
 #[derive(Clone, Copy, Debug, PartialEq, Eq)]
 pub enum Task {
     Play(PlayJob),
     Record(RecordJob),
+    Set(SetJob),
 }

@@ -7,20 +7,30 @@ mod end;
 mod fill;
 mod job;
 mod number;
+mod pass;
+mod passer;
 mod play;
 mod player;
 mod record;
 mod recorder;
+mod relay;
 mod report;
 mod run;
+mod set;
+mod setter;
+mod standing;
 mod talk;
+mod text;
+mod tool;
 mod words;
 
 pub use end::ToolEnd;
-pub use job::{PlayJob, RecordJob};
+pub use job::{PassJob, PlayJob, RecordJob, SetJob};
+pub use passer::apass;
 pub use player::aplay;
 pub use recorder::arecord;
 pub use run::af_run;
+pub use setter::aset;
 
 #[cfg(test)]
 mod tests;

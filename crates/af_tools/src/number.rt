@@ -1,6 +1,6 @@
 // The values of words: numbers, gains and sample types.
 ghost use Rattle.std.specs.Prelude.{◌≡◌, ◌<◌, ◌≤◌, ◌^◌, IfSome};
-ghost use Rattle.af_tools.specs.Numbers.{gain_in, number_in, type_in};
+ghost use Rattle.af_tools.specs.Numbers.{gain_in, number_in, switch_in, type_in};
 
 use af_sample::{Gain, SampleType};
 
@@ -51,6 +51,19 @@ pub fn type_in(text: &str) -> Option<SampleType>
         Some(SampleType::Lin16)
     } else if text == "lin32" {
         Some(SampleType::Lin32)
+    } else {
+        None
+    }
+}
+
+/// A switch, by the word for it and the word against it.
+pub fn switch_in(when: &str, otherwise: &str, text: &str) -> Option<bool>
+    ensures { result ≡ switch_in when.now otherwise.now text.now }
+{
+    if text == when {
+        Some(true)
+    } else if text == otherwise {
+        Some(false)
     } else {
         None
     }

@@ -5,7 +5,7 @@ ghost use Rattle.std.specs.declared.option.Option.TheVariants.{None, Some};
 ghost use Rattle.af_outside.specs.Told.{Rose};
 ghost use Rattle.af_tools.specs.Record.{arecord_course, record_context, recorded_on};
 ghost use Rattle.af_tools.specs.Talk.{creates};
-ghost use Rattle.af_tools.specs.Ends.{is_of_record, is_of_records, wire_of, EndsByReply, Followed, Goes, Holds, IsAnswered};
+ghost use Rattle.af_tools.specs.Ends.{is_of_writer, is_of_records, wire_of, EndsByReply, Followed, Goes, Holds, IsAnswered};
 
 use crate::device::device_with;
 use crate::end::ToolEnd;
@@ -88,7 +88,7 @@ pub fn arecord<L: Link + Drop, K: Sink>(
         Followed (arecord_course job.now conn.old.devices (wire_of conn.old input)) result (L.sent conn.old.link) (L.sent conn.new.link) (K.held sink.old) (K.held sink.new) }
 
     // each end has its cause
-    ensures end { is_of_record result ≡ true }
+    ensures end { is_of_writer result ≡ true }
     ensures no_device { (n : ℕ) → (result ≡ ToolEnd.NoDevice n) ↔ ((n ≡ length conn.old.devices) × (length conn.old.devices ≤ job.now.device)) }
     ensures reply { (input : List ℕ) → L.left conn.old.link ≡ Some input → EndsByReply (arecord_course job.now conn.old.devices (wire_of conn.old input)) result }
     ensures link { result ≡ ToolEnd.LinkFault → Rose (L.faults conn.old.link) (L.faults conn.new.link) }

@@ -1,5 +1,5 @@
 // What aplay writes when it has played all.
-ghost use Rattle.std.specs.Prelude.{◌≡◌, ◌≤◌, ◌+◌, ◌++◌, [], ℕ, List, codes, decimal, length, take, true};
+ghost use Rattle.std.specs.Prelude.{◌≡◌, ◌≤◌, List, ℕ, length, take, true};
 ghost use Rattle.std.specs.declared.option.Option.{Option};
 ghost use Rattle.af_outside.specs.Told.{Rose};
 ghost use Rattle.af_tools.specs.Course.{done, ends, writing};
@@ -7,31 +7,9 @@ ghost use Rattle.af_tools.specs.Play.{played};
 ghost use Rattle.af_tools.specs.Ends.{is_of_report, Followed};
 
 use crate::end::ToolEnd;
-use af_outside::{Put, Sink};
+use crate::text::{put, put_number, write_text};
+use af_outside::Sink;
 use af_time::DevTime;
-use itoa::Buffer;
-
-// Writes a piece behind what stands before a place: the place behind it.
-fn put(out: &mut [u8], at: usize, piece: &[u8]) -> usize
-    requires { at + length piece.now ≤ length out.old }
-    ensures at { result ≡ at + length piece.now }
-    ensures bytes { take result out.new ≡ take at out.old ++ piece.now }
-{
-    let end = at + piece.len();
-    out[at..end].copy_from_slice(piece);
-    end
-}
-
-// Writes a number in decimal digits behind what stands before a place.
-fn put_number(out: &mut [u8], at: usize, number: u64) -> usize
-    requires { at + 40 ≤ length out.old }
-    ensures at { result ≤ at + 40 }
-    ensures within { result ≤ length out.new }
-    ensures bytes { take result out.new ≡ take at out.old ++ decimal number }
-{
-    let mut buffer = Buffer::new();
-    put(out, at, buffer.format(number).as_bytes())
-}
 
 // Writes the line into a buffer: its length.
 fn write_line(out: &mut [u8], frames: u64, start: DevTime) -> usize
@@ -55,8 +33,5 @@ pub fn report<K: Sink>(sink: &mut K, frames: u64, start: DevTime) -> ToolEnd
 {
     let mut line = [0; 128];
     let length = write_line(&mut line, frames, start);
-    match sink.write(&line[..length]) {
-        Put::Done => ToolEnd::Done,
-        Put::Failed => ToolEnd::SinkFault,
-    }
+    write_text(sink, &line[..length])
 }

@@ -1,33 +1,45 @@
 // The tools, by their words: a server is dialled, and what the words ask is done.
-ghost use Rattle.std.specs.Prelude.{◌≡◌, ◌≢◌, ◌≤◌, ◌⊎◌, ℕ, List, true, false, is_some, length, map, string_bytes, Err, IfOk, IsSome};
+ghost use Rattle.std.specs.Prelude.{◌≡◌, ◌≢◌, ◌≤◌, ◌⊎◌, ◌∷◌, [], ℕ, List, true, false, length, option_map, Err, IfOk, IfSome, IsSome};
 ghost use Rattle.std.specs.declared.option.Option.{Option};
 ghost use Rattle.std.specs.declared.option.Option.TheVariants.{None, Some};
-ghost use Rattle.clap.specs.Words.{matches_of, takes};
-ghost use Rattle.af_outside.specs.Told.{Rose};
+ghost use Rattle.clap.specs.Words.{found_of, rows_of};
+ghost use Rattle.af_outside.specs.Told.{Grew, Rose};
 ghost use Rattle.af_outside.specs.Dial.{ToldLink};
 ghost use Rattle.af_tools.specs.Course.{connects};
 ghost use Rattle.af_tools.specs.Play.{most_bytes};
-ghost use Rattle.af_tools.specs.Words.{aplay_app, aplay_job, arecord_app, arecord_job, is_spelled, job, Job};
+ghost use Rattle.af_tools.specs.Words.{is_spelled, job, job_in, job_with, relay_with, Job};
 ghost use Rattle.af_tools.specs.Ends.{is_of_play, wire_of, EndsByReply, Followed, GaveTooMuch, GaveWithin};
-ghost use Rattle.af_tools.specs.Run.{is_of_af, is_of_far, is_of_run, meaning, run_course, task_course, AskedFor, EndsByDevice, IsCall, IsRanged, IsReadWhole, IsServed, Ran};
+ghost use Rattle.af_tools.specs.Run.{is_of_af, is_of_far, is_of_run, meaning, one_course, run_course, servers_of, task_course, AskedFor, EndsByDevice, EndsByRates, IsAddress, IsCall, IsRanged, IsRead, IsReadWhole, IsServed, Ran, RanOne};
+ghost use Rattle.af_tools.specs.Pass.{on_from, IsPaced};
 
-use crate::command::{aplay_matches, arecord_matches};
+use crate::command::tool_matches;
 use crate::end::ToolEnd;
-use crate::job::Task;
+use crate::job::{PassJob, Task};
 use crate::player::aplay;
 use crate::recorder::arecord;
-use crate::words::{play_job, record_job, server_at};
+use crate::relay::run_relay;
+use crate::setter::aset;
+use crate::tool::{Tool, tool_named};
+use crate::words::{address_at, pass_job, play_job, record_job, set_job};
 use af_lib::Conn;
 use af_outside::{Args, Dial, Dialed, Link, Sink, Source};
 use af_time::OutOfMemory;
+use clap::ArgMatches;
 use clap::error::ErrorKind;
 use std::alloc::Global;
 
-/// What a tool is asked to do, and with which server.
+/// What a tool is asked to do, and with which server or servers.
 #[derive(Clone, Copy)]
-pub struct Call<'a> {
-    pub server: &'a str,
-    pub task: Task,
+pub enum Call<'a> {
+    One {
+        server: &'a str,
+        task: Task,
+    },
+    Relay {
+        from: &'a str,
+        to: &'a str,
+        job: PassJob,
+    },
 }
 
 /// Why words are no call.
@@ -37,49 +49,37 @@ pub enum WordsFault {
     OutOfMemory,
 }
 
-// The call of aplay with these words, of which the first is its name.
-fn play_call<'a>(alloc: Global, words: &'a [String]) -> Result<Call<'a>, WordsFault>
-    ensures ok { IfOk result (λ call. aplay_job (map string_bytes words.entry.now) ≡ Some (meaning call)) }
-    ensures call { IfOk result (λ call. IsCall call) }
-    ensures usage { result ≡ Err WordsFault.Usage → takes aplay_app (map string_bytes words.entry.now) ≡ true → aplay_job (map string_bytes words.entry.now) ≡ None }
+// A task with its server.
+fn one_call<'a>(matches: &ArgMatches<'a>, task: Task) -> Option<Call<'a>>
+    requires { IsRanged task }
+    ensures value { option_map meaning result ≡ job_with (Some task) (rows_of (found_of matches.now)) }
+    ensures call { IfSome result (λ call. IsCall call) }
 {
-    let matches = match aplay_matches(alloc, words) {
-        Ok(matches) => matches,
-        Err(e) if e.kind() == ErrorKind::OutOfMemory => return Err(WordsFault::OutOfMemory),
-        Err(_) => return Err(WordsFault::Usage),
-    };
-    let Some(server) = server_at(&matches) else {
-        return Err(WordsFault::Usage);
-    };
-    match play_job(&matches) {
-        Some(job) => Ok(Call {
-            server,
-            task: Task::Play(job),
-        }),
-        None => Err(WordsFault::Usage),
-    }
+    let server = address_at(matches, "SERVER")?;
+    Some(Call::One { server, task })
 }
 
-// The call of arecord with these words, of which the first is its name.
-fn record_call<'a>(alloc: Global, words: &'a [String]) -> Result<Call<'a>, WordsFault>
-    ensures ok { IfOk result (λ call. arecord_job (map string_bytes words.entry.now) ≡ Some (meaning call)) }
-    ensures call { IfOk result (λ call. IsCall call) }
-    ensures usage { result ≡ Err WordsFault.Usage → takes arecord_app (map string_bytes words.entry.now) ≡ true → arecord_job (map string_bytes words.entry.now) ≡ None }
+// A relay with its servers.
+fn relay_call<'a>(matches: &ArgMatches<'a>, job: PassJob) -> Option<Call<'a>>
+    requires { IsPaced job }
+    ensures value { option_map meaning result ≡ relay_with (Some job) (rows_of (found_of matches.now)) }
+    ensures call { IfSome result (λ call. IsCall call) }
 {
-    let matches = match arecord_matches(alloc, words) {
-        Ok(matches) => matches,
-        Err(e) if e.kind() == ErrorKind::OutOfMemory => return Err(WordsFault::OutOfMemory),
-        Err(_) => return Err(WordsFault::Usage),
-    };
-    let Some(server) = server_at(&matches) else {
-        return Err(WordsFault::Usage);
-    };
-    match record_job(&matches) {
-        Some(job) => Ok(Call {
-            server,
-            task: Task::Record(job),
-        }),
-        None => Err(WordsFault::Usage),
+    let from = address_at(matches, "FROM")?;
+    let to = address_at(matches, "TO")?;
+    Some(Call::Relay { from, to, job })
+}
+
+// The call of a tool, by the matches of its command.
+fn call_in<'a>(tool: Tool, matches: &ArgMatches<'a>) -> Option<Call<'a>>
+    ensures value { option_map meaning result ≡ job_in tool (rows_of (found_of matches.now)) }
+    ensures call { IfSome result (λ call. IsCall call) }
+{
+    match tool {
+        Tool::Play => one_call(matches, Task::Play(play_job(matches)?)),
+        Tool::Record => one_call(matches, Task::Record(record_job(matches)?)),
+        Tool::Set => one_call(matches, Task::Set(set_job(matches)?)),
+        Tool::Pass => relay_call(matches, pass_job(matches)?),
     }
 }
 
@@ -89,15 +89,20 @@ fn call_of(alloc: Global, words: &Args) -> Result<Call<'_>, WordsFault>
     ensures call { IfOk result (λ call. IsCall call) }
     ensures usage { result ≡ Err WordsFault.Usage → is_spelled words.now ≡ false }
 {
-    let Some(tool) = words.word(0) else {
+    let Some(name) = words.word(0) else {
         return Err(WordsFault::Usage);
     };
-    if tool == "aplay" {
-        play_call(alloc, words.as_slice())
-    } else if tool == "arecord" {
-        record_call(alloc, words.as_slice())
-    } else {
-        Err(WordsFault::Usage)
+    let Some(tool) = tool_named(name) else {
+        return Err(WordsFault::Usage);
+    };
+    let matches = match tool_matches(alloc, tool, words.as_slice()) {
+        Ok(matches) => matches,
+        Err(e) if e.kind() == ErrorKind::OutOfMemory => return Err(WordsFault::OutOfMemory),
+        Err(_) => return Err(WordsFault::Usage),
+    };
+    match call_in(tool, &matches) {
+        Some(call) => Ok(call),
+        None => Err(WordsFault::Usage),
     }
 }
 
@@ -128,6 +133,7 @@ fn perform<L: Link + Drop, S: Source, K: Sink>(
     match task {
         Task::Play(job) => aplay(job, conn, source, sink, room),
         Task::Record(job) => arecord(job, conn, sink, room),
+        Task::Set(job) => aset(job, conn, sink),
     }
 }
 
@@ -172,7 +178,48 @@ fn room(alloc: Global) -> Result<Vec<u8>, OutOfMemory>
     Ok(room)
 }
 
-// Dials the server of a call, and does its task. The link is given back.
+// Dials a server, and does a task. The link is given back.
+fn run_one<S: Source, K: Sink, D: Dial>(
+    alloc: Global,
+    server: &str,
+    task: &Task,
+    source: &mut S,
+    sink: &mut K,
+    dial: &mut D,
+    room: &mut [u8],
+) -> ToolEnd
+    requires range { IsRanged task.now }
+    requires server { IsAddress server.now }
+    requires room { 16000 ≤ length room.old }
+    ensures ran { (links : List ToldLink) (bytes : List ℕ) → D.links dial.old ≡ Some links → S.left source.old ≡ Some bytes → IsSome (S.left source.new) →
+        RanOne (one_course task.now links bytes) result links (D.links dial.new) (K.held sink.old) (K.held sink.new) (D.back dial.old) (D.back dial.new) }
+    ensures asked { Grew (D.asked dial.old) (server.now ∷ []) (D.asked dial.new) }
+    ensures done { result ≡ ToolEnd.Done → IsReadWhole task.now (S.left source.new) }
+    ensures memory { result ≡ ToolEnd.OutOfMemory → (K.held sink.new ≡ K.held sink.old) × (S.left source.new ≡ S.left source.old) }
+    ensures end { is_of_run result ≡ true }
+    ensures long { result ≡ ToolEnd.TooLong → GaveTooMuch (S.left source.old) (S.left source.new) }
+    ensures within { result ≢ ToolEnd.TooLong → GaveWithin (S.left source.old) (S.left source.new) }
+    ensures dialled { result ≡ ToolEnd.DialFault → Rose (D.faults dial.old) (D.faults dial.new) }
+    ensures link { result ≡ ToolEnd.LinkFault → Rose (D.hurt dial.old) (D.hurt dial.new) }
+    ensures read { result ≡ ToolEnd.ReadFault → Rose (S.faults source.old) (S.faults source.new) }
+    ensures sink { result ≡ ToolEnd.SinkFault → Rose (K.faults sink.old) (K.faults sink.new) }
+    ensures dial_count { D.faults dial.old ≤ D.faults dial.new }
+    ensures hurt_count { D.hurt dial.old ≤ D.hurt dial.new }
+    ensures source_count { S.faults source.old ≤ S.faults source.new }
+    ensures sink_count { K.faults sink.old ≤ K.faults sink.new }
+{
+    match dial.dial(server) {
+        Dialed::Far(far) => {
+            let (end, far) = perform_over(alloc, task, far, source, sink, room);
+            dial.hang_up(far);
+            end
+        }
+        Dialed::Failed => ToolEnd::DialFault,
+        Dialed::OutOfMemory => ToolEnd::OutOfMemory,
+    }
+}
+
+// Does what a call asks. All links are given back.
 fn run_call<S: Source, K: Sink, D: Dial>(
     alloc: Global,
     call: &Call<'_>,
@@ -182,9 +229,9 @@ fn run_call<S: Source, K: Sink, D: Dial>(
 ) -> ToolEnd
     requires { IsCall call.now }
     ensures ran { (links : List ToldLink) (bytes : List ℕ) → D.links dial.old ≡ Some links → S.left source.old ≡ Some bytes → IsSome (S.left source.new) →
-        Ran (run_course (meaning call.now) links bytes) result links (D.links dial.new) (K.held sink.old) (K.held sink.new) (D.back dial.old) (D.back dial.new) }
-    ensures asked { AskedFor call.now.server.now result (D.asked dial.old) (D.asked dial.new) }
-    ensures done { result ≡ ToolEnd.Done → IsReadWhole call.now.task (S.left source.new) }
+        Ran (meaning call.now) bytes result links (D.links dial.new) (K.held sink.old) (K.held sink.new) (D.back dial.old) (D.back dial.new) }
+    ensures asked { AskedFor (servers_of (meaning call.now)) result (D.asked dial.old) (D.asked dial.new) }
+    ensures done { result ≡ ToolEnd.Done → IsRead (meaning call.now) (S.left source.new) }
     ensures memory { result ≡ ToolEnd.OutOfMemory → (K.held sink.new ≡ K.held sink.old) × (S.left source.new ≡ S.left source.old) }
     ensures end { is_of_run result ≡ true }
     ensures long { result ≡ ToolEnd.TooLong → GaveTooMuch (S.left source.old) (S.left source.new) }
@@ -201,19 +248,14 @@ fn run_call<S: Source, K: Sink, D: Dial>(
     let Ok(mut room) = room(alloc) else {
         return ToolEnd::OutOfMemory;
     };
-    match dial.dial(call.server) {
-        Dialed::Far(far) => {
-            let (end, far) = perform_over(alloc, &call.task, far, source, sink, &mut room);
-            dial.hang_up(far);
-            end
-        }
-        Dialed::Failed => ToolEnd::DialFault,
-        Dialed::OutOfMemory => ToolEnd::OutOfMemory,
+    match call {
+        Call::One { server, task } => run_one(alloc, server, task, source, sink, dial, &mut room),
+        Call::Relay { from, to, job } => run_relay(alloc, from, to, job, sink, dial, &mut room),
     }
 }
 
-/// The tools: the first word names one, and the others say what it is to do. Its server is dialled, and the link is given back
-/// before any answer. All memory is taken before the first request behind the setup.
+/// The tools: the first word names one, and the others say what it is to do. Its server is dialled, of a relay both are, and the
+/// links are given back before any answer, in the order of dialling. All memory is taken before the first request behind the setups.
 pub fn af_run<S: Source, K: Sink, D: Dial>(
     alloc: Global,
     words: &Args,
@@ -227,17 +269,18 @@ pub fn af_run<S: Source, K: Sink, D: Dial>(
     ensures unread { result ≡ ToolEnd.Usage → (S.left source.new ≡ S.left source.old) × (S.faults source.new ≡ S.faults source.old) × (K.held sink.new ≡ K.held sink.old) × (K.faults sink.new ≡ K.faults sink.old) }
     ensures undialled { result ≡ ToolEnd.Usage → (D.asked dial.new ≡ D.asked dial.old) × (D.back dial.new ≡ D.back dial.old) × (D.links dial.new ≡ D.links dial.old) × (D.faults dial.new ≡ D.faults dial.old) × (D.hurt dial.new ≡ D.hurt dial.old) }
 
-    // the answer, what the link was sent, and what the sink gained, by the words and the bytes that the source and the link give
+    // the answer, what the links were sent, and what the sink gained, by the words and the bytes that the source and the links give
     ensures told { (j : Job) (links : List ToldLink) (bytes : List ℕ) → job words.now ≡ Some j → result ≢ ToolEnd.Usage → D.links dial.old ≡ Some links → S.left source.old ≡ Some bytes → IsSome (S.left source.new) →
-        Ran (run_course j links bytes) result links (D.links dial.new) (K.held sink.old) (K.held sink.new) (D.back dial.old) (D.back dial.new) }
-    ensures asked { (j : Job) → job words.now ≡ Some j → result ≢ ToolEnd.Usage → AskedFor j.server result (D.asked dial.old) (D.asked dial.new) }
-    ensures done { (j : Job) → job words.now ≡ Some j → result ≡ ToolEnd.Done → IsReadWhole j.task (S.left source.new) }
+        Ran j bytes result links (D.links dial.new) (K.held sink.old) (K.held sink.new) (D.back dial.old) (D.back dial.new) }
+    ensures asked { (j : Job) → job words.now ≡ Some j → result ≢ ToolEnd.Usage → AskedFor (servers_of j) result (D.asked dial.old) (D.asked dial.new) }
+    ensures done { (j : Job) → job words.now ≡ Some j → result ≡ ToolEnd.Done → IsRead j (S.left source.new) }
 
     // each end has its cause
     ensures memory { result ≡ ToolEnd.OutOfMemory → (K.held sink.new ≡ K.held sink.old) × (S.left source.new ≡ S.left source.old) }
     ensures end { is_of_af result ≡ true }
-    ensures reply { (j : Job) (links : List ToldLink) (bytes : List ℕ) → job words.now ≡ Some j → result ≢ ToolEnd.Usage → D.links dial.old ≡ Some links → S.left source.old ≡ Some bytes → IsSome (S.left source.new) → EndsByReply (run_course j links bytes) result }
-    ensures device { (j : Job) (links : List ToldLink) (bytes : List ℕ) → job words.now ≡ Some j → result ≢ ToolEnd.Usage → D.links dial.old ≡ Some links → S.left source.old ≡ Some bytes → IsSome (S.left source.new) → EndsByDevice (run_course j links bytes) result }
+    ensures reply { (j : Job) (links : List ToldLink) (bytes : List ℕ) → job words.now ≡ Some j → result ≢ ToolEnd.Usage → D.links dial.old ≡ Some links → S.left source.old ≡ Some bytes → IsSome (S.left source.new) → EndsByReply (on_from (run_course j links bytes)) result }
+    ensures device { (j : Job) (links : List ToldLink) (bytes : List ℕ) → job words.now ≡ Some j → result ≢ ToolEnd.Usage → D.links dial.old ≡ Some links → S.left source.old ≡ Some bytes → IsSome (S.left source.new) → EndsByDevice (on_from (run_course j links bytes)) result }
+    ensures rates { (j : Job) (links : List ToldLink) (bytes : List ℕ) → job words.now ≡ Some j → result ≢ ToolEnd.Usage → D.links dial.old ≡ Some links → S.left source.old ≡ Some bytes → IsSome (S.left source.new) → EndsByRates (on_from (run_course j links bytes)) result }
     ensures long { result ≡ ToolEnd.TooLong → GaveTooMuch (S.left source.old) (S.left source.new) }
     ensures within { result ≢ ToolEnd.TooLong → GaveWithin (S.left source.old) (S.left source.new) }
     ensures dialled { result ≡ ToolEnd.DialFault → Rose (D.faults dial.old) (D.faults dial.new) }
@@ -245,10 +288,10 @@ pub fn af_run<S: Source, K: Sink, D: Dial>(
     ensures read { result ≡ ToolEnd.ReadFault → Rose (S.faults source.old) (S.faults source.new) }
     ensures sink { result ≡ ToolEnd.SinkFault → Rose (K.faults sink.old) (K.faults sink.new) }
 
-    // with words that are spelled, a link, the device, and an awaited reply for each request, and with not too many bytes, it is
-    // done, unless something fails or memory runs out
+    // with words that are spelled, its links, its devices, of one rate where there are two, an awaited reply for each request, and
+    // not too many bytes it is done, unless something fails or memory runs out
     ensures complete { (j : Job) (links : List ToldLink) (bytes : List ℕ) → is_spelled words.now ≡ true → job words.now ≡ Some j → D.links dial.old ≡ Some links → S.left source.old ≡ Some bytes → IsSome (S.left source.new)
-        → length bytes ≤ most_bytes → IsServed (run_course j links bytes)
+        → length bytes ≤ most_bytes → IsServed (on_from (run_course j links bytes))
         → ¬ (Rose (D.faults dial.old) (D.faults dial.new)) → ¬ (Rose (D.hurt dial.old) (D.hurt dial.new)) → ¬ (Rose (S.faults source.old) (S.faults source.new)) → ¬ (Rose (K.faults sink.old) (K.faults sink.new))
         → (result ≡ ToolEnd.Done) ⊎ (result ≡ ToolEnd.OutOfMemory) }
     ensures dial_count { D.faults dial.old ≤ D.faults dial.new }

@@ -293,6 +293,276 @@ fn quiet_blocks_in_a_row_end_a_record(rt: HostRuntime) -> Result<(), Fail> {
 }
 
 #[test]
+fn controls_are_asked_and_told(rt: HostRuntime) -> Result<(), Fail> {
+    let asked = run(
+        rt.alloc(),
+        &["aset", "h:1"],
+        "",
+        &[SETUP_REPLY, "010a0001 00000002 01010000 00000000"],
+    )?;
+    assert_eq!(rt; asked.end, ToolEnd::Done);
+    let requests = joined(rt.alloc(), &[SETUP, "0a000001"])?;
+    assert_eq!(rt; sent_of(&asked)?, requests.as_slice());
+    assert_eq!(rt;
+        asked.held.as_slice(),
+        b"input on 0\noutput on 0\n".as_slice()
+    );
+    Ok(())
+}
+
+#[test]
+fn a_control_that_is_stated_is_set(rt: HostRuntime) -> Result<(), Fail> {
+    let set = run(
+        rt.alloc(),
+        &["aset", "h:1", "--output-gain=-6"],
+        "",
+        &[
+            SETUP_REPLY,
+            "01090001 00000000 010a0002 00000002 01010000 0000fffa",
+        ],
+    )?;
+    assert_eq!(rt; set.end, ToolEnd::Done);
+    let requests = joined(rt.alloc(), &[SETUP, "09000003 02000000 0000fffa 0a000001"])?;
+    assert_eq!(rt; sent_of(&set)?, requests.as_slice());
+    assert_eq!(rt;
+        set.held.as_slice(),
+        b"input on 0\noutput on -6\n".as_slice()
+    );
+    Ok(())
+}
+
+#[test]
+fn a_hook_is_taken_off_and_the_line_is_told(rt: HostRuntime) -> Result<(), Fail> {
+    let set = run(
+        rt.alloc(),
+        &[
+            "aset",
+            "h:1",
+            "--hook",
+            "off",
+            "--input=off",
+            "--output",
+            "on",
+        ],
+        "",
+        &[
+            "01000000 00000005 00010000 00000001 02010100 00001f40 00007d00",
+            "01090001 00000000 010b0002 00000000",
+            "010a0003 00000002 00010000 00140000 010c0004 00000002 01000100 00000000",
+        ],
+    )?;
+    assert_eq!(rt; set.end, ToolEnd::Done);
+    let requests = joined(
+        rt.alloc(),
+        &[
+            SETUP,
+            "09000003 0c000100 00000000",
+            "0b000002 00000001 0a000001 0c000001",
+        ],
+    )?;
+    assert_eq!(rt; sent_of(&set)?, requests.as_slice());
+    assert_eq!(rt;
+        set.held.as_slice(),
+        b"input off 20\noutput on 0\nline 1 0 1 0 0\n".as_slice()
+    );
+    Ok(())
+}
+
+#[test]
+fn a_hook_that_is_not_there(rt: HostRuntime) -> Result<(), Fail> {
+    let refused = run(
+        rt.alloc(),
+        &["aset", "h:1", "--hook=off"],
+        "",
+        &[SETUP_REPLY, "00080001 00000002 00000000 0b000000"],
+    )?;
+    assert_eq!(rt; refused.end, ToolEnd::Refused { code: 8, value: 0 });
+    assert_eq!(rt; refused.held.len(), 0);
+    Ok(())
+}
+
+// What a relay came to: how it ended, what its links were sent, and what the sink holds.
+#[derive(Drop)]
+struct Relayed {
+    end: ToolEnd,
+    from: Option<Vec<u8>>,
+    to: Option<Vec<u8>>,
+    held: Vec<u8>,
+}
+
+// A run with these words, and two links that give these replies in pieces of 7.
+fn run_both(alloc: Global, words: &[&str], from: &[&str], to: &[&str]) -> Result<Relayed, Fail> {
+    let mut args = Args::new(alloc);
+    for word in words {
+        args.push(word)?;
+    }
+    let mut source = MemSource::new(&[], 1, &[]);
+    let mut room = [0u8; 100];
+    let mut sink = MemSink::new(&mut room, &[]);
+    let from = joined(alloc, from)?;
+    let to = joined(alloc, to)?;
+    let one = MemLink::new(alloc, from.as_slice(), 7, 1000, &[])?;
+    let other = MemLink::new(alloc, to.as_slice(), 7, 1000, &[])?;
+    let mut dial = MemDial::new(Some(one), Some(other));
+    let end = af_run(alloc, &args, &mut source, &mut sink, &mut dial);
+    let from = match dial.kept(0) {
+        Some(link) => Some(Vec::from_slice(alloc, link.sent())?),
+        None => None,
+    };
+    let to = match dial.kept(1) {
+        Some(link) => Some(Vec::from_slice(alloc, link.sent())?),
+        None => None,
+    };
+    let held = Vec::from_slice(alloc, sink.held())?;
+    Ok(Relayed {
+        end,
+        from,
+        to,
+        held,
+    })
+}
+
+// What a link was sent that was given back.
+fn given_back(sent: &Option<Vec<u8>>) -> Result<&[u8], Fail> {
+    match sent {
+        Some(sent) => Ok(sent.as_slice()),
+        None => Err(Fail::from("the link was not given back")),
+    }
+}
+
+const RELAY: [&str; 7] = [
+    "apass",
+    "h:1",
+    "h:2",
+    "--blocks=2",
+    "--block=2",
+    "--delay=100",
+    "--slack=10",
+];
+
+const RECORDED: [&str; 6] = [
+    SETUP_REPLY,
+    CREATED,
+    "01020002 00000001 00000064",
+    "01070003 00000003 00000066 00000004 000a000b",
+    "01070004 00000003 00000068 00000004 000c000d",
+    "01050005 00000000",
+];
+
+#[test]
+fn blocks_are_passed_from_one_server_to_another(rt: HostRuntime) -> Result<(), Fail> {
+    let passed = run_both(
+        rt.alloc(),
+        RELAY.as_slice(),
+        RECORDED.as_slice(),
+        &[
+            SETUP_REPLY,
+            CREATED,
+            "01020002 00000001 000001f4 01060003 00000001 000001f4",
+            "01020004 00000001 000001f6 01060005 00000001 000001f6",
+            "01050006 00000000",
+        ],
+    )?;
+    assert_eq!(rt; passed.end, ToolEnd::Done);
+    let from = joined(
+        rt.alloc(),
+        &[
+            SETUP,
+            "03000004 00000001 02010000 00000000 02000001",
+            "07010004 00000001 00000064 00000004",
+            "07010004 00000001 00000066 00000004",
+            "05000002 00000001",
+        ],
+    )?;
+    assert_eq!(rt; given_back(&passed.from)?, from.as_slice());
+    let to = joined(
+        rt.alloc(),
+        &[
+            SETUP,
+            "03000004 00000001 02010000 00000000",
+            "02000001 06000005 00000001 00000514 00000004 000a000b",
+            "02000001 06000005 00000001 00000516 00000004 000c000d",
+            "05000002 00000001",
+        ],
+    )?;
+    assert_eq!(rt; given_back(&passed.to)?, to.as_slice());
+    assert_eq!(rt; passed.held.as_slice(), b"passed 2 resynced 0\n".as_slice());
+    Ok(())
+}
+
+#[test]
+fn a_relay_that_drifts_falls_in_step_anew(rt: HostRuntime) -> Result<(), Fail> {
+    let passed = run_both(
+        rt.alloc(),
+        RELAY.as_slice(),
+        RECORDED.as_slice(),
+        &[
+            SETUP_REPLY,
+            CREATED,
+            "01020002 00000001 000001f4 01060003 00000001 000001f4",
+            "01020004 00000001 000002bc 01060005 00000001 000002bc",
+            "01050006 00000000",
+        ],
+    )?;
+    assert_eq!(rt; passed.end, ToolEnd::Done);
+    let to = joined(
+        rt.alloc(),
+        &[
+            SETUP,
+            "03000004 00000001 02010000 00000000",
+            "02000001 06000005 00000001 00000514 00000004 000a000b",
+            "02000001 06000005 00000001 000005dc 00000004 000c000d",
+            "05000002 00000001",
+        ],
+    )?;
+    assert_eq!(rt; given_back(&passed.to)?, to.as_slice());
+    assert_eq!(rt; passed.held.as_slice(), b"passed 2 resynced 1\n".as_slice());
+    Ok(())
+}
+
+#[test]
+fn two_rates_are_not_passed(rt: HostRuntime) -> Result<(), Fail> {
+    let mismatched = run_both(
+        rt.alloc(),
+        &["apass", "h:1", "h:2", "--blocks=1"],
+        &[SETUP_REPLY],
+        &["01000000 00000005 00010000 00000001 02010000 0000ac44 0002b110"],
+    )?;
+    let rates = ToolEnd::RateMismatch {
+        from: 8000,
+        to: 44100,
+    };
+    assert_eq!(rt; mismatched.end, rates);
+    let setup = bytes_of(rt.alloc(), SETUP)?;
+    assert_eq!(rt; given_back(&mismatched.from)?, setup.as_slice());
+    assert_eq!(rt; given_back(&mismatched.to)?, setup.as_slice());
+    assert_eq!(rt; mismatched.held.len(), 0);
+    Ok(())
+}
+
+#[test]
+fn the_device_that_is_recorded_is_looked_for_first(rt: HostRuntime) -> Result<(), Fail> {
+    let missing = run_both(
+        rt.alloc(),
+        &[
+            "apass",
+            "h:1",
+            "h:2",
+            "--blocks=1",
+            "--from-device=1",
+            "--to-device=2",
+        ],
+        &[SETUP_REPLY],
+        &[
+            "01000000 00000008 00010000 00000002 02010000 00001f40 00007d00",
+            "02010000 00001f40 00007d00",
+        ],
+    )?;
+    assert_eq!(rt; missing.end, ToolEnd::NoDevice { devices: 1 });
+    Ok(())
+}
+
+#[test]
 fn a_device_that_is_not_there(rt: HostRuntime) -> Result<(), Fail> {
     let played = run(
         rt.alloc(),
@@ -308,13 +578,17 @@ fn a_device_that_is_not_there(rt: HostRuntime) -> Result<(), Fail> {
 
 #[test]
 fn words_that_are_none_dial_nothing(rt: HostRuntime) -> Result<(), Fail> {
-    let cases: [&[&str]; 9] = [
+    let cases: [&[&str]; 13] = [
         &[],
         &["aplay"],
         &["aplay", "h:1", "--device=8"],
         &["aplay", "h:1", "--nothing=1"],
         &["arecord", "h:1"],
-        &["aset", "h:1"],
+        &["anone", "h:1"],
+        &["aset", "h:1", "--input=yes"],
+        &["apass", "h:1", "--blocks=1"],
+        &["apass", "h:1", "h:2"],
+        &["apass", "h:1", "h:2", "--blocks=0"],
         &["aplay", "h:1", "--device=-0"],
         &["aplay", "", "--lead=0"],
         &["arecord", "h:1", "--frames=0"],

@@ -1,12 +1,13 @@
 // The jobs of the tools, by their words.
 ghost use Rattle.std.specs.Prelude.{◌≡◌, ◌≤◌, codes, length, option_map, pos, IfSome};
 ghost use Rattle.clap.specs.Words.{first_of, found_of, rows_of};
-ghost use Rattle.af_tools.specs.Numbers.{gain_in, if_there, number_in, or_else, type_in};
-ghost use Rattle.af_tools.specs.Words.{basics_of, is_set, number_at, play_job, record_job, server_at};
+ghost use Rattle.af_tools.specs.Numbers.{gain_in, if_there, number_in, or_else, switch_in, type_in};
+ghost use Rattle.af_tools.specs.Words.{address_at, basics_of, is_set, number_at, pass_job, play_job, record_job, set_job};
+ghost use Rattle.af_tools.specs.Pass.{IsPaced};
 
 use crate::command::text_of;
-use crate::job::{PlayJob, RecordJob};
-use crate::number::{gain_in, number_in, type_in};
+use crate::job::{PassJob, PlayJob, RecordJob, SetJob};
+use crate::number::{gain_in, number_in, switch_in, type_in};
 use af_sample::{Gain, SampleType};
 use clap::ArgMatches;
 
@@ -30,14 +31,30 @@ fn number_at(matches: &ArgMatches<'_>, name: &str, default: u32, low: u32, high:
     }
 }
 
-// The address of the server.
-pub fn server_at<'a>(matches: &ArgMatches<'a>) -> Option<&'a str>
-    ensures server { option_map (λ s. s.now) result ≡ server_at (rows_of (found_of matches.now)) }
+// The frames of a block.
+fn block_at(matches: &ArgMatches<'_>) -> Option<u32>
+    ensures value { result ≡ number_at (codes "block") 1000 1 4000 (rows_of (found_of matches.now)) }
+    ensures range { IfSome result (λ block. (1 ≤ block) × (block ≤ 4000)) }
+{
+    number_at(matches, "block", 1000, 1, 4000)
+}
+
+// The number of a device.
+fn device_at(matches: &ArgMatches<'_>, name: &str) -> Option<u8>
+    ensures { result ≡ number_at name.now 0 0 7 (rows_of (found_of matches.now)) }
+{
+    let number = number_at(matches, name, 0, 0, 7)?;
+    Some(number as u8)
+}
+
+/// The address of a server.
+pub fn address_at<'a>(matches: &ArgMatches<'a>, name: &str) -> Option<&'a str>
+    ensures address { option_map (λ s. s.now) result ≡ address_at name.now (rows_of (found_of matches.now)) }
     ensures size { IfSome result (λ s. (1 ≤ length s.now) × (length s.now ≤ 64)) }
 {
-    let server = text_of(matches, "SERVER")?;
-    if 1 <= server.len() && server.len() <= 64 {
-        Some(server)
+    let address = text_of(matches, name)?;
+    if 1 <= address.len() && address.len() <= 64 {
+        Some(address)
     } else {
         None
     }
@@ -87,13 +104,13 @@ fn basics_of(matches: &ArgMatches<'_>) -> Option<Basics>
     ensures value { result ≡ basics_of (rows_of (found_of matches.now)) }
     ensures range { IfSome result (λ basics. (1 ≤ basics.block) × (basics.block ≤ 4000)) }
 {
-    let device = number_at(matches, "device", 0, 0, 7)?;
+    let device = device_at(matches, "device")?;
     let ty = type_at(matches)?;
     let gain = gain_at(matches)?;
-    let block = number_at(matches, "block", 1000, 1, 4000)?;
+    let block = block_at(matches)?;
     let time = time_at(matches)?;
     Some(Basics {
-        device: device as u8,
+        device,
         ty,
         gain,
         block,
@@ -137,5 +154,75 @@ pub fn record_job(matches: &ArgMatches<'_>) -> Option<RecordJob>
         frames,
         stop_peak,
         stop_blocks,
+    })
+}
+
+// A gain that need not be there.
+fn stated_gain_at(matches: &ArgMatches<'_>, name: &str) -> Option<Option<Gain>>
+    ensures { result ≡ if_there gain_in (first_of name.now (rows_of (found_of matches.now))) }
+{
+    match text_of(matches, name) {
+        Some(text) => Some(Some(gain_in(text.as_bytes())?)),
+        None => Some(None),
+    }
+}
+
+// A switch that need not be there, by the word for it and the word against it.
+fn switch_at(
+    matches: &ArgMatches<'_>,
+    name: &str,
+    when: &str,
+    otherwise: &str,
+) -> Option<Option<bool>>
+    ensures { result ≡ if_there (switch_in when.now otherwise.now) (first_of name.now (rows_of (found_of matches.now))) }
+{
+    match text_of(matches, name) {
+        Some(text) => Some(Some(switch_in(when, otherwise, text)?)),
+        None => Some(None),
+    }
+}
+
+/// The job of aset.
+pub fn set_job(matches: &ArgMatches<'_>) -> Option<SetJob>
+    ensures { result ≡ set_job (rows_of (found_of matches.now)) }
+{
+    let device = device_at(matches, "device")?;
+    let input_gain = stated_gain_at(matches, "input-gain")?;
+    let output_gain = stated_gain_at(matches, "output-gain")?;
+    let input_on = switch_at(matches, "input", "on", "off")?;
+    let output_on = switch_at(matches, "output", "on", "off")?;
+    let hook_off = switch_at(matches, "hook", "off", "on")?;
+    Some(SetJob {
+        device,
+        input_gain,
+        output_gain,
+        input_on,
+        output_on,
+        hook_off,
+    })
+}
+
+/// The job of apass.
+pub fn pass_job(matches: &ArgMatches<'_>) -> Option<PassJob>
+    ensures value { result ≡ pass_job (rows_of (found_of matches.now)) }
+    ensures range { IfSome result IsPaced }
+{
+    let from_device = device_at(matches, "from-device")?;
+    let to_device = device_at(matches, "to-device")?;
+    let ty = type_at(matches)?;
+    let gain = gain_at(matches)?;
+    let blocks = number_in(1, 1000000, text_of(matches, "blocks")?.as_bytes())?;
+    let block = block_at(matches)?;
+    let delay = number_at(matches, "delay", 200, 0, 3000)?;
+    let slack = number_at(matches, "slack", 100, 0, 3000)?;
+    Some(PassJob {
+        from_device,
+        to_device,
+        ty,
+        gain,
+        blocks,
+        block,
+        delay,
+        slack,
     })
 }

@@ -3,9 +3,9 @@ use Rattle.std.specs.Prelude.{Err}
 use Rattle.af_tools.specs.declared.end.ToolEnd.{ToolEnd}
 use Rattle.af_tools.specs.Course.{done, ends}
 use Rattle.af_tools.specs.Record.{arecord_course, recorded_on}
-use Rattle.af_tools.specs.Ends.{is_of_record, wire_of}
+use Rattle.af_tools.specs.Ends.{is_of_writer, wire_of}
 use Rattle.af_tools.proofs.Going.{followed_on, followed_stop}
-use Rattle.af_tools.proofs.Endings.{IsDoneOrRefused, ends_by_reply, inner_record, is_done, recorded_finish}
+use Rattle.af_tools.proofs.Endings.{IsDoneOrRefused, ends_by_reply, inner_writer, is_done, recorded_finish}
 use Rattle.af_tools.proofs.Tops.{arecord_missing, arecord_there, followed_done, followed_missing, followed_same, is_missing, is_there, missing_iff, never_records, there_iff}
 use Rattle.af_tools.proofs.recorder.arecord.Goals as goal
 
@@ -62,5 +62,5 @@ returns-in-Err-record_on-clause-complete g c input told within answered link sin
     let e = c.in-Err-record_on.ensures in
     let how = c.in-Err-record_on.end in
     let way : IsDoneOrRefused (arecord_course c.args.job.now c.args.conn.now.devices w).finish = rw (arecord_there c.args.conn.now.devices w c.args.job.now c.in-Ok.device t.get) (recorded_finish c.args.job.now c.in-Ok.device w (λ _. ends done) (λ v. inl refl)) in
-    let is : is_of_record how ≡ true = search rules in
-    is_done _ how _ _ _ _ f way answered (inner_record how is (λ same. link (e.holds.failed (ap (λ (x : ToolEnd). Err x) same))) (λ same. sink (e.fault (ap (λ (x : ToolEnd). Err x) same))))
+    let is : is_of_writer how ≡ true = search rules in
+    is_done _ how _ _ _ _ f way answered (inner_writer how is (λ same. link (e.holds.failed (ap (λ (x : ToolEnd). Err x) same))) (λ same. sink (e.fault (ap (λ (x : ToolEnd). Err x) same))))

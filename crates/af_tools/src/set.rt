@@ -1,0 +1,95 @@
+// What aset asks.
+ghost use Rattle.std.specs.Prelude.{◌≡◌, ◌≤◌, ℕ, List, true, IfErr};
+ghost use Rattle.std.specs.declared.option.Option.{Option};
+ghost use Rattle.std.specs.declared.option.Option.TheVariants.{None, Some};
+ghost use Rattle.af_tools.specs.Set.{asks_line, asks_where, control_request, hooks, set_on, states_controls};
+ghost use Rattle.af_tools.specs.Ends.{is_of_link, wire_of, Goes, Holds};
+
+use crate::end::ToolEnd;
+use crate::job::SetJob;
+use crate::standing::Standing;
+use af_lib::Conn;
+use af_outside::Link;
+use af_request::{DeviceInfo, Phone};
+
+// Whether a job states a control.
+fn states_controls(job: &SetJob) -> bool
+    ensures { result ≡ states_controls job.now }
+{
+    job.input_gain.is_some()
+        || job.output_gain.is_some()
+        || job.input_on.is_some()
+        || job.output_on.is_some()
+}
+
+// Sets the controls that a job states.
+fn set_controls<L: Link + Drop>(job: &SetJob, conn: &mut Conn<L>) -> Result<(), ToolEnd>
+    requires { conn.old.cause ≡ None }
+    ensures goes { (input : List ℕ) (held : Option (List ℕ)) → L.left conn.old.link ≡ Some input →
+        Goes (asks_where (states_controls job.now) (control_request job.now) (wire_of conn.old input)) result (L.left conn.new.link) (wire_of conn.new) (L.sent conn.old.link) (L.sent conn.new.link) held held }
+    ensures holds { Holds L.left L.faults conn.old conn.new result }
+    ensures end { IfErr result (λ how. is_of_link how ≡ true) }
+{
+    if states_controls(job) {
+        conn.set_controls(
+            job.device,
+            job.input_gain,
+            job.output_gain,
+            job.input_on,
+            job.output_on,
+        )?;
+    }
+    Ok(())
+}
+
+// Takes the hook off or puts it on, where a job states that.
+fn set_hook<L: Link + Drop>(job: &SetJob, conn: &mut Conn<L>) -> Result<(), ToolEnd>
+    requires { conn.old.cause ≡ None }
+    ensures goes { (input : List ℕ) (held : Option (List ℕ)) → L.left conn.old.link ≡ Some input →
+        Goes (hooks job.now.device job.now.hook_off (wire_of conn.old input)) result (L.left conn.new.link) (wire_of conn.new) (L.sent conn.old.link) (L.sent conn.new.link) held held }
+    ensures holds { Holds L.left L.faults conn.old conn.new result }
+    ensures end { IfErr result (λ how. is_of_link how ≡ true) }
+{
+    if let Some(off) = job.hook_off {
+        conn.hook(job.device, off)?;
+    }
+    Ok(())
+}
+
+// The state of a device's line, where it has one.
+fn phone_of<L: Link + Drop>(
+    number: u8,
+    line: bool,
+    conn: &mut Conn<L>,
+) -> Result<Option<Phone>, ToolEnd>
+    requires { conn.old.cause ≡ None }
+    ensures goes { (input : List ℕ) (held : Option (List ℕ)) → L.left conn.old.link ≡ Some input →
+        Goes (asks_line line number (wire_of conn.old input)) result (L.left conn.new.link) (wire_of conn.new) (L.sent conn.old.link) (L.sent conn.new.link) held held }
+    ensures holds { Holds L.left L.faults conn.old conn.new result }
+    ensures end { IfErr result (λ how. is_of_link how ≡ true) }
+{
+    if line {
+        Ok(Some(conn.query_phone(number)?))
+    } else {
+        Ok(None)
+    }
+}
+
+/// Sets what a job states on a device, and asks how the controls stand then, and the line.
+pub fn set_on<L: Link + Drop>(
+    job: &SetJob,
+    device: DeviceInfo,
+    conn: &mut Conn<L>,
+) -> Result<Standing, ToolEnd>
+    requires { conn.old.cause ≡ None }
+    ensures goes { (input : List ℕ) (held : Option (List ℕ)) → L.left conn.old.link ≡ Some input →
+        Goes (set_on job.now device (wire_of conn.old input)) result (L.left conn.new.link) (wire_of conn.new) (L.sent conn.old.link) (L.sent conn.new.link) held held }
+    ensures holds { Holds L.left L.faults conn.old conn.new result }
+    ensures end { IfErr result (λ how. is_of_link how ≡ true) }
+{
+    set_controls(job, conn)?;
+    set_hook(job, conn)?;
+    let controls = conn.query_controls(job.device)?;
+    let phone = phone_of(job.device, device.line, conn)?;
+    Ok(Standing { controls, phone })
+}

@@ -1,16 +1,20 @@
--- A script that was read and run.
-use Rattle.std.proofs.Common.{◌≡◌, ℕ, List, ap, subst, IfSome, Ok}
+-- A script that was read and run, and an exercise that was.
+use Rattle.std.proofs.Common.{◌≡◌, ℕ, zero, suc, ◌+◌, List, length, refl, sym, ap, ◌∙◌, subst, arith, length-append, IfSome, Ok}
+use Rattle.rand_pcg.specs.Lcg.{Lcg}
 use Rattle.std.specs.declared.option.Option.{Option}
 use Rattle.std.specs.declared.option.Option.TheVariants.{None, Some}
 use Rattle.af_outside.specs.declared.script.DeviceSpec.{DeviceSpec}
 use Rattle.af_outside.specs.declared.script.Step.{Step}
 use Rattle.af_outside.specs.Told.{Log, Grew}
-use Rattle.af_outside.specs.Flow.{GrewByPrefix}
+use Rattle.af_outside.specs.declared.flow.Put.{Put}
+use Rattle.af_outside.specs.Flow.{GrewByPrefix, Written}
 use Rattle.af_outside.specs.Outside.{TapeState, fresh}
-use Rattle.af_script.specs.Run.{HasOneLog}
+use Rattle.af_script.specs.Run.{RanTo, HasOneLog}
 use Rattle.af_script.specs.Script.{Stated, script_of}
+use Rattle.af_script.specs.Summary.{summary}
 use Rattle.af_script.specs.Transcript.{transcript}
-use Rattle.afd.specs.Ends.{IsLogOf, GaveWhole, RanWhole, RanCutOff}
+use Rattle.af_exercise.specs.Exercise.{first_steps, steps_drawn, seeded, start_time, generated}
+use Rattle.afd.specs.Ends.{IsLogOf, GaveWhole, RanWhole, RanCutOff, WroteSummary}
 use Rattle.afd.specs.Run.{TellsLogOf}
 
 tells_at : (text : List ℕ) (script : Stated) (told : Option Log) → script_of text ≡ Ok script → HasOneLog script.config script.steps told → TellsLogOf text told
@@ -31,3 +35,30 @@ module _ (left left' held held' : Option (List ℕ)) (text : List ℕ) (log : Lo
   pub ran_cut_off : (told : Option Log) → TellsLogOf text told → IfSome told (λ l. l ≡ log) → GrewByPrefix held (transcript log) held' → RanCutOff left left' held held'
   ran_cut_off None h e w = absurd h
   ran_cut_off (Some l) h e w = record { text = text; read = read; log = log; ran = subst (λ x. IsLogOf text x) e h; written = w }
+
+drawn_length : (turns : ℕ) (g : Lcg) (time : ℕ) → length (steps_drawn turns g time) ≡ turns
+drawn_length zero g time = refl
+drawn_length (suc turns) g time = ap suc (drawn_length turns _ _)
+
+first_length : length first_steps ≡ 8
+unfolding first_steps
+first_length = refl
+
+-- an exercise has eight steps before those of its turns
+generated_length : (seed turns : ℕ) → length (generated seed turns).steps ≡ 8 + turns
+unfolding generated
+generated_length seed turns =
+    length-append first_steps (steps_drawn turns (seeded seed) start_time) ∙ ap (λ n. n + length (steps_drawn turns (seeded seed) start_time)) first_length
+    ∙ ap (λ n. 8 + n) (drawn_length turns (seeded seed) start_time)
+
+module _ (seed turns : ℕ) (config : List DeviceSpec) (steps : List Step) (made : generated seed turns ≡ record { config = config; steps = steps }) where
+  pub exercise_length : length steps ≡ 8 + turns
+  exercise_length = sym (ap (λ (s : Stated). length s.steps) made) ∙ generated_length seed turns
+
+  pub wrote_summary : (put : Put) (told : Option Log) (log : Log) (count : ℕ) (held held' : Option (List ℕ)) → HasOneLog config steps told → IfSome told (λ l. l ≡ log) → count ≡ length steps → Written put held (summary count log) held' → WroteSummary put seed turns held held'
+  wrote_summary put None log count held held' h e n w = absurd h
+  wrote_summary put (Some l) log count held held' h e n w = record {
+    log = log;
+    ran = subst (λ (s : Stated). RanTo s.config s.steps log) (sym made) (subst (λ x. RanTo config steps x) e h);
+    written = subst (λ m. Written put held (summary m log) held') (n ∙ sym (ap (λ (s : Stated). length s.steps) made)) w;
+  }

@@ -1,3 +1,3 @@
 pub mod Flowing
 pub mod Ending
-pub mod Words
+pub mod Jobs

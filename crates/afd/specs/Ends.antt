@@ -1,15 +1,22 @@
 -- How the script command ends: what was read, what it was, and what was written. Each list of bytes is told or not.
 use Rattle.std.specs.Prelude.{◌≡◌, ℕ, ◌<◌, ◌≤◌, Bool, true, false, List, length, Ok, Err, IsOk, IsSome}
 use Rattle.std.specs.declared.option.Option.{Option}
-use Rattle.std.specs.declared.option.Option.TheVariants.{Some}
+use Rattle.std.specs.declared.option.Option.TheVariants.{None, Some}
 use Rattle.af_outside.specs.Told.{Log, Gave, Grew, Rose}
-use Rattle.af_outside.specs.Flow.{IsSpent, GrewByPrefix}
+use Rattle.af_outside.specs.declared.flow.Put.{Put}
+use Rattle.af_outside.specs.declared.flow.Put.TheVariants as put
+use Rattle.af_outside.specs.Flow.{IsSpent, GrewByPrefix, Written}
 use Rattle.af_model.specs.NoLoss.{RunLosesNone}
 use Rattle.af_model.specs.Prefix.{TakesInOrder}
 use Rattle.af_model.specs.Fold.{MixesAll}
 use Rattle.af_model.specs.Script.{OneLog}
 use Rattle.af_script.specs.Script.{Stated, script_of}
 use Rattle.af_script.specs.Transcript.{transcript}
+use Rattle.af_script.specs.Summary.{summary}
+use Rattle.af_script.specs.Run.{RanTo}
+use Rattle.af_exercise.specs.Exercise.{generated}
+use Rattle.afd.specs.declared.job.Job.{Job}
+use Rattle.afd.specs.declared.job.Job.TheVariants as job
 use Rattle.afd.specs.declared.script.ScriptEnd.{ScriptEnd}
 use Rattle.afd.specs.declared.script.ScriptEnd.TheVariants as end
 
@@ -77,6 +84,41 @@ pub record IsGood (left left' : Option (List ℕ)) (read read' written written' 
   pub within : length text ≤ longest_script
   pub source : ¬ Rose read read'
   pub sink : ¬ Rose written written'
+
+-- The script of a seed and so many turns has this one log, and the summary of both was written, whole or a prefix of it. The laws of
+-- whole runs hold of the log.
+pub record WroteSummary (put : Put) (seed turns : ℕ) (held held' : Option (List ℕ)) : Type 0 where
+  pub log : Log
+  pub ran : RanTo (generated seed turns).config (generated seed turns).steps log
+  pub written : Written put held (summary (length (generated seed turns).steps) log) held'
+
+-- what the words asked for was done
+abbrev pub DidWhole : Option Job → (left left' held held' : Option (List ℕ)) → Type 0
+DidWhole None left left' held held' = ⊥
+DidWhole (Some job.Script) left left' held held' = RanWhole left left' held held'
+DidWhole (Some (job.Exercise seed turns)) left left' held held' = WroteSummary put.Done seed turns held held'
+
+-- what the words asked for was done, but of what was to be written only a prefix was
+abbrev pub DidCutOff : Option Job → (left left' held held' : Option (List ℕ)) → Type 0
+DidCutOff None left left' held held' = ⊥
+DidCutOff (Some job.Script) left left' held held' = RanCutOff left left' held held'
+DidCutOff (Some (job.Exercise seed turns)) left left' held held' = WroteSummary put.Failed seed turns held held'
+
+-- What the words ask for can be done: of a script the text is good in every way, and of an exercise the sink did not fail.
+abbrev pub CanBeDone : Option Job → (left left' : Option (List ℕ)) → (read read' written written' : ℕ) → Type 0
+CanBeDone None left left' read read' written written' = ⊥
+CanBeDone (Some job.Script) left left' read read' written written' = IsGood left left' read read' written written'
+CanBeDone (Some (job.Exercise seed turns)) left left' read read' written written' = ¬ Rose written written'
+
+-- the ends that reading a script may have
+abbrev pub reads : ScriptEnd → Bool
+reads end.Done = false
+reads end.Usage = false
+reads end.ReadFault = true
+reads end.TooLong = true
+reads (end.ScriptFault line) = true
+reads end.SinkFault = false
+reads end.OutOfMemory = false
 
 -- the ends at which something may have been written
 abbrev pub writes : ScriptEnd → Bool

@@ -4,6 +4,8 @@
 ghost use Rattle.std.specs.Prelude.{◌≡◌};
 ghost use Rattle.afd.specs.Ends.{status};
 
+mod job;
+mod number;
 mod script;
 mod text;
 

@@ -1,13 +1,24 @@
-// The script command: a script comes in, and the transcript of its one log goes out.
-ghost use Rattle.std.specs.Prelude.{◌≡◌, ◌≢◌, ◌↔◌, ◌⊎◌, ◌≤◌, ℕ, [], ◌∷◌, length, codes, false, IsTrue, IfOk, IfErr};
+// The script command: a script comes in, and the transcript of its one log goes out; or a script is made, and the summary of its log
+// goes out.
+ghost use Rattle.std.specs.Prelude.{◌≡◌, ◌≢◌, ◌↔◌, ◌⊎◌, ◌≤◌, ℕ, length, true, false, All, IfOk, IfErr};
+ghost use Rattle.std.specs.declared.option.Option.TheVariants.{None, Some};
 ghost use Rattle.af_outside.specs.Told.{Rose};
+ghost use Rattle.af_outside.specs.declared.flow.Put.TheVariants as put;
+ghost use Rattle.af_buffers.specs.Horizons.{IsListedRate};
+ghost use Rattle.af_outside.specs.Outside.{IsStep};
+ghost use Rattle.af_script.specs.Run.{HasOneLog};
 ghost use Rattle.af_script.specs.Script.{script_of, IsFault};
-ghost use Rattle.afd.specs.Ends.{RanWhole, RanCutOff, IsFaultyAt, GaveWithin, GaveTooMuch, IsGood, writes};
+ghost use Rattle.afd.specs.declared.job.Job.TheVariants as job;
+ghost use Rattle.afd.specs.Ends.{RanWhole, RanCutOff, DidWhole, DidCutOff, CanBeDone, WroteSummary, IsFaultyAt, GaveWithin, GaveTooMuch, IsGood, reads, writes};
 ghost use Rattle.afd.specs.Run.{TellsLogOf};
+ghost use Rattle.afd.specs.Words.{job_of};
 
+use crate::job::{Job, job_of};
 use crate::text::{TextFault, read_text};
+use af_exercise::make_script;
 use af_outside::{Args, Put, Sink, Source, Tape};
-use af_script::{ScriptFault, print_log, read_script, run_tape};
+use af_script::{Script, ScriptFault, print_log, print_summary, read_script, run_tape};
+use af_time::OutOfMemory;
 use std::alloc::Global;
 
 /// How a script command ended.
@@ -26,38 +37,63 @@ pub enum ScriptEnd {
 }
 
 /// The server's command over scripts. With the word `script` it reads the source to its end, runs the script that it gave,
-/// and writes the transcript to the sink. Nothing is written before the run has ended.
+/// and writes the transcript to the sink. With the words `exercise SEED TURNS`, SEED of 0 to 2^64 - 1 and TURNS of 1 to 10000,
+/// it reads nothing, runs the script that the two stand for, and writes the summary of its log. Nothing is written before the run
+/// has ended.
 pub fn afd_script<S: Source, K: Sink>(
     alloc: Global,
     words: &Args,
     source: &mut S,
     sink: &mut K,
 ) -> ScriptEnd
-    ensures usage { (result ≡ ScriptEnd.Usage) ↔ (words.now ≢ codes "script" ∷ []) }
-    ensures unread { result ≡ ScriptEnd.Usage → (S.left source.new ≡ S.left source.old) × (S.faults source.new ≡ S.faults source.old) × (K.faults sink.new ≡ K.faults sink.old) }
+    ensures usage { (result ≡ ScriptEnd.Usage) ↔ (job_of words.now ≡ None) }
+    ensures untouched { result ≡ ScriptEnd.Usage → K.faults sink.new ≡ K.faults sink.old }
 
-    ensures done { result ≡ ScriptEnd.Done → RanWhole (S.left source.old) (S.left source.new) (K.held sink.old) (K.held sink.new) }
+    // the source is read for `script` alone
+    ensures unread { job_of words.now ≢ Some job.Script → (S.left source.new ≡ S.left source.old) × (S.faults source.new ≡ S.faults source.old) }
+    ensures reading { reads result ≡ true → job_of words.now ≡ Some job.Script }
+
+    ensures done { result ≡ ScriptEnd.Done → DidWhole (job_of words.now) (S.left source.old) (S.left source.new) (K.held sink.old) (K.held sink.new) }
 
     // TooLong exactly where more came than a script may have
     ensures long { result ≡ ScriptEnd.TooLong → GaveTooMuch (S.left source.old) (S.left source.new) }
     ensures within { result ≢ ScriptEnd.TooLong → GaveWithin (S.left source.old) (S.left source.new) }
 
     ensures fault { (line : ℕ) → result ≡ ScriptEnd.ScriptFault line → IsFaultyAt line (S.left source.old) (S.left source.new) }
-    ensures cut { result ≡ ScriptEnd.SinkFault → RanCutOff (S.left source.old) (S.left source.new) (K.held sink.old) (K.held sink.new) }
+    ensures cut { result ≡ ScriptEnd.SinkFault → DidCutOff (job_of words.now) (S.left source.old) (S.left source.new) (K.held sink.old) (K.held sink.new) }
     ensures unwritten { writes result ≡ false → K.held sink.new ≡ K.held sink.old }
 
     // each fault has its cause
     ensures read { result ≡ ScriptEnd.ReadFault → Rose (S.faults source.old) (S.faults source.new) }
     ensures sink { result ≡ ScriptEnd.SinkFault → Rose (K.faults sink.old) (K.faults sink.new) }
 
-    // a good script is run whole, where memory is there
-    ensures complete { IsGood (S.left source.old) (S.left source.new) (S.faults source.old) (S.faults source.new) (K.faults sink.old) (K.faults sink.new) → words.now ≡ codes "script" ∷ [] → (result ≡ ScriptEnd.Done) ⊎ (result ≡ ScriptEnd.OutOfMemory) }
+    // what can be done is done whole, where memory is there
+    ensures complete { CanBeDone (job_of words.now) (S.left source.old) (S.left source.new) (S.faults source.old) (S.faults source.new) (K.faults sink.old) (K.faults sink.new) → (result ≡ ScriptEnd.Done) ⊎ (result ≡ ScriptEnd.OutOfMemory) }
     ensures source_count { S.faults source.old ≤ S.faults source.new }
     ensures sink_count { K.faults sink.old ≤ K.faults sink.new }
 {
-    if !is_script(words) {
-        return ScriptEnd::Usage;
+    match job_of(words) {
+        None => ScriptEnd::Usage,
+        Some(Job::Script) => transcribe(alloc, source, sink),
+        Some(Job::Exercise { seed, turns }) => exercise(alloc, seed, turns, sink),
     }
+}
+
+// Reads the source as a script, runs it, and writes its transcript.
+fn transcribe<S: Source, K: Sink>(alloc: Global, source: &mut S, sink: &mut K) -> ScriptEnd
+    ensures used { result ≢ ScriptEnd.Usage }
+    ensures done { result ≡ ScriptEnd.Done → RanWhole (S.left source.old) (S.left source.new) (K.held sink.old) (K.held sink.new) }
+    ensures long { result ≡ ScriptEnd.TooLong → GaveTooMuch (S.left source.old) (S.left source.new) }
+    ensures within { result ≢ ScriptEnd.TooLong → GaveWithin (S.left source.old) (S.left source.new) }
+    ensures fault { (line : ℕ) → result ≡ ScriptEnd.ScriptFault line → IsFaultyAt line (S.left source.old) (S.left source.new) }
+    ensures cut { result ≡ ScriptEnd.SinkFault → RanCutOff (S.left source.old) (S.left source.new) (K.held sink.old) (K.held sink.new) }
+    ensures unwritten { writes result ≡ false → K.held sink.new ≡ K.held sink.old }
+    ensures read { result ≡ ScriptEnd.ReadFault → Rose (S.faults source.old) (S.faults source.new) }
+    ensures sink { result ≡ ScriptEnd.SinkFault → Rose (K.faults sink.old) (K.faults sink.new) }
+    ensures complete { IsGood (S.left source.old) (S.left source.new) (S.faults source.old) (S.faults source.new) (K.faults sink.old) (K.faults sink.new) → (result ≡ ScriptEnd.Done) ⊎ (result ≡ ScriptEnd.OutOfMemory) }
+    ensures source_count { S.faults source.old ≤ S.faults source.new }
+    ensures sink_count { K.faults sink.old ≤ K.faults sink.new }
+{
     let text = match read_text(alloc, source) {
         Ok(text) => text,
         Err(TextFault::ReadFault) => return ScriptEnd::ReadFault,
@@ -75,13 +111,26 @@ pub fn afd_script<S: Source, K: Sink>(
     }
 }
 
-// Whether the words are the one word `script`.
-fn is_script(words: &Args) -> bool
-    ensures { IsTrue result ↔ (words.now ≡ codes "script" ∷ []) }
+// Runs the script of a seed and so many turns, and writes the summary of its log.
+fn exercise<K: Sink>(alloc: Global, seed: u64, turns: u32, sink: &mut K) -> ScriptEnd
+    requires { (1 ≤ turns) × (turns ≤ 10000) }
+    ensures ends { (result ≡ ScriptEnd.Done) ⊎ ((result ≡ ScriptEnd.SinkFault) ⊎ (result ≡ ScriptEnd.OutOfMemory)) }
+    ensures done { result ≡ ScriptEnd.Done → WroteSummary put.Done seed turns (K.held sink.old) (K.held sink.new) }
+    ensures cut { result ≡ ScriptEnd.SinkFault → WroteSummary put.Failed seed turns (K.held sink.old) (K.held sink.new) }
+    ensures unwritten { result ≡ ScriptEnd.OutOfMemory → K.held sink.new ≡ K.held sink.old }
+    ensures sink { result ≡ ScriptEnd.SinkFault → Rose (K.faults sink.old) (K.faults sink.new) }
+    ensures sink_count { K.faults sink.old ≤ K.faults sink.new }
 {
-    match words.word(0) {
-        Some(word) => words.len() == 1 && word == "script",
-        None => false,
+    let Ok(script) = make_script(alloc, seed, turns) else {
+        return ScriptEnd::OutOfMemory;
+    };
+    let Ok(tape) = run_script(alloc, &script) else {
+        return ScriptEnd::OutOfMemory;
+    };
+    let steps = script.steps.as_slice().len() as u32;
+    match print_summary(tape.log(), steps, sink) {
+        Put::Done => ScriptEnd::Done,
+        Put::Failed => ScriptEnd::SinkFault,
     }
 }
 
@@ -92,11 +141,19 @@ fn run_text(alloc: Global, text: &[u8]) -> Result<Tape, ScriptFault>
     ensures fault { IfErr result (λ e. IsFault text.now e) }
 {
     let script = read_script(alloc, text)?;
-    let Ok(mut tape) = Tape::new(alloc, &script.config, script.steps.as_slice()) else {
+    let Ok(tape) = run_script(alloc, &script) else {
         return Err(ScriptFault::OutOfMemory);
     };
-    let Ok(()) = run_tape(alloc, &script.config, &mut tape) else {
-        return Err(ScriptFault::OutOfMemory);
-    };
+    Ok(tape)
+}
+
+// Runs a script. The tape tells its one log.
+fn run_script(alloc: Global, script: &Script) -> Result<Tape, OutOfMemory>
+    requires rates { All (λ device. IsListedRate device.rate) script.now.config.items }
+    requires steps { All (IsStep script.now.config.items) script.now.steps }
+    ensures { IfOk result (λ tape. HasOneLog script.now.config.items script.now.steps tape.log) }
+{
+    let mut tape = Tape::new(alloc, &script.config, script.steps.as_slice())?;
+    run_tape(alloc, &script.config, &mut tape)?;
     Ok(tape)
 }

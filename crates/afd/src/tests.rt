@@ -1,5 +1,6 @@
 // The script command on examples worked by hand.
 mod controls;
+mod exercise;
 mod lines;
 mod links;
 mod session;

@@ -5,3 +5,4 @@ pub mod Taking
 pub mod Exchanges
 pub mod Success
 pub mod Replies
+pub mod Rings

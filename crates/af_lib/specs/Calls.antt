@@ -229,8 +229,13 @@ pub record Waited {L : Type 0} (left sent : L → Option (List ℕ)) (faults : L
   -- exactly one message was taken
   pub next : old.cause ≡ None → slice_get old.ring.events 0 ≡ None → result ≢ Err fault.LinkFault →
       BothTold (left old.link) (left new.link) (λ b a. (result ≡ event_of b) × (a ≡ rest_of b))
+  -- the answer is one of a connection that can still be used
+  pub fresh : old.cause ≡ None → IsFresh result
+  -- bytes that are told stay told
+  pub tells : IsSome (left old.link) → IsSome (left new.link)
+  -- the ring stays empty, and a fault is kept
   pub keeps : old.cause ≡ None → slice_get old.ring.events 0 ≡ None →
-      new ≡ record { link = new.link; devices = old.devices; sequence = old.sequence; ring = new.ring; cause = cause_of result }
+      new ≡ record { link = new.link; devices = old.devices; sequence = old.sequence; ring = old.ring; cause = cause_of result }
   -- nothing is sent
   pub sends : sent new.link ≡ sent old.link
   -- LinkFault only where the link's count of faults rose

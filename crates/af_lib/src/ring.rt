@@ -1,5 +1,6 @@
 // The ring of events that a client has not taken yet.
 ghost use Rattle.std.specs.Prelude.{◌≡◌, [], drop, slice_get, IfOk};
+ghost use Rattle.std.specs.declared.option.Option.TheVariants.{None};
 ghost use Rattle.af_lib.specs.Ring.{noted};
 
 use af_time::OutOfMemory;
@@ -49,9 +50,11 @@ impl Ring {
     }
 
     /// Takes the oldest event.
+    #[tactic(auto, using(crate::proofs::Rings::none_taken))]
     pub fn take(&mut self) -> Option<Event>
         ensures value { result ≡ slice_get self.old.events 0 }
         ensures rest { self.new ≡ record self.old { events = drop 1 self.old.events } }
+        ensures none { result ≡ None → self.new ≡ self.old }
     {
         self.events.pop_front()
     }

@@ -16,3 +16,8 @@ pub mod Pairing
 pub mod Passing
 pub mod PassTop
 pub mod Relaying
+pub mod Sending
+pub mod Hearing
+pub mod Intended
+pub mod Played
+pub mod Passable

@@ -79,7 +79,7 @@ blocks_empty size [] none = blocks_none size
 blocks_empty size (x ∷ rest) none = absurd (omega arith)
 
 module _ (width start frames given : ℕ) (w : Wire) (next : ℕ → Wire → Course) where
-  plays_block : (block : List ℕ) (more : List (List ℕ)) → given + length block ≤ most_bytes → 0 < length block / width →
+  pub plays_block : (block : List ℕ) (more : List (List ℕ)) → given + length block ≤ most_bytes → 0 < length block / width →
       plays width start frames given (block ∷ more) w next
       ≡ asks (play_run false 1 ((start + frames) % 2 ^ 32) (whole_frames width block)) as_time w (λ _ v. plays width start (frames + frames_in width block) (given + length block) more v next)
   unfolding plays
@@ -88,20 +88,20 @@ module _ (width start frames given : ℕ) (w : Wire) (next : ℕ → Wire → Co
       let whole : nat_lt 0 (length block / width) ≡ true = grind (arith, nat_tests) in
       rw (fits, whole) refl
 
-  plays_last : (block : List ℕ) (more : List (List ℕ)) → given + length block ≤ most_bytes → length block / width ≡ 0 → plays width start frames given (block ∷ more) w next ≡ next frames w
+  pub plays_last : (block : List ℕ) (more : List (List ℕ)) → given + length block ≤ most_bytes → length block / width ≡ 0 → plays width start frames given (block ∷ more) w next ≡ next frames w
   unfolding plays
   plays_last block more within none =
       let fits : nat_lt most_bytes (given + length block) ≡ false = grind (arith, nat_tests) in
       let whole : nat_lt 0 (length block / width) ≡ false = grind (arith, nat_tests) in
       rw (fits, whole) refl
 
-  plays_long : (block : List ℕ) (more : List (List ℕ)) → most_bytes < given + length block → plays width start frames given (block ∷ more) w next ≡ ends too_long
+  pub plays_long : (block : List ℕ) (more : List (List ℕ)) → most_bytes < given + length block → plays width start frames given (block ∷ more) w next ≡ ends too_long
   unfolding plays
   plays_long block more beyond =
       let long : nat_lt most_bytes (given + length block) ≡ true = grind (arith, nat_tests) in
       rw long refl
 
-  plays_none : plays width start frames given [] w next ≡ next frames w
+  pub plays_none : plays width start frames given [] w next ≡ next frames w
   unfolding plays
   plays_none = refl
 

@@ -1,10 +1,13 @@
 pub mod Course
 pub mod Play
+pub mod Blocks
+pub mod Intent
 pub mod Record
 pub mod Set
 pub mod Ends
 pub mod Pass
 pub mod Both
+pub mod Relayed
 pub mod Pair
 pub mod Fill
 pub mod Device

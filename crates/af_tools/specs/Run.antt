@@ -1,5 +1,5 @@
 -- What the tools do, by their words, the bytes of the source, and what the links that are dialled give.
-use Rattle.std.specs.Prelude.{◌≡◌, ◌≢◌, ◌≤◌, ◌⊎◌, ⊤, ℕ, Bool, true, List, [], ◌∷◌, ◌++◌, length}
+use Rattle.std.specs.Prelude.{◌≡◌, ◌≢◌, ◌≤◌, ◌⊎◌, ⊤, ℕ, Bool, true, false, List, [], ◌∷◌, ◌++◌, length}
 use Rattle.std.specs.declared.option.Option.{Option}
 use Rattle.std.specs.declared.option.Option.TheVariants.{Some}
 use Rattle.clap.specs.Words.{Text}
@@ -67,6 +67,16 @@ IsReadWhole (task.Set job) left = ⊤
 abbrev pub IsRead : Job → Option (List ℕ) → Type 0
 IsRead (one server task) left = IsReadWhole task left
 IsRead (relay from to job) left = ⊤
+
+-- whether a tool reads its source
+abbrev pub reads_source : Task → Bool
+reads_source (task.Play job) = true
+reads_source (task.Record job) = false
+reads_source (task.Set job) = false
+
+abbrev pub job_reads : Job → Bool
+job_reads (one server task) = reads_source task
+job_reads (relay from to job) = false
 
 -- the ends of a tool that has a link
 abbrev pub is_of_far : ToolEnd → Bool

@@ -8,6 +8,7 @@ ghost use Rattle.af_outside.specs.Flow.{IsSpent};
 ghost use Rattle.af_request.specs.declared.reply.DeviceInfo.{DeviceInfo};
 ghost use Rattle.af_tools.specs.Course.{with_device};
 ghost use Rattle.af_tools.specs.Play.{aplay_course, most_bytes, play_context, played_on, start_at};
+ghost use Rattle.af_tools.specs.Intent.{IsPlayed};
 ghost use Rattle.af_tools.specs.Talk.{creates};
 ghost use Rattle.af_tools.specs.Ends.{is_of_blocks, is_of_play, wire_of, EndsByReply, Followed, GaveTooMuch, GaveWithin, Goes, Holds, IsAnswered};
 
@@ -103,6 +104,10 @@ pub fn aplay<L: Link + Drop, S: Source, K: Sink>(
     ensures followed { (input bytes : List ℕ) → L.left conn.old.link ≡ Some input → S.left source.old ≡ Some bytes → IsSome (S.left source.new) →
         Followed (aplay_course job.now conn.old.devices bytes (wire_of conn.old input)) result (L.sent conn.old.link) (L.sent conn.new.link) (K.held sink.old) (K.held sink.new) }
     ensures done { result ≡ ToolEnd.Done → IsSpent (S.left source.new) }
+
+    // done, each block was played at its time, and is heard there by whom accepts it in time
+    ensures heard { (input bytes : List ℕ) → L.left conn.old.link ≡ Some input → S.left source.old ≡ Some bytes → IsSome (S.left source.new) → result ≡ ToolEnd.Done →
+        IsPlayed job.now conn.old.devices bytes (L.sent conn.old.link) (L.sent conn.new.link) (K.held sink.old) (K.held sink.new) }
 
     // each end has its cause
     ensures end { is_of_play result ≡ true }

@@ -9,7 +9,7 @@ ghost use Rattle.af_tools.specs.Course.{connects};
 ghost use Rattle.af_tools.specs.Play.{most_bytes};
 ghost use Rattle.af_tools.specs.Words.{is_spelled, job, job_in, job_with, relay_with, Job};
 ghost use Rattle.af_tools.specs.Ends.{is_of_play, wire_of, EndsByReply, Followed, GaveTooMuch, GaveWithin};
-ghost use Rattle.af_tools.specs.Run.{is_of_af, is_of_far, is_of_run, meaning, one_course, run_course, servers_of, task_course, AskedFor, EndsByDevice, EndsByRates, IsAddress, IsCall, IsRanged, IsRead, IsReadWhole, IsServed, Ran, RanOne};
+ghost use Rattle.af_tools.specs.Run.{is_of_af, is_of_far, is_of_run, job_reads, meaning, one_course, reads_source, run_course, servers_of, task_course, AskedFor, EndsByDevice, EndsByRates, IsAddress, IsCall, IsRanged, IsRead, IsReadWhole, IsServed, Ran, RanOne};
 ghost use Rattle.af_tools.specs.Pass.{on_from, IsPaced};
 
 use crate::command::tool_matches;
@@ -120,6 +120,7 @@ fn perform<L: Link + Drop, S: Source, K: Sink>(
     ensures followed { (input bytes : List ℕ) → L.left conn.old.link ≡ Some input → S.left source.old ≡ Some bytes → IsSome (S.left source.new) →
         Followed (task_course task.now conn.old.devices bytes (wire_of conn.old input)) result (L.sent conn.old.link) (L.sent conn.new.link) (K.held sink.old) (K.held sink.new) }
     ensures done { result ≡ ToolEnd.Done → IsReadWhole task.now (S.left source.new) }
+    ensures sourceless { reads_source task.now ≡ false → (S.left source.new ≡ S.left source.old) × (S.faults source.new ≡ S.faults source.old) }
     ensures end { is_of_play result ≡ true }
     ensures long { result ≡ ToolEnd.TooLong → GaveTooMuch (S.left source.old) (S.left source.new) }
     ensures within { result ≢ ToolEnd.TooLong → GaveWithin (S.left source.old) (S.left source.new) }
@@ -151,6 +152,7 @@ fn perform_over<L: Link + Drop, S: Source, K: Sink>(
     ensures followed { (input bytes : List ℕ) → L.left far ≡ Some input → S.left source.old ≡ Some bytes → IsSome (S.left source.new) →
         Followed (connects input (λ devices w. task_course task.now devices bytes w)) result.0 (L.sent far) (L.sent result.1) (K.held sink.old) (K.held sink.new) }
     ensures done { result.0 ≡ ToolEnd.Done → IsReadWhole task.now (S.left source.new) }
+    ensures sourceless { reads_source task.now ≡ false → (S.left source.new ≡ S.left source.old) × (S.faults source.new ≡ S.faults source.old) }
     ensures memory { result.0 ≡ ToolEnd.OutOfMemory → (L.sent result.1 ≡ L.sent far) × (K.held sink.new ≡ K.held sink.old) × (S.left source.new ≡ S.left source.old) }
     ensures end { is_of_far result.0 ≡ true }
     ensures long { result.0 ≡ ToolEnd.TooLong → GaveTooMuch (S.left source.old) (S.left source.new) }
@@ -195,6 +197,7 @@ fn run_one<S: Source, K: Sink, D: Dial>(
         RanOne (one_course task.now links bytes) result links (D.links dial.new) (K.held sink.old) (K.held sink.new) (D.back dial.old) (D.back dial.new) }
     ensures asked { Grew (D.asked dial.old) (server.now ∷ []) (D.asked dial.new) }
     ensures done { result ≡ ToolEnd.Done → IsReadWhole task.now (S.left source.new) }
+    ensures sourceless { reads_source task.now ≡ false → (S.left source.new ≡ S.left source.old) × (S.faults source.new ≡ S.faults source.old) }
     ensures memory { result ≡ ToolEnd.OutOfMemory → (K.held sink.new ≡ K.held sink.old) × (S.left source.new ≡ S.left source.old) }
     ensures end { is_of_run result ≡ true }
     ensures long { result ≡ ToolEnd.TooLong → GaveTooMuch (S.left source.old) (S.left source.new) }
@@ -232,6 +235,7 @@ fn run_call<S: Source, K: Sink, D: Dial>(
         Ran (meaning call.now) bytes result links (D.links dial.new) (K.held sink.old) (K.held sink.new) (D.back dial.old) (D.back dial.new) }
     ensures asked { AskedFor (servers_of (meaning call.now)) result (D.asked dial.old) (D.asked dial.new) }
     ensures done { result ≡ ToolEnd.Done → IsRead (meaning call.now) (S.left source.new) }
+    ensures sourceless { job_reads (meaning call.now) ≡ false → (S.left source.new ≡ S.left source.old) × (S.faults source.new ≡ S.faults source.old) }
     ensures memory { result ≡ ToolEnd.OutOfMemory → (K.held sink.new ≡ K.held sink.old) × (S.left source.new ≡ S.left source.old) }
     ensures end { is_of_run result ≡ true }
     ensures long { result ≡ ToolEnd.TooLong → GaveTooMuch (S.left source.old) (S.left source.new) }
@@ -274,6 +278,8 @@ pub fn af_run<S: Source, K: Sink, D: Dial>(
         Ran j bytes result links (D.links dial.new) (K.held sink.old) (K.held sink.new) (D.back dial.old) (D.back dial.new) }
     ensures asked { (j : Job) → job words.now ≡ Some j → result ≢ ToolEnd.Usage → AskedFor (servers_of j) result (D.asked dial.old) (D.asked dial.new) }
     ensures done { (j : Job) → job words.now ≡ Some j → result ≡ ToolEnd.Done → IsRead j (S.left source.new) }
+    // only aplay reads its source
+    ensures sourceless { (j : Job) → job words.now ≡ Some j → job_reads j ≡ false → (S.left source.new ≡ S.left source.old) × (S.faults source.new ≡ S.faults source.old) }
 
     // each end has its cause
     ensures memory { result ≡ ToolEnd.OutOfMemory → (K.held sink.new ≡ K.held sink.old) × (S.left source.new ≡ S.left source.old) }

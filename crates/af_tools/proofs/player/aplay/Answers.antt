@@ -5,6 +5,7 @@ use Rattle.af_tools.specs.declared.end.ToolEnd.{ToolEnd}
 use Rattle.af_tools.specs.Course.{done, ends, writing}
 use Rattle.af_tools.specs.Play.{aplay_course, played, played_on}
 use Rattle.af_tools.specs.Ends.{is_of_blocks, is_of_play, wire_of, Part}
+use Rattle.af_tools.proofs.Played.{is_played}
 use Rattle.af_tools.proofs.Going.{followed_on, followed_stop}
 use Rattle.af_tools.proofs.Endings.{IsDoneOrRefused, ends_by_reply, inner_play, is_done, played_finish}
 use Rattle.af_tools.proofs.Tops.{aplay_missing, aplay_there, followed_missing, followed_same, is_missing, is_there, missing_iff, never_blocks, never_report, there_iff}
@@ -70,3 +71,15 @@ returns-in-Err-play_on-clause-complete g c input bytes told is tells within few 
     is_done _ how _ _ _ _ f way answered
     (inner_play how mine (λ same. link (e.holds.failed (ap (λ (x : ToolEnd). Err x) same))) (λ same. read (e.fault (ap (λ (x : ToolEnd). Err x) same)))
     (λ same. let bad : false ≡ true = ap is_of_blocks (sym same) ∙ e.end in cc))
+
+pub returns-in-Err-clause-heard : goal.returns-in-Err-clause-heard
+returns-in-Err-clause-heard g c input bytes told is tells way =
+    is_played c.args.job.now c.args.conn.now.devices bytes (wire_of c.args.conn.now input) _ _ _ _ _ (returns-in-Err-clause-followed g c input bytes told is tells) way (let block = c.requires.block in omega arith)
+
+pub returns-in-Ok-play_on-clause-heard : goal.returns-in-Ok-play_on-clause-heard
+returns-in-Ok-play_on-clause-heard g c input bytes told is tells way =
+    is_played c.args.job.now c.args.conn.now.devices bytes (wire_of c.args.conn.now input) _ _ _ _ _ (returns-in-Ok-play_on-clause-followed g c input bytes told is tells) way (let block = c.requires.block in omega arith)
+
+pub returns-in-Err-play_on-clause-heard : goal.returns-in-Err-play_on-clause-heard
+returns-in-Err-play_on-clause-heard g c input bytes told is tells way =
+    is_played c.args.job.now c.args.conn.now.devices bytes (wire_of c.args.conn.now input) _ _ _ _ _ (returns-in-Err-play_on-clause-followed g c input bytes told is tells) way (let block = c.requires.block in omega arith)

@@ -19,7 +19,7 @@ use Rattle.af_lib.specs.declared.fault.Cause.{Cause}
 use Rattle.af_lib.specs.declared.fault.Cause.TheVariants as cause
 use Rattle.af_lib.specs.declared.fault.ConnFault.{ConnFault}
 use Rattle.af_lib.specs.declared.fault.ConnFault.TheVariants as fault
-use Rattle.af_lib.specs.Ring.{RingState}
+use Rattle.af_lib.specs.Ring.{Gained, RingState}
 use Rattle.af_lib.specs.Incoming.{Incoming, event, other, awaited, bad_reply, incoming, rest_of}
 use Rattle.af_lib.specs.Answers.{and_then, answer_to, value_or_bad}
 use Rattle.af_lib.specs.Told.{BothTold}
@@ -207,6 +207,8 @@ pub record Called {L X : Type 0} (left sent : L → Option (List ℕ)) (faults :
   pub sends : old.cause ≡ None → Sends result (sent old.link) (request_bytes asked) (sent new.link)
   -- exactly its answer was taken
   pub answers : old.cause ≡ None → Answers value_of (opcode_of asked) (following old.sequence) result old.ring new.ring (left old.link) (left new.link)
+  -- the ring gained events and nothing else, also where the link failed
+  pub gained : old.cause ≡ None → Gained old.ring new.ring
   -- the answer is one of a connection that can still be used
   pub fresh : old.cause ≡ None → IsFresh result
   -- bytes that are told stay told

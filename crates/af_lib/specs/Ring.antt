@@ -14,3 +14,8 @@ noted e r = record {
   events = keep_last 64 (r.events ++ e ∷ []);
   lost = if nat_lt (length r.events) 64 then r.lost else min (r.lost + 1) (2 ^ 64 - 1);
 }
+
+-- a ring, and the same with any number of events more
+pub data Gained (old : RingState) : RingState → Type 0 where
+  nothing_more : Gained old old
+  one_more : (r : RingState) (e : Event) → Gained old r → Gained old (noted e r)

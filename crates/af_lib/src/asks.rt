@@ -5,6 +5,7 @@ ghost use Rattle.af_request.specs.Answer.{meaning as answered_by, recorded, item
 ghost use Rattle.af_request.specs.Asked.{meaning};
 ghost use Rattle.af_request.specs.Requests.{request_bytes, HasRoom};
 ghost use Rattle.af_lib.specs.Answers.{value_or_bad};
+ghost use Rattle.af_lib.specs.Ring.{Gained};
 ghost use Rattle.af_lib.specs.Calls.{as_controls, as_devices, as_done, as_phone, as_recorded, as_time, listed, opcode_of, recorded_in, setup_bytes, stored_in, value_in, Answers, IsFresh, IsKeptBehind, IsStoredIn, Sends};
 
 use crate::exchange::{ask, await_setup, opcode_of};
@@ -66,6 +67,7 @@ pub fn ask_done<L: Link>(
     requires samples { HasRoom (meaning request.now) }
     requires room { (16016 ≤ length input.old) × (16384 ≤ length output.old) }
     ensures answers { Answers as_done (opcode_of (meaning request.now)) sequence result ring.old ring.new (L.left link.old) (L.left link.new) }
+    ensures gained { Gained ring.old ring.new }
     ensures fresh { IsFresh result }
     ensures sends { Sends result (L.sent link.old) (request_bytes (meaning request.now)) (L.sent link.new) }
     ensures tells { IsSome (L.left link.old) → IsSome (L.left link.new) }
@@ -115,6 +117,7 @@ pub fn ask_time<L: Link>(
     requires samples { HasRoom (meaning request.now) }
     requires room { (16016 ≤ length input.old) × (16384 ≤ length output.old) }
     ensures answers { Answers as_time (opcode_of (meaning request.now)) sequence result ring.old ring.new (L.left link.old) (L.left link.new) }
+    ensures gained { Gained ring.old ring.new }
     ensures fresh { IsFresh result }
     ensures sends { Sends result (L.sent link.old) (request_bytes (meaning request.now)) (L.sent link.new) }
     ensures tells { IsSome (L.left link.old) → IsSome (L.left link.new) }
@@ -165,6 +168,7 @@ pub fn ask_controls<L: Link>(
     requires samples { HasRoom (meaning request.now) }
     requires room { (16016 ≤ length input.old) × (16384 ≤ length output.old) }
     ensures answers { Answers as_controls (opcode_of (meaning request.now)) sequence result ring.old ring.new (L.left link.old) (L.left link.new) }
+    ensures gained { Gained ring.old ring.new }
     ensures fresh { IsFresh result }
     ensures sends { Sends result (L.sent link.old) (request_bytes (meaning request.now)) (L.sent link.new) }
     ensures tells { IsSome (L.left link.old) → IsSome (L.left link.new) }
@@ -215,6 +219,7 @@ pub fn ask_phone<L: Link>(
     requires samples { HasRoom (meaning request.now) }
     requires room { (16016 ≤ length input.old) × (16384 ≤ length output.old) }
     ensures answers { Answers as_phone (opcode_of (meaning request.now)) sequence result ring.old ring.new (L.left link.old) (L.left link.new) }
+    ensures gained { Gained ring.old ring.new }
     ensures fresh { IsFresh result }
     ensures sends { Sends result (L.sent link.old) (request_bytes (meaning request.now)) (L.sent link.new) }
     ensures tells { IsSome (L.left link.old) → IsSome (L.left link.new) }
@@ -298,6 +303,7 @@ pub fn ask_recorded<L: Link>(
     requires samples { HasRoom (meaning request.now) }
     requires room { (16016 ≤ length input.old) × (16384 ≤ length output.old) }
     ensures answers { Answers (as_recorded blocking (length into.old)) (opcode_of (meaning request.now)) sequence (recorded_in result into.new) ring.old ring.new (L.left link.old) (L.left link.new) }
+    ensures gained { Gained ring.old ring.new }
     ensures kept { IsKeptBehind result into.old into.new }
     ensures within { IfOk result (λ r. r.1 ≤ length into.old) }
     ensures all { IfOk result (λ r. IsTrue blocking → r.1 ≡ length into.old) }

@@ -7,6 +7,7 @@ ghost use Rattle.af_request.specs.Requests.{request_bytes, HasRoom};
 ghost use Rattle.af_lib.specs.Answers.{answer_to, refused_in};
 ghost use Rattle.af_lib.specs.Calls.{cause_of, held_in, opcode_of, setup_bytes, IsFresh, Sends};
 ghost use Rattle.af_lib.specs.Exchange.{Finds};
+ghost use Rattle.af_lib.specs.Ring.{Gained};
 
 use crate::fault::{Cause, ConnFault};
 use crate::receive::{await_message, bad_reply};
@@ -95,6 +96,7 @@ pub fn await_answer<L: Link>(
 ) -> Result<usize, ConnFault>
     requires { 16016 ≤ length input.old }
     ensures finds { result ≢ Err ConnFault.LinkFault → Finds opcode sequence result input.new ring.old ring.new (L.left link.old) (L.left link.new) }
+    ensures gained { Gained ring.old ring.new }
     ensures within { IfOk result (λ n. (8 ≤ n) × (n ≤ 16016)) }
     ensures fresh { IsFresh result }
     ensures sends { L.sent link.new ≡ L.sent link.old }
@@ -136,6 +138,7 @@ pub fn ask<L: Link>(
     requires samples { HasRoom (meaning request.now) }
     requires room { (16016 ≤ length input.old) × (16384 ≤ length output.old) }
     ensures finds { result ≢ Err ConnFault.LinkFault → Finds (opcode_of (meaning request.now)) sequence result input.new ring.old ring.new (L.left link.old) (L.left link.new) }
+    ensures gained { Gained ring.old ring.new }
     ensures within { IfOk result (λ n. (8 ≤ n) × (n ≤ 16016)) }
     ensures fresh { IsFresh result }
     ensures sends { Sends result (L.sent link.old) (request_bytes (meaning request.now)) (L.sent link.new) }

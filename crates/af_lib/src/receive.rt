@@ -5,6 +5,7 @@ ghost use Rattle.af_request.specs.Fields.{u8_at};
 ghost use Rattle.af_lib.specs.Incoming.{bad_reply, first_bytes, message_in, rest_of};
 ghost use Rattle.af_lib.specs.Calls.{event_of, event_only, IsFresh};
 ghost use Rattle.af_lib.specs.Told.{BothTold};
+ghost use Rattle.af_lib.specs.Ring.{Gained};
 ghost use Rattle.af_lib.specs.Receive.{Fills, Frames, Takes, Awaits, taken_as, taken_of, IsFramedWithin, IsTakenWithin};
 
 use crate::fault::ConnFault;
@@ -149,6 +150,7 @@ pub fn await_message<L: Link>(
 ) -> Result<usize, ConnFault>
     requires { 16016 ≤ length input.old }
     ensures awaits { result ≢ Err ConnFault.LinkFault → Awaits result input.new ring.old ring.new (L.left link.old) (L.left link.new) }
+    ensures gained { Gained ring.old ring.new }
     ensures within { IfOk result (λ n. (8 ≤ n) × (n ≤ 16016)) }
     ensures fresh { IsFresh result }
     ensures sends { L.sent link.new ≡ L.sent link.old }

@@ -4,6 +4,7 @@ use Rattle.af_lib.specs.declared.receive.Taken.{Taken}
 use Rattle.af_lib.specs.declared.fault.ConnFault.{ConnFault}
 use Rattle.af_lib.specs.declared.fault.ConnFault.TheVariants as fault
 use Rattle.af_lib.specs.Receive.{Takes, Awaits}
+use Rattle.af_lib.specs.Ring.{nothing_more, one_more, Gained, RingState}
 use Rattle.af_lib.proofs.Taking.{await_event, await_other, await_fault, await_flood}
 use Rattle.af_lib.proofs.receive.await_message.Goals as goal
 
@@ -34,6 +35,9 @@ returns-in-Other-clause-awaits g c _ =
     await_other l0 l1 l2 4096 c.loop-allowed.allowed c.args.ring.now c.loop-allowed.ring c.loop-allowed.invariant.0 _ (omega arith)
     (sound c.in_ok-event.field-0 _ (λ t. Takes (Ok t) c.take_message.new.input l1 l2) c.in-Other.is c.in_ok-event.ensures.takes)
 
+pub loop-allowed-init : goal.loop-allowed-init
+loop-allowed-init g c = search (rules, nothing_more)
+
 pub loop-allowed-preserved : goal.loop-allowed-preserved
 loop-allowed-preserved g c =
     let l0 = g.L.Link.left c.args.link.now in
@@ -42,7 +46,7 @@ loop-allowed-preserved g c =
     let i = c.loop-allowed.invariant in
     let told = await_event l0 l1 l2 4096 c.loop-allowed.allowed c.args.ring.now c.loop-allowed.ring i.0 c.in-Event.event (omega arith)
     (sound c.in_ok-event.field-0 _ (λ t. Takes (Ok t) c.take_message.new.input l1 l2) c.in-Event.is c.in_ok-event.ensures.takes) in
-    (rw c.note.ensures told, c.in_ok-event.ensures.sends ∙ i.1, omega (arith, i.2, c.in_ok-event.ensures.count), λ t. c.in_ok-event.ensures.tells (i.3 t))
+    (rw c.note.ensures told, c.in_ok-event.ensures.sends ∙ i.1, omega (arith, i.2, c.in_ok-event.ensures.count), λ t. c.in_ok-event.ensures.tells (i.3 t), subst (λ (r : RingState). Gained c.args.ring.now r) (sym c.note.ensures) (one_more _ _ i.4))
 
 pub returns-clause-awaits : goal.returns-clause-awaits
 returns-clause-awaits g c _ =

@@ -1,6 +1,7 @@
 use Rattle.std.proofs.Common.{◌≡◌, ◌≤◌, IsSome}
 use Rattle.af_lib.specs.Told.{BothTold}
 use Rattle.af_lib.specs.Incoming.{awaited}
+use Rattle.af_lib.specs.Ring.{Gained}
 use Rattle.af_lib.proofs.receive.await_message.Given as goal
 
 abbrev pub invariant-loop-allowed : goal.invariant-loop-allowed
@@ -9,6 +10,7 @@ invariant-loop-allowed g l =
     × (g.L.Link.sent l.link ≡ g.L.Link.sent l.initial.link)
     × (g.L.Link.faults l.initial.link ≤ g.L.Link.faults l.link)
     × (IsSome (g.L.Link.left l.initial.link) → IsSome (g.L.Link.left l.link))
+    × Gained l.initial.ring l.ring
 
 abbrev pub decreases-loop-allowed : goal.decreases-loop-allowed
 decreases-loop-allowed g l = l.allowed

@@ -14,9 +14,9 @@ use Rattle.af_lib.specs.declared.fault.ConnFault.TheVariants as fault
 use Rattle.af_lib.specs.Calls.{as_controls, as_done, as_phone, as_time}
 use Rattle.af_tools.specs.declared.end.ToolEnd.{ToolEnd}
 use Rattle.af_tools.specs.declared.end.ToolEnd.TheVariants as end
-use Rattle.af_tools.specs.declared.job.PlayJob.{PlayJob}
-use Rattle.af_tools.specs.declared.job.RecordJob.{RecordJob}
-use Rattle.af_tools.specs.declared.job.SetJob.{SetJob}
+use Rattle.af_jobs.specs.declared.job.PlayJob.{PlayJob}
+use Rattle.af_jobs.specs.declared.job.RecordJob.{RecordJob}
+use Rattle.af_jobs.specs.declared.job.SetJob.{SetJob}
 use Rattle.af_tools.specs.declared.standing.Standing.{Standing}
 use Rattle.af_tools.specs.Course.{Course, Finish, Wire, answer_on, answered_by, asks, behind, done, end_of, fault_end, mismatch, no_device, not_dialled, refused, too_long}
 use Rattle.af_tools.specs.Play.{blocks, cut, most_bytes, play_context, played_on, plays}

@@ -8,8 +8,6 @@ pub mod Recording
 pub mod Endings
 pub mod Tops
 pub mod RecordTail
-pub mod Parsed
-pub mod Naming
 pub mod Setting
 pub mod Running
 pub mod Pairing
@@ -20,4 +18,7 @@ pub mod Sending
 pub mod Hearing
 pub mod Intended
 pub mod Played
+pub mod Wording
+pub mod Stated
 pub mod Passable
+pub mod Outcomes

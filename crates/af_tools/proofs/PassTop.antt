@@ -10,7 +10,7 @@ use Rattle.af_request.specs.Answer.{Answer}
 use Rattle.af_lib.specs.declared.fault.ConnFault.{ConnFault}
 use Rattle.af_tools.specs.declared.end.ToolEnd.{ToolEnd}
 use Rattle.af_tools.specs.declared.end.ToolEnd.TheVariants as end
-use Rattle.af_tools.specs.declared.job.PassJob.{PassJob}
+use Rattle.af_jobs.specs.declared.job.PassJob.{PassJob}
 use Rattle.af_tools.specs.declared.pass.Pace.{Pace}
 use Rattle.af_tools.specs.declared.pass.Passed.{Passed}
 use Rattle.af_tools.specs.Course.{Course, Finish, Wire, answer_on, behind, done, end_of, ends, mismatch, no_device, writing}

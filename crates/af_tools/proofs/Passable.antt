@@ -3,41 +3,47 @@ use Rattle.std.proofs.Common.{◌≡◌, ◌<◌, ◌+◌, ◌-◌, ◌%◌, ◌
 use Rattle.std.proofs.lemmas.Int.{ints}
 use Rattle.std.proofs.lemmas.Bool.Decides.{nat_tests}
 use Rattle.std.specs.Int.{w32, cast_signed, cast_unsigned}
-use Rattle.std.specs.Prelude.{Result, Ok, Err, unwrap_or}
+use Rattle.std.specs.Prelude.{Result, Ok, Err, All}
 use Rattle.std.specs.declared.option.Option.{Option}
 use Rattle.std.specs.declared.option.Option.TheVariants.{None, Some}
 use Rattle.af_time.specs.declared.DevTime.{DevTime}
-use Rattle.af_time.specs.DeviceTime.{word_difference}
+use Rattle.af_time.specs.DeviceTime.{frames_lasting, word_difference}
 use Rattle.af_outside.specs.Told.{Grew}
 use Rattle.af_request.specs.declared.reply.DeviceInfo.{DeviceInfo}
 use Rattle.af_request.specs.Asked.{Asked, free_ac, get_time, play_run, record_run}
 use Rattle.af_request.specs.Answer.{Answer}
 use Rattle.af_request.specs.Requests.{request_bytes}
+use Rattle.af_request.specs.Replies.{IsStated}
 use Rattle.af_lib.specs.declared.fault.ConnFault.{ConnFault}
 use Rattle.af_lib.specs.declared.fault.ConnFault.TheVariants as fault
 use Rattle.af_lib.specs.Calls.{as_done, as_recorded, as_time, Recorded}
+use Rattle.af_tools.specs.declared.end.ToolEnd.{ToolEnd}
 use Rattle.af_tools.specs.declared.end.ToolEnd.TheVariants as end
-use Rattle.af_tools.specs.declared.job.PassJob.{PassJob}
+use Rattle.af_jobs.specs.declared.job.PassJob.{PassJob}
 use Rattle.af_tools.specs.Both.{FollowedBoth}
+use Rattle.af_tools.specs.Ends.{is_outer}
 use Rattle.af_tools.specs.declared.pass.Pace.{Pace}
 use Rattle.af_tools.specs.declared.pass.Passed.{Passed}
 use Rattle.af_tools.specs.declared.pass.Place.{Place}
 use Rattle.af_tools.specs.Course.{Finish, Wire, answer_on, behind, done, end_of, mismatch, no_device, not_dialled, refused, too_long}
-use Rattle.af_tools.specs.Pass.{Relay, after, apass_course, asks_by, asks_from, asks_to, at_one_rate, begins_both, ends_both, ends_contexts, from_context, has_drifted, in_step, none_passed, on_one, pace_of, passed_between, passed_on, passed_text, passes, passes_block, place_of, relayed_by, sending_from, sending_to, to_context}
-use Rattle.af_tools.specs.Relayed.{AreTold, AreToldInWords, Block, Relayed, is_moved, moves, plays, record_replies, reply_then, samples_of}
+use Rattle.af_jobs.specs.Ranges.{IsPaced}
+use Rattle.af_tools.specs.Pass.{Relay, after, apass_course, as_word, asks_by, asks_from, asks_to, at_one_rate, begins_both, ends_both, ends_contexts, from_context, has_drifted, in_step, none_passed, on_one, pace_of, passed_between, passed_on, passed_text, passes, passes_block, place_of, relayed_by, sending_from, sending_to, to_context}
+use Rattle.af_tools.specs.Relayed.{AreTold, IsRelayed, PassedBlock, Relayed, is_moved, moves, plays, record_replies, records, reply_then, samples_of, type_from}
 use Rattle.af_tools.proofs.PassTop.{reports}
+use Rattle.af_tools.proofs.Stated.{few_frames, stated_at}
+use Rattle.af_tools.proofs.Wording.{told_low}
 
 -- a request in a relay that is done was answered
-record WasAnswered {X : Type 0} (sending : List ℕ → Relay → Relay) (bytes : List ℕ) (r : Result X ConnFault) (w : Wire) (next : X → Wire → Relay) (relay : Relay) : Type 0 where
-  value : X
-  good : r ≡ Ok value
-  is : relay ≡ sending bytes (next value w)
+pub record WasAnswered {X : Type 0} (sending : List ℕ → Relay → Relay) (bytes : List ℕ) (r : Result X ConnFault) (w : Wire) (next : X → Wire → Relay) (relay : Relay) : Type 0 where
+  pub value : X
+  pub good : r ≡ Ok value
+  pub is : relay ≡ sending bytes (next value w)
 
-answered_from : {X : Type 0} (bytes : List ℕ) (r : Result X ConnFault) (w : Wire) (next : X → Wire → Relay) → (sending_from bytes (relayed_by r w next)).finish ≡ done → WasAnswered sending_from bytes r w next (sending_from bytes (relayed_by r w next))
+pub answered_from : {X : Type 0} (bytes : List ℕ) (r : Result X ConnFault) (w : Wire) (next : X → Wire → Relay) → (sending_from bytes (relayed_by r w next)).finish ≡ done → WasAnswered sending_from bytes r w next (sending_from bytes (relayed_by r w next))
 answered_from bytes (Ok x) w next is = record { value = x; good = refl; is = refl }
 answered_from bytes (Err fault) w next is = cc
 
-answered_to : {X : Type 0} (bytes : List ℕ) (r : Result X ConnFault) (w : Wire) (next : X → Wire → Relay) → (sending_to bytes (relayed_by r w next)).finish ≡ done → WasAnswered sending_to bytes r w next (sending_to bytes (relayed_by r w next))
+pub answered_to : {X : Type 0} (bytes : List ℕ) (r : Result X ConnFault) (w : Wire) (next : X → Wire → Relay) → (sending_to bytes (relayed_by r w next)).finish ≡ done → WasAnswered sending_to bytes r w next (sending_to bytes (relayed_by r w next))
 answered_to bytes (Ok x) w next is = record { value = x; good = refl; is = refl }
 answered_to bytes (Err fault) w next is = cc
 
@@ -92,18 +98,19 @@ record AllPassed (n : ℕ) (job : PassJob) (pace : Pace) (passed : Passed) (v w 
   passed' : Passed
   v' : Wire
   w' : Wire
-  blocks : List Block
+  blocks : List PassedBlock
   finish : (next passed' v' w').finish ≡ done
   number : length blocks ≡ n
   told : AreTold job w blocks
   bytes : samples_of blocks ≡ record_replies n job pace.size passed.at v
   sent : relay.to ≡ plays job blocks ++ (next passed' v' w').to
+  recorded : relay.from ≡ records n job pace.size passed.at ++ (next passed' v' w').from
   wrote : relay.output ≡ (next passed' v' w').output
-  count : pace.delay < 2 ^ 31 → AreToldInWords blocks → passed'.resynced ≡ passed.resynced + moves job.block passed.due blocks
+  count : passed'.resynced ≡ passed.resynced + moves job.block passed.due blocks
 
-passes_done : (n : ℕ) (job : PassJob) (pace : Pace) (passed : Passed) (v w : Wire) (next : Passed → Wire → Wire → Relay) → (passes n job pace passed v w next).finish ≡ done → AllPassed n job pace passed v w next (passes n job pace passed v w next)
-unfolding passes passes_block AreTold samples_of plays record_replies moves AreToldInWords
-passes_done zero job pace passed v w next is = record {
+passes_done : (n : ℕ) (job : PassJob) (pace : Pace) (passed : Passed) (v w : Wire) (next : Passed → Wire → Wire → Relay) → pace.delay < 2 ^ 31 → (passes n job pace passed v w next).finish ≡ done → AllPassed n job pace passed v w next (passes n job pace passed v w next)
+unfolding passes passes_block AreTold samples_of plays record_replies records moves
+passes_done zero job pace passed v w next small is = record {
   passed' = passed;
   v' = v;
   w' = w;
@@ -114,23 +121,26 @@ passes_done zero job pace passed v w next is = record {
   bytes = refl;
   sent = refl;
   wrote = refl;
-  count = λ small words. omega arith;
+  recorded = refl;
+  count = omega arith;
 }
-passes_done (suc n) job pace passed v w next is =
+passes_done (suc n) job pace passed v w next small is =
     let rest : Passed → Wire → Wire → Relay = λ passed v w. passes n job pace passed v w next in
     let a = done_from (record_run true 1 passed.at.0 pace.size) (as_recorded true pace.size) v _ is in
     let r : Recorded = a.value in
     let is_b = ap (λ (x : Relay). x.finish) (sym a.is) ∙ is in
-    let b = done_to (get_time job.to_device) as_time w _ is_b in
+    let b = done_to (get_time job.to_device) as_word w _ is_b in
     let now : DevTime = b.value in
     let place = place_of passed.due now pace.delay pace.slack in
     let is_c = ap (λ (x : Relay). x.finish) (sym b.is) ∙ is_b in
     let c = done_to (play_run false 1 place.time.0 r.samples) as_time (behind w) _ is_c in
     let is_d = ap (λ (x : Relay). x.finish) (sym c.is) ∙ is_c in
-    let d = passes_done n job pace (passed_on passed place job.block) (behind v) (behind (behind w)) next is_d in
+    let d = passes_done n job pace (passed_on passed place job.block) (behind v) (behind (behind w)) next small is_d in
     let get = request_bytes (get_time job.to_device) in
     let play = request_bytes (play_run false 1 place.time.0 r.samples) in
     let last = (next d.passed' d.v' d.w').to in
+    let record_one = request_bytes (record_run true 1 passed.at.0 pace.size) in
+    let others = records n job pace.size (after passed.at job.block) in
     record {
       passed' = d.passed';
       v' = d.v';
@@ -144,29 +154,35 @@ passes_done (suc n) job pace passed v w next is =
       sent = ap (λ (x : Relay). x.to) a.is ∙ ap (λ (x : Relay). x.to) b.is ∙ ap (λ (x : Relay). get ++ x.to) c.is ∙ ap (λ (l : List ℕ). get ++ play ++ l) d.sent
           ∙ sym (append_assoc get (play ++ plays job d.blocks) last ∙ ap (λ (l : List ℕ). get ++ l) (append_assoc play (plays job d.blocks) last));
       wrote = ap (λ (x : Relay). x.output) a.is ∙ ap (λ (x : Relay). x.output) b.is ∙ ap (λ (x : Relay). x.output) c.is ∙ d.wrote;
-      count = λ small words.
-          let here = moved_so passed.due now pace.delay pace.slack words.0 small in
-          let more = d.count small words.1 in
-          more ∙ ap (λ (k : ℕ). passed.resynced + k + moves job.block (Some (after place.time job.block)) d.blocks) (sym here) ∙ omega arith;
+      recorded = ap (λ (x : Relay). x.from) a.is ∙ ap (λ (x : Relay). record_one ++ x.from) b.is ∙ ap (λ (x : Relay). record_one ++ x.from) c.is ∙ ap (λ (l : List ℕ). record_one ++ l) d.recorded
+          ∙ sym (append_assoc record_one others (next d.passed' d.v' d.w').from);
+      count =
+          let here = moved_so passed.due now pace.delay pace.slack (told_low (get_time job.to_device) w now b.good) small in
+          d.count ∙ ap (λ (k : ℕ). passed.resynced + k + moves job.block (Some (after place.time job.block)) d.blocks) (sym here) ∙ omega arith;
     }
 
 -- the whole of a relay between two devices
-between_done : (job : PassJob) (device : DeviceInfo) (v w : Wire) → (passed_between job device v w (reports job)).finish ≡ done → Relayed job device v w (passed_between job device v w (reports job))
+between_done : (job : PassJob) (device : DeviceInfo) (v w : Wire) (relay : Relay) → relay ≡ passed_between job device v w (reports job) → frames_lasting device.rate job.delay < 2 ^ 31 → relay.finish ≡ done → Relayed job device v w relay.from relay.to relay.output
 unfolding passed_between begins_both ends_contexts
-between_done job device v w is =
-    let ty = unwrap_or job.ty device.ty in
+between_done job device v w relay whole small end_is =
+    let ty = type_from job device in
     let pace = pace_of job ty device.rate in
+    let is = ap (λ (x : Relay). x.finish) (sym whole) ∙ end_is in
     let a = done_from (from_context job ty) as_done v _ is in
     let is_b = ap (λ (x : Relay). x.finish) (sym a.is) ∙ is in
     let b = done_to (to_context job ty) as_done w _ is_b in
     let is_c = ap (λ (x : Relay). x.finish) (sym b.is) ∙ is_b in
     let c = done_from (get_time job.from_device) as_time (behind v) _ is_c in
     let is_d = ap (λ (x : Relay). x.finish) (sym c.is) ∙ is_c in
-    let d = passes_done job.blocks job pace (none_passed c.value) (behind (behind v)) (behind w) _ is_d in
+    let d = passes_done job.blocks job pace (none_passed c.value) (behind (behind v)) (behind w) _ small is_d in
     let e = done_from (free_ac 1) as_done d.v' _ d.finish in
     let is_f = ap (λ (x : Relay). x.finish) (sym e.is) ∙ d.finish in
     let f = done_to (free_ac 1) as_done d.w' _ is_f in
-    let make = request_bytes (to_context job ty) in
+    let make_from = request_bytes (from_context job ty) in
+    let make_to = request_bytes (to_context job ty) in
+    let time = request_bytes (get_time job.from_device) in
+    let asked = records job.blocks job pace.size c.value in
+    let free = request_bytes (free_ac 1) in
     record {
       start = c.value;
       started = c.good;
@@ -174,15 +190,19 @@ between_done job device v w is =
       number = d.number;
       told = d.told;
       bytes = d.bytes;
-      sent = ap (λ (x : Relay). x.to) a.is ∙ ap (λ (x : Relay). x.to) b.is ∙ ap (λ (x : Relay). make ++ x.to) c.is ∙ ap (λ (l : List ℕ). make ++ l) d.sent
-          ∙ ap (λ (x : Relay). make ++ plays job d.blocks ++ x.to) e.is ∙ ap (λ (x : Relay). make ++ plays job d.blocks ++ x.to) f.is
-          ∙ ap (λ (l : List ℕ). make ++ plays job d.blocks ++ l) (append-nil (request_bytes (free_ac 1)));
+      recorded = ap (λ (x : Relay). x.from) whole ∙ ap (λ (x : Relay). x.from) a.is ∙ ap (λ (x : Relay). make_from ++ x.from) b.is ∙ ap (λ (x : Relay). make_from ++ x.from) c.is
+          ∙ ap (λ (l : List ℕ). make_from ++ time ++ l) d.recorded
+          ∙ ap (λ (x : Relay). make_from ++ time ++ asked ++ x.from) e.is ∙ ap (λ (x : Relay). make_from ++ time ++ asked ++ (free ++ x.from)) f.is
+          ∙ ap (λ (l : List ℕ). make_from ++ time ++ asked ++ l) (append-nil free);
+      played = ap (λ (x : Relay). x.to) whole ∙ ap (λ (x : Relay). x.to) a.is ∙ ap (λ (x : Relay). x.to) b.is ∙ ap (λ (x : Relay). make_to ++ x.to) c.is ∙ ap (λ (l : List ℕ). make_to ++ l) d.sent
+          ∙ ap (λ (x : Relay). make_to ++ plays job d.blocks ++ x.to) e.is ∙ ap (λ (x : Relay). make_to ++ plays job d.blocks ++ x.to) f.is
+          ∙ ap (λ (l : List ℕ). make_to ++ plays job d.blocks ++ l) (append-nil free);
       resynced = d.passed'.resynced;
       wrote =
-          ap (λ (x : Relay). x.output) a.is ∙ ap (λ (x : Relay). x.output) b.is ∙ ap (λ (x : Relay). x.output) c.is ∙ d.wrote
+          ap (λ (x : Relay). x.output) whole ∙ ap (λ (x : Relay). x.output) a.is ∙ ap (λ (x : Relay). x.output) b.is ∙ ap (λ (x : Relay). x.output) c.is ∙ d.wrote
           ∙ ap (λ (x : Relay). x.output) e.is ∙ ap (λ (x : Relay). x.output) f.is
           ∙ append-nil (passed_text job.blocks d.passed'.resynced);
-      moved = λ small words. d.count small words ∙ omega arith;
+      moved = d.count ∙ omega arith;
     }
 
 -- a relay that is done has its devices
@@ -190,19 +210,22 @@ rate_done : (b : Bool) (x y : DeviceInfo) (next : Relay) → (if b then next els
 rate_done true x y next is = refl
 rate_done false x y next is = cc
 
-devices_done : (o p : Option DeviceInfo) (n m : ℕ) (device : DeviceInfo) (next : DeviceInfo → Relay) → o ≡ Some device → (on_one o n (λ a. on_one p m (λ b. at_one_rate a b (next a)))).finish ≡ done → on_one o n (λ a. on_one p m (λ b. at_one_rate a b (next a))) ≡ next device
-devices_done None p n m device next there is = cc
-devices_done (Some a) None n m device next there is = cc
-devices_done (Some a) (Some b) n m device next there is = let same : a ≡ device = cc in rate_done (a.rate == b.rate) a b (next a) is ∙ ap next same
+devices_done : (o p : Option DeviceInfo) (n m : ℕ) (next : DeviceInfo → Relay) → (on_one o n (λ a. on_one p m (λ b. at_one_rate a b (next a)))).finish ≡ done →
+    (device : DeviceInfo) × (o ≡ Some device) × (on_one o n (λ a. on_one p m (λ b. at_one_rate a b (next a))) ≡ next device)
+devices_done None p n m next is = absurd (cc)
+devices_done (Some a) None n m next is = absurd (cc)
+devices_done (Some a) (Some b) n m next is = (a, refl, rate_done (a.rate == b.rate) a b (next a) is)
 
-pub relays_all : (job : PassJob) (from to : List DeviceInfo) (v w : Wire) (device : DeviceInfo) → slice_get from job.from_device ≡ Some device →
-    (apass_course job from to v w).finish ≡ done → Relayed job device v w (apass_course job from to v w)
+-- a relay that is done has passed all blocks
+pub course_relayed : (job : PassJob) (from to : List DeviceInfo) (v w : Wire) → All IsStated from → IsPaced job → (apass_course job from to v w).finish ≡ done →
+    (let r : Relay = apass_course job from to v w in (device : DeviceInfo) × (slice_get from job.from_device ≡ Some device) × Relayed job device v w r.from r.to r.output)
 unfolding apass_course
-relays_all job from to v w device there is =
-    let whole = devices_done (slice_get from job.from_device) (slice_get to job.to_device) (length from) (length to) device (λ a. passed_between job a v w (reports job)) there is in
-    subst (λ (r : Relay). Relayed job device v w r) (sym whole) (between_done job device v w (ap (λ (x : Relay). x.finish) (sym whole) ∙ is))
+course_relayed job from to v w stated paced is =
+    let d = devices_done (slice_get from job.from_device) (slice_get to job.to_device) (length from) (length to) (λ a. passed_between job a v w (reports job)) is in
+    let small = few_frames d.0 job.delay (stated_at from job.from_device d.0 stated d.1) paced.2 in
+    (d.0, d.1, between_done job d.0 v w (apass_course job from to v w) d.2 small is)
 
-finish_done : (f : Finish) → end.Done ≡ end_of f → f ≡ done
+pub finish_done : (f : Finish) → end.Done ≡ end_of f → f ≡ done
 finish_done done is = refl
 finish_done not_dialled is = cc
 finish_done (no_device devices) is = cc
@@ -219,13 +242,22 @@ finish_done (refused fault.EventFlood) is = cc
 all_sent : (whole part rest : List ℕ) (s s' : Option (List ℕ)) → whole ≡ part ++ rest → rest ≡ [] → Grew s part s' → Grew s whole s'
 all_sent whole part rest s s' is none grew = subst (λ (l : List ℕ). Grew s l s') (sym (is ∙ ap (λ (l : List ℕ). part ++ l) none ∙ append-nil part)) grew
 
-pub sends_all : (relay : Relay) (s s' t t' h h' : Option (List ℕ)) → FollowedBoth relay end.Done s s' t t' h h' →
-    (relay.finish ≡ done) × Grew s relay.from s' × Grew t relay.to t' × Grew h relay.output h'
-sends_all relay s s' t t' h h' f =
-    let r = f.recorded.whole refl in
-    let p = f.played.whole refl in (
-      finish_done relay.finish r.0,
-      all_sent relay.from f.sends_from f.recorded.unsent s s' f.recorded.sent r.1 f.link_from,
-      all_sent relay.to f.sends_to f.played.unsent t t' f.played.sent p.1 f.link_to,
-      all_sent relay.output f.output f.recorded.unwritten h h' f.recorded.wrote r.2 f.sink,
-    )
+-- a relay that ended at Done has sent and written what it passed
+pub is_relayed : (job : PassJob) (from to : List DeviceInfo) (v w : Wire) (how : ToolEnd) (s s' t t' h h' : Option (List ℕ)) → FollowedBoth (apass_course job from to v w) how s s' t t' h h' →
+    All IsStated from → IsPaced job → how ≡ end.Done → IsRelayed job from v w s s' t t' h h'
+is_relayed job from to v w how s s' t t' h h' f stated paced way =
+    let relay = apass_course job from to v w in
+    let r = f.recorded.whole (ap is_outer way) in
+    let p = f.played.whole (ap is_outer way) in
+    let c = course_relayed job from to v w stated paced (finish_done relay.finish (sym way ∙ r.0)) in
+    record {
+      device = c.0;
+      is_there = c.1;
+      sends_from = relay.from;
+      sends_to = relay.to;
+      output = relay.output;
+      relayed = c.2;
+      link_from = all_sent relay.from f.sends_from f.recorded.unsent s s' f.recorded.sent r.1 f.link_from;
+      link_to = all_sent relay.to f.sends_to f.played.unsent t t' f.played.sent p.1 f.link_to;
+      sink = all_sent relay.output f.output f.recorded.unwritten h h' f.recorded.wrote r.2 f.sink;
+    }

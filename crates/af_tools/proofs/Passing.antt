@@ -9,12 +9,12 @@ use Rattle.af_outside.specs.Told.{Grew}
 use Rattle.af_request.specs.Asked.{free_ac, get_time, play_run}
 use Rattle.af_lib.specs.Calls.{as_done, as_time, Recorded}
 use Rattle.af_tools.specs.declared.end.ToolEnd.{ToolEnd}
-use Rattle.af_tools.specs.declared.job.PassJob.{PassJob}
+use Rattle.af_jobs.specs.declared.job.PassJob.{PassJob}
 use Rattle.af_tools.specs.declared.pass.Pace.{Pace}
 use Rattle.af_tools.specs.declared.pass.Passed.{Passed}
 use Rattle.af_tools.specs.Course.{Wire}
 use Rattle.af_tools.specs.Both.{Both, GoesBoth}
-use Rattle.af_tools.specs.Pass.{Relay, asks_from, asks_to, ends_contexts, passed_on, passes, passes_block, place_of, to_context}
+use Rattle.af_tools.specs.Pass.{Relay, as_word, asks_from, asks_to, ends_contexts, passed_on, passes, passes_block, place_of, to_context}
 use Rattle.af_tools.proofs.Growing.{grew_on}
 use Rattle.af_tools.proofs.Pairing.{both_behind_came, doing_both, doing_both_twice}
 
@@ -86,7 +86,7 @@ behind_time job pace passed r now v w = λ next.
     asks_to (play_run false 1 place.time.0 r.samples) as_time w (λ _ w. next (passed_on passed place job.block) v w)
 
 abbrev pub behind_record : PassJob → Pace → Passed → Recorded → Wire → Wire → Both Passed
-behind_record job pace passed r v w = λ next. asks_to (get_time job.to_device) as_time w (λ now w. behind_time job pace passed r now v w next)
+behind_record job pace passed r v w = λ next. asks_to (get_time job.to_device) as_word w (λ now w. behind_time job pace passed r now v w next)
 
 -- the second context, and behind it
 abbrev pub behind_first : PassJob → SampleType → Wire → Wire → Both DevTime

@@ -18,27 +18,27 @@ use Rattle.af_lib.specs.declared.fault.ConnFault.TheVariants as fault
 use Rattle.af_lib.specs.Calls.{as_done, as_time}
 use Rattle.af_tools.specs.declared.end.ToolEnd.{ToolEnd}
 use Rattle.af_tools.specs.declared.end.ToolEnd.TheVariants as end
-use Rattle.af_tools.specs.declared.job.PlayJob.{PlayJob}
+use Rattle.af_jobs.specs.declared.job.PlayJob.{PlayJob}
 use Rattle.af_tools.specs.Course.{Course, Finish, Wire, answer_on, answered_by, asks, behind, done, end_of, ends, fault_end, mismatch, no_device, not_dialled, on_device, refused, sending, too_long, writing}
 use Rattle.af_tools.specs.Play.{aplay_course, blocks, frames_in, most_bytes, play_context, played, played_on, plays, start_at, whole_frames}
 use Rattle.af_tools.specs.Ends.{Followed, is_outer}
 use Rattle.af_tools.specs.Blocks.{sent_behind, sent_blocks, Block}
 use Rattle.af_tools.specs.Intent.{play_of, played_whole, type_on, IsPlayed}
 use Rattle.af_tools.proofs.Playing.{plays_block, plays_last, plays_long, plays_none}
-use Rattle.af_tools.proofs.Sending.{sent_first, sent_last}
+use Rattle.af_tools.proofs.Sending.{all_frames, frames_sent, sent_first, sent_last, sent_more, sent_no_more, sent_none}
 use Rattle.af_tools.proofs.Intended.{heard_as_intended}
 
 -- a course that is done went on behind an answer
-answered_done : {X : Type 0} (r : Result X ConnFault) (w : Wire) (next : X → Wire → Course) → (answered_by r w next).finish ≡ done → (x : X) × (answered_by r w next ≡ next x w)
-answered_done (Ok x) w next is = (x, refl)
+pub answered_done : {X : Type 0} (r : Result X ConnFault) (w : Wire) (next : X → Wire → Course) → (answered_by r w next).finish ≡ done → (x : X) × (r ≡ Ok x) × (answered_by r w next ≡ next x w)
+answered_done (Ok x) w next is = (x, refl, refl)
 answered_done (Err fault) w next is = absurd (cc)
 
 asks_done : {X : Type 0} (asked : Asked) (value_of : Answer → Option X) (w : Wire) (next : X → Wire → Course) → (asks asked value_of w next).finish ≡ done →
-    (x : X) × (asks asked value_of w next ≡ sending (request_bytes asked) (next x (behind w))) × ((next x (behind w)).finish ≡ done)
+    (x : X) × (answer_on asked value_of w ≡ Ok x) × (asks asked value_of w next ≡ sending (request_bytes asked) (next x (behind w))) × ((next x (behind w)).finish ≡ done)
 unfolding asks
 asks_done asked value_of w next is =
     let r = answered_done (answer_on asked value_of w) (behind w) next is in
-    (r.0, ap (sending (request_bytes asked)) r.1, ap (λ (c : Course). c.finish) (sym r.1) ∙ is)
+    (r.0, r.1, ap (sending (request_bytes asked)) r.2, ap (λ (c : Course). c.finish) (sym r.2) ∙ is)
 
 sending_twice : (a b : List ℕ) (c : Course) → sending a (sending b c) ≡ sending (a ++ b) c
 sending_twice a b c = ap (λ (s : List ℕ). (let d : Course = record { sends = s; output = c.output; finish = c.finish } in d)) (sym (append_assoc a b c.sends))
@@ -47,8 +47,8 @@ ended_long : (c : Course) → c ≡ ends too_long → c.finish ≡ done → ⊥
 ended_long c is way = let bad : too_long ≡ done = sym (ap (λ (x : Course). x.finish) is) ∙ way in cc
 
 plays_done : (width start frames given : ℕ) (bs : List (List ℕ)) (w : Wire) (next : ℕ → Wire → Course) → (plays width start frames given bs w next).finish ≡ done →
-    (n : ℕ) × (v : Wire) × (plays width start frames given bs w next ≡ sending (flat_map (play_of start) (sent_behind width frames bs)) (next n v)) × ((next n v).finish ≡ done)
-plays_done width start frames given [] w next way = (frames, w, plays_none width start frames given w next, ap (λ (c : Course). c.finish) (sym (plays_none width start frames given w next)) ∙ way)
+    (n : ℕ) × (v : Wire) × (n ≡ frames + frames_sent width bs) × (plays width start frames given bs w next ≡ sending (flat_map (play_of start) (sent_behind width frames bs)) (next n v)) × ((next n v).finish ≡ done)
+plays_done width start frames given [] w next way = (frames, w, (let none = sent_none width in omega arith), plays_none width start frames given w next, ap (λ (c : Course). c.finish) (sym (plays_none width start frames given w next)) ∙ way)
 plays_done width start frames given (block ∷ more) w next way = elim (cases_lt most_bytes (given + length block)) [
   | inl long ↦ absurd (ended_long _ (plays_long width start frames given w next block more long) way)
   | inr fits ↦ elim (cases_lt 0 (length block / width)) [
@@ -58,17 +58,21 @@ plays_done width start frames given (block ∷ more) w next way = elim (cases_lt
         let others : List Block = sent_behind width (frames + frames_in width block) more in
         let e = plays_block width start frames given w next block more fits some in
         let a = asks_done (play_run false 1 ((start + frames) % 2 ^ 32) (whole_frames width block)) as_time w (λ _ v. after v) (ap (λ (c : Course). c.finish) (sym e) ∙ way) in
-        let r = plays_done width start (frames + frames_in width block) (given + length block) more (behind w) next a.2 in (
+        let r = plays_done width start (frames + frames_in width block) (given + length block) more (behind w) next a.3 in
+        let here = sent_more width block more some in
+        let there = r.2 in (
           r.0,
           r.1,
-          e ∙ a.1 ∙ ap (sending first) r.2
+          omega arith,
+          e ∙ a.2 ∙ ap (sending first) r.3
               ∙ sending_twice first (flat_map (play_of start) others) (next r.0 r.1)
               ∙ ap (λ (s : List Block). sending (flat_map (play_of start) s) (next r.0 r.1)) (sym (sent_first width frames block more some)),
-          r.3,
+          r.4,
         )
     | inr none ↦ (
       frames,
       w,
+      (let here = sent_no_more width block more (omega arith) in omega arith),
       plays_last width start frames given w next block more fits (omega arith)
           ∙ ap (λ (s : List Block). sending (flat_map (play_of start) s) (next frames w)) (sym (sent_last width frames block more (omega arith))),
       ap (λ (c : Course). c.finish) (sym (plays_last width start frames given w next block more fits (omega arith))) ∙ way,
@@ -79,9 +83,13 @@ plays_done width start frames given (block ∷ more) w next way = elim (cases_lt
 sending_all : (a b p f : List ℕ) (c : Course) → sending a (sending b (sending p (sending f c))) ≡ sending (a ++ (b ++ (p ++ f))) c
 sending_all a b p f c = ap (sending a) (ap (sending b) (sending_twice p f c) ∙ sending_twice b (p ++ f) c) ∙ sending_twice a (b ++ (p ++ f)) c
 
+from_none : (m n : ℕ) → m ≡ 0 + n → m ≡ n
+from_none m n is = omega arith
+
 -- a job that is done on a device
 done_on : (job : PlayJob) (device : DeviceInfo) (bytes : List ℕ) (w : Wire) (next : ℕ → ℕ → Wire → Course) → (played_on job device bytes w next).finish ≡ done →
-    (now : ℕ) × (frames : ℕ) × (v : Wire) × (played_on job device bytes w next ≡ sending (played_whole job device bytes (start_at job.time now (frames_lasting device.rate job.lead))) (next frames (start_at job.time now (frames_lasting device.rate job.lead)) v))
+    (now : DevTime) × (v : Wire) × (answer_on (get_time job.device) as_time (behind w) ≡ Ok now)
+    × (played_on job device bytes w next ≡ sending (played_whole job device bytes (start_at job.time now.0 (frames_lasting device.rate job.lead))) (next (frames_sent (width_of (type_on job device)) (blocks (job.block * width_of (type_on job device)) bytes)) (start_at job.time now.0 (frames_lasting device.rate job.lead)) v))
 unfolding played_on
 done_on job device bytes w next way =
     let width = width_of (type_on job device) in
@@ -89,18 +97,20 @@ done_on job device bytes w next way =
     let freeing = λ (start frames : ℕ) (v : Wire). asks (free_ac 1) as_done v (λ _ u. next frames start u) in
     let playing = λ (now : DevTime) (v : Wire). plays width (start_of now.0) 0 0 (blocks (job.block * width) bytes) v (λ frames u. freeing (start_of now.0) frames u) in
     let a = asks_done (play_context job device) as_done w (λ _ v. asks (get_time job.device) as_time v playing) way in
-    let b = asks_done (get_time job.device) as_time (behind w) playing a.2 in
+    let b = asks_done (get_time job.device) as_time (behind w) playing a.3 in
     let now : ℕ = b.0.0 in
-    let p = plays_done width (start_of now) 0 0 (blocks (job.block * width) bytes) (behind (behind w)) (λ frames u. freeing (start_of now) frames u) b.2 in
-    let f = asks_done (free_ac 1) as_done p.1 (λ _ u. next p.0 (start_of now) u) p.3 in
+    let p = plays_done width (start_of now) 0 0 (blocks (job.block * width) bytes) (behind (behind w)) (λ frames u. freeing (start_of now) frames u) b.3 in
+    let f = asks_done (free_ac 1) as_done p.1 (λ _ u. next p.0 (start_of now) u) p.4 in
+    let count : p.0 ≡ frames_sent width (blocks (job.block * width) bytes) = from_none p.0 (frames_sent width (blocks (job.block * width) bytes)) p.2 in
     let context : List ℕ = request_bytes (play_context job device) in
     let time : List ℕ = request_bytes (get_time job.device) in
     let whole : List ℕ = flat_map (play_of (start_of now)) (sent_blocks (type_on job device) job.block bytes) in (
-      now,
-      p.0,
+      b.0,
       behind p.1,
-      a.1 ∙ ap (sending context) (b.1 ∙ ap (sending time) (p.2 ∙ ap (sending whole) f.1))
-          ∙ sending_all context time whole (request_bytes (free_ac 1)) (next p.0 (start_of now) (behind p.1)),
+      b.1,
+      a.2 ∙ ap (sending context) (b.2 ∙ ap (sending time) (p.3 ∙ ap (sending whole) f.2))
+          ∙ sending_all context time whole (request_bytes (free_ac 1)) (next p.0 (start_of now) (behind p.1))
+          ∙ ap (λ (n : ℕ). sending (played_whole job device bytes (start_of now)) (next n (start_of now) (behind p.1))) count,
     )
 
 on_device_done : (o : Option DeviceInfo) (n : ℕ) (next : DeviceInfo → Course) → (on_device o n next).finish ≡ done → (device : DeviceInfo) × (o ≡ Some device) × (on_device o n next ≡ next device)
@@ -128,24 +138,25 @@ whole_part : (all part rest : List ℕ) (known : List ℕ) → all ≡ part ++ r
 whole_part all part rest known is none same = sym (append-nil part) ∙ ap (λ (r : List ℕ). part ++ r) (sym none) ∙ sym is ∙ same ∙ append-nil known
 
 pub is_played : (job : PlayJob) (devices : List DeviceInfo) (bytes : List ℕ) (w : Wire) (how : ToolEnd) (s s' h h' : Option (List ℕ)) →
-    Followed (aplay_course job devices bytes w) how s s' h h' → how ≡ end.Done → 0 < job.block → IsPlayed job devices bytes s s' h h'
+    Followed (aplay_course job devices bytes w) how s s' h h' → how ≡ end.Done → 0 < job.block → IsPlayed job devices bytes w s s' h h'
 unfolding aplay_course
 is_played job devices bytes w how s s' h h' followed way some =
     let whole = followed.ended.whole (ap is_outer way) in
     let finish = finish_done (aplay_course job devices bytes w).finish (sym whole.0 ∙ way) in
     let d = on_device_done (slice_get devices job.device) (length devices) (λ device. played_on job device bytes w (λ frames start _. writing (played frames start) (ends done))) finish in
     let device = d.0 in
+    let ty = type_on job device in
     let p = done_on job device bytes w (λ frames start _. writing (played frames start) (ends done)) (ap (λ (c : Course). c.finish) (sym d.2) ∙ finish) in
-    let is = d.2 ∙ p.3 in
-    let start = start_at job.time p.0 (frames_lasting device.rate job.lead) in
+    let start = start_at job.time p.0.0 (frames_lasting device.rate job.lead) in
+    let is = d.2 ∙ p.3 ∙ ap (λ (n : ℕ). sending (played_whole job device bytes start) (writing (played n start) (ends done))) (all_frames ty job.block bytes some) in
     record {
       device = device;
-      now = p.0;
-      start = start;
-      frames = p.1;
       is_there = d.1;
+      now = p.0;
+      told = p.2;
+      start = start;
       starts = refl;
       link = subst (λ (b : List ℕ). Grew s b s') (whole_part (aplay_course job devices bytes w).sends followed.sends followed.ended.unsent (played_whole job device bytes start) followed.ended.sent whole.1 (ap (λ (c : Course). c.sends) is)) followed.link;
-      sink = subst (λ (b : List ℕ). Grew h b h') (whole_part (aplay_course job devices bytes w).output followed.output followed.ended.unwritten (played p.1 start) followed.ended.wrote whole.2 (ap (λ (c : Course). c.output) is)) followed.sink;
-      hears = λ first accepted same a i low. heard_as_intended (type_on job device) job.gain job.block bytes first accepted some a i low;
+      sink = subst (λ (b : List ℕ). Grew h b h') (whole_part (aplay_course job devices bytes w).output followed.output followed.ended.unwritten (played (length bytes / width_of ty) start) followed.ended.wrote whole.2 (ap (λ (c : Course). c.output) is)) followed.sink;
+      hears = λ first accepted same a i low. heard_as_intended ty job.gain job.block bytes first accepted some a i low;
     }

@@ -7,7 +7,7 @@ use Rattle.af_sample.specs.declared.sample_type.SampleType.{SampleType}
 use Rattle.af_request.specs.Asked.{free_ac}
 use Rattle.af_lib.specs.Calls.{as_done}
 use Rattle.af_tools.specs.declared.end.ToolEnd.{ToolEnd}
-use Rattle.af_tools.specs.declared.job.RecordJob.{RecordJob}
+use Rattle.af_jobs.specs.declared.job.RecordJob.{RecordJob}
 use Rattle.af_tools.specs.Course.{Course, Wire, asks}
 use Rattle.af_tools.specs.Record.{block_lengths, records}
 use Rattle.af_tools.specs.Ends.{Goes, Part}

@@ -13,7 +13,7 @@ use Rattle.af_sample.specs.declared.sample_type.SampleType.{SampleType}
 use Rattle.af_sample.specs.SampleTypes.{width_of}
 use Rattle.af_sample.specs.Samples.{decoded, piece, samples}
 use Rattle.af_tools.specs.declared.end.ToolEnd.{ToolEnd}
-use Rattle.af_tools.specs.declared.job.RecordJob.{RecordJob}
+use Rattle.af_jobs.specs.declared.job.RecordJob.{RecordJob}
 use Rattle.af_tools.specs.Course.{Course, Wire}
 use Rattle.af_tools.specs.Record.{block_lengths, ends_row, greatest, peak, records, row_below, takes_block}
 use Rattle.af_tools.specs.Ends.{Goes, Part}

@@ -11,8 +11,8 @@ use Rattle.af_lib.specs.declared.fault.ConnFault.TheVariants as fault
 use Rattle.af_lib.specs.Calls.{answered, as_devices}
 use Rattle.af_tools.specs.declared.end.ToolEnd.{ToolEnd}
 use Rattle.af_tools.specs.declared.end.ToolEnd.TheVariants as end
-use Rattle.af_tools.specs.declared.job.Task.{Task}
-use Rattle.af_tools.specs.declared.job.Task.TheVariants as task
+use Rattle.af_jobs.specs.declared.job.Task.{Task}
+use Rattle.af_jobs.specs.declared.job.Task.TheVariants as task
 use Rattle.af_tools.specs.Course.{Course, Finish, Wire, answered_by, connects, dials, done, end_of, ends, mismatch, no_device, not_dialled, on_device, next_message, refused, set_up, too_long, unused, writing}
 use Rattle.af_tools.specs.Play.{aplay_course, most_bytes, played}
 use Rattle.af_tools.specs.Record.{arecord_course}

@@ -1,5 +1,5 @@
 -- The blocks that are sent of a source's bytes: each frame stands in exactly one of them.
-use Rattle.std.proofs.Common.{◌≡◌, ℕ, zero, suc, ◌+◌, ◌-◌, ◌*◌, ◌/◌, ◌<◌, ◌≤◌, nat_lt, true, false, List, [], ◌∷◌, length, take, drop, slice_get, refl, sym, ap, ◌∙◌, subst, arith, inl, inr, length-take, length-take-le, length-drop}
+use Rattle.std.proofs.Common.{◌≡◌, ℕ, zero, suc, ◌+◌, ◌-◌, ◌*◌, ◌/◌, ◌<◌, ◌≤◌, nat_lt, Bool, true, false, if◌then◌else◌, List, [], ◌∷◌, length, take, drop, slice_get, refl, sym, ap, ◌∙◌, subst, arith, inl, inr, length-take, length-take-le, length-drop}
 use Rattle.std.proofs.lemmas.Bool.Decides.{nat_tests}
 use Rattle.std.proofs.lemmas.Bool.{cases_lt}
 use Rattle.std.proofs.lemmas.List.{take-take, drop-take}
@@ -11,7 +11,7 @@ use Rattle.af_sample.specs.declared.sample_type.SampleType.{SampleType}
 use Rattle.af_sample.specs.declared.sample_type.SampleType.TheVariants.{Mu255, Alaw, Lin16, Lin32}
 use Rattle.af_sample.specs.SampleTypes.{width_of}
 use Rattle.af_sample.specs.Samples.{piece}
-use Rattle.af_tools.specs.Play.{cut, frames_in, whole_frames}
+use Rattle.af_tools.specs.Play.{blocks, cut, frames_in, whole_frames}
 use Rattle.af_tools.specs.Blocks.{sent_behind, Block}
 
 -- the first block that is sent
@@ -213,3 +213,73 @@ one_block ty before (block ∷ more) k k' b b' j j' is is' low low' same = elim 
       (λ n n' at at'. one_block ty (before + frames_in (width_of ty) block) more n n' b b' j j' at at' low low' same)
   | inr none ↦ absurd (no_block b (subst (λ (s : List Block). slice_get s k ≡ Some b) (sent_last (width_of ty) before block more (omega arith)) is))
 ]
+
+-- how many frames are sent of some blocks
+unfoldable pub frames_sent : ℕ → List (List ℕ) → ℕ
+frames_sent width [] = 0
+frames_sent width (block ∷ more) = if nat_lt 0 (frames_in width block) then frames_in width block + frames_sent width more else 0
+
+pub sent_none : (width : ℕ) → frames_sent width [] ≡ 0
+unfolding frames_sent
+sent_none width = refl
+
+pub sent_more : (width : ℕ) (block : List ℕ) (more : List (List ℕ)) → 0 < length block / width → frames_sent width (block ∷ more) ≡ length block / width + frames_sent width more
+unfolding frames_sent
+sent_more width block more some =
+    let whole : nat_lt 0 (length block / width) ≡ true = grind (arith, nat_tests) in
+    ap (λ (b : Bool). if b then length block / width + frames_sent width more else 0) whole
+
+pub sent_no_more : (width : ℕ) (block : List ℕ) (more : List (List ℕ)) → length block / width ≡ 0 → frames_sent width (block ∷ more) ≡ 0
+unfolding frames_sent
+sent_no_more width block more none =
+    let whole : nat_lt 0 (length block / width) ≡ false = grind (arith, nat_tests) in
+    ap (λ (b : Bool). if b then length block / width + frames_sent width more else 0) whole
+
+none_in : (ty : SampleType) (n : ℕ) → n ≤ 0 → 0 ≡ n / width_of ty
+none_in Mu255 n none = omega arith
+none_in Alaw n none = omega arith
+none_in Lin16 n none = omega arith
+none_in Lin32 n none = omega arith
+
+in_all : (ty : SampleType) (frames len first rest : ℕ) → 0 < frames → first ≡ min (frames * width_of ty) len → rest ≡ len - frames * width_of ty → first / width_of ty + rest / width_of ty ≡ len / width_of ty
+in_all Mu255 frames len first rest some f r = omega arith
+in_all Alaw frames len first rest some f r = omega arith
+in_all Lin16 frames len first rest some f r = omega arith
+in_all Lin32 frames len first rest some f r = omega arith
+
+in_none : (ty : SampleType) (frames len first : ℕ) → 0 < frames → first ≡ min (frames * width_of ty) len → first / width_of ty ≡ 0 → 0 ≡ len / width_of ty
+in_none Mu255 frames len first some f none = omega arith
+in_none Alaw frames len first some f none = omega arith
+in_none Lin16 frames len first some f none = omega arith
+in_none Lin32 frames len first some f none = omega arith
+
+fewer : (ty : SampleType) (frames len rest n : ℕ) → 0 < frames → 0 < len → len ≤ suc n → rest ≡ len - frames * width_of ty → rest ≤ n
+fewer Mu255 frames len rest n some there most r = omega arith
+fewer Alaw frames len rest n some there most r = omega arith
+fewer Lin16 frames len rest n some there most r = omega arith
+fewer Lin32 frames len rest n some there most r = omega arith
+
+frames_cut : (ty : SampleType) (frames n : ℕ) (bytes : List ℕ) → 0 < frames → length bytes ≤ n → frames_sent (width_of ty) (cut n (frames * width_of ty) bytes) ≡ length bytes / width_of ty
+frames_cut ty frames zero bytes some few = sent_none (width_of ty) ∙ none_in ty (length bytes) few
+frames_cut ty frames (suc n) [] some few = sent_none (width_of ty) ∙ none_in ty 0 (omega arith)
+frames_cut ty frames (suc n) (b ∷ bytes) some few =
+    let xs : List ℕ = b ∷ bytes in
+    let size : ℕ = frames * width_of ty in
+    let block : List ℕ = take size xs in
+    let more = cut n size (drop size xs) in
+    let first : length block ≡ min size (length xs) = length-take size xs in
+    let rest : length (drop size xs) ≡ length xs - size = length-drop size xs in
+    elim (cases_lt 0 (length block / width_of ty)) [
+      | inl whole ↦
+          sent_more (width_of ty) block more whole
+          ∙ ap (λ (m : ℕ). length block / width_of ty + m) (frames_cut ty frames n (drop size xs) some (fewer ty frames (length xs) (length (drop size xs)) n some (omega arith) few rest))
+          ∙ in_all ty frames (length xs) (length block) (length (drop size xs)) some first rest
+      | inr none ↦
+          let zero_frames : length block / width_of ty ≡ 0 = omega arith in
+          sent_no_more (width_of ty) block more zero_frames ∙ in_none ty frames (length xs) (length block) some first zero_frames
+    ]
+
+-- the frames that are sent are all whole frames
+pub all_frames : (ty : SampleType) (frames : ℕ) (bytes : List ℕ) → 0 < frames → frames_sent (width_of ty) (blocks (frames * width_of ty) bytes) ≡ length bytes / width_of ty
+unfolding blocks
+all_frames ty frames bytes some = frames_cut ty frames (length bytes) bytes some (omega arith)

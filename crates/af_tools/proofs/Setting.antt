@@ -8,7 +8,7 @@ use Rattle.af_request.specs.declared.reply.DeviceInfo.{DeviceInfo}
 use Rattle.af_request.specs.declared.reply.Phone.{Phone}
 use Rattle.af_request.specs.Asked.{Asked, query_controls, query_phone}
 use Rattle.af_lib.specs.Calls.{as_controls, as_done, as_phone}
-use Rattle.af_tools.specs.declared.job.SetJob.{SetJob}
+use Rattle.af_jobs.specs.declared.job.SetJob.{SetJob}
 use Rattle.af_tools.specs.declared.standing.Standing.{Standing}
 use Rattle.af_tools.specs.declared.end.ToolEnd.{ToolEnd}
 use Rattle.af_tools.specs.Course.{Course, Wire, asks}

@@ -7,9 +7,9 @@ use Rattle.std.specs.declared.option.Option.TheVariants.{None, Some}
 use Rattle.af_request.specs.declared.reply.DeviceInfo.{DeviceInfo}
 use Rattle.af_tools.specs.declared.end.ToolEnd.{ToolEnd}
 use Rattle.af_tools.specs.declared.end.ToolEnd.TheVariants as end
-use Rattle.af_tools.specs.declared.job.PlayJob.{PlayJob}
-use Rattle.af_tools.specs.declared.job.RecordJob.{RecordJob}
-use Rattle.af_tools.specs.declared.job.SetJob.{SetJob}
+use Rattle.af_jobs.specs.declared.job.PlayJob.{PlayJob}
+use Rattle.af_jobs.specs.declared.job.RecordJob.{RecordJob}
+use Rattle.af_jobs.specs.declared.job.SetJob.{SetJob}
 use Rattle.af_tools.specs.Course.{Course, Wire, done, ends, no_device, on_device, writing}
 use Rattle.af_tools.specs.Device.{device_or_end}
 use Rattle.af_tools.specs.Play.{aplay_course, played, played_on}

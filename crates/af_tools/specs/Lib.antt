@@ -12,6 +12,4 @@ pub mod Pair
 pub mod Fill
 pub mod Device
 pub mod Talk
-pub mod Numbers
-pub mod Words
 pub mod Run

@@ -1,5 +1,5 @@
 -- What apass does: block behind block is recorded on one server and played on another.
-use Rattle.std.specs.Prelude.{◌≤◌, ◌∷◌, ℕ, zero, suc, ◌+◌, ◌*◌, ◌%◌, ◌^◌, ◌-ℤ◌, ◌==◌, nat_lt, unsigned_abs, if◌then◌else◌, pos, Bool, true, false, List, [], ◌++◌, codes, decimal, length, slice_get, unwrap_or, Result, Ok, Err}
+use Rattle.std.specs.Prelude.{◌∷◌, ℕ, zero, suc, ◌+◌, ◌*◌, ◌%◌, ◌^◌, ◌-ℤ◌, ◌==◌, nat_lt, unsigned_abs, if◌then◌else◌, pos, Bool, true, false, List, [], ◌++◌, codes, decimal, length, slice_get, option_and_then, unwrap_or, Result, Ok, Err}
 use Rattle.std.specs.declared.option.Option.{Option}
 use Rattle.std.specs.declared.option.Option.TheVariants.{None, Some}
 use Rattle.af_time.specs.declared.DevTime.{DevTime}
@@ -13,7 +13,7 @@ use Rattle.af_request.specs.Answer.{Answer}
 use Rattle.af_request.specs.Requests.{request_bytes}
 use Rattle.af_lib.specs.declared.fault.ConnFault.{ConnFault}
 use Rattle.af_lib.specs.Calls.{answered, as_devices, as_done, as_recorded, as_time, setup_bytes}
-use Rattle.af_tools.specs.declared.job.PassJob.{PassJob}
+use Rattle.af_jobs.specs.declared.job.PassJob.{PassJob}
 use Rattle.af_tools.specs.declared.pass.Pace.{Pace}
 use Rattle.af_tools.specs.declared.pass.Passed.{Passed}
 use Rattle.af_tools.specs.declared.pass.Place.{Place}
@@ -63,6 +63,13 @@ asks_from asked value_of v next = asks_by sending_from asked value_of v next
 abbrev pub asks_to : {X : Type 0} → Asked → (Answer → Option X) → Wire → (X → Wire → Relay) → Relay
 asks_to asked value_of w next = asks_by sending_to asked value_of w next
 
+-- the time that a reply tells: a word of 32 bits
+abbrev pub word_or_none : DevTime → Option DevTime
+word_or_none now = if nat_lt now.0 (2 ^ 32) then Some now else None
+
+unfoldable pub as_word : Answer → Option DevTime
+as_word answer = option_and_then word_or_none (as_time answer)
+
 -- so many frames after a time
 abbrev pub after : DevTime → ℕ → DevTime
 after time frames = record { 0 = (time.0 + frames) % 2 ^ 32 }
@@ -93,7 +100,7 @@ passed_on passed place frames = record {
 unfoldable pub passes_block : PassJob → Pace → Passed → (v w : Wire) → (Passed → Wire → Wire → Relay) → Relay
 passes_block job pace passed v w next =
     asks_from (record_run true 1 passed.at.0 pace.size) (as_recorded true pace.size) v (λ r v.
-    asks_to (get_time job.to_device) as_time w (λ now w.
+    asks_to (get_time job.to_device) as_word w (λ now w.
     let place = place_of passed.due now pace.delay pace.slack in
     asks_to (play_run false 1 place.time.0 r.samples) as_time w (λ _ w.
     next (passed_on passed place job.block) v w)))
@@ -161,10 +168,6 @@ apass_course job from to v w =
     on_one (slice_get from job.from_device) (length from) (λ a.
     on_one (slice_get to job.to_device) (length to) (λ b.
     at_one_rate a b (passed_between job a v w (λ resynced _ _. relay_writing (passed_text job.blocks resynced) (ends_both done)))))
-
--- the values of a job that the buffer and the arithmetic rest on are in their ranges
-abbrev pub IsPaced : PassJob → Type 0
-IsPaced job = (1 ≤ job.block) × (job.block ≤ 4000) × (job.delay ≤ 3000)
 
 -- the second server is dialled, and its link set up
 abbrev pub dials_to : List ToldLink → (List DeviceInfo → Wire → Relay) → Relay

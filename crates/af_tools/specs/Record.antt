@@ -6,7 +6,7 @@ use Rattle.af_sample.specs.Samples.{samples}
 use Rattle.af_request.specs.declared.reply.DeviceInfo.{DeviceInfo}
 use Rattle.af_request.specs.Asked.{Asked, create_ac, free_ac, record_run}
 use Rattle.af_lib.specs.Calls.{as_done, as_recorded}
-use Rattle.af_tools.specs.declared.job.RecordJob.{RecordJob}
+use Rattle.af_jobs.specs.declared.job.RecordJob.{RecordJob}
 use Rattle.af_tools.specs.Course.{Course, Wire, asks, begins, done, ends, with_device, writing}
 
 -- how many frames each block has: so many, and the last what is left of all

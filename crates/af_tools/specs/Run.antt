@@ -1,5 +1,5 @@
 -- What the tools do, by their words, the bytes of the source, and what the links that are dialled give.
-use Rattle.std.specs.Prelude.{◌≡◌, ◌≢◌, ◌≤◌, ◌⊎◌, ⊤, ℕ, Bool, true, false, List, [], ◌∷◌, ◌++◌, length}
+use Rattle.std.specs.Prelude.{◌≡◌, ◌≢◌, ◌⊎◌, ⊤, ℕ, Bool, true, false, List, [], ◌∷◌, ◌++◌, Ok}
 use Rattle.std.specs.declared.option.Option.{Option}
 use Rattle.std.specs.declared.option.Option.TheVariants.{Some}
 use Rattle.clap.specs.Words.{Text}
@@ -9,25 +9,21 @@ use Rattle.af_outside.specs.Dial.{GrewBack, ToldLink}
 use Rattle.af_request.specs.declared.reply.DeviceInfo.{DeviceInfo}
 use Rattle.af_tools.specs.declared.end.ToolEnd.{ToolEnd}
 use Rattle.af_tools.specs.declared.end.ToolEnd.TheVariants as end
-use Rattle.af_tools.specs.declared.job.Task.{Task}
-use Rattle.af_tools.specs.declared.job.Task.TheVariants as task
-use Rattle.af_tools.specs.declared.run.Call.{Call}
-use Rattle.af_tools.specs.Course.{Course, Wire, dials, mismatch, no_device, not_dialled}
+use Rattle.af_jobs.specs.declared.job.Task.{Task}
+use Rattle.af_jobs.specs.declared.job.Task.TheVariants as task
+use Rattle.af_tools.specs.Course.{Course, Wire, dials, mismatch, next_message, no_device, not_dialled, set_up, unused}
 use Rattle.af_tools.specs.Play.{aplay_course}
 use Rattle.af_tools.specs.Record.{arecord_course}
 use Rattle.af_tools.specs.Set.{aset_course}
-use Rattle.af_tools.specs.declared.run.Call.TheVariants as call
-use Rattle.af_tools.specs.declared.job.PassJob.{PassJob}
-use Rattle.af_lib.specs.Calls.{setup_bytes}
-use Rattle.af_tools.specs.Pass.{IsPaced, Relay, alone, apass_course, dials_to, on_from, on_to, relay_course}
-use Rattle.af_tools.specs.Words.{Job, one, relay}
+use Rattle.af_jobs.specs.declared.job.PassJob.{PassJob}
+use Rattle.af_jobs.specs.declared.job.PlayJob.{PlayJob}
+use Rattle.af_lib.specs.Calls.{answered, as_devices, setup_bytes}
+use Rattle.af_tools.specs.Pass.{Relay, alone, apass_course, dials_to, on_from, on_to, relay_course}
+use Rattle.af_tools.specs.Relayed.{IsRelayed}
+use Rattle.af_tools.specs.Intent.{IsPlayed}
+use Rattle.af_jobs.specs.Words.{Job, one, relay}
 use Rattle.af_tools.specs.Pair.{is_of_pass}
 use Rattle.af_tools.specs.Ends.{Ended, IsAnswered, is_of_play, is_outer}
-
--- the job of a call
-abbrev pub meaning : Call → Job
-meaning (call.One server task) = one server.now task
-meaning (call.Relay from to job) = relay from.now to.now job
 
 -- the course of a task on a server that was set up
 abbrev pub task_course : Task → List DeviceInfo → List ℕ → Wire → Course
@@ -43,20 +39,6 @@ one_course task links bytes = dials links (λ devices w. task_course task device
 abbrev pub run_course : Job → List ToldLink → List ℕ → Relay
 run_course (one server task) links bytes = alone (one_course task links bytes)
 run_course (relay from to job) links bytes = relay_course job links
-
--- the values of a task that the buffer rests on are in their ranges
-abbrev pub IsRanged : Task → Type 0
-IsRanged (task.Play job) = (1 ≤ job.block) × (job.block ≤ 4000)
-IsRanged (task.Record job) = (1 ≤ job.block) × (job.block ≤ 4000) × (1 ≤ job.stop_blocks) × (job.stop_blocks ≤ 1000000)
-IsRanged (task.Set job) = ⊤
-
--- an address can be dialled
-abbrev pub IsAddress : Text → Type 0
-IsAddress server = (1 ≤ length server) × (length server ≤ 64)
-
-abbrev pub IsCall : Call → Type 0
-IsCall (call.One server task) = IsRanged task × IsAddress server.now
-IsCall (call.Relay from to job) = IsPaced job × IsAddress from.now × IsAddress to.now
 
 -- aplay reads its source to the end
 abbrev pub IsReadWhole : Task → Option (List ℕ) → Type 0
@@ -161,6 +143,30 @@ pub record Ran (j : Job) (bytes : List ℕ) (how : ToolEnd) (links : List ToldLi
   pub sink : Grew held output held'
   pub link : GaveBack links links' sends_from sends_to back back'
   pub early : how ≡ end.OutOfMemory → IsEarly j sends_from sends_to
+
+-- What a relay has passed between its two servers: its first two links were set up and then used, and given back in their order.
+pub record RelayRan (job : PassJob) (links : List ToldLink) (links' : Option (List ToldLink)) (held held' : Option (List ℕ)) (back back' : Option (List (List ℕ))) : Type 0 where
+  pub first : ToldLink
+  pub second : ToldLink
+  pub rest : List ToldLink
+  pub links_are : links ≡ first ∷ second ∷ rest
+  pub from : List DeviceInfo
+  pub set : answered as_devices 0 0 (next_message (unused first.gives)).found ≡ Ok from
+  pub sends_from : List ℕ
+  pub sends_to : List ℕ
+  pub relayed : IsRelayed job from (set_up first.gives) (set_up second.gives) (Some []) (Some sends_from) (Some []) (Some sends_to) held held'
+  pub link : GaveBack links links' (setup_bytes ++ sends_from) (setup_bytes ++ sends_to) back back'
+
+-- What aplay has played on its server: its link was set up and then used, and given back.
+pub record PlayRan (job : PlayJob) (bytes : List ℕ) (links : List ToldLink) (links' : Option (List ToldLink)) (held held' : Option (List ℕ)) (back back' : Option (List (List ℕ))) : Type 0 where
+  pub first : ToldLink
+  pub rest : List ToldLink
+  pub links_are : links ≡ first ∷ rest
+  pub devices : List DeviceInfo
+  pub set : answered as_devices 0 0 (next_message (unused first.gives)).found ≡ Ok devices
+  pub sends : List ℕ
+  pub played : IsPlayed job devices bytes (set_up first.gives) (Some []) (Some sends) held held'
+  pub link : GaveBack links links' (setup_bytes ++ sends) [] back back'
 
 -- where two devices have different rates, the tool ends with that, unless something from outside has ended it; and it ends so only
 -- there

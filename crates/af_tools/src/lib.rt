@@ -1,13 +1,10 @@
 //! The tools: what they send, read and write, by their words.
 #![tactic(auto)]
 
-mod command;
 mod device;
 mod end;
 mod fill;
-mod job;
 pub mod laws;
-mod number;
 mod pass;
 mod passer;
 mod play;
@@ -15,7 +12,6 @@ mod player;
 mod record;
 mod recorder;
 mod relay;
-pub mod relay_laws;
 mod report;
 mod run;
 mod set;
@@ -23,11 +19,9 @@ mod setter;
 mod standing;
 mod talk;
 mod text;
-mod tool;
-mod words;
 
+pub use af_jobs::{PassJob, PlayJob, RecordJob, SetJob};
 pub use end::ToolEnd;
-pub use job::{PassJob, PlayJob, RecordJob, SetJob};
 pub use passer::apass;
 pub use player::aplay;
 pub use recorder::arecord;

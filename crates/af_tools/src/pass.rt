@@ -7,9 +7,9 @@ ghost use Rattle.af_tools.specs.Both.{GoesBoth, HoldsBoth};
 ghost use Rattle.af_tools.specs.Ends.{is_of_link, wire_of};
 
 use crate::end::ToolEnd;
-use crate::job::PassJob;
 use crate::play::time_behind;
 use crate::talk::CONTEXT;
+use af_jobs::PassJob;
 use af_lib::Conn;
 use af_outside::Link;
 use af_time::DevTime;

@@ -1,20 +1,23 @@
 // apass: blocks are recorded on one server and played on another, and how that went is written to the sink.
-ghost use Rattle.std.specs.Prelude.{◌≡◌, ◌<◌, ◌≤◌, ◌+◌, ◌*◌, ◌^◌, ◌↔◌, ◌⊎◌, ℕ, List, true, length, take, Err, IfErr, IsOk};
+ghost use Rattle.std.specs.Prelude.{◌≡◌, ◌<◌, ◌≤◌, ◌+◌, ◌*◌, ◌^◌, ◌↔◌, ◌⊎◌, ℕ, List, true, length, take, All, Err, IfErr, IsOk};
 ghost use Rattle.std.specs.declared.option.Option.{Option};
 ghost use Rattle.std.specs.declared.option.Option.TheVariants.{None, Some};
 ghost use Rattle.af_outside.specs.Told.{Rose};
+ghost use Rattle.af_request.specs.Replies.{IsStated};
 ghost use Rattle.af_tools.specs.Course.{done, ends, writing};
 ghost use Rattle.af_tools.specs.Both.{FollowedBoth, GoesBoth, HoldsBoth};
 ghost use Rattle.af_tools.specs.Pair.{is_of_pass, pair_of};
 ghost use Rattle.af_tools.specs.Ends.{is_of_link, is_of_report, wire_of, EndsByReply, Followed, IsAnswered};
-ghost use Rattle.af_tools.specs.Pass.{IsPaced, apass_course, begins_both, ends_contexts, on_from, pace_of, passed_between, passed_text};
+ghost use Rattle.af_tools.specs.Relayed.{IsRelayed};
+ghost use Rattle.af_jobs.specs.Ranges.{IsPaced};
+ghost use Rattle.af_tools.specs.Pass.{apass_course, begins_both, ends_contexts, on_from, pace_of, passed_between, passed_text};
 
 use crate::device::device_with;
 use crate::end::ToolEnd;
-use crate::job::PassJob;
 use crate::pass::{Pace, pass_blocks};
 use crate::talk::CONTEXT;
 use crate::text::{put, put_number, write_text};
+use af_jobs::PassJob;
 use af_lib::Conn;
 use af_outside::{Link, Sink};
 use af_request::DeviceInfo;
@@ -159,6 +162,11 @@ pub fn apass<L: Link + Drop, M: Link + Drop, K: Sink>(
     // what each link was sent and the sink gained are those of the course, or prefixes of them where one of these failed
     ensures followed { (v w : List ℕ) → L.left from.old.link ≡ Some v → M.left to.old.link ≡ Some w →
         FollowedBoth (apass_course job.now from.old.devices to.old.devices (wire_of from.old v) (wire_of to.old w)) result (L.sent from.old.link) (L.sent from.new.link) (M.sent to.old.link) (M.sent to.new.link) (K.held sink.old) (K.held sink.new) }
+
+    // done, the bytes of each play are those of the record reply with its number, and each play's time is the one before plus the
+    // block, but at exactly so many plays as are written
+    ensures relayed { (v w : List ℕ) → L.left from.old.link ≡ Some v → M.left to.old.link ≡ Some w → All IsStated from.old.devices → result ≡ ToolEnd.Done →
+        IsRelayed job.now from.old.devices (wire_of from.old v) (wire_of to.old w) (L.sent from.old.link) (L.sent from.new.link) (M.sent to.old.link) (M.sent to.new.link) (K.held sink.old) (K.held sink.new) }
 
     // each end has its cause
     ensures end { is_of_pass result ≡ true }

@@ -14,10 +14,10 @@ ghost use Rattle.af_tools.specs.Ends.{is_of_blocks, is_of_play, wire_of, EndsByR
 
 use crate::device::device_with;
 use crate::end::ToolEnd;
-use crate::job::PlayJob;
 use crate::play::{play_blocks, time_behind};
 use crate::report::report;
 use crate::talk::{Context, begin, finish};
+use af_jobs::PlayJob;
 use af_lib::Conn;
 use af_outside::{Link, Sink, Source};
 use af_request::DeviceInfo;
@@ -107,7 +107,7 @@ pub fn aplay<L: Link + Drop, S: Source, K: Sink>(
 
     // done, each block was played at its time, and is heard there by whom accepts it in time
     ensures heard { (input bytes : List ℕ) → L.left conn.old.link ≡ Some input → S.left source.old ≡ Some bytes → IsSome (S.left source.new) → result ≡ ToolEnd.Done →
-        IsPlayed job.now conn.old.devices bytes (L.sent conn.old.link) (L.sent conn.new.link) (K.held sink.old) (K.held sink.new) }
+        IsPlayed job.now conn.old.devices bytes (wire_of conn.old input) (L.sent conn.old.link) (L.sent conn.new.link) (K.held sink.old) (K.held sink.new) }
 
     // each end has its cause
     ensures end { is_of_play result ≡ true }

@@ -8,8 +8,8 @@ ghost use Rattle.af_tools.specs.Record.{block_lengths, peak, records, takes_bloc
 ghost use Rattle.af_tools.specs.Ends.{is_of_records, value_in, wire_of, Goes, Holds};
 
 use crate::end::ToolEnd;
-use crate::job::RecordJob;
 use crate::talk::CONTEXT;
+use af_jobs::RecordJob;
 use af_lib::Conn;
 use af_outside::{Link, Put, Sink};
 use af_sample::{SampleType, decode};

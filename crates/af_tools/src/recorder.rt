@@ -9,9 +9,9 @@ ghost use Rattle.af_tools.specs.Ends.{is_of_writer, is_of_records, wire_of, Ends
 
 use crate::device::device_with;
 use crate::end::ToolEnd;
-use crate::job::RecordJob;
 use crate::record::record_blocks;
 use crate::talk::{Context, begin, finish};
+use af_jobs::RecordJob;
 use af_lib::Conn;
 use af_outside::{Link, Sink};
 use af_request::DeviceInfo;

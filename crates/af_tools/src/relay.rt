@@ -6,13 +6,14 @@ ghost use Rattle.af_outside.specs.Told.{Grew, Rose};
 ghost use Rattle.af_outside.specs.Dial.{ToldLink};
 ghost use Rattle.af_tools.specs.Both.{RelayedOver};
 ghost use Rattle.af_tools.specs.Ends.{wire_of};
-ghost use Rattle.af_tools.specs.Pass.{apass_course, connects_by, sending_to, IsPaced};
-ghost use Rattle.af_tools.specs.Run.{is_of_over, is_of_relay, AskedFor, IsAddress, Ran, RanTo};
-ghost use Rattle.af_tools.specs.Words.{relay};
+ghost use Rattle.af_tools.specs.Pass.{apass_course, connects_by, sending_to};
+ghost use Rattle.af_tools.specs.Run.{is_of_over, is_of_relay, AskedFor, Ran, RanTo};
+ghost use Rattle.af_jobs.specs.Ranges.{IsAddress, IsPaced};
+ghost use Rattle.af_jobs.specs.Words.{relay};
 
 use crate::end::ToolEnd;
-use crate::job::PassJob;
 use crate::passer::apass;
+use af_jobs::PassJob;
 use af_lib::Conn;
 use af_outside::{Dial, Dialed, Link, Sink};
 use std::alloc::Global;

@@ -2,109 +2,29 @@
 ghost use Rattle.std.specs.Prelude.{◌≡◌, ◌≢◌, ◌≤◌, ◌⊎◌, ◌∷◌, [], ℕ, List, true, false, length, option_map, Err, IfOk, IfSome, IsSome};
 ghost use Rattle.std.specs.declared.option.Option.{Option};
 ghost use Rattle.std.specs.declared.option.Option.TheVariants.{None, Some};
-ghost use Rattle.clap.specs.Words.{found_of, rows_of};
+ghost use Rattle.clap.specs.Words.{Text};
 ghost use Rattle.af_outside.specs.Told.{Grew, Rose};
 ghost use Rattle.af_outside.specs.Dial.{ToldLink};
+ghost use Rattle.af_jobs.specs.declared.job.PlayJob.{PlayJob};
 ghost use Rattle.af_tools.specs.Course.{connects};
 ghost use Rattle.af_tools.specs.Play.{most_bytes};
-ghost use Rattle.af_tools.specs.Words.{is_spelled, job, job_in, job_with, relay_with, Job};
+ghost use Rattle.af_jobs.specs.Words.{is_spelled, job, one, relay, Job};
+ghost use Rattle.af_jobs.specs.Call.{meaning, IsCall};
+ghost use Rattle.af_jobs.specs.Ranges.{IsAddress, IsRanged};
 ghost use Rattle.af_tools.specs.Ends.{is_of_play, wire_of, EndsByReply, Followed, GaveTooMuch, GaveWithin};
-ghost use Rattle.af_tools.specs.Run.{is_of_af, is_of_far, is_of_run, job_reads, meaning, one_course, reads_source, run_course, servers_of, task_course, AskedFor, EndsByDevice, EndsByRates, IsAddress, IsCall, IsRanged, IsRead, IsReadWhole, IsServed, Ran, RanOne};
-ghost use Rattle.af_tools.specs.Pass.{on_from, IsPaced};
+ghost use Rattle.af_tools.specs.Run.{is_of_af, is_of_far, is_of_run, job_reads, one_course, reads_source, run_course, servers_of, task_course, AskedFor, EndsByDevice, EndsByRates, IsRead, IsReadWhole, IsServed, PlayRan, Ran, RanOne, RelayRan};
+ghost use Rattle.af_tools.specs.Pass.{on_from};
 
-use crate::command::tool_matches;
 use crate::end::ToolEnd;
-use crate::job::{PassJob, Task};
 use crate::player::aplay;
 use crate::recorder::arecord;
 use crate::relay::run_relay;
 use crate::setter::aset;
-use crate::tool::{Tool, tool_named};
-use crate::words::{address_at, pass_job, play_job, record_job, set_job};
+use af_jobs::{Call, PassJob, PlayJob, Task, WordsFault, call_of};
 use af_lib::Conn;
 use af_outside::{Args, Dial, Dialed, Link, Sink, Source};
 use af_time::OutOfMemory;
-use clap::ArgMatches;
-use clap::error::ErrorKind;
 use std::alloc::Global;
-
-/// What a tool is asked to do, and with which server or servers.
-#[derive(Clone, Copy)]
-pub enum Call<'a> {
-    One {
-        server: &'a str,
-        task: Task,
-    },
-    Relay {
-        from: &'a str,
-        to: &'a str,
-        job: PassJob,
-    },
-}
-
-/// Why words are no call.
-#[derive(Clone, Copy, Debug, PartialEq, Eq)]
-pub enum WordsFault {
-    Usage,
-    OutOfMemory,
-}
-
-// A task with its server.
-fn one_call<'a>(matches: &ArgMatches<'a>, task: Task) -> Option<Call<'a>>
-    requires { IsRanged task }
-    ensures value { option_map meaning result ≡ job_with (Some task) (rows_of (found_of matches.now)) }
-    ensures call { IfSome result (λ call. IsCall call) }
-{
-    let server = address_at(matches, "SERVER")?;
-    Some(Call::One { server, task })
-}
-
-// A relay with its servers.
-fn relay_call<'a>(matches: &ArgMatches<'a>, job: PassJob) -> Option<Call<'a>>
-    requires { IsPaced job }
-    ensures value { option_map meaning result ≡ relay_with (Some job) (rows_of (found_of matches.now)) }
-    ensures call { IfSome result (λ call. IsCall call) }
-{
-    let from = address_at(matches, "FROM")?;
-    let to = address_at(matches, "TO")?;
-    Some(Call::Relay { from, to, job })
-}
-
-// The call of a tool, by the matches of its command.
-fn call_in<'a>(tool: Tool, matches: &ArgMatches<'a>) -> Option<Call<'a>>
-    ensures value { option_map meaning result ≡ job_in tool (rows_of (found_of matches.now)) }
-    ensures call { IfSome result (λ call. IsCall call) }
-{
-    match tool {
-        Tool::Play => one_call(matches, Task::Play(play_job(matches)?)),
-        Tool::Record => one_call(matches, Task::Record(record_job(matches)?)),
-        Tool::Set => one_call(matches, Task::Set(set_job(matches)?)),
-        Tool::Pass => relay_call(matches, pass_job(matches)?),
-    }
-}
-
-// The call of these words, of which the first names a tool.
-fn call_of(alloc: Global, words: &Args) -> Result<Call<'_>, WordsFault>
-    ensures ok { IfOk result (λ call. job words.now ≡ Some (meaning call)) }
-    ensures call { IfOk result (λ call. IsCall call) }
-    ensures usage { result ≡ Err WordsFault.Usage → is_spelled words.now ≡ false }
-{
-    let Some(name) = words.word(0) else {
-        return Err(WordsFault::Usage);
-    };
-    let Some(tool) = tool_named(name) else {
-        return Err(WordsFault::Usage);
-    };
-    let matches = match tool_matches(alloc, tool, words.as_slice()) {
-        Ok(matches) => matches,
-        Err(e) if e.kind() == ErrorKind::OutOfMemory => return Err(WordsFault::OutOfMemory),
-        Err(_) => return Err(WordsFault::Usage),
-    };
-    match call_in(tool, &matches) {
-        Some(call) => Ok(call),
-        None => Err(WordsFault::Usage),
-    }
-}
 
 // Does a task on a connection that was just made.
 fn perform<L: Link + Drop, S: Source, K: Sink>(
@@ -278,6 +198,11 @@ pub fn af_run<S: Source, K: Sink, D: Dial>(
         Ran j bytes result links (D.links dial.new) (K.held sink.old) (K.held sink.new) (D.back dial.old) (D.back dial.new) }
     ensures asked { (j : Job) → job words.now ≡ Some j → result ≢ ToolEnd.Usage → AskedFor (servers_of j) result (D.asked dial.old) (D.asked dial.new) }
     ensures done { (j : Job) → job words.now ≡ Some j → result ≡ ToolEnd.Done → IsRead j (S.left source.new) }
+    // done, what aplay played is heard as it was intended, and a relay has passed all blocks
+    ensures heard { (server : Text) (play : PlayJob) (links : List ToldLink) (bytes : List ℕ) → job words.now ≡ Some (one server (Task.Play play)) → D.links dial.old ≡ Some links → S.left source.old ≡ Some bytes → IsSome (S.left source.new) → result ≡ ToolEnd.Done →
+        PlayRan play bytes links (D.links dial.new) (K.held sink.old) (K.held sink.new) (D.back dial.old) (D.back dial.new) }
+    ensures relayed { (from to : Text) (pass : PassJob) (links : List ToldLink) (bytes : List ℕ) → job words.now ≡ Some (relay from to pass) → D.links dial.old ≡ Some links → S.left source.old ≡ Some bytes → IsSome (S.left source.new) → result ≡ ToolEnd.Done →
+        RelayRan pass links (D.links dial.new) (K.held sink.old) (K.held sink.new) (D.back dial.old) (D.back dial.new) }
     // only aplay reads its source
     ensures sourceless { (j : Job) → job words.now ≡ Some j → job_reads j ≡ false → (S.left source.new ≡ S.left source.old) × (S.faults source.new ≡ S.faults source.old) }
 

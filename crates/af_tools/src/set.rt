@@ -6,8 +6,8 @@ ghost use Rattle.af_tools.specs.Set.{asks_line, asks_where, control_request, hoo
 ghost use Rattle.af_tools.specs.Ends.{is_of_link, wire_of, Goes, Holds};
 
 use crate::end::ToolEnd;
-use crate::job::SetJob;
 use crate::standing::Standing;
+use af_jobs::SetJob;
 use af_lib::Conn;
 use af_outside::Link;
 use af_request::{DeviceInfo, Phone};

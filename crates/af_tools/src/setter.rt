@@ -9,10 +9,10 @@ ghost use Rattle.af_tools.specs.Ends.{is_of_report, is_of_writer, wire_of, EndsB
 
 use crate::device::device_with;
 use crate::end::ToolEnd;
-use crate::job::SetJob;
 use crate::set::set_on;
 use crate::standing::{Standing, write_standing};
 use crate::text::write_text;
+use af_jobs::SetJob;
 use af_lib::Conn;
 use af_outside::{Link, Sink};
 

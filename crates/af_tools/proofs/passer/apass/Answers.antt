@@ -5,6 +5,7 @@ use Rattle.af_tools.specs.Ends.{is_of_link, is_of_report, wire_of}
 use Rattle.af_tools.specs.Pair.{is_of_pass}
 use Rattle.af_tools.specs.Pass.{apass_course, passed_between, passed_text}
 use Rattle.af_tools.proofs.Endings.{IsDoneOrRefused, ends_by_reply, is_done}
+use Rattle.af_tools.proofs.Passable.{is_relayed}
 use Rattle.af_tools.proofs.PassTop.{apart_followed, apart_iff, apass_there, between_finish, both_followed_on, both_followed_stop, inner_pass, reports, seen_from, there_neither}
 use Rattle.af_tools.proofs.passer.apass.Goals as goal
 
@@ -75,3 +76,15 @@ returns-in-Err-pass_between-clause-complete g c v w told_from told_to there answ
       | inr rose ↦ to rose
     ])
     (λ same. let bad : false ≡ true = ap is_of_link (sym same) ∙ e.end in cc))
+
+pub returns-in-Err-clause-relayed : goal.returns-in-Err-clause-relayed
+returns-in-Err-clause-relayed g c v w told_from told_to stated done =
+    is_relayed c.args.job.now c.args.from.now.devices c.args.to.now.devices (wire_of c.args.from.now v) (wire_of c.args.to.now w) _ _ _ _ _ _ _ (returns-in-Err-clause-followed g c v w told_from told_to) stated c.requires.range done
+
+pub returns-in-Ok-pass_between-clause-relayed : goal.returns-in-Ok-pass_between-clause-relayed
+returns-in-Ok-pass_between-clause-relayed g c v w told_from told_to stated done =
+    is_relayed c.args.job.now c.args.from.now.devices c.args.to.now.devices (wire_of c.args.from.now v) (wire_of c.args.to.now w) _ _ _ _ _ _ _ (returns-in-Ok-pass_between-clause-followed g c v w told_from told_to) stated c.requires.range done
+
+pub returns-in-Err-pass_between-clause-relayed : goal.returns-in-Err-pass_between-clause-relayed
+returns-in-Err-pass_between-clause-relayed g c v w told_from told_to stated done =
+    is_relayed c.args.job.now c.args.from.now.devices c.args.to.now.devices (wire_of c.args.from.now v) (wire_of c.args.to.now w) _ _ _ _ _ _ _ (returns-in-Err-pass_between-clause-followed g c v w told_from told_to) stated c.requires.range done

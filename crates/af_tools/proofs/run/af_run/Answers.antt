@@ -1,8 +1,10 @@
-use Rattle.std.proofs.Common.{inl, inr, refl, subst}
+use Rattle.std.proofs.Common.{◌≡◌, ◌∙◌, inl, inr, refl, subst, sym}
 use Rattle.af_tools.specs.declared.end.ToolEnd.TheVariants as end
 use Rattle.af_tools.specs.Run.{Ran}
-use Rattle.af_tools.specs.Words.{Job}
+use Rattle.af_jobs.specs.declared.job.Task.TheVariants as task
+use Rattle.af_jobs.specs.Words.{Job, one, relay}
 use Rattle.af_tools.proofs.Endings.{reply_of}
+use Rattle.af_tools.proofs.Outcomes.{paced_call, played_call, ran_played, ran_relayed}
 use Rattle.af_tools.proofs.Relaying.{ran_none, run_done, same_job}
 use Rattle.af_tools.proofs.Running.{device_of, rates_of, run_cases}
 use Rattle.af_tools.proofs.run.af_run.Goals as goal
@@ -33,3 +35,13 @@ returns-in-Ok-clause-complete g c j links bytes spelled called told is tells few
       | inl inner ↦ inl (run_done j links bytes _ _ c.run_call.result few served r.recorded inner)
       | inr memory ↦ inr memory
     ]
+
+pub returns-in-Ok-clause-heard : goal.returns-in-Ok-clause-heard
+returns-in-Ok-clause-heard g c server play links bytes called told is tells done =
+    ran_played server play bytes _ links _ _ _ _ _ (returns-in-Ok-clause-told g c (one server (task.Play play)) links bytes called (λ usage. let bad : end.Usage ≡ end.Done = sym usage ∙ done in cc) told is tells)
+    (played_call c.in-Ok.call server play c.in-Ok.ensures.call (same_job _ _ _ c.in-Ok.ensures.ok called)) done
+
+pub returns-in-Ok-clause-relayed : goal.returns-in-Ok-clause-relayed
+returns-in-Ok-clause-relayed g c from to pass links bytes called told is tells done =
+    ran_relayed from to pass bytes _ links _ _ _ _ _ (returns-in-Ok-clause-told g c (relay from to pass) links bytes called (λ usage. let bad : end.Usage ≡ end.Done = sym usage ∙ done in cc) told is tells)
+    (paced_call c.in-Ok.call from to pass c.in-Ok.ensures.call (same_job _ _ _ c.in-Ok.ensures.ok called)) done

@@ -1,5 +1,5 @@
 use Rattle.std.proofs.Common.{rules, ◌≡◌, ◌∷◌, [], refl}
-use Rattle.af_tools.specs.declared.run.Call.TheVariants as call
+use Rattle.af_jobs.specs.declared.call.Call.TheVariants as call
 use Rattle.af_tools.proofs.Relaying.{ran_one}
 use Rattle.af_tools.proofs.run.run_call.Goals as goal
 

@@ -1,0 +1,70 @@
+// The values of words: numbers, gains and sample types.
+ghost use Rattle.std.specs.Prelude.{◌≡◌, ◌<◌, ◌≤◌, ◌^◌, IfSome};
+ghost use Rattle.af_jobs.specs.Numbers.{gain_in, number_in, switch_in, type_in};
+
+use af_sample::{Gain, SampleType};
+
+/// The number of some decimal digits, of any number with zeros before them, where it lies between these two.
+pub fn number_in(low: u32, high: u32, text: &[u8]) -> Option<u32>
+    ensures { result ≡ number_in low high text.now }
+{
+    if text.is_empty() {
+        return None;
+    }
+    let mut value = 0u64;
+    for digit in text {
+        if !digit.is_ascii_digit() {
+            return None;
+        }
+        if value > u64::from(high) {
+            return None;
+        }
+        value = value * 10 + u64::from(*digit - b'0');
+    }
+    if u64::from(low) <= value && value <= u64::from(high) {
+        Some(value as u32)
+    } else {
+        None
+    }
+}
+
+/// A gain of -30 to 30 decibels.
+pub fn gain_in(text: &[u8]) -> Option<Gain>
+    ensures { result ≡ gain_in text.now }
+{
+    match text {
+        [] => None,
+        [b'-', digits @ ..] => Gain::new(-(number_in(0, 30, digits)? as i32)),
+        digits => Gain::new(number_in(0, 30, digits)? as i32),
+    }
+}
+
+/// The sample type of a name.
+pub fn type_in(text: &str) -> Option<SampleType>
+    ensures { result ≡ type_in text.now }
+{
+    if text == "mu255" {
+        Some(SampleType::Mu255)
+    } else if text == "alaw" {
+        Some(SampleType::Alaw)
+    } else if text == "lin16" {
+        Some(SampleType::Lin16)
+    } else if text == "lin32" {
+        Some(SampleType::Lin32)
+    } else {
+        None
+    }
+}
+
+/// A switch, by the word for it and the word against it.
+pub fn switch_in(when: &str, otherwise: &str, text: &str) -> Option<bool>
+    ensures { result ≡ switch_in when.now otherwise.now text.now }
+{
+    if text == when {
+        Some(true)
+    } else if text == otherwise {
+        Some(false)
+    } else {
+        None
+    }
+}

@@ -4,35 +4,10 @@
 ghost use Rattle.std.specs.Prelude.{◌≡◌};
 ghost use Rattle.af.specs.Statuses.{status};
 
-use af_outside::{Args, StdSink, StdSource, TcpDial};
+use af_outside::{StdSink, StdSource, TcpDial, WordsFault, program_words};
 use af_tools::{ToolEnd, af_run};
-use std::alloc::Global;
-use std::env::Env;
-use std::io::ErrorKind;
+use std::io;
 use std::process::ExitCode;
-use std::{env, io};
-
-// Why the words of the command line were not had.
-enum WordsFault {
-    NotText,
-    OutOfMemory,
-}
-
-// The words behind the program's name.
-fn words_of(alloc: Global, rt: &(impl Env + Alloc)) -> Result<Args, WordsFault> {
-    let words = match env::args(rt) {
-        Ok(words) => words,
-        Err(e) if e.kind() == ErrorKind::OutOfMemory => return Err(WordsFault::OutOfMemory),
-        Err(_) => return Err(WordsFault::NotText),
-    };
-    let mut args = Args::new(alloc);
-    for word in words.skip(1) {
-        if args.push(word.as_str()).is_err() {
-            return Err(WordsFault::OutOfMemory);
-        }
-    }
-    Ok(args)
-}
 
 // The exit status of an end.
 fn status_of(end: ToolEnd) -> u8
@@ -92,7 +67,7 @@ fn main(rt: HostRuntime) -> ExitCode {
 
 // Runs the tool that the words name, over standard input, standard output and TCP.
 fn run(rt: &HostRuntime) -> ToolEnd {
-    let words = match words_of(rt.alloc(), rt) {
+    let words = match program_words(rt.alloc(), rt) {
         Ok(words) => words,
         Err(WordsFault::NotText) => return ToolEnd::Usage,
         Err(WordsFault::OutOfMemory) => return ToolEnd::OutOfMemory,

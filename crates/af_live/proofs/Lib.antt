@@ -1,3 +1,4 @@
 pub mod LineByLine
 pub mod Texts
 pub mod Rates
+pub mod Openings

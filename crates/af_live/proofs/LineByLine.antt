@@ -3,7 +3,7 @@ use Rattle.std.proofs.Common.{◌≡◌, ℕ, zero, suc, ◌+◌, true, false, c
 use Rattle.std.specs.Prelude.{Option, Some, None, option_map, Result, Ok, Err, nat_lt}
 use Rattle.std.proofs.lemmas.Bool.Decides.{nat_tests}
 use Rattle.af_outside.specs.declared.script.DeviceSpec.{DeviceSpec}
-use Rattle.af_outside.specs.Kinds.{Backing}
+use Rattle.af_outside.specs.declared.outer.Backing.{Backing}
 use Rattle.af_text.specs.Lines.{is_nil, lines, with_first}
 use Rattle.af_live.specs.Stating.{Settings, Placed}
 use Rattle.af_live.specs.Configuration.{Entry, is_idle, entries, placed_of, each_placed, with_none_behind, placed_within, most_devices, settings_of, stated_by, config_of}

@@ -3,3 +3,7 @@ pub mod Configuration
 pub mod Kept
 pub mod Reading
 pub mod Pacing
+pub mod Holding
+pub mod Rounds
+pub mod Silence
+pub mod RealWorld

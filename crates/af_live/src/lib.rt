@@ -1,17 +1,27 @@
-//! The server on real time, as far as it touches no system: the configuration that it is started with, and the pace at
-//! which its devices go on.
+//! The server on real time below its turns: the configuration that it is started with, the pace at which its devices go on,
+//! and the real world, of sockets, files and the clock of the system.
 #![tactic(auto)]
 
 mod device;
 mod fault;
+mod held;
+mod links;
+mod mio_world;
 mod pace;
 mod read;
+mod round;
 mod setting;
+mod silence;
+mod sockets;
+mod station;
 
 pub use fault::ConfigFault;
+pub use mio_world::MioWorld;
 pub use pace::Pace;
 pub use read::read_config;
 pub use setting::Setting;
 
 #[cfg(test)]
 mod tests;
+#[cfg(test)]
+mod world_tests;

@@ -5,3 +5,4 @@ pub mod Known
 pub mod Silence
 pub mod Stations
 pub mod Tapes
+pub mod Flowing

@@ -14,8 +14,10 @@ use Rattle.af_outside.specs.declared.happening.Wake.{Wake}
 use Rattle.af_outside.specs.declared.script.DeviceSpec.{DeviceSpec}
 use Rattle.af_outside.specs.declared.script.Step.{Step}
 use Rattle.af_outside.specs.declared.station.KeptStation.{KeptStation}
+use Rattle.af_outside.specs.declared.outer.OuterFaults.{OuterFaults}
 use Rattle.af_outside.specs.Told.{Log}
-use Rattle.af_outside.specs.Outside.{Outside, TapeState, TakesStep, Answered, answered, fresh, station_of, stepped, then_outside, wake_of}
+use Rattle.af_outside.specs.Outer.{OuterState, outer_start}
+use Rattle.af_outside.specs.Outside.{Outside, TapeState, TakesStep, Answered, answered, made, station_of, stepped, then_outside, wake_of}
 use Rattle.af_outside.specs.Tape.{KeptPeer, HasRoom, Noted, faults_after, kept_station_of, outside_of, peers_of, sent_by, stations_of}
 use Rattle.af_outside.proofs.Stations.{stations_of-start}
 
@@ -61,11 +63,11 @@ TakesStep-first old step left wake o first woken changed =
     (woken, ap (λ o. record old { left = left; outside = o }) changed)
 
 -- what makes up a tape of which nothing was asked yet
-pub fresh-parts : (config config' : List DeviceSpec) (steps steps' : List Step) (log : Option Log) (far_ends : List KeptPeer) (kept : List KeptStation) → config' ≡ config → steps' ≡ steps →
-    log ≡ Some [] → peers_of far_ends ≡ replicate 32 None → kept ≡ map (λ d. kept_station_of d.ty) config →
-    (let tape : TapeState = record { config = config'; left = steps'; log = log; outside = outside_of far_ends (stations_of steps' kept); link_faults = 0; device_faults = 0 } in tape) ≡ fresh config steps
-fresh-parts config config' steps steps' log far_ends kept devices left told closed start =
+pub fresh-parts : (config config' : List DeviceSpec) (steps steps' : List Step) (log : Option Log) (far_ends : List KeptPeer) (kept : List KeptStation) (faults : OuterFaults) (outer : OuterState) → config' ≡ config → steps' ≡ steps →
+    log ≡ Some [] → peers_of far_ends ≡ replicate 32 None → kept ≡ map (λ d. kept_station_of d.ty) config → outer ≡ outer_start faults →
+    (let tape : TapeState = record { config = config'; left = steps'; log = log; outside = outside_of far_ends (stations_of steps' kept); link_faults = 0; device_faults = 0; outer = outer } in tape) ≡ made config steps faults
+fresh-parts config config' steps steps' log far_ends kept faults outer devices left told closed start begun =
     let stations : stations_of steps kept ≡ map (λ d. station_of d.ty) config = ap (stations_of steps) start ∙ stations_of-start steps config in
-    rw (devices, left, told)
-    (ap (λ peers. (let tape : TapeState = record { config = config; left = steps; log = Some []; outside = record { peers = peers; stations = stations_of steps kept }; link_faults = 0; device_faults = 0 } in tape)) closed
-    ∙ ap (λ stations. (let tape : TapeState = record { config = config; left = steps; log = Some []; outside = record { peers = replicate 32 None; stations = stations }; link_faults = 0; device_faults = 0 } in tape)) stations)
+    rw (devices, left, told, begun)
+    (ap (λ peers. (let tape : TapeState = record { config = config; left = steps; log = Some []; outside = record { peers = peers; stations = stations_of steps kept }; link_faults = 0; device_faults = 0; outer = outer_start faults } in tape)) closed
+    ∙ ap (λ stations. (let tape : TapeState = record { config = config; left = steps; log = Some []; outside = record { peers = replicate 32 None; stations = stations }; link_faults = 0; device_faults = 0; outer = outer_start faults } in tape)) stations)

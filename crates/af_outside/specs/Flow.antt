@@ -1,12 +1,12 @@
 -- What sources and sinks answer.
-use Rattle.std.specs.Prelude.{◌≡◌, ℕ, ◌≤◌, List, [], ◌++◌, take}
+use Rattle.std.specs.Prelude.{◌≡◌, ℕ, ◌<◌, ◌≤◌, List, [], ◌++◌, length, take}
 use Rattle.std.specs.declared.option.Option.{Option}
 use Rattle.std.specs.declared.option.Option.TheVariants.{None, Some}
 use Rattle.af_outside.specs.declared.flow.Got.{Got}
 use Rattle.af_outside.specs.declared.flow.Got.TheVariants as got
 use Rattle.af_outside.specs.declared.flow.Put.{Put}
 use Rattle.af_outside.specs.declared.flow.Put.TheVariants as put
-use Rattle.af_outside.specs.Told.{Grew}
+use Rattle.af_outside.specs.Told.{Gave, Grew}
 
 -- the bytes that a read gave, of the slice that was read into
 abbrev pub given_of : Got → List ℕ → List ℕ
@@ -36,3 +36,21 @@ pub record GrewByPrefix (before : Option (List ℕ)) (part : List ℕ) (after : 
 abbrev pub Written : Put → Option (List ℕ) → List ℕ → Option (List ℕ) → Type 0
 Written put.Done before piece after = Grew before piece after
 Written put.Failed before piece after = GrewByPrefix before piece after
+
+-- the source was read to its end, and this is all that it gave, which is at most so many bytes
+pub record GaveWhole (most : ℕ) (before after : Option (List ℕ)) (text : List ℕ) : Type 0 where
+  pub gave : Gave before text after
+  pub spent : IsSpent after
+  pub within : length text ≤ most
+
+-- the source gave at most so many bytes
+pub record GaveWithin (most : ℕ) (before after : Option (List ℕ)) : Type 0 where
+  pub text : List ℕ
+  pub gave : Gave before text after
+  pub within : length text ≤ most
+
+-- the source gave more bytes
+pub record GaveTooMuch (most : ℕ) (before after : Option (List ℕ)) : Type 0 where
+  pub text : List ℕ
+  pub gave : Gave before text after
+  pub beyond : most < length text

@@ -2,11 +2,16 @@
 use Rattle.std.specs.Prelude.{ℕ, List}
 use Rattle.af_outside.specs.declared.live.Kind.{Kind}
 use Rattle.af_outside.specs.declared.live.Kind.TheVariants as kind
+use Rattle.af_outside.specs.declared.outer.Backing.{Backing}
+use Rattle.af_outside.specs.declared.outer.Backing.TheVariants as backing
+pub use Rattle.af_outside.specs.declared.outer.Backing.{Backing}
 
 -- silence, or the names of the two files that the device captures from and hands its sound out to
-pub data Backing : Type 0 where
-  silence : Backing
-  two_files : (input output : List ℕ) → Backing
+abbrev pub silence : Backing
+silence = backing.Silence
+
+abbrev pub two_files : List ℕ → List ℕ → Backing
+two_files input output = backing.TwoFiles input output
 
 -- what a kind says of the device
 abbrev pub backing_of : Kind → Backing

@@ -9,4 +9,5 @@ pub mod Dial
 pub mod MemDial
 pub mod Real
 pub mod Kinds
+pub mod Outer
 pub mod TapeLaws

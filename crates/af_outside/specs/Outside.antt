@@ -15,7 +15,12 @@ use Rattle.af_outside.specs.declared.happening.Wake.TheVariants as wake
 use Rattle.af_outside.specs.declared.script.DeviceSpec.{DeviceSpec}
 use Rattle.af_outside.specs.declared.script.Step.{Step}
 use Rattle.af_outside.specs.declared.script.Step.TheVariants as step
+use Rattle.af_outside.specs.declared.live.Waited.{Waited}
+use Rattle.af_outside.specs.declared.live.Waited.TheVariants as waited
+use Rattle.af_outside.specs.declared.outer.Outer.{Outer}
+use Rattle.af_outside.specs.declared.outer.OuterFaults.{OuterFaults}
 use Rattle.af_outside.specs.Told.{Log}
+use Rattle.af_outside.specs.Outer.{OuterState, outer_start, no_faults, told_beside, is_stated}
 
 -- The far end of an open link: the bytes that it has still to give, whether it ends after them, how many bytes it takes
 -- still (None is every byte), and whether its next read and its next write are to fail.
@@ -283,8 +288,8 @@ replayed o (h ∷ log) = then_outside (answered o h) (λ o. replayed o log)
 
 -- Tapes
 
--- what a tape is seen as: its devices, the steps that are left, its log where it tells it, the outside that it is, and how
--- often a link and a device have failed
+-- what a tape is seen as: its devices, the steps that are left, its log where it tells it, the outside that it is, how
+-- often a link and a device have failed, and what it keeps of listens, attaches and waits
 pub record TapeState : Type 0 where
   pub config : List DeviceSpec
   pub left : List Step
@@ -292,10 +297,15 @@ pub record TapeState : Type 0 where
   pub outside : Outside
   pub link_faults : ℕ
   pub device_faults : ℕ
+  pub outer : OuterState
 
 -- a tape as it is made
+abbrev pub made : List DeviceSpec → List Step → OuterFaults → TapeState
+made config steps faults = record { config = config; left = steps; log = Some []; outside = outside_start config; link_faults = 0; device_faults = 0; outer = outer_start faults }
+
+-- a tape as it is made, with no listen, attach or wait that is to fail
 abbrev pub fresh : List DeviceSpec → List Step → TapeState
-fresh config steps = record { config = config; left = steps; log = Some []; outside = outside_start config; link_faults = 0; device_faults = 0 }
+fresh config steps = made config steps no_faults
 
 -- a step is taken exactly where one is left; the wake is that step's
 abbrev pub TakesStep : TapeState → List Step → Option Wake → TapeState → Type 0
@@ -317,4 +327,35 @@ pub record TapeLeadsTo (old new : TapeState) : Type 0 where
   pub left : new.left ≡ old.left
   pub link_faults : old.link_faults ≤ new.link_faults
   pub device_faults : old.device_faults ≤ new.device_faults
+  pub outer : new.outer ≡ old.outer
   pub answered : Answered old.log old.outside new.log new.outside
+
+-- the outer list, which is told where the log is
+abbrev pub outer_told : TapeState → Option (List Outer)
+outer_told tape = told_beside tape.log tape.outer.entries
+
+-- whether the next wait fails
+abbrev pub wait_fails : TapeState → Bool
+wait_fails tape = is_stated tape.outer.faults.wait tape.outer.waits
+
+-- the wake of the first of the steps that are left, or Stop where none is
+abbrev pub next_wake : Outside → List Step → Wake
+next_wake o [] = wake.Stop
+next_wake o (s ∷ left) = wake_of o s
+
+-- the outside behind the first of these steps
+abbrev pub outside_behind : Outside → List Step → Outside
+outside_behind o [] = o
+outside_behind o (s ∷ left) = stepped o s
+
+-- what a wait answers
+abbrev pub wait_answer : TapeState → Waited
+wait_answer tape = if wait_fails tape then waited.Failed else waited.Woke (next_wake tape.outside tape.left)
+
+-- the steps behind a wait: one that fails takes none
+abbrev pub left_behind : TapeState → List Step
+left_behind tape = if wait_fails tape then tape.left else drop 1 tape.left
+
+-- the outside behind a wait
+abbrev pub waited_outside : TapeState → Outside
+waited_outside tape = if wait_fails tape then tape.outside else outside_behind tape.outside tape.left

@@ -17,6 +17,13 @@ pub record WriterState : Type 0 where
   pub contents : Option (List ℕ)
   pub faults : ℕ
 
+-- a link over a stream: the bytes that are left for the stream to give and those that it took, where they are known, and how many
+-- calls have failed
+pub record StreamState : Type 0 where
+  pub remaining : Option (List ℕ)
+  pub contents : Option (List ℕ)
+  pub faults : ℕ
+
 -- a read gives just what the reader gave, is Ended where the reader is at its end, and loses nothing where it fails
 abbrev pub ReadsOn : Got → Option (List ℕ) → List ℕ → Option (List ℕ) → Type 0
 ReadsOn (got.Bytes n) before into after = (1 ≤ n) × (n ≤ length into) × Consumes before after (take n into)

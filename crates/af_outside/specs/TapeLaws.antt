@@ -1,11 +1,13 @@
 -- What the calls of a tape lead to: the laws of its relation.
-use Rattle.std.proofs.Common.{◌≡◌, [], ◌∷◌, ◌++◌, refl, sym, ap, ◌∙◌, append_assoc}
+use Rattle.std.proofs.Common.{◌≡◌, List, [], ◌∷◌, ◌++◌, refl, sym, ap, ◌∙◌, subst, append_assoc, IsSome}
 use Rattle.std.proofs.Math.Nat.{le_refl, le_trans}
 use Rattle.std.proofs.lemmas.List.{append-nil}
 use Rattle.std.specs.declared.option.Option.{Option}
 use Rattle.std.specs.declared.option.Option.TheVariants.{None, Some}
-use Rattle.af_outside.specs.Told.{Log}
-use Rattle.af_outside.specs.Outside.{Outside, TapeState, TapeLeadsTo, Answered, answered, replayed, then_outside}
+use Rattle.af_outside.specs.declared.outer.Outer.{Outer}
+use Rattle.af_outside.specs.Told.{Log, Stays}
+use Rattle.af_outside.specs.Outer.{OuterState, told_beside}
+use Rattle.af_outside.specs.Outside.{Outside, TapeState, TapeLeadsTo, Answered, answered, outer_told, replayed, then_outside}
 
 -- a log of two parts is replayed part by part
 pub replayed-append : (o : Outside) (front back : Log) → replayed o (front ++ back) ≡ then_outside (replayed o front) (λ o. replayed o back)
@@ -30,7 +32,7 @@ answered_trans (Some x) (Some y) (Some z) a b c p q = (
 
 -- no call leads anywhere by itself
 pub TapeLeadsTo-refl : (a : TapeState) → TapeLeadsTo a a
-TapeLeadsTo-refl a = record { config = refl; left = refl; link_faults = le_refl a.link_faults; device_faults = le_refl a.device_faults; answered = answered_refl a.log a.outside }
+TapeLeadsTo-refl a = record { config = refl; left = refl; link_faults = le_refl a.link_faults; device_faults = le_refl a.device_faults; outer = refl; answered = answered_refl a.log a.outside }
 
 -- calls after calls are calls
 pub TapeLeadsTo-trans : (a b c : TapeState) → TapeLeadsTo a b → TapeLeadsTo b c → TapeLeadsTo a c
@@ -39,5 +41,32 @@ TapeLeadsTo-trans a b c p q = record {
   left = q.left ∙ p.left;
   link_faults = le_trans p.link_faults q.link_faults;
   device_faults = le_trans p.device_faults q.device_faults;
+  outer = q.outer ∙ p.outer;
   answered = answered_trans a.log b.log c.log a.outside b.outside c.outside p.answered q.answered;
 }
+
+-- calls leave the outer list as it is, where it is told still
+stays_beside : (x y : Option Log) (a b : Outside) (entries : List Outer) → Answered x a y b → Stays (told_beside x entries) (told_beside y entries)
+stays_beside x None a b entries p = tt
+stays_beside None (Some y) a b entries p = absurd p
+stays_beside (Some x) (Some y) a b entries p = refl
+
+pub TapeLeadsTo-outer : (a b : TapeState) → TapeLeadsTo a b → Stays (outer_told a) (outer_told b)
+TapeLeadsTo-outer a b p =
+    let e = ap (λ (o : OuterState). o.entries) p.outer in
+    subst (λ entries. Stays (outer_told a) (told_beside b.log entries)) (sym e) (stays_beside a.log b.log a.outside b.outside a.outer.entries p.answered)
+
+-- nor do they move the counts of listens and waits that failed
+pub TapeLeadsTo-listen_faults : (a b : TapeState) → TapeLeadsTo a b → b.outer.listen_faults ≡ a.outer.listen_faults
+TapeLeadsTo-listen_faults a b p = ap (λ (o : OuterState). o.listen_faults) p.outer
+
+pub TapeLeadsTo-wait_faults : (a b : TapeState) → TapeLeadsTo a b → b.outer.wait_faults ≡ a.outer.wait_faults
+TapeLeadsTo-wait_faults a b p = ap (λ (o : OuterState). o.wait_faults) p.outer
+
+-- a tape that tells its log tells its outer list
+tells_beside : (log : Option Log) (entries : List Outer) → IsSome log → IsSome (told_beside log entries)
+tells_beside None entries h = h
+tells_beside (Some log) entries h = h
+
+pub Tape-tells_both : (a : TapeState) → IsSome a.log → IsSome (outer_told a)
+Tape-tells_both a h = tells_beside a.log a.outer.entries h

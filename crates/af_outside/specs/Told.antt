@@ -23,3 +23,9 @@ Gave (Some before) part (Some after) = before ≡ part ++ after
 -- a count of faults has risen, or stands at the end of its type
 abbrev pub Rose : ℕ → ℕ → Type 0
 Rose before now = min (before + 1) (2 ^ 64 - 1) ≤ now
+
+-- where the list is told afterwards, it was told before, and is the same
+abbrev pub Stays : {A : Type 0} → Option (List A) → Option (List A) → Type 0
+Stays before None = Unit {0}
+Stays None (Some after) = ⊥
+Stays (Some before) (Some after) = after ≡ before

@@ -3,6 +3,9 @@ ghost use Rattle.std.specs.Prelude.{◌≡◌, ◌++◌, [], ◌∷◌, length, 
 
 use af_time::OutOfMemory;
 use std::alloc::Global;
+use std::env;
+use std::env::Env;
+use std::io::ErrorKind;
 use std::marker::Model;
 
 /// The words of a command line.
@@ -62,4 +65,28 @@ impl Args {
             None => None,
         }
     }
+}
+
+/// Why the words of a program were not had.
+#[derive(Clone, Copy, Debug, PartialEq, Eq)]
+pub enum WordsFault {
+    /// A word is not UTF-8.
+    NotText,
+    OutOfMemory,
+}
+
+/// The words of this program's command line behind its name. What the system gives is taken as it is: no clause says more of it.
+pub fn program_words(alloc: Global, rt: &(impl Env + Alloc)) -> Result<Args, WordsFault> {
+    let words = match env::args(rt) {
+        Ok(words) => words,
+        Err(e) if e.kind() == ErrorKind::OutOfMemory => return Err(WordsFault::OutOfMemory),
+        Err(_) => return Err(WordsFault::NotText),
+    };
+    let mut args = Args::new(alloc);
+    for word in words.skip(1) {
+        if args.push(word.as_str()).is_err() {
+            return Err(WordsFault::OutOfMemory);
+        }
+    }
+    Ok(args)
 }

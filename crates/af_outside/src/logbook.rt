@@ -1,6 +1,6 @@
 // A log of happenings, which is told as long as memory was there for each of them.
 ghost use Rattle.std.specs.Prelude.{◌≡◌, [], is_some, IfSome};
-ghost use Rattle.std.specs.declared.option.Option.TheVariants.{Some};
+ghost use Rattle.std.specs.declared.option.Option.TheVariants.{None, Some};
 ghost use Rattle.af_outside.specs.Tape.{Noted};
 
 use crate::Happening;
@@ -46,6 +46,13 @@ impl Logbook {
         ensures { IfSome self.now (λ log. log ≡ result.now) }
     {
         self.happenings.as_slice()
+    }
+
+    /// Nothing is told from now on.
+    pub(crate) fn fall_silent(&mut self)
+        ensures { self.new ≡ None }
+    {
+        self.tells = false;
     }
 
     /// Adds what happened, for which memory may have run out.

@@ -1,5 +1,5 @@
 // A dial in memory, which gives links in memory.
-ghost use Rattle.std.specs.Prelude.{◌≡◌, ◌≢◌, ◌≤◌, ◌<◌, ◌+◌, ◌↔◌, ℕ, [], ◌∷◌, ◌++◌, length, map, option_map, slice_get, true, false, Bool, IfSome, IsTrue};
+ghost use Rattle.std.specs.Prelude.{◌≡◌, ◌≢◌, ◌≤◌, ◌<◌, ◌+◌, ◌↔◌, ℕ, [], ◌∷◌, ◌++◌, length, map, option_map, slice_get, true, false, Bool, IfSome, IsSome, IsTrue};
 ghost use Rattle.std.specs.declared.option.Option.TheVariants.{Some, None};
 ghost use Rattle.af_outside.specs.Told.{Grew, Rose};
 ghost use Rattle.af_outside.specs.Memory.{counted};
@@ -99,6 +99,7 @@ impl Dial for MemDial {
         ensures fresh { IsUnhurt (λ (link : MemLinkState). link.faults) result }
         ensures hurt { self.new.hurt ≡ self.old.hurt }
         ensures asked { Grew self.old.asked (address.now ∷ []) self.new.asked }
+        ensures tells { IfSome self.old.asked (λ said. length said < 2 → IsSome self.new.asked) }
         ensures back { back_of self.new ≡ back_of self.old }
         ensures gives { GivesNext (λ (link : MemLinkState). Some link.left) (λ (link : MemLinkState). Some link.sent) result (Some (map told_link self.old.links)) (Some (map told_link self.new.links)) }
         ensures failed { (result ≡ Dialed.Failed) ↔ (self.old.links ≡ []) }
@@ -125,7 +126,7 @@ impl Dial for MemDial {
         ensures back { GrewBack (back_of self.old) (Some far.sent) (back_of self.new) }
         ensures gives { Some (map told_link self.new.links) ≡ Some (map told_link self.old.links) }
         ensures counts { self.new.hurt ≡ hurt_by far self.old.hurt }
-        ensures kept { length self.old.kept < 2 → self.new.kept ≡ self.old.kept ++ far ∷ [] }
+        ensures kept { length self.old.kept < 2 → (self.new.kept ≡ self.old.kept ++ far ∷ []) × (self.new.keeps_all ≡ self.old.keeps_all) }
     {
         if far.faults() > 0 {
             self.hurt = self.hurt.saturating_add(1);
@@ -139,7 +140,8 @@ impl Dial for MemDial {
 // Notes an address, as long as there is room: whether all are noted so far.
 fn note(addresses: &mut ArrayVec<ArrayString<64>, 2>, tells: bool, address: &str) -> bool
     requires { length address.now ≤ 64 }
-    ensures { Grew (told_if tells (map (λ a. a.bytes) addresses.old.items)) (address.now ∷ []) (told_if result (map (λ a. a.bytes) addresses.new.items)) }
+    ensures grew { Grew (told_if tells (map (λ a. a.bytes) addresses.old.items)) (address.now ∷ []) (told_if result (map (λ a. a.bytes) addresses.new.items)) }
+    ensures tells { IsTrue tells → length addresses.old.items < 2 → IsTrue result }
 {
     let Ok(address) = ArrayString::from(address) else {
         return false;

@@ -192,8 +192,8 @@ fn stated(steps: &[Step], number: Option<usize>) -> Option<&[u8]>
     }
 }
 
-// The byte that silence has in each sample type.
-fn silent_byte(ty: SampleType) -> u8
+/// The byte that silence has in each sample type.
+pub fn silent_byte(ty: SampleType) -> u8
     ensures { result ≡ silent_byte ty }
 {
     match ty {

@@ -1,18 +1,23 @@
 // A world in memory: it plays the steps of a script, answers as the script states, and keeps a log.
-ghost use Rattle.std.specs.Prelude.{◌≡◌, ◌≤◌, ◌<◌, ◌∷◌, [], List, length, not, slice_get, is_some, IfOk, IfSome};
+ghost use Rattle.std.specs.Prelude.{◌≡◌, ◌≢◌, ◌↔◌, ◌≤◌, ◌<◌, ◌∷◌, [], List, IsTrue, false, if◌then◌else◌, length, not, slice_get, is_some, IfOk, IfSome};
 ghost use Rattle.std.specs.declared.option.Option.TheVariants.{Some};
-ghost use Rattle.af_outside.specs.declared.happening.Happening.TheVariants.{Read, Wrote, Captured, Emitted, Hooked};
+ghost use Rattle.af_outside.specs.declared.happening.Happening.TheVariants.{Read, Wrote, Captured, Emitted, Hooked, Woke, Closed};
 ghost use Rattle.af_outside.specs.declared.script.Step.{Step};
-ghost use Rattle.af_outside.specs.Told.{Grew, Rose};
+ghost use Rattle.af_outside.specs.Told.{Grew, Rose, Stays};
 ghost use Rattle.af_outside.specs.World.{got_of, took_of, captured_of, is_done, GotFits, TookFits};
-ghost use Rattle.af_outside.specs.Outside.{answered, stepped, wake_of, fresh, Station, TakesStep, TapeLeadsTo};
+ghost use Rattle.af_outside.specs.Outside.{answered, stepped, wake_of, made, Station, TakesStep, TapeLeadsTo, left_behind, outer_told, wait_answer, wait_fails, waited_outside};
+ghost use Rattle.af_outside.specs.Kinds.{backing_of};
+ghost use Rattle.af_outside.specs.Memory.{counted};
+ghost use Rattle.af_outside.specs.Outer.{attached, is_stated, listened, refused, waited};
 ghost use Rattle.af_outside.specs.Tape.{HasRoom, outside_of, stations_of, faults_after, read_failed, write_failed};
 
 use crate::far_end::FarEnd;
 use crate::logbook::Logbook;
+use crate::outer_book::{OuterBook, attach_of, listen_of, wait_of};
 use crate::station::{self, KeptStation, new_stations};
 use crate::{
-    Bytes, Config, Happening, LinkGot, LinkTook, Put, ReadGot, Step, Wake, Why, World, links,
+    Bytes, Config, DeviceSpec, Happening, Kind, LinkGot, LinkTook, Live, Outer, OuterFaults, Put,
+    ReadGot, Ready, Step, Waited, Wake, Why, World, links,
 };
 use af_time::OutOfMemory;
 use std::alloc::Global;
@@ -32,11 +37,15 @@ pub struct Tape {
     stations: Vec<KeptStation>,
     link_faults: u64,
     device_faults: u64,
+    outer: OuterBook,
 }
 
 impl Model for Tape {
     ghost use Rattle.std.specs.Prelude.{◌≡◌, ◌≤◌, length, drop};
     ghost use Rattle.af_outside.specs.Outside.{TapeState};
+    ghost use Rattle.af_outside.specs.Kinds.{backing_of};
+    ghost use Rattle.af_outside.specs.Memory.{counted};
+    ghost use Rattle.af_outside.specs.Outer.{attached, is_stated, listened, refused, waited};
     ghost use Rattle.af_outside.specs.Tape.{HasRoom, outside_of, stations_of};
 
     ghost Value = { TapeState };
@@ -48,16 +57,22 @@ impl Model for Tape {
       outside = outside_of a.far_ends.items (stations_of a.steps.items a.stations.items);
       link_faults = a.link_faults;
       device_faults = a.device_faults;
+      outer = a.outer;
     } };
 
     ghost invariant = { λ a. (a.taken ≤ length a.steps.items) × HasRoom a.far_ends.items (drop a.taken a.steps.items) };
 }
 
 impl Tape {
-    /// A tape that plays these steps for these devices. Its log is empty and told. All the memory for what its links give
-    /// is taken here.
-    pub fn new(alloc: Global, config: &Config, steps: &[Step]) -> Result<Tape, OutOfMemory>
-        ensures { IfOk result (λ tape. tape ≡ fresh config.now.items steps.now) }
+    /// A tape that plays these steps for these devices, and lets these listens, attaches and waits fail. Its log is empty and
+    /// told. All the memory for what its links give is taken here.
+    pub fn new(
+        alloc: Global,
+        config: &Config,
+        steps: &[Step],
+        outer: OuterFaults,
+    ) -> Result<Tape, OutOfMemory>
+        ensures { IfOk result (λ tape. tape ≡ made config.now.items steps.now outer) }
     {
         let far_ends = links::closed_links(alloc, steps)?;
         let stations = new_stations(alloc, config)?;
@@ -71,6 +86,7 @@ impl Tape {
             stations,
             link_faults: 0,
             device_faults: 0,
+            outer: OuterBook::new(alloc, outer),
         })
     }
 
@@ -91,7 +107,15 @@ impl Tape {
         self.logbook.happenings()
     }
 
-    /// Whether the log is told: always, but after memory ran out for it.
+    /// All listens, attaches and waits that were done so far, in order, where the log is told.
+    pub fn outer(&self) -> &[Outer]
+        ensures { result.now ≡ self.now.outer.entries }
+    {
+        self.outer.entries()
+    }
+
+    /// Whether the log is told, and the list of listens, attaches and waits with it: always, but after memory ran out for
+    /// either.
     pub fn tells(&self) -> bool
         ensures { result ≡ is_some self.now.log }
     {
@@ -250,7 +274,7 @@ fn hook_of(device: u8, off: bool, put: Put) -> Happening
 }
 
 // The count of faults after a call, which stands still at the end of its type.
-fn faults_after(faults: u64, failed: bool) -> u64
+pub(crate) fn faults_after(faults: u64, failed: bool) -> u64
     ensures { result ≡ faults_after faults failed }
 {
     if failed {
@@ -279,7 +303,11 @@ impl World for Tape {
 
     ghost device_faults_stay = { λ _ _ leads. leads.device_faults };
 
-    fn woke(&mut self, wake: Wake) {
+    fn woke(&mut self, wake: Wake)
+        ensures log { Grew self.old.log (Woke wake ∷ []) self.new.log }
+        ensures leads { TapeLeadsTo self.old self.new }
+        ensures rest { self.new ≡ record self.old { log = self.new.log } }
+    {
         self.logbook.note(Ok(Happening::Woke(wake)));
     }
 
@@ -324,7 +352,15 @@ impl World for Tape {
         took
     }
 
-    fn close(&mut self, link: u8, why: Why) {
+    fn close(&mut self, link: u8, why: Why)
+        ensures log { Grew self.old.log (Closed link why ∷ []) self.new.log }
+        ensures leads { TapeLeadsTo self.old self.new }
+        ensures answered { answered self.old.outside (Closed link why) ≡ Some self.new.outside }
+        ensures rest { self.new ≡ record self.old {
+          log = self.new.log;
+          outside = self.new.outside;
+        } }
+    {
         links::close(&mut self.far_ends, link, why);
         self.logbook.note(Ok(Happening::Closed { link, why }));
     }
@@ -384,5 +420,115 @@ impl World for Tape {
         self.device_faults = faults_after(self.device_faults, put == Put::Failed);
         self.logbook.note(Ok(hook_of(device, off, put)));
         put
+    }
+}
+
+// Whether a device stands so in a configuration.
+fn is_device(config: &Config, device: u8, spec: &DeviceSpec) -> bool
+    ensures { IsTrue result ↔ (slice_get config.now.items device ≡ Some spec.now) }
+{
+    match config.get(device as usize) {
+        Some(stated) => stated == spec,
+        None => false,
+    }
+}
+
+impl Live for Tape {
+    ghost use Rattle.af_outside.specs.TapeLaws.{TapeLeadsTo-listen_faults, TapeLeadsTo-wait_faults, TapeLeadsTo-outer, Tape-tells_both};
+
+    ghost listen_faults = { λ tape. tape.outer.listen_faults };
+
+    ghost wait_faults = { λ tape. tape.outer.wait_faults };
+
+    ghost outer = { outer_told };
+
+    ghost listen_faults_apart = { TapeLeadsTo-listen_faults };
+
+    ghost wait_faults_apart = { TapeLeadsTo-wait_faults };
+
+    ghost outer_apart = { TapeLeadsTo-outer };
+
+    ghost tells_both = { Tape-tells_both };
+
+    fn listen(&mut self, alloc: Global, address: &str) -> Ready
+        ensures log { Stays self.old.log self.new.log }
+        ensures outer { Grew (outer_told self.old) (listened result address.now) (outer_told self.new) }
+        ensures cause { result ≡ Ready.Failed → Rose self.old.outer.listen_faults self.new.outer.listen_faults }
+        ensures link_count { self.old.link_faults ≤ self.new.link_faults }
+        ensures device_count { self.old.device_faults ≤ self.new.device_faults }
+        ensures listen_count { self.old.outer.listen_faults ≤ self.new.outer.listen_faults }
+        ensures wait_count { self.old.outer.wait_faults ≤ self.new.outer.wait_faults }
+        ensures answer { result ≡ (if self.old.outer.faults.listen then Ready.Failed else Ready.Done) }
+        ensures rest { self.new ≡ record self.old {
+          log = self.new.log;
+          outer = record self.old.outer {
+            entries = self.new.outer.entries;
+            listen_faults = faults_after self.old.outer.listen_faults self.old.outer.faults.listen;
+          };
+        } }
+    {
+        if self.outer.listen_fails() {
+            return Ready::Failed;
+        }
+        self.outer
+            .note(listen_of(alloc, address), &mut self.logbook);
+        Ready::Done
+    }
+
+    fn attach(&mut self, alloc: Global, device: u8, spec: &DeviceSpec, kind: Kind<'_>) -> Ready
+        ensures log { Stays self.old.log self.new.log }
+        ensures outer { Grew (outer_told self.old) (attached result device spec.now (backing_of kind.entry)) (outer_told self.new) }
+        ensures cause { result ≡ Ready.Failed → Rose self.old.device_faults self.new.device_faults }
+        ensures link_count { self.old.link_faults ≤ self.new.link_faults }
+        ensures device_count { self.old.device_faults ≤ self.new.device_faults }
+        ensures listen_count { self.old.outer.listen_faults ≤ self.new.outer.listen_faults }
+        ensures wait_count { self.old.outer.wait_faults ≤ self.new.outer.wait_faults }
+        ensures answer { (result ≡ Ready.Done) ↔ ((slice_get self.old.config device ≡ Some spec.now) × (is_stated self.old.outer.faults.attach device ≡ false)) }
+        ensures memory { result ≢ Ready.OutOfMemory }
+        ensures faults { self.new.device_faults ≡ faults_after self.old.device_faults (refused result) }
+        ensures rest { self.new ≡ record self.old {
+          log = self.new.log;
+          device_faults = self.new.device_faults;
+          outer = record self.old.outer { entries = self.new.outer.entries };
+        } }
+    {
+        if !is_device(&self.config, device, spec) || self.outer.attach_fails(device) {
+            self.device_faults = faults_after(self.device_faults, true);
+            return Ready::Failed;
+        }
+        self.outer
+            .note(attach_of(alloc, device, spec, kind), &mut self.logbook);
+        Ready::Done
+    }
+
+    fn wait(&mut self, more: bool) -> Waited
+        ensures log { Stays self.old.log self.new.log }
+        ensures outer { Grew (outer_told self.old) (waited more result) (outer_told self.new) }
+        ensures cause { result ≡ Waited.Failed → Rose self.old.outer.wait_faults self.new.outer.wait_faults }
+        ensures link_count { self.old.link_faults ≤ self.new.link_faults }
+        ensures device_count { self.old.device_faults ≤ self.new.device_faults }
+        ensures listen_count { self.old.outer.listen_faults ≤ self.new.outer.listen_faults }
+        ensures wait_count { self.old.outer.wait_faults ≤ self.new.outer.wait_faults }
+        ensures answer { result ≡ wait_answer self.old }
+        ensures rest { self.new ≡ record self.old {
+          left = left_behind self.old;
+          log = self.new.log;
+          outside = waited_outside self.old;
+          outer = record self.old.outer {
+            entries = self.new.outer.entries;
+            waits = counted self.old.outer.waits;
+            wait_faults = faults_after self.old.outer.wait_faults (wait_fails self.old);
+          };
+        } }
+    {
+        if self.outer.wait_fails() {
+            return Waited::Failed;
+        }
+        let wake = match self.step() {
+            Some(wake) => wake,
+            None => Wake::Stop,
+        };
+        self.outer.note(Ok(wait_of(more, wake)), &mut self.logbook);
+        Waited::Woke(wake)
     }
 }

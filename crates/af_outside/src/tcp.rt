@@ -1,9 +1,10 @@
-// Links over TCP, which tell no content and count their faults.
+// Links over TCP, which tell no content, pass on what their streams give and take, and count their faults.
 ghost use Rattle.std.specs.Prelude.{◌≡◌, ◌≤◌, ◌<◌, ℕ, ◌∷◌, [], length, IsSome};
 ghost use Rattle.std.specs.declared.option.Option.TheVariants.{None};
 ghost use Rattle.af_outside.specs.Told.{Gave, Grew, Rose};
 ghost use Rattle.af_outside.specs.Flow.{given_of, GotFits, Written};
 ghost use Rattle.af_outside.specs.Memory.{counted};
+ghost use Rattle.af_outside.specs.Real.{ReadsOn, WritesOn};
 ghost use Rattle.af_outside.specs.Dial.{CountsHurt, GivesNext, GrewBack, IsUnhurt};
 
 use crate::real::{read_some, write_whole};
@@ -21,11 +22,11 @@ pub struct TcpLink<S: Read + Write + Drop> {
 }
 
 impl<S: Read + Write + Drop> Model for TcpLink<S> {
-    ghost use Rattle.std.specs.Prelude.{ℕ};
+    ghost use Rattle.af_outside.specs.Real.{StreamState};
 
-    ghost Value = { ℕ };
+    ghost Value = { StreamState };
 
-    ghost view = { λ a. a.faults };
+    ghost view = { λ a. record { remaining = S.Read.remaining a.stream; contents = S.Write.contents a.stream; faults = a.faults } };
 }
 
 impl<S: Read + Write + Drop> Link for TcpLink<S> {
@@ -33,15 +34,16 @@ impl<S: Read + Write + Drop> Link for TcpLink<S> {
 
     ghost sent = { λ _. None };
 
-    ghost faults = { λ link. link };
+    ghost faults = { λ link. link.faults };
 
     fn read(&mut self, into: &mut [u8]) -> Got
         requires { 0 < length into.old }
         ensures bound { GotFits result (length into.new) None }
-        ensures count { self.old ≤ self.new }
-        ensures cause { result ≡ Got.Failed → Rose self.old self.new }
-        ensures fault { result ≡ Got.Failed → self.new ≡ counted self.old }
-        ensures no_fault { ¬ (result ≡ Got.Failed) → self.new ≡ self.old }
+        ensures reads { ReadsOn result self.old.remaining into.new self.new.remaining }
+        ensures count { self.old.faults ≤ self.new.faults }
+        ensures cause { result ≡ Got.Failed → Rose self.old.faults self.new.faults }
+        ensures fault { result ≡ Got.Failed → self.new.faults ≡ counted self.old.faults }
+        ensures no_fault { ¬ (result ≡ Got.Failed) → self.new.faults ≡ self.old.faults }
     {
         let got = read_some(&mut self.stream, into);
         if matches!(got, Got::Failed) {
@@ -52,10 +54,11 @@ impl<S: Read + Write + Drop> Link for TcpLink<S> {
 
     fn write(&mut self, piece: &[u8]) -> Put
         requires { 0 < length piece.now }
-        ensures count { self.old ≤ self.new }
-        ensures cause { result ≡ Put.Failed → Rose self.old self.new }
-        ensures fault { result ≡ Put.Failed → self.new ≡ counted self.old }
-        ensures no_fault { result ≡ Put.Done → self.new ≡ self.old }
+        ensures writes { WritesOn result self.old.contents piece.now self.new.contents }
+        ensures count { self.old.faults ≤ self.new.faults }
+        ensures cause { result ≡ Put.Failed → Rose self.old.faults self.new.faults }
+        ensures fault { result ≡ Put.Failed → self.new.faults ≡ counted self.old.faults }
+        ensures no_fault { result ≡ Put.Done → self.new.faults ≡ self.old.faults }
     {
         let put = write_whole(&mut self.stream, piece);
         if matches!(put, Put::Failed) {
@@ -112,7 +115,7 @@ impl<R: Net + Drop> Dial for TcpDial<R> {
         requires { (1 ≤ length address.now) × (length address.now ≤ 64) }
         ensures count { self.old.faults ≤ self.new.faults }
         ensures cause { result ≡ Dialed.Failed → Rose self.old.faults self.new.faults }
-        ensures fresh { IsUnhurt (λ link. link) result }
+        ensures fresh { IsUnhurt (λ link. link.faults) result }
         ensures hurt { self.new.hurt ≡ self.old.hurt }
         ensures fault { result ≡ Dialed.Failed → self.new.faults ≡ counted self.old.faults }
         ensures no_fault { ¬ (result ≡ Dialed.Failed) → self.new.faults ≡ self.old.faults }
@@ -133,7 +136,7 @@ impl<R: Net + Drop> Dial for TcpDial<R> {
 
     fn hang_up(&mut self, far: TcpLink<R::Stream>)
         ensures count { self.new.faults ≡ self.old.faults }
-        ensures hurt { CountsHurt far self.old.hurt self.new.hurt }
+        ensures hurt { CountsHurt far.faults self.old.hurt self.new.hurt }
     {
         if far.faults > 0 {
             self.hurt = self.hurt.saturating_add(1);

@@ -118,7 +118,7 @@ fn a_tape_plays_a_script(rt: HostRuntime) -> Result<(), Fail> {
         Step::Open(3),
         Step::Idle,
     ]?;
-    let mut tape = Tape::new(alloc, &config, steps.as_slice())?;
+    let mut tape = Tape::new(alloc, &config, steps.as_slice(), OuterFaults::default())?;
     // opening a link that is open, and sending on one that is not, are idle; what was sent before a close is gone
     let acts = [
         Act::Step,
@@ -179,7 +179,7 @@ fn a_link_ends_after_its_bytes_and_fails_once(rt: HostRuntime) -> Result<(), Fai
         Step::Open(2),
         Step::End(4),
     ]?;
-    let mut tape = Tape::new(alloc, &config, steps.as_slice())?;
+    let mut tape = Tape::new(alloc, &config, steps.as_slice(), OuterFaults::default())?;
     // a failed read moves no byte; the end comes after the last byte, and again after a byte that is sent later
     let acts = [
         Act::Step,
@@ -236,7 +236,7 @@ fn a_link_takes_what_it_has_room_for_and_fails_once(rt: HostRuntime) -> Result<(
         Step::Room(5, Some(1)),
         Step::Room(5, None),
     ]?;
-    let mut tape = Tape::new(alloc, &config, steps.as_slice())?;
+    let mut tape = Tape::new(alloc, &config, steps.as_slice(), OuterFaults::default())?;
     // room is counted from its step on, whatever was taken before; a failed write takes none of it
     let acts = [
         Act::Step,
@@ -296,7 +296,7 @@ fn a_link_that_is_opened_again_begins_anew(rt: HostRuntime) -> Result<(), Fail> 
         Step::FailWrite(0),
         Step::Open(0),
     ]?;
-    let mut tape = Tape::new(alloc, &config, steps.as_slice())?;
+    let mut tape = Tape::new(alloc, &config, steps.as_slice(), OuterFaults::default())?;
     // what is stated of a link that is not open is idle, and gone
     let acts = [
         Act::Step,
@@ -355,7 +355,7 @@ fn devices_capture_what_is_stated_and_fail_once(rt: HostRuntime) -> Result<(), F
         Step::FailCapture(0),
         Step::FailEmit(1),
     ]?;
-    let mut tape = Tape::new(alloc, &config, steps.as_slice())?;
+    let mut tape = Tape::new(alloc, &config, steps.as_slice(), OuterFaults::default())?;
     // what a tick states is captured till the next tick of the device, where it is as many bytes as are asked for
     let acts = [
         Act::Step,
@@ -417,7 +417,7 @@ fn lines_change_and_a_hook_fails_once(rt: HostRuntime) -> Result<(), Fail> {
         Step::Line(1, LineChange::Digit(b'#')),
         Step::Line(1, LineChange::Current(false)),
     ]?;
-    let mut tape = Tape::new(alloc, &config, steps.as_slice())?;
+    let mut tape = Tape::new(alloc, &config, steps.as_slice(), OuterFaults::default())?;
     let acts = [
         Act::Step,
         Act::Hook(1, true),

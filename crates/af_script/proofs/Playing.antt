@@ -41,7 +41,7 @@ pub record Plays (config : List DeviceSpec) (steps : List Step) (kept : Kept) (t
   pub links : length kept.links ≡ 32
 
 -- no device has completed a request at its start
-opening_loses_none : (config : List DeviceSpec) → All (λ device. LosesNone device) (map opening_device config)
+pub opening_loses_none : (config : List DeviceSpec) → All (λ device. LosesNone device) (map opening_device config)
 opening_loses_none [] = λ k d low. absurd (omega arith)
 opening_loses_none (c ∷ config) = All-cons (λ device. LosesNone device) (opening_device c) (map opening_device config) (λ k d low. absurd (omega arith)) (opening_loses_none config)
 

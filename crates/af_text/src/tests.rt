@@ -1,7 +1,7 @@
 // Lines and words of a text, against what was counted by hand.
 use crate::{
-    is_word, listed_rate, next_line, next_word, number, number_between, one_word, passes_over,
-    sample_type, two_words,
+    is_word, listed_rate, long_number_between, next_line, next_word, number, number_between,
+    one_word, passes_over, sample_type, two_words,
 };
 use af_sample::SampleType;
 
@@ -29,6 +29,23 @@ fn words_are_numbers_types_and_rates(rt: HostRuntime) {
     assert_eq!(rt; number(b"4x"), None);
     assert_eq!(rt; number_between(1, 4096, b"4096"), Some(4096));
     assert_eq!(rt; number_between(1, 4096, b"0"), None);
+    assert_eq!(rt;
+        long_number_between(0, u64::MAX, b"18446744073709551615"),
+        Some(u64::MAX)
+    );
+    assert_eq!(rt;
+        long_number_between(0, u64::MAX, b"18446744073709551616"),
+        None
+    );
+    assert_eq!(rt;
+        long_number_between(1, 10000, b"00000000000000010000"),
+        Some(10000)
+    );
+    assert_eq!(rt;
+        long_number_between(1, 10000, b"000000000000000000001"),
+        None
+    );
+    assert_eq!(rt; long_number_between(1, 10000, b"0"), None);
     assert_eq!(rt; sample_type(b"alaw"), Some(SampleType::Alaw));
     assert_eq!(rt; sample_type(b"ulaw"), None);
     assert_eq!(rt; listed_rate(b"44100"), Some(44100));

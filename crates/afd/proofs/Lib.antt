@@ -1,3 +1,2 @@
-pub mod Flowing
-pub mod Ending
+pub mod Exercising
 pub mod Jobs

@@ -1,11 +1,11 @@
 -- How the script command ends: what was read, what it was, and what was written. Each list of bytes is told or not.
-use Rattle.std.specs.Prelude.{◌≡◌, ℕ, ◌<◌, ◌≤◌, Bool, true, false, List, length, Ok, Err, IsOk, IsSome}
+use Rattle.std.specs.Prelude.{◌≡◌, ℕ, ◌≤◌, Bool, true, false, List, length, Ok, Err, IsOk, IsSome}
 use Rattle.std.specs.declared.option.Option.{Option}
 use Rattle.std.specs.declared.option.Option.TheVariants.{None, Some}
-use Rattle.af_outside.specs.Told.{Log, Gave, Grew, Rose}
+use Rattle.af_outside.specs.Told.{Log, Grew, Rose}
 use Rattle.af_outside.specs.declared.flow.Put.{Put}
 use Rattle.af_outside.specs.declared.flow.Put.TheVariants as put
-use Rattle.af_outside.specs.Flow.{IsSpent, GrewByPrefix, Written}
+use Rattle.af_outside.specs.Flow.{GaveWhole, GrewByPrefix, Written}
 use Rattle.af_model.specs.NoLoss.{RunLosesNone}
 use Rattle.af_model.specs.Prefix.{TakesInOrder}
 use Rattle.af_model.specs.Fold.{MixesAll}
@@ -24,24 +24,6 @@ use Rattle.afd.specs.declared.script.ScriptEnd.TheVariants as end
 abbrev pub longest_script : ℕ
 longest_script = 1048576
 
--- the source was read to its end, and this is all that it gave
-pub record GaveWhole (before after : Option (List ℕ)) (text : List ℕ) : Type 0 where
-  pub gave : Gave before text after
-  pub spent : IsSpent after
-  pub within : length text ≤ longest_script
-
--- the source gave no more than a script may have
-pub record GaveWithin (before after : Option (List ℕ)) : Type 0 where
-  pub text : List ℕ
-  pub gave : Gave before text after
-  pub within : length text ≤ longest_script
-
--- the source gave more than a script may have
-pub record GaveTooMuch (before after : Option (List ℕ)) : Type 0 where
-  pub text : List ℕ
-  pub gave : Gave before text after
-  pub beyond : longest_script < length text
-
 -- The text is a script, and this is its one log. No request that had waited lost a sample in it, what each link took begins what was
 -- said to it, and each sound is the mix of all that was ever accepted.
 pub record IsLogOf (text : List ℕ) (log : Log) : Type 0 where
@@ -55,7 +37,7 @@ pub record IsLogOf (text : List ℕ) (log : Log) : Type 0 where
 -- all that the source gave is a script, and the transcript of its one log was written
 pub record RanWhole (left left' held held' : Option (List ℕ)) : Type 0 where
   pub text : List ℕ
-  pub read : GaveWhole left left' text
+  pub read : GaveWhole longest_script left left' text
   pub log : Log
   pub ran : IsLogOf text log
   pub written : Grew held (transcript log) held'
@@ -63,7 +45,7 @@ pub record RanWhole (left left' held held' : Option (List ℕ)) : Type 0 where
 -- all that the source gave is a script, and a prefix of the transcript of its one log was written
 pub record RanCutOff (left left' held held' : Option (List ℕ)) : Type 0 where
   pub text : List ℕ
-  pub read : GaveWhole left left' text
+  pub read : GaveWhole longest_script left left' text
   pub log : Log
   pub ran : IsLogOf text log
   pub written : GrewByPrefix held (transcript log) held'
@@ -71,7 +53,7 @@ pub record RanCutOff (left left' held held' : Option (List ℕ)) : Type 0 where
 -- all that the source gave is no script, and this is the first line that is not allowed where it stands
 pub record IsFaultyAt (line : ℕ) (left left' : Option (List ℕ)) : Type 0 where
   pub text : List ℕ
-  pub read : GaveWhole left left' text
+  pub read : GaveWhole longest_script left left' text
   pub fault : script_of text ≡ Err line
 
 -- A script that is good in every way: the source tells its bytes before and after, they are a script, and neither the source nor

@@ -1,19 +1,8 @@
 -- What the words of the command ask for. Each word is a list of bytes.
-use Rattle.std.specs.Prelude.{ℕ, ◌≤◌, ◌-◌, ◌^◌, nat_le, ◌&&◌, List, [], ◌∷◌, length, codes, bytes_eq, Option, Some, None, option_and_then, if◌then◌else◌}
-use Rattle.std.specs.Str.{all_ascii_digits}
-use Rattle.std.specs.Str.Parse.{digits_value}
-use Rattle.af_text.specs.Words.{only_if}
+use Rattle.std.specs.Prelude.{ℕ, ◌≤◌, ◌-◌, ◌^◌, List, [], ◌∷◌, codes, bytes_eq, Option, Some, None, if◌then◌else◌}
+use Rattle.af_text.specs.Words.{long_number_within}
 use Rattle.afd.specs.declared.job.Job.{Job}
 use Rattle.afd.specs.declared.job.Job.TheVariants as job
-
--- the number of a word of 1 to 20 decimal digits
-abbrev pub number_of : List ℕ → Option ℕ
-number_of word =
-    if nat_le 1 (length word) && nat_le (length word) 20 && all_ascii_digits word then Some (digits_value 10 word) else None
-
--- the number of a word, where it lies between these two
-abbrev pub number_within : ℕ → ℕ → List ℕ → Option ℕ
-number_within low high word = option_and_then (only_if (λ n. nat_le low n && nat_le n high)) (number_of word)
 
 -- the exercise of a seed and so many turns, where both are there
 abbrev pub exercise_of : Option ℕ → Option ℕ → Option Job
@@ -28,7 +17,7 @@ job_of_one name = if bytes_eq name (codes "script") then Some job.Script else No
 -- what three words ask for
 abbrev pub job_of_three : List ℕ → List ℕ → List ℕ → Option Job
 job_of_three name seed turns =
-    if bytes_eq name (codes "exercise") then exercise_of (number_within 0 (2 ^ 64 - 1) seed) (number_within 1 10000 turns) else None
+    if bytes_eq name (codes "exercise") then exercise_of (long_number_within 0 (2 ^ 64 - 1) seed) (long_number_within 1 10000 turns) else None
 
 -- what a list of words asks for: `script`, or `exercise SEED TURNS` with a SEED of 0 to 2^64 - 1 and TURNS of 1 to 10000
 abbrev pub job_of : List (List ℕ) → Option Job

@@ -2,9 +2,8 @@
 ghost use Rattle.std.specs.Prelude.{◌≡◌, IfSome};
 ghost use Rattle.afd.specs.Words.{job_of, job_of_one, job_of_three, HasTurns};
 
-use crate::number::number_between;
 use af_outside::Args;
-use af_text::is_word;
+use af_text::{is_word, long_number_between};
 
 /// What the command is to do.
 #[derive(Clone, Copy, Debug, PartialEq, Eq)]
@@ -46,7 +45,7 @@ fn job_of_three(name: &[u8], seed: &[u8], turns: &[u8]) -> Option<Job>
     if !is_word(name, b"exercise") {
         return None;
     }
-    let seed = number_between(0, u64::MAX, seed)?;
-    let turns = number_between(1, 10000, turns)? as u32;
+    let seed = long_number_between(0, u64::MAX, seed)?;
+    let turns = long_number_between(1, 10000, turns)? as u32;
     Some(Job::Exercise { seed, turns })
 }

@@ -1,43 +1,18 @@
-//! The server's program: it makes the real objects, calls the one function, and says how that ended.
+//! The server's program: it makes the real objects, calls the one function that its first word names, and says how that ended.
 #![tactic(auto)]
 
 ghost use Rattle.std.specs.Prelude.{◌≡◌};
 ghost use Rattle.afd.specs.Ends.{status};
 
 mod job;
-mod number;
 mod script;
-mod text;
 
-use af_outside::{Args, StdSink, StdSource};
+use af_live::MioWorld;
+use af_outside::{Args, StdSink, StdSource, WordsFault, program_words};
+use afd_serve::{LiveEnd, afd_live};
 use script::{ScriptEnd, afd_script};
-use std::alloc::Global;
-use std::env::Env;
-use std::io::ErrorKind;
+use std::io;
 use std::process::ExitCode;
-use std::{env, io};
-
-// Why the words of the command line were not had.
-enum WordsFault {
-    NotText,
-    OutOfMemory,
-}
-
-// The words behind the program's name.
-fn words_of(alloc: Global, rt: &(impl Env + Alloc)) -> Result<Args, WordsFault> {
-    let words = match env::args(rt) {
-        Ok(words) => words,
-        Err(e) if e.kind() == ErrorKind::OutOfMemory => return Err(WordsFault::OutOfMemory),
-        Err(_) => return Err(WordsFault::NotText),
-    };
-    let mut args = Args::new(alloc);
-    for word in words.skip(1) {
-        if args.push(word.as_str()).is_err() {
-            return Err(WordsFault::OutOfMemory);
-        }
-    }
-    Ok(args)
-}
 
 // The exit status of an end.
 fn status_of(end: ScriptEnd) -> u8
@@ -54,8 +29,8 @@ fn status_of(end: ScriptEnd) -> u8
     }
 }
 
-// Says on standard error how it ended.
-fn report(rt: &impl Eprint, end: ScriptEnd) -> io::Result<()> {
+// Says on standard error how a script ended.
+fn report_script(rt: &impl Eprint, end: ScriptEnd) -> io::Result<()> {
     match end {
         ScriptEnd::Done => Ok(()),
         ScriptEnd::Usage => eprintln!(rt; "afd: usage"),
@@ -67,19 +42,57 @@ fn report(rt: &impl Eprint, end: ScriptEnd) -> io::Result<()> {
     }
 }
 
-fn main(rt: HostRuntime) -> ExitCode {
-    let end = match words_of(rt.alloc(), &rt) {
-        Ok(words) => {
-            let mut source = StdSource::new(rt.reader());
-            let mut sink = StdSink::new(io::writer(&rt));
-            afd_script(rt.alloc(), &words, &mut source, &mut sink)
-        }
-        Err(WordsFault::NotText) => ScriptEnd::Usage,
-        Err(WordsFault::OutOfMemory) => ScriptEnd::OutOfMemory,
+// Says on standard error how the server ended.
+fn report_live(rt: &impl Eprint, end: LiveEnd) -> io::Result<()> {
+    match end {
+        LiveEnd::Done => Ok(()),
+        LiveEnd::Usage => eprintln!(rt; "afd: usage"),
+        LiveEnd::ConfigFault { line } => eprintln!(rt; "afd: line {line}"),
+        LiveEnd::TooLong => eprintln!(rt; "afd: input too long"),
+        LiveEnd::ReadFault => eprintln!(rt; "afd: read failed"),
+        LiveEnd::OutOfMemory => eprintln!(rt; "afd: out of memory"),
+        LiveEnd::ListenFault => eprintln!(rt; "afd: listen failed"),
+        LiveEnd::AttachFault { device } => eprintln!(rt; "afd: device {device} failed"),
+        LiveEnd::WaitFault => eprintln!(rt; "afd: wait failed"),
+        LiveEnd::WaitsSpent => eprintln!(rt; "afd: waits spent"),
+    }
+}
+
+// A script or an exercise, over standard input and output.
+fn run_script(rt: &HostRuntime, words: &Args) -> ScriptEnd {
+    let mut source = StdSource::new(rt.reader());
+    let mut sink = StdSink::new(io::writer(rt));
+    afd_script(rt.alloc(), words, &mut source, &mut sink)
+}
+
+// The server, over standard input, sockets, files and the clock.
+fn run_server(rt: &HostRuntime, words: &Args) -> LiveEnd {
+    let Ok(system) = rt.clone() else {
+        return LiveEnd::OutOfMemory;
     };
-    // Where standard error takes nothing, the status still says how it ended.
-    let _ = report(&rt, end);
+    let mut source = StdSource::new(rt.reader());
+    let mut world = MioWorld::new(system);
+    afd_live(rt.alloc(), words, &mut source, &mut world)
+}
+
+// Where standard error takes nothing, the status still says how it ended.
+fn ended_script(rt: &HostRuntime, end: ScriptEnd) -> ExitCode {
+    let _ = report_script(rt, end);
     ExitCode::from(status_of(end))
+}
+
+fn ended_live(rt: &HostRuntime, end: LiveEnd) -> ExitCode {
+    let _ = report_live(rt, end);
+    ExitCode::from(afd_serve::status_of(end))
+}
+
+fn main(rt: HostRuntime) -> ExitCode {
+    match program_words(rt.alloc(), &rt) {
+        Ok(words) if words.word(0) == Some("serve") => ended_live(&rt, run_server(&rt, &words)),
+        Ok(words) => ended_script(&rt, run_script(&rt, &words)),
+        Err(WordsFault::NotText) => ended_script(&rt, ScriptEnd::Usage),
+        Err(WordsFault::OutOfMemory) => ended_script(&rt, ScriptEnd::OutOfMemory),
+    }
 }
 
 #[cfg(test)]

@@ -4,22 +4,25 @@ ghost use Rattle.std.specs.Prelude.{◌≡◌, ◌≢◌, ◌↔◌, ◌⊎◌, 
 ghost use Rattle.std.specs.declared.option.Option.TheVariants.{None, Some};
 ghost use Rattle.af_outside.specs.Told.{Rose};
 ghost use Rattle.af_outside.specs.declared.flow.Put.TheVariants as put;
+ghost use Rattle.af_outside.specs.Flow.{GaveWithin, GaveTooMuch};
 ghost use Rattle.af_buffers.specs.Horizons.{IsListedRate};
 ghost use Rattle.af_outside.specs.Outside.{IsStep};
 ghost use Rattle.af_script.specs.Run.{HasOneLog};
 ghost use Rattle.af_script.specs.Script.{script_of, IsFault};
 ghost use Rattle.afd.specs.declared.job.Job.TheVariants as job;
-ghost use Rattle.afd.specs.Ends.{RanWhole, RanCutOff, DidWhole, DidCutOff, CanBeDone, WroteSummary, IsFaultyAt, GaveWithin, GaveTooMuch, IsGood, reads, writes};
+ghost use Rattle.afd.specs.Ends.{RanWhole, RanCutOff, DidWhole, DidCutOff, CanBeDone, WroteSummary, IsFaultyAt, IsGood, longest_script, reads, writes};
 ghost use Rattle.afd.specs.Run.{TellsLogOf};
 ghost use Rattle.afd.specs.Words.{job_of};
 
 use crate::job::{Job, job_of};
-use crate::text::{TextFault, read_text};
 use af_exercise::make_script;
-use af_outside::{Args, Put, Sink, Source, Tape};
+use af_outside::{Args, OuterFaults, Put, Sink, Source, Tape, TextFault, read_text};
 use af_script::{Script, ScriptFault, print_log, print_summary, read_script, run_tape};
 use af_time::OutOfMemory;
 use std::alloc::Global;
+
+/// How many bytes a script may have.
+const LONGEST_SCRIPT: usize = 1048576;
 
 /// How a script command ended.
 #[derive(Clone, Copy, Debug, PartialEq, Eq)]
@@ -56,8 +59,8 @@ pub fn afd_script<S: Source, K: Sink>(
     ensures done { result ≡ ScriptEnd.Done → DidWhole (job_of words.now) (S.left source.old) (S.left source.new) (K.held sink.old) (K.held sink.new) }
 
     // TooLong exactly where more came than a script may have
-    ensures long { result ≡ ScriptEnd.TooLong → GaveTooMuch (S.left source.old) (S.left source.new) }
-    ensures within { result ≢ ScriptEnd.TooLong → GaveWithin (S.left source.old) (S.left source.new) }
+    ensures long { result ≡ ScriptEnd.TooLong → GaveTooMuch longest_script (S.left source.old) (S.left source.new) }
+    ensures within { result ≢ ScriptEnd.TooLong → GaveWithin longest_script (S.left source.old) (S.left source.new) }
 
     ensures fault { (line : ℕ) → result ≡ ScriptEnd.ScriptFault line → IsFaultyAt line (S.left source.old) (S.left source.new) }
     ensures cut { result ≡ ScriptEnd.SinkFault → DidCutOff (job_of words.now) (S.left source.old) (S.left source.new) (K.held sink.old) (K.held sink.new) }
@@ -83,8 +86,8 @@ pub fn afd_script<S: Source, K: Sink>(
 fn transcribe<S: Source, K: Sink>(alloc: Global, source: &mut S, sink: &mut K) -> ScriptEnd
     ensures used { result ≢ ScriptEnd.Usage }
     ensures done { result ≡ ScriptEnd.Done → RanWhole (S.left source.old) (S.left source.new) (K.held sink.old) (K.held sink.new) }
-    ensures long { result ≡ ScriptEnd.TooLong → GaveTooMuch (S.left source.old) (S.left source.new) }
-    ensures within { result ≢ ScriptEnd.TooLong → GaveWithin (S.left source.old) (S.left source.new) }
+    ensures long { result ≡ ScriptEnd.TooLong → GaveTooMuch longest_script (S.left source.old) (S.left source.new) }
+    ensures within { result ≢ ScriptEnd.TooLong → GaveWithin longest_script (S.left source.old) (S.left source.new) }
     ensures fault { (line : ℕ) → result ≡ ScriptEnd.ScriptFault line → IsFaultyAt line (S.left source.old) (S.left source.new) }
     ensures cut { result ≡ ScriptEnd.SinkFault → RanCutOff (S.left source.old) (S.left source.new) (K.held sink.old) (K.held sink.new) }
     ensures unwritten { writes result ≡ false → K.held sink.new ≡ K.held sink.old }
@@ -94,7 +97,7 @@ fn transcribe<S: Source, K: Sink>(alloc: Global, source: &mut S, sink: &mut K) -
     ensures source_count { S.faults source.old ≤ S.faults source.new }
     ensures sink_count { K.faults sink.old ≤ K.faults sink.new }
 {
-    let text = match read_text(alloc, source) {
+    let text = match read_text(alloc, source, LONGEST_SCRIPT) {
         Ok(text) => text,
         Err(TextFault::ReadFault) => return ScriptEnd::ReadFault,
         Err(TextFault::TooLong) => return ScriptEnd::TooLong,
@@ -153,7 +156,12 @@ fn run_script(alloc: Global, script: &Script) -> Result<Tape, OutOfMemory>
     requires steps { All (IsStep script.now.config.items) script.now.steps }
     ensures { IfOk result (λ tape. HasOneLog script.now.config.items script.now.steps tape.log) }
 {
-    let mut tape = Tape::new(alloc, &script.config, script.steps.as_slice())?;
+    let mut tape = Tape::new(
+        alloc,
+        &script.config,
+        script.steps.as_slice(),
+        OuterFaults::default(),
+    )?;
     run_tape(alloc, &script.config, &mut tape)?;
     Ok(tape)
 }

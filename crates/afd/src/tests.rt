@@ -3,6 +3,7 @@ mod controls;
 mod exercise;
 mod lines;
 mod links;
+mod serve;
 mod session;
 mod waits;
 
@@ -13,6 +14,14 @@ use std::alloc::Global;
 use std::process::Abort;
 use std::test::Fail;
 
+fn args(alloc: Global, words: &[&str]) -> Result<Args, Fail> {
+    let mut args = Args::new(alloc);
+    for word in words {
+        args.push(word)?;
+    }
+    Ok(args)
+}
+
 // How the command ends with these words, over a source that gives a text in pieces of 7 bytes and of which chosen reads
 // fail, and a sink with so much room; and what the sink holds then.
 fn outcome(
@@ -22,14 +31,11 @@ fn outcome(
     fails: &[u64],
     room: usize,
 ) -> Result<(ScriptEnd, Vec<u8>), Fail> {
-    let mut args = Args::new(alloc);
-    for word in words {
-        args.push(word)?;
-    }
+    let words = args(alloc, words)?;
     let mut source = MemSource::new(text, 7, fails);
     let mut room = vec![in alloc; 0u8; room]?;
     let mut sink = MemSink::new(&mut room, &[]);
-    let end = afd_script(alloc, &args, &mut source, &mut sink);
+    let end = afd_script(alloc, &words, &mut source, &mut sink);
     let held = Vec::from_slice(alloc, sink.held())?;
     Ok((end, held))
 }

@@ -37,6 +37,7 @@ returns c =
       outside = outside_of tape.far_ends.items (stations_of tape.steps.items tape.stations.items);
       link_faults = tape.link_faults;
       device_faults = tape.device_faults;
+      outer = tape.outer;
     } in
     let left = drop (tape.taken + 1) tape.steps.items in
     let outside = outside_of far_ends.items (stations_of tape.steps.items stations.items) in

@@ -31,6 +31,7 @@ returns-clause-leads c =
       left = refl;
       link_faults = le_refl tape.link_faults;
       device_faults = rw c.faults_after-self-inside.ensures (faults_after-rises tape.device_faults _ (search rules));
+      outer = refl;
       answered = Answered-noted tape.logbook c.capture_of.result c.note.new.self (Captured c.args.device c.args.frames (captured_of c.capture-put.result c.capture-put.new.into)) (old_outside c) (new_outside c) c.note.ensures c.capture_of.ensures (answered_here c);
     })
 

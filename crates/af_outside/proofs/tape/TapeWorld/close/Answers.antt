@@ -21,6 +21,16 @@ returns-clause-leads c =
       left = refl;
       link_faults = le_refl tape.link_faults;
       device_faults = le_refl tape.device_faults;
+      outer = refl;
       answered = Answered-noted tape.logbook (Ok (Closed c.args.link c.args.why)) c.note.new.self (Closed c.args.link c.args.why)
           (outside_of tape.far_ends.items stations) (outside_of far_ends.items stations) c.note.ensures refl (leads ∙ ap (λ ends. Some (outside_of ends stations)) (sym kept));
     })
+
+pub returns-clause-answered : goal.returns-clause-answered
+returns-clause-answered c =
+    let tape = c.self.inside in
+    let far_ends = with_items tape.far_ends c.close.new.far_ends in
+    let stations = stations_of tape.steps.items tape.stations.items in
+    let kept : far_ends.items ≡ c.close.new.far_ends = with_items_is tape.far_ends c.close.new.far_ends (search rules) in
+    let leads = rw c.deref_mut.ensures.value at c.close.ensures.answered stations in
+    rw (← c.self.view_is) (leads ∙ ap (λ ends. Some (outside_of ends stations)) (sym kept))

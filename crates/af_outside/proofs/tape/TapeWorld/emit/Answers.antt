@@ -31,6 +31,7 @@ returns-clause-leads c =
       left = refl;
       link_faults = le_refl tape.link_faults;
       device_faults = rw c.faults_after-self-inside.ensures (faults_after-rises tape.device_faults _ (search rules));
+      outer = refl;
       answered = Answered-noted tape.logbook c.emit_of.result c.note.new.self (Emitted c.args.device c.args.sound.now (is_done c.emit-put.result)) (old_outside c) (new_outside c) c.note.ensures c.emit_of.ensures (answered_here c);
     })
 

@@ -32,6 +32,7 @@ returns-clause-leads c =
       left = refl;
       link_faults = le_refl tape.link_faults;
       device_faults = rw c.faults_after-self-inside.ensures (faults_after-rises tape.device_faults _ (search rules));
+      outer = refl;
       answered = Answered-noted tape.logbook (Ok c.hook_of.result) c.note.new.self (Hooked c.args.device c.args.off (is_done c.hook-put.result)) (old_outside c) (new_outside c) c.note.ensures c.hook_of.ensures (answered_here c);
     })
 

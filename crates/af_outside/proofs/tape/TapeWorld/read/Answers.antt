@@ -31,6 +31,7 @@ returns-clause-leads c =
       left = refl;
       link_faults = rw c.faults_after-self-inside.ensures (faults_after-rises tape.link_faults _ (search rules));
       device_faults = le_refl tape.device_faults;
+      outer = refl;
       answered = Answered-noted tape.logbook c.read_of.result c.note.new.self (Read c.args.link (got_of c.read-got.result c.read-got.new.into)) (old_outside c) (new_outside c) c.note.ensures c.read_of.ensures (answered_here c);
     })
 

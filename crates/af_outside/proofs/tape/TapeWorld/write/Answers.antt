@@ -31,6 +31,7 @@ returns-clause-leads c =
       left = refl;
       link_faults = rw c.faults_after-self-inside.ensures (faults_after-rises tape.link_faults _ (search rules));
       device_faults = le_refl tape.device_faults;
+      outer = refl;
       answered = Answered-noted tape.logbook c.write_of.result c.note.new.self (Wrote c.args.link (length c.args.piece.now) (took_of c.write-took.result c.args.piece.now)) (old_outside c) (new_outside c) c.note.ensures c.write_of.ensures (answered_here c);
     })
 

@@ -1,0 +1,5 @@
+use Rattle.af_live.specs.Holding.{KeepsOpen}
+use Rattle.af_live.proofs.sockets.note_events.Given as goal
+
+abbrev pub invariant-loop-event : goal.invariant-loop-event
+invariant-loop-event l = KeepsOpen l.initial.links l.links

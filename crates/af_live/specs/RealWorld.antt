@@ -1,0 +1,84 @@
+-- A real world, which tells nothing of what happened.
+use Rattle.std.specs.Prelude.{◌≡◌, ◌⊎◌, ◌≤◌, ℕ, Bool, true, false, List, replicate}
+use Rattle.std.proofs.Common.{refl, ◌∙◌}
+use Rattle.std.proofs.Math.Nat.{le_refl, le_trans}
+use Rattle.std.specs.declared.option.Option.{Option}
+use Rattle.std.specs.declared.option.Option.TheVariants.{None, Some}
+use Rattle.af_sample.specs.declared.sample_type.SampleType.{SampleType}
+use Rattle.af_outside.specs.declared.happening.Wake.{Wake}
+use Rattle.af_outside.specs.declared.happening.Wake.TheVariants as wake
+use Rattle.af_outside.specs.declared.live.Ready.{Ready}
+use Rattle.af_outside.specs.declared.live.Ready.TheVariants as ready
+use Rattle.af_outside.specs.declared.live.Waited.{Waited}
+use Rattle.af_outside.specs.declared.live.Waited.TheVariants as answer
+use Rattle.af_live.specs.declared.held.Held.{Held}
+use Rattle.af_live.specs.declared.round.Round.{Round}
+use Rattle.af_live.specs.Holding.{free, LinkWakeFits, GivesFirst}
+use Rattle.af_live.specs.Silence.{none_silent}
+use Rattle.af_live.specs.Rounds.{new_round, is_paced, round_begun, GoesOn}
+
+-- Whether it listens; the links that it holds; which devices are silent; its round over the devices; and how often each kind of
+-- call has failed.
+pub record RealState : Type 0 where
+  pub listens : Bool
+  pub links : List (Option Held)
+  pub silent : List (Option SampleType)
+  pub round : Round
+  pub link_faults : ℕ
+  pub device_faults : ℕ
+  pub listen_faults : ℕ
+  pub wait_faults : ℕ
+
+-- it was just made
+abbrev pub begun_world : RealState
+begun_world = record { listens = false; links = replicate 32 free; silent = none_silent; round = new_round; link_faults = 0; device_faults = 0; listen_faults = 0; wait_faults = 0 }
+
+-- what the server's calls leave alone, and the counts that they may raise
+pub record RealLeadsTo (old new : RealState) : Type 0 where
+  pub listens : new.listens ≡ old.listens
+  pub silent : new.silent ≡ old.silent
+  pub round : new.round ≡ old.round
+  pub link_faults : old.link_faults ≤ new.link_faults
+  pub device_faults : old.device_faults ≤ new.device_faults
+  pub listen_faults : new.listen_faults ≡ old.listen_faults
+  pub wait_faults : new.wait_faults ≡ old.wait_faults
+
+pub RealLeadsTo-refl : (a : RealState) → RealLeadsTo a a
+RealLeadsTo-refl a = record { listens = refl; silent = refl; round = refl; link_faults = le_refl a.link_faults; device_faults = le_refl a.device_faults; listen_faults = refl; wait_faults = refl }
+
+pub RealLeadsTo-trans : (a b c : RealState) → RealLeadsTo a b → RealLeadsTo b c → RealLeadsTo a c
+RealLeadsTo-trans a b c p q = record {
+  listens = q.listens ∙ p.listens;
+  silent = q.silent ∙ p.silent;
+  round = q.round ∙ p.round;
+  link_faults = le_trans p.link_faults q.link_faults;
+  device_faults = le_trans p.device_faults q.device_faults;
+  listen_faults = q.listen_faults ∙ p.listen_faults;
+  wait_faults = q.wait_faults ∙ p.wait_faults;
+}
+
+-- A wake opens a link that is not open, names one that is, or ticks a device that is attached by 1 to 4096 frames.
+abbrev pub WakeFits : List (Option Held) → Round → Wake → Type 0
+WakeFits links round (wake.Ticked d n) = (is_paced round d ≡ true) × (1 ≤ n) × (n ≤ 4096)
+WakeFits links round w = LinkWakeFits links w
+
+-- What is ready first is given, and the round stays where it is.
+abbrev pub GivesKept : Option Wake → List (Option Held) → Round → List (Option Held) → Round → Type 0
+GivesKept None links round links' round' = ⊥
+GivesKept (Some w) links round links' round' = GivesFirst links (Some w) links' × (round' ≡ round)
+
+-- A tick is that of the next device of the round of which frames are due. Any other wake leaves the round where it is, or comes
+-- behind the last of the devices, of which none has a frame due, and begins a new round.
+abbrev pub LeadsRound : Wake → Round → Round → Type 0
+LeadsRound (wake.Ticked d n) old new = (nanos : ℕ) × GoesOn nanos old (Some (d, n)) new
+LeadsRound _ old new = (new ≡ old) ⊎ ((nanos : ℕ) × (past : Round) × GoesOn nanos old None past × (new ≡ round_begun past))
+
+-- whether it listens behind a listen
+abbrev pub listens_behind : Ready → Bool → Bool
+listens_behind ready.Done before = true
+listens_behind _ before = before
+
+-- what a wait answered, as a wake that it gave
+abbrev pub given : Waited → Option Wake
+given (answer.Woke w) = Some w
+given answer.Failed = None

@@ -1,0 +1,87 @@
+// The calls of a world on its links.
+ghost use Rattle.std.specs.Prelude.{◌≡◌, length, is_some, true};
+ghost use Rattle.af_outside.specs.World.{GotFits, TookFits};
+ghost use Rattle.af_live.specs.Holding.{is_free, link_at, BehindRead, BehindWrite, KeepsOpen, ClosesOne};
+
+use crate::held::{Held, held_at, let_go};
+use crate::sockets::Sockets;
+use af_outside::{LinkGot, LinkTook};
+use std::io::ErrorKind;
+
+/// Reads what has come by a link. A read that was interrupted gave nothing so far, and is to be made again: the link stays
+/// ready.
+pub(crate) fn read_link(
+    sockets: &mut Option<Sockets>,
+    links: &mut [Option<Held>],
+    link: u8,
+    into: &mut [u8],
+) -> LinkGot
+    ensures bound { GotFits result (length into.new) }
+    ensures open { KeepsOpen links.old links.new }
+    ensures unheld { is_free (link_at links.old link) ≡ true → result ≡ LinkGot.Failed }
+    ensures behind { BehindRead link result links.old links.new }
+    ensures listens { is_some sockets.new ≡ is_some sockets.old }
+{
+    let (Some(sockets), Some(held)) = (sockets, held_at(links, link)) else {
+        return LinkGot::Failed;
+    };
+    match sockets.read(held.key, into) {
+        Ok(0) => LinkGot::Ended,
+        Ok(count) => LinkGot::Bytes(count),
+        Err(e) => match e.kind() {
+            ErrorKind::WouldBlock => LinkGot::NotYet,
+            ErrorKind::Interrupted => {
+                links[link as usize] = Some(Held {
+                    readable: true,
+                    ..held
+                });
+                LinkGot::NotYet
+            }
+            _ => LinkGot::Failed,
+        },
+    }
+}
+
+/// Offers a piece to a link. A write that was interrupted took nothing, and is to be made again: the link stays ready.
+pub(crate) fn write_link(
+    sockets: &mut Option<Sockets>,
+    links: &mut [Option<Held>],
+    link: u8,
+    piece: &[u8],
+) -> LinkTook
+    ensures bound { TookFits result (length piece.now) }
+    ensures open { KeepsOpen links.old links.new }
+    ensures unheld { is_free (link_at links.old link) ≡ true → result ≡ LinkTook.Failed }
+    ensures behind { BehindWrite link result links.old links.new }
+    ensures listens { is_some sockets.new ≡ is_some sockets.old }
+{
+    let (Some(sockets), Some(held)) = (sockets, held_at(links, link)) else {
+        return LinkTook::Failed;
+    };
+    match sockets.write(held.key, piece) {
+        Ok(0) => LinkTook::Failed,
+        Ok(count) => LinkTook::Took(count),
+        Err(e) => match e.kind() {
+            ErrorKind::WouldBlock => LinkTook::Took(0),
+            ErrorKind::Interrupted => {
+                links[link as usize] = Some(Held {
+                    writable: true,
+                    ..held
+                });
+                LinkTook::Took(0)
+            }
+            _ => LinkTook::Failed,
+        },
+    }
+}
+
+/// Closes a link, whose number is free then. One that is not held stays so.
+pub(crate) fn close_link(sockets: &mut Option<Sockets>, links: &mut [Option<Held>], link: u8)
+    ensures closes { ClosesOne link links.old links.new }
+    ensures listens { is_some sockets.new ≡ is_some sockets.old }
+{
+    if let (Some(sockets), Some(held)) = (sockets, held_at(links, link)) {
+        sockets.close(held.key);
+    }
+    let_go(links, link);
+}

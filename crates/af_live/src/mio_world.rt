@@ -1,0 +1,460 @@
+// The real outside of a server: sockets, the clock of the system, and devices that are silent or stand over files.
+ghost use Rattle.std.specs.Prelude.{◌≡◌, ◌≢◌, ◌≤◌, ◌<◌, ℕ, length, not, true, false, is_some, IfSome, MatchOption};
+ghost use Rattle.std.specs.declared.option.Option.TheVariants.{None};
+ghost use Rattle.af_outside.specs.Told.{Rose};
+ghost use Rattle.af_outside.specs.Memory.{counted};
+ghost use Rattle.af_outside.specs.World.{GotFits, TookFits};
+ghost use Rattle.af_live.specs.Holding.{is_free, link_at, something_ready, BehindRead, BehindWrite, KeepsOpen, ClosesOne, LinkWakeFits, Opens};
+ghost use Rattle.af_outside.specs.Outer.{refused};
+ghost use Rattle.af_outside.specs.Tape.{faults_after};
+ghost use Rattle.af_live.specs.Silence.{silent_at, silent_behind, CapturesAs, EmitsAs};
+ghost use Rattle.af_live.specs.Rounds.{is_paced, round_begun, round_behind};
+ghost use Rattle.af_live.specs.RealWorld.{RealLeadsTo, begun_world, given, listens_behind, GivesKept, LeadsRound, WakeFits};
+
+use crate::held::{Held, take_ready};
+use crate::links::{close_link, read_link, write_link};
+use crate::round::Round;
+use crate::silence::{capture_silence, silence, silent_at};
+use crate::sockets::Sockets;
+use crate::station::{Station, Stations};
+use af_outside::{DeviceSpec, Kind, LinkGot, LinkTook, Live, Put, Ready, Waited, Wake, Why, World};
+use af_sample::SampleType;
+use std::alloc::Global;
+use std::io::{self, ErrorKind};
+use std::marker::Model;
+use std::net::Net;
+use std::rt::Files;
+use std::time::{Clock, Duration};
+
+/// How many milliseconds a wait with nothing to do waits at most, and so the longest that a device may be late.
+const LONGEST_PAUSE_MILLIS: u64 = 10;
+
+/// The real outside of a server. It listens at one address, whose links it numbers from 0, at most 32 at a time; a further one is
+/// accepted and closed at once. Up to 8 devices go on by the clock of the system, a Pace for each.
+///
+/// A server's `main` makes one with `MioWorld::new(rt.clone()?)` and hands it, with the words of its command line and its
+/// configuration, to the server: `listen` comes first, then an `attach` of each device, then a `wait` before each turn.
+///
+/// It tells nothing of what happened. The counts of its faults stand still at 2^64 - 1.
+#[derive(Drop)]
+pub struct MioWorld<R: Net + Clock + Files + Drop> {
+    rt: R,
+    sockets: Option<Sockets>,
+    links: [Option<Held>; 32],
+    silent: [Option<SampleType>; 8],
+    stations: Option<Stations<R::File>>,
+    round: Round,
+    link_faults: u64,
+    device_faults: u64,
+    listen_faults: u64,
+    wait_faults: u64,
+}
+
+impl<R: Net + Clock + Files + Drop> Model for MioWorld<R> {
+    ghost use Rattle.std.specs.Prelude.{is_some};
+    ghost use Rattle.af_live.specs.RealWorld.{RealState};
+
+    ghost Value = { RealState };
+
+    ghost view = { λ w. record {
+      listens = is_some w.sockets;
+      links = w.links;
+      silent = w.silent;
+      round = w.round;
+      link_faults = w.link_faults;
+      device_faults = w.device_faults;
+      listen_faults = w.listen_faults;
+      wait_faults = w.wait_faults;
+    } };
+}
+
+impl<R: Net + Clock + Files + Drop> MioWorld<R> {
+    /// A world over the sockets, the files and the clock of this runtime. It takes no memory and asks nothing of the system.
+    pub fn new(rt: R) -> MioWorld<R>
+        ensures { result ≡ begun_world }
+    {
+        MioWorld {
+            rt,
+            sockets: None,
+            links: [None; 32],
+            silent: [None; 8],
+            stations: None,
+            round: Round::new(),
+            link_faults: 0,
+            device_faults: 0,
+            listen_faults: 0,
+            wait_faults: 0,
+        }
+    }
+}
+
+impl<R: Net + Clock + Files + Drop> World for MioWorld<R> {
+    ghost use Rattle.af_live.specs.RealWorld.{RealLeadsTo-refl, RealLeadsTo-trans};
+
+    ghost log = { λ _. None };
+
+    ghost link_faults = { λ world. world.link_faults };
+
+    ghost device_faults = { λ world. world.device_faults };
+
+    ghost leads_to = { RealLeadsTo };
+
+    ghost leads_to_itself = { RealLeadsTo-refl };
+
+    ghost leads_on = { RealLeadsTo-trans };
+
+    ghost link_faults_stay = { λ _ _ leads. leads.link_faults };
+
+    ghost device_faults_stay = { λ _ _ leads. leads.device_faults };
+
+    fn woke(&mut self, _wake: Wake) {}
+
+    fn read(&mut self, link: u8, into: &mut [u8]) -> LinkGot
+        requires { length into.old ≡ 16384 }
+        ensures bound { GotFits result (length into.new) }
+        ensures cause { result ≡ LinkGot.Failed → Rose self.old.link_faults self.new.link_faults }
+        ensures leads { RealLeadsTo self.old self.new }
+        ensures fault { result ≡ LinkGot.Failed → self.new.link_faults ≡ counted self.old.link_faults }
+        ensures no_fault { result ≢ LinkGot.Failed → self.new.link_faults ≡ self.old.link_faults }
+        ensures open { KeepsOpen self.old.links self.new.links }
+        ensures unheld { is_free (link_at self.old.links link) ≡ true → result ≡ LinkGot.Failed }
+        ensures behind { BehindRead link result self.old.links self.new.links }
+        ensures rest { self.new ≡ record self.old { links = self.new.links; link_faults = self.new.link_faults } }
+    {
+        let got = read_link(&mut self.sockets, &mut self.links, link, into);
+        if got == LinkGot::Failed {
+            self.link_faults = self.link_faults.saturating_add(1);
+        }
+        got
+    }
+
+    fn write(&mut self, link: u8, piece: &[u8]) -> LinkTook
+        requires some { 0 < length piece.now }
+        requires bound { length piece.now ≤ 65536 }
+        ensures bound { TookFits result (length piece.now) }
+        ensures cause { result ≡ LinkTook.Failed → Rose self.old.link_faults self.new.link_faults }
+        ensures leads { RealLeadsTo self.old self.new }
+        ensures fault { result ≡ LinkTook.Failed → self.new.link_faults ≡ counted self.old.link_faults }
+        ensures no_fault { result ≢ LinkTook.Failed → self.new.link_faults ≡ self.old.link_faults }
+        ensures open { KeepsOpen self.old.links self.new.links }
+        ensures unheld { is_free (link_at self.old.links link) ≡ true → result ≡ LinkTook.Failed }
+        ensures behind { BehindWrite link result self.old.links self.new.links }
+        ensures rest { self.new ≡ record self.old { links = self.new.links; link_faults = self.new.link_faults } }
+    {
+        let took = write_link(&mut self.sockets, &mut self.links, link, piece);
+        if took == LinkTook::Failed {
+            self.link_faults = self.link_faults.saturating_add(1);
+        }
+        took
+    }
+
+    fn close(&mut self, link: u8, _why: Why)
+        ensures leads { RealLeadsTo self.old self.new }
+        ensures closed { ClosesOne link self.old.links self.new.links }
+        ensures rest { self.new ≡ record self.old { links = self.new.links } }
+    {
+        close_link(&mut self.sockets, &mut self.links, link);
+    }
+
+    fn capture(&mut self, device: u8, _frames: u32, into: &mut [u8]) -> Put
+        requires { 0 < length into.old }
+        ensures cause { result ≡ Put.Failed → Rose self.old.device_faults self.new.device_faults }
+        ensures leads { RealLeadsTo self.old self.new }
+        ensures fault { result ≡ Put.Failed → self.new.device_faults ≡ counted self.old.device_faults }
+        ensures silence { CapturesAs (silent_at self.old.silent device) result into.new }
+        ensures rest { self.new ≡ record self.old { device_faults = self.new.device_faults } }
+        ensures no_fault { result ≡ Put.Done → self.new.device_faults ≡ self.old.device_faults }
+    {
+        if capture_silence(&self.silent, device, into) {
+            return Put::Done;
+        }
+        let put = match &mut self.stations {
+            Some(stations) => stations.capture(device, into),
+            None => Put::Failed,
+        };
+        if put == Put::Failed {
+            self.device_faults = self.device_faults.saturating_add(1);
+        }
+        put
+    }
+
+    fn emit(&mut self, device: u8, sound: &[u8]) -> Put
+        requires { 0 < length sound.now }
+        ensures cause { result ≡ Put.Failed → Rose self.old.device_faults self.new.device_faults }
+        ensures leads { RealLeadsTo self.old self.new }
+        ensures fault { result ≡ Put.Failed → self.new.device_faults ≡ counted self.old.device_faults }
+        ensures silence { EmitsAs (silent_at self.old.silent device) result }
+        ensures rest { self.new ≡ record self.old { device_faults = self.new.device_faults } }
+        ensures no_fault { result ≡ Put.Done → self.new.device_faults ≡ self.old.device_faults }
+    {
+        if silent_at(&self.silent, device).is_some() {
+            return Put::Done;
+        }
+        let put = match &mut self.stations {
+            Some(stations) => stations.emit(device, sound),
+            None => Put::Failed,
+        };
+        if put == Put::Failed {
+            self.device_faults = self.device_faults.saturating_add(1);
+        }
+        put
+    }
+
+    fn hook(&mut self, _device: u8, _off: bool) -> Put
+        ensures cause { result ≡ Put.Failed → Rose self.old.device_faults self.new.device_faults }
+        ensures leads { RealLeadsTo self.old self.new }
+        ensures done { result ≡ Put.Done }
+        ensures same { self.new ≡ self.old }
+    {
+        Put::Done
+    }
+}
+
+impl<R: Net + Clock + Files + Drop> Live for MioWorld<R> {
+    ghost listen_faults = { λ world. world.listen_faults };
+
+    ghost wait_faults = { λ world. world.wait_faults };
+
+    ghost outer = { λ _. None };
+
+    ghost listen_faults_apart = { λ _ _ leads. leads.listen_faults };
+
+    ghost wait_faults_apart = { λ _ _ leads. leads.wait_faults };
+
+    ghost outer_apart = { λ _ _ _. tt };
+
+    ghost tells_both = { λ _ told. told };
+
+    fn listen(&mut self, alloc: Global, address: &str) -> Ready
+        ensures cause { result ≡ Ready.Failed → Rose self.old.listen_faults self.new.listen_faults }
+        ensures listen_count { self.old.listen_faults ≤ self.new.listen_faults }
+        ensures listens { self.new.listens ≡ listens_behind result self.old.listens }
+        ensures again { self.old.listens ≡ true → result ≡ Ready.Failed }
+        ensures fault { self.new.listen_faults ≡ faults_after self.old.listen_faults (refused result) }
+        ensures rest { self.new ≡ record self.old { listens = self.new.listens; listen_faults = self.new.listen_faults } }
+        ensures link_count { self.old.link_faults ≤ self.new.link_faults }
+        ensures device_count { self.old.device_faults ≤ self.new.device_faults }
+        ensures wait_count { self.old.wait_faults ≤ self.new.wait_faults }
+    {
+        let listened = begin_to_listen(&self.rt, alloc, address, &mut self.sockets);
+        if listened == Ready::Failed {
+            self.listen_faults = self.listen_faults.saturating_add(1);
+        }
+        listened
+    }
+
+    fn attach(&mut self, alloc: Global, device: u8, spec: &DeviceSpec, kind: Kind<'_>) -> Ready
+        ensures cause { result ≡ Ready.Failed → Rose self.old.device_faults self.new.device_faults }
+        ensures device_count { self.old.device_faults ≤ self.new.device_faults }
+        ensures attaches { result ≡ Ready.Done → (device < 8) × (is_paced self.old.round device ≡ false) }
+        ensures round { self.new.round ≡ round_behind result self.old.round device spec.now.rate }
+        ensures silent { self.new.silent ≡ silent_behind result kind.entry self.old.silent device spec.now.ty }
+        ensures fault { self.new.device_faults ≡ faults_after self.old.device_faults (refused result) }
+        ensures rest { self.new ≡ record self.old { silent = self.new.silent; round = self.new.round; device_faults = self.new.device_faults } }
+        ensures link_count { self.old.link_faults ≤ self.new.link_faults }
+        ensures listen_count { self.old.listen_faults ≤ self.new.listen_faults }
+        ensures wait_count { self.old.wait_faults ≤ self.new.wait_faults }
+    {
+        let attached = put_there(
+            &self.rt,
+            alloc,
+            device,
+            spec,
+            kind,
+            &mut self.silent,
+            &mut self.stations,
+            &mut self.round,
+        );
+        if attached == Ready::Failed {
+            self.device_faults = self.device_faults.saturating_add(1);
+        }
+        attached
+    }
+
+    fn wait(&mut self, more: bool) -> Waited
+        ensures cause { result ≡ Waited.Failed → Rose self.old.wait_faults self.new.wait_faults }
+        ensures wait_count { self.old.wait_faults ≤ self.new.wait_faults }
+        ensures unlistened { self.old.listens ≡ false → result ≡ Waited.Failed }
+        ensures kept { (k : ℕ) → self.old.listens ≡ true → k < 32 → something_ready (link_at self.old.links k) ≡ true →
+            GivesKept (given result) self.old.links self.old.round self.new.links self.new.round }
+        ensures fits { IfSome (given result) (λ wake. WakeFits self.old.links self.old.round wake) }
+        ensures opens { MatchOption (given result) (KeepsOpen self.old.links self.new.links) (λ wake. Opens wake self.old.links self.new.links) }
+        ensures round { IfSome (given result) (λ wake. LeadsRound wake self.old.round self.new.round) }
+        ensures fault { self.new.wait_faults ≡ faults_after self.old.wait_faults (not (is_some (given result))) }
+        ensures rest { self.new ≡ record self.old { links = self.new.links; round = self.new.round; wait_faults = self.new.wait_faults } }
+        ensures link_count { self.old.link_faults ≤ self.new.link_faults }
+        ensures device_count { self.old.device_faults ≤ self.new.device_faults }
+        ensures listen_count { self.old.listen_faults ≤ self.new.listen_faults }
+    {
+        let next = next_wake(
+            &self.rt,
+            more,
+            &mut self.sockets,
+            &mut self.links,
+            &mut self.round,
+        );
+        match next {
+            Some(wake) => Waited::Woke(wake),
+            None => {
+                self.wait_faults = self.wait_faults.saturating_add(1);
+                Waited::Failed
+            }
+        }
+    }
+}
+
+/// What a refusal of the system is to a caller.
+fn refusal(error: &io::Error) -> Ready
+    ensures { result ≢ Ready.Done }
+{
+    if error.kind() == ErrorKind::OutOfMemory {
+        Ready::OutOfMemory
+    } else {
+        Ready::Failed
+    }
+}
+
+/// Listens, where it does not yet.
+fn begin_to_listen<R: Net>(
+    rt: &R,
+    alloc: Global,
+    address: &str,
+    sockets: &mut Option<Sockets>,
+) -> Ready
+    ensures listens { is_some sockets.new ≡ listens_behind result (is_some sockets.old) }
+    ensures again { is_some sockets.old ≡ true → result ≡ Ready.Failed }
+{
+    if sockets.is_some() {
+        return Ready::Failed;
+    }
+    match Sockets::listen(rt, alloc, address) {
+        Ok(made) => {
+            *sockets = Some(made);
+            Ready::Done
+        }
+        Err(e) => refusal(&e),
+    }
+}
+
+/// Attaches a device, where it is not yet.
+fn put_there<R: Files>(
+    rt: &R,
+    alloc: Global,
+    device: u8,
+    spec: &DeviceSpec,
+    kind: Kind<'_>,
+    silent: &mut [Option<SampleType>],
+    stations: &mut Option<Stations<R::File>>,
+    round: &mut Round,
+) -> Ready
+    ensures attaches { result ≡ Ready.Done → (device < 8) × (is_paced round.old device ≡ false) }
+    ensures round { round.new ≡ round_behind result round.old device spec.now.rate }
+    ensures silent { silent.new ≡ silent_behind result kind.entry silent.old device spec.now.ty }
+{
+    if device >= 8 || round.is_paced(device) {
+        return Ready::Failed;
+    }
+    match kind {
+        Kind::Silent => {
+            silence(silent, device, spec.ty);
+            round.add(device, spec.rate);
+            Ready::Done
+        }
+        Kind::Files { input, output } => match open_files(
+            rt, alloc, device, spec.ty, input, output, stations,
+        ) {
+            Ok(()) => {
+                round.add(device, spec.rate);
+                Ready::Done
+            }
+            Err(e) => refusal(&e),
+        },
+    }
+}
+
+/// Opens the files of a device.
+fn open_files<R: Files>(
+    rt: &R,
+    alloc: Global,
+    device: u8,
+    ty: SampleType,
+    input: &str,
+    output: &str,
+    stations: &mut Option<Stations<R::File>>,
+) -> io::Result<()> {
+    if stations.is_none() {
+        *stations = Some(Stations::new(alloc)?);
+    }
+    let station = Station::open(rt, ty, input, output)?;
+    if let Some(stations) = stations {
+        stations.put(device, station);
+    }
+    Ok(())
+}
+
+/// The nanoseconds of the clock.
+fn reading<R: Clock>(rt: &R) -> Option<u64> {
+    let since = rt.monotonic().ok()?;
+    u64::try_from(since.as_nanos()).ok()
+}
+
+/// What a poll finds first. A new round over the devices begins behind it.
+fn poll_once(
+    sockets: &mut Sockets,
+    pause: Duration,
+    links: &mut [Option<Held>],
+    round: &mut Round,
+) -> Option<Wake>
+    requires { length links.old ≡ 32 }
+    ensures fits { IfSome result (λ wake. LinkWakeFits links.old wake) }
+    ensures opens { MatchOption result (KeepsOpen links.old links.new) (λ wake. Opens wake links.old links.new) }
+    ensures round { IfSome result (λ wake. round.new ≡ round_begun round.old) }
+{
+    if !sockets.poll(pause, links) {
+        return None;
+    }
+    round.begin();
+    match take_ready(links) {
+        Some(wake) => Some(wake),
+        None => Some(Wake::Idle),
+    }
+}
+
+/// The next wake: what is kept ready, or the next device of the round of which frames are due, or what the next poll finds. None
+/// where the system was not to be asked.
+fn next_wake<R: Clock>(
+    rt: &R,
+    more: bool,
+    sockets: &mut Option<Sockets>,
+    links: &mut [Option<Held>],
+    round: &mut Round,
+) -> Option<Wake>
+    requires { length links.old ≡ 32 }
+    ensures listens { is_some sockets.new ≡ is_some sockets.old }
+    ensures unlistened { is_some sockets.old ≡ false → result ≡ None }
+    ensures kept { (k : ℕ) → is_some sockets.old ≡ true → k < 32 → something_ready (link_at links.old k) ≡ true → GivesKept result links.old round.old links.new round.new }
+    ensures fits { IfSome result (λ wake. WakeFits links.old round.old wake) }
+    ensures opens { MatchOption result (KeepsOpen links.old links.new) (λ wake. Opens wake links.old links.new) }
+    ensures round { IfSome result (λ wake. LeadsRound wake round.old round.new) }
+{
+    let Some(sockets) = sockets else {
+        return None;
+    };
+    if let Some(wake) = take_ready(links) {
+        return Some(wake);
+    }
+    let nanos = reading(rt)?;
+    if let Some((device, frames)) = round.next_tick(nanos) {
+        return Some(Wake::Ticked(device, frames));
+    }
+    poll_once(sockets, pause(more, round.has_ticked()), links, round)
+}
+
+/// How long a poll waits at most.
+fn pause(more: bool, ticked: bool) -> Duration {
+    if more || ticked {
+        Duration::ZERO
+    } else {
+        Duration::from_millis(LONGEST_PAUSE_MILLIS)
+    }
+}

@@ -1,0 +1,188 @@
+// A listener and the links that came in by it, none of which makes a call wait.
+ghost use Rattle.std.specs.Prelude.{◌≡◌, ◌≤◌, length};
+ghost use Rattle.std.specs.Io.{ReadsAtMost, WritesAtMost};
+ghost use Rattle.af_live.specs.Holding.{is_open, TakesIn, KeepsOpen};
+
+use crate::held::{Held, least_free};
+use mio::net::{TcpListener, TcpStream};
+use mio::{Events, Interest, Poll, Token};
+use slab::Slab;
+use std::alloc::Global;
+use std::io::{self, ErrorKind, Read, Write};
+use std::net::{Net, ToSocketAddrs};
+use std::time::Duration;
+
+/// How many links there may be.
+pub(crate) const MOST_LINKS: usize = 32;
+
+/// The listener's token. Those of the links are their numbers.
+const LISTENER: Token = Token(MOST_LINKS);
+
+/// How many events one poll takes. Those that are left come with the next.
+const MOST_EVENTS: usize = 64;
+
+/// How many connections are accepted behind one poll. Those that are left are accepted behind the next.
+const MOST_ACCEPTS: u32 = 64;
+
+/// What stands behind the links of a world that listens.
+#[derive(Drop)]
+pub(crate) struct Sockets {
+    poll: Poll,
+    events: Events<Global>,
+    listener: TcpListener,
+    /// Whether connections may wait: their event comes once, and not for each.
+    waiting: bool,
+    streams: Slab<TcpStream>,
+}
+
+impl Sockets {
+    /// Listens at the first address of a text that the system grants. All memory that the links will ever need is taken here.
+    pub fn listen<R: Net>(rt: &R, alloc: Global, address: &str) -> io::Result<Sockets> {
+        let poll = Poll::new(rt)?;
+        let events = Events::with_capacity(alloc, MOST_EVENTS)?;
+        let streams = Slab::with_capacity(alloc, MOST_LINKS)?;
+        let mut listener = bind(rt, address)?;
+        poll.registry()
+            .register(&mut listener, LISTENER, Interest::READABLE)?;
+        Ok(Sockets {
+            poll,
+            events,
+            listener,
+            waiting: false,
+            streams,
+        })
+    }
+
+    /// Waits for at most so long until something is ready, and notes it. New links are accepted. The answer is whether the
+    /// system could be asked; a signal is no refusal.
+    pub fn poll(&mut self, pause: Duration, links: &mut [Option<Held>]) -> bool
+        ensures { KeepsOpen links.old links.new }
+    {
+        match self.poll.poll(&mut self.events, Some(pause)) {
+            Ok(()) => {}
+            Err(e) if e.kind() == ErrorKind::Interrupted => {}
+            Err(_) => return false,
+        }
+        if note_events(&self.events, links) {
+            self.waiting = true;
+        }
+        if self.waiting {
+            self.accept_all(links);
+        }
+        true
+    }
+
+    /// Accepts the connections that wait. Where the system refuses one for the time being, as with no descriptor left, those that
+    /// wait are tried again behind the next poll.
+    fn accept_all(&mut self, links: &mut [Option<Held>])
+        ensures { KeepsOpen links.old links.new }
+    {
+        for _ in 0..MOST_ACCEPTS {
+            match self.listener.accept() {
+                Ok((stream, _)) => self.take_in(stream, links),
+                Err(e) => match e.kind() {
+                    ErrorKind::Interrupted | ErrorKind::ConnectionAborted => {}
+                    kind => {
+                        self.waiting = kind != ErrorKind::WouldBlock;
+                        return;
+                    }
+                },
+            }
+        }
+    }
+
+    /// Holds a new link under the least number that is free. Where none is, or the system does not watch it, it is closed.
+    fn take_in(&mut self, mut stream: TcpStream, links: &mut [Option<Held>])
+        ensures takes_in { TakesIn links.old links.new }
+        ensures open { KeepsOpen links.old links.new }
+    {
+        let Some(number) = least_free(links) else {
+            return;
+        };
+        // there is room wherever a number is free
+        if self.streams.len() >= self.streams.capacity() {
+            return;
+        }
+        // An answer is to leave at once. Where the system refuses that, it leaves later.
+        let _ = stream.set_nodelay(true);
+        let both = Interest::READABLE | Interest::WRITABLE;
+        if self
+            .poll
+            .registry()
+            .register(&mut stream, Token(number), both)
+            .is_err()
+        {
+            return;
+        }
+        let key = self.streams.insert_reserved(stream);
+        links[number] = Some(Held::new(key));
+    }
+
+    /// Reads what has come by a link, at least one byte, or none at its end.
+    pub fn read(&mut self, key: usize, into: &mut [u8]) -> io::Result<usize>
+        ensures { ReadsAtMost result into.new }
+    {
+        match self.streams.get_mut(key) {
+            Some(stream) => stream.read(into),
+            None => Err(ErrorKind::NotConnected.into()),
+        }
+    }
+
+    /// Hands the first bytes of a piece to a link, as many as it takes.
+    pub fn write(&mut self, key: usize, piece: &[u8]) -> io::Result<usize>
+        ensures { WritesAtMost result piece.now }
+    {
+        match self.streams.get_mut(key) {
+            Some(stream) => stream.write(piece),
+            None => Err(ErrorKind::NotConnected.into()),
+        }
+    }
+
+    /// Closes a link.
+    pub fn close(&mut self, key: usize) {
+        if let Some(mut stream) = self.streams.try_remove(key) {
+            // it leaves the poll by being closed, in any case
+            let _ = self.poll.registry().deregister(&mut stream);
+        }
+    }
+}
+
+/// Listens at the first address of a text that the system grants.
+fn bind<R: Net>(rt: &R, address: &str) -> io::Result<TcpListener> {
+    let mut last = ErrorKind::AddrNotAvailable.into();
+    for address in address.to_socket_addrs(rt)? {
+        match TcpListener::bind(rt, address) {
+            Ok(listener) => return Ok(listener),
+            Err(e) => last = e,
+        }
+    }
+    Err(last)
+}
+
+/// Notes what is ready of the links. The answer is whether connections wait.
+fn note_events(events: &Events<Global>, links: &mut [Option<Held>]) -> bool
+    ensures { KeepsOpen links.old links.new }
+{
+    let mut waiting = false;
+    for event in events {
+        let Token(number) = event.token();
+        let may_read = event.is_readable() || event.is_read_closed() || event.is_error();
+        let may_write = event.is_writable() || event.is_write_closed() || event.is_error();
+        if event.token() == LISTENER {
+            waiting = true;
+        } else if number < links.len() {
+            note(&mut links[number], may_read, may_write);
+        }
+    }
+    waiting
+}
+
+/// Notes of a link that is held that it may have something to read, or may take something.
+fn note(link: &mut Option<Held>, may_read: bool, may_write: bool)
+    ensures { is_open link.new ≡ is_open link.old }
+{
+    if let Some(held) = link {
+        held.readable |= may_read;
+        held.writable |= may_write;
+    }
+}

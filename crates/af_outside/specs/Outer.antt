@@ -1,0 +1,72 @@
+-- What is told of listens, attaches and waits, and what a tape keeps of them.
+use Rattle.std.specs.Prelude.{◌≡◌, ℕ, ◌==◌, Bool, true, false, List, [], ◌∷◌}
+use Rattle.std.specs.declared.option.Option.{Option}
+use Rattle.std.specs.declared.option.Option.TheVariants.{None, Some}
+use Rattle.std.specs.declared.result.Result.{Result}
+use Rattle.std.specs.declared.result.Result.TheVariants.{Ok, Err}
+use Rattle.af_time.specs.declared.OutOfMemory.{OutOfMemory}
+use Rattle.af_outside.specs.declared.live.Ready.{Ready}
+use Rattle.af_outside.specs.declared.live.Ready.TheVariants as ready
+use Rattle.af_outside.specs.declared.live.Waited.{Waited}
+use Rattle.af_outside.specs.declared.live.Waited.TheVariants as answer
+use Rattle.af_outside.specs.declared.outer.Backing.{Backing}
+use Rattle.af_outside.specs.declared.outer.Outer.{Outer}
+use Rattle.af_outside.specs.declared.outer.Outer.TheVariants as outer
+use Rattle.af_outside.specs.declared.outer.OuterFaults.{OuterFaults}
+use Rattle.af_outside.specs.declared.script.DeviceSpec.{DeviceSpec}
+use Rattle.af_outside.specs.Told.{Log, Grew, Stays}
+
+-- the entry of a listen, which is there where it was done
+abbrev pub listened : Ready → List ℕ → List Outer
+listened ready.Done address = outer.Listened address ∷ []
+listened ready.Failed address = []
+listened ready.OutOfMemory address = []
+
+-- the entry of an attach
+abbrev pub attached : Ready → ℕ → DeviceSpec → Backing → List Outer
+attached ready.Done device spec backing = outer.Attached device spec backing ∷ []
+attached ready.Failed device spec backing = []
+attached ready.OutOfMemory device spec backing = []
+
+-- the entry of a wait
+abbrev pub waited : Bool → Waited → List Outer
+waited more (answer.Woke wake) = outer.Waited more wake ∷ []
+waited more answer.Failed = []
+
+-- whether a listen or an attach failed
+abbrev pub refused : Ready → Bool
+refused ready.Done = false
+refused ready.Failed = true
+refused ready.OutOfMemory = false
+
+-- What a tape keeps of these calls: which of them are to fail, those that were done, the number of its next wait, and how often
+-- a listen and a wait have failed.
+pub record OuterState : Type 0 where
+  pub faults : OuterFaults
+  pub entries : List Outer
+  pub waits : ℕ
+  pub listen_faults : ℕ
+  pub wait_faults : ℕ
+
+-- none was made so far
+abbrev pub outer_start : OuterFaults → OuterState
+outer_start faults = record { faults = faults; entries = []; waits = 0; listen_faults = 0; wait_faults = 0 }
+
+-- no call is to fail
+abbrev pub no_faults : OuterFaults
+no_faults = record { listen = false; attach = None; wait = None }
+
+-- whether this is the number that is stated
+abbrev pub is_stated : Option ℕ → ℕ → Bool
+is_stated None n = false
+is_stated (Some stated) n = stated == n
+
+-- a list that is told where the log is
+abbrev pub told_beside : Option Log → List Outer → Option (List Outer)
+told_beside None entries = None
+told_beside (Some log) entries = Some entries
+
+-- an entry is added, and nothing is told any longer where memory ran out for it
+abbrev pub EntryNoted : Option Log → List Outer → Result Outer OutOfMemory → Option Log → List Outer → Type 0
+EntryNoted log before (Ok entry) log' after = Stays log log' × Grew (told_beside log before) (entry ∷ []) (told_beside log' after)
+EntryNoted log before (Err e) log' after = log' ≡ None

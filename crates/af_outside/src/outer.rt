@@ -1,0 +1,36 @@
+// What the outside of a server does before and between its turns, and which of that is to fail.
+use crate::{Bytes, DeviceSpec, Wake};
+
+/// What stands behind a device, with the names that it was stated by.
+#[derive(Drop)]
+pub enum Backing {
+    Silence,
+    TwoFiles { input: Bytes, output: Bytes },
+}
+
+/// A listen, an attach or a wait that was done.
+#[derive(Drop)]
+pub enum Outer {
+    /// It was listened at an address.
+    Listened(Bytes),
+    /// A device was attached, with what stands behind it.
+    Attached {
+        device: u8,
+        spec: DeviceSpec,
+        backing: Backing,
+    },
+    /// A wait, asked with whether there was more to do, gave a wake.
+    Waited {
+        more: bool,
+        wake: Wake,
+    },
+}
+
+/// Which of these calls fail: every listen or none, the attaches of one device or none, and the wait with a number, counted
+/// from 0, or none.
+#[derive(Clone, Copy, Debug, PartialEq, Eq, Default)]
+pub struct OuterFaults {
+    pub listen: bool,
+    pub attach: Option<u8>,
+    pub wait: Option<u32>,
+}

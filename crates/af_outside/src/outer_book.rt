@@ -1,0 +1,155 @@
+// What a tape keeps of the listens, attaches and waits that were made, and which of them it lets fail.
+ghost use Rattle.std.specs.Prelude.{◌≡◌, ◌≤◌, ◌∷◌, ◌++◌, [], IfOk};
+ghost use Rattle.std.specs.declared.option.Option.TheVariants.{None, Some};
+ghost use Rattle.af_outside.specs.declared.outer.Outer.TheVariants.{Listened, Attached, Waited};
+ghost use Rattle.af_outside.specs.Kinds.{backing_of};
+ghost use Rattle.af_outside.specs.Memory.{counted};
+ghost use Rattle.af_outside.specs.Outer.{EntryNoted, is_stated, outer_start};
+ghost use Rattle.af_outside.specs.Tape.{faults_after};
+
+use crate::logbook::Logbook;
+use crate::outer::{Backing, Outer, OuterFaults};
+use crate::tape::faults_after;
+use crate::{Bytes, DeviceSpec, Kind, Wake};
+use af_time::OutOfMemory;
+use std::alloc::Global;
+use std::marker::Model;
+
+/// The calls that were done, and the counts of those that failed, which stand still at 2^64 - 1.
+#[derive(Drop)]
+pub(crate) struct OuterBook {
+    faults: OuterFaults,
+    entries: Vec<Outer>,
+    waits: u64,
+    listen_faults: u64,
+    wait_faults: u64,
+}
+
+impl Model for OuterBook {
+    ghost use Rattle.af_outside.specs.Outer.{OuterState};
+
+    ghost Value = { OuterState };
+
+    ghost view = { λ a. record {
+      faults = a.faults;
+      entries = a.entries.items;
+      waits = a.waits;
+      listen_faults = a.listen_faults;
+      wait_faults = a.wait_faults;
+    } };
+}
+
+impl OuterBook {
+    /// No call was made.
+    pub(crate) fn new(alloc: Global, faults: OuterFaults) -> OuterBook
+        ensures { result ≡ outer_start faults }
+    {
+        OuterBook {
+            faults,
+            entries: Vec::new(alloc),
+            waits: 0,
+            listen_faults: 0,
+            wait_faults: 0,
+        }
+    }
+
+    /// All calls that were done.
+    pub(crate) fn entries(&self) -> &[Outer]
+        ensures { result.now ≡ self.now.entries }
+    {
+        self.entries.as_slice()
+    }
+
+    /// Counts a listen, and says whether it fails.
+    pub(crate) fn listen_fails(&mut self) -> bool
+        ensures fails { result ≡ self.old.faults.listen }
+        ensures rises { self.old.listen_faults ≤ self.new.listen_faults }
+        ensures counts { self.new ≡ record self.old { listen_faults = faults_after self.old.listen_faults result } }
+    {
+        self.listen_faults = faults_after(self.listen_faults, self.faults.listen);
+        self.faults.listen
+    }
+
+    /// Whether the attaches of a device fail.
+    pub(crate) fn attach_fails(&self, device: u8) -> bool
+        ensures { result ≡ is_stated self.now.faults.attach device }
+    {
+        match self.faults.attach {
+            Some(stated) => stated == device,
+            None => false,
+        }
+    }
+
+    /// Counts a wait, and says whether it fails.
+    pub(crate) fn wait_fails(&mut self) -> bool
+        ensures fails { result ≡ is_stated self.old.faults.wait self.old.waits }
+        ensures rises { self.old.wait_faults ≤ self.new.wait_faults }
+        ensures counts { self.new ≡ record self.old { waits = counted self.old.waits; wait_faults = faults_after self.old.wait_faults result } }
+    {
+        let fails = match self.faults.wait {
+            Some(stated) => u64::from(stated) == self.waits,
+            None => false,
+        };
+        self.waits = faults_after(self.waits, true);
+        self.wait_faults = faults_after(self.wait_faults, fails);
+        fails
+    }
+
+    /// Adds a call that was done, for which memory may have run out; then nothing is told any longer.
+    pub(crate) fn note(&mut self, entry: Result<Outer, OutOfMemory>, logbook: &mut Logbook)
+        ensures noted { EntryNoted logbook.old self.old.entries entry logbook.new self.new.entries }
+        ensures rest { self.new ≡ record self.old { entries = self.new.entries } }
+    {
+        let kept = match entry {
+            Ok(entry) => self.entries.push(entry).is_ok(),
+            Err(_) => false,
+        };
+        if !kept {
+            logbook.fall_silent();
+        }
+    }
+}
+
+// The entry of a listen at an address.
+pub(crate) fn listen_of(alloc: Global, address: &str) -> Result<Outer, OutOfMemory>
+    ensures { IfOk result (λ entry. entry ≡ Listened address.now) }
+{
+    Ok(Outer::Listened(Bytes::copied(alloc, address.as_bytes())?))
+}
+
+// What a kind names, kept.
+fn backing_kept(alloc: Global, kind: Kind<'_>) -> Result<Backing, OutOfMemory>
+    ensures { IfOk result (λ backing. backing ≡ backing_of kind.entry) }
+{
+    let backing = match kind {
+        Kind::Silent => Backing::Silence,
+        Kind::Files { input, output } => Backing::TwoFiles {
+            input: Bytes::copied(alloc, input.as_bytes())?,
+            output: Bytes::copied(alloc, output.as_bytes())?,
+        },
+    };
+    Ok(backing)
+}
+
+// The entry of an attach.
+pub(crate) fn attach_of(
+    alloc: Global,
+    device: u8,
+    spec: &DeviceSpec,
+    kind: Kind<'_>,
+) -> Result<Outer, OutOfMemory>
+    ensures { IfOk result (λ entry. entry ≡ Attached device spec.now (backing_of kind.entry)) }
+{
+    Ok(Outer::Attached {
+        device,
+        spec: *spec,
+        backing: backing_kept(alloc, kind)?,
+    })
+}
+
+// The entry of a wait.
+pub(crate) fn wait_of(more: bool, wake: Wake) -> Outer
+    ensures { result ≡ Waited more wake }
+{
+    Outer::Waited { more, wake }
+}

@@ -1,0 +1,4 @@
+pub mod Growing
+pub mod Rounds
+pub mod Starting
+pub mod Ending

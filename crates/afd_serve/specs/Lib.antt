@@ -1,0 +1,5 @@
+pub mod Words
+pub mod Serving
+pub mod Starting
+pub mod Ends
+pub mod Rounds

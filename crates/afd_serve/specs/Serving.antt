@@ -1,0 +1,78 @@
+-- A server that waits and takes turns: what it asks of its waits, what it takes of their wakes, and what becomes of the log.
+use Rattle.std.specs.Prelude.{◌≡◌, ◌≢◌, ℕ, suc, Bool, List, [], ◌∷◌, ◌++◌, map, if◌then◌else◌}
+use Rattle.std.specs.declared.option.Option.{Option}
+use Rattle.af_outside.specs.declared.happening.Happening.TheVariants.{Woke}
+use Rattle.af_outside.specs.declared.happening.Wake.{Wake}
+use Rattle.af_outside.specs.declared.happening.Wake.TheVariants as wake
+use Rattle.af_outside.specs.declared.outer.Outer.{Outer}
+use Rattle.af_outside.specs.declared.outer.Outer.TheVariants as noted
+use Rattle.af_outside.specs.declared.script.DeviceSpec.{DeviceSpec}
+use Rattle.af_outside.specs.declared.outer.Backing.{Backing}
+use Rattle.af_outside.specs.Told.{Log, Grew}
+use Rattle.af_live.specs.Stating.{Settings}
+use Rattle.af_model.specs.State.{State, opening, outline}
+use Rattle.af_model.specs.Turn.{IsTurn, fits}
+use Rattle.af_model.specs.Run.{wakes, IsRun}
+use Rattle.af_model.specs.More.{has_more}
+use Rattle.af_model.specs.NoLoss.{RunLosesNone}
+use Rattle.af_model.specs.Prefix.{TakesInOrder}
+use Rattle.af_model.specs.Fold.{MixesAll}
+
+-- a wait: whether it was asked with more to do, and the wake that it gave
+pub record Asked : Type 0 where
+  pub more : Bool
+  pub wake : Wake
+
+-- its entry in the outer list
+abbrev pub entry_of : Asked → Outer
+entry_of wait = noted.Waited wait.more wait.wake
+
+-- what is taken of a wake: one that does not fit the state is taken as Idle
+abbrev pub taken_as : State → Wake → Wake
+taken_as s w = if fits (outline s) w then w else wake.Idle
+
+-- The wait was asked with whether there was more to do in this state, it did not give Stop, and the log begins with the one turn
+-- of its wake, which leads to the next state.
+pub record HasTurn (s : State) (wait : Asked) (log : Log) : Type 0 where
+  pub asked : wait.more ≡ has_more s
+  pub goes_on : wait.wake ≢ wake.Stop
+  pub part : Log
+  pub rest : Log
+  pub whole : log ≡ part ++ rest
+  pub tail : Log
+  pub begins : part ≡ Woke (taken_as s wait.wake) ∷ tail
+  pub only : wakes tail ≡ 0
+  pub next : State
+  pub is_turn : IsTurn s part next
+
+-- each of these waits had its turn, from the first state to the last, and the log is these turns
+abbrev pub Serves : State → List Asked → Log → State → Type 0
+Serves s [] log end = (log ≡ []) × (end ≡ s)
+Serves s (wait ∷ waits) log end = (turn : HasTurn s wait log) × Serves turn.next waits turn.rest end
+
+-- the entries of devices that are attached by rising number, the first of which is this
+abbrev pub attached_from : ℕ → List DeviceSpec → List Backing → List Outer
+attached_from d [] kinds = []
+attached_from d (spec ∷ config) [] = []
+attached_from d (spec ∷ config) (kind ∷ kinds) = noted.Attached d spec kind ∷ attached_from (suc d) config kinds
+
+abbrev pub all_attached : Settings → List Outer
+all_attached settings = attached_from 0 settings.config settings.kinds
+
+-- the entries of a whole start: the listen, and each device
+abbrev pub started : List ℕ → Settings → List Outer
+started address settings = noted.Listened address ∷ all_attached settings
+
+-- What a server did with these devices from its opening state on: what was added to the log is a run, the outer list grew by what
+-- stood before, by the waits, each of which had its turn, and by what stands behind them in the last state. In the run no request that had
+-- waited lost a sample, what each link took begins what was said to it, and each sound is the mix of all that was ever accepted.
+pub record Served (config : List DeviceSpec) (front : List Outer) (last : State → List Outer) (waits : List Asked) (log log' : Option Log) (outer outer' : Option (List Outer)) : Type 0 where
+  pub added : Log
+  pub grew : Grew log added log'
+  pub end : State
+  pub serves : Serves (opening config) waits added end
+  pub told : Grew outer (front ++ (map entry_of waits ++ last end)) outer'
+  pub is_run : IsRun config added
+  pub lossless : RunLosesNone config added
+  pub prefixes : TakesInOrder config added
+  pub mixes : MixesAll config added

@@ -1,0 +1,12 @@
+//! The server on real time, over any world that gives its own wakes.
+#![tactic(auto)]
+
+mod live;
+mod serve;
+mod start;
+mod words;
+
+pub use live::{LiveEnd, afd_live, status_of};
+
+#[cfg(test)]
+mod tests;

@@ -1,0 +1,103 @@
+// The start of a server: its configuration is read, it is listened in, and its devices are attached.
+ghost use Rattle.std.specs.Prelude.{◌≡◌, ◌≢◌, ◌≤◌, ℕ, length, All, IfOk, IfErr, IsErrOf};
+ghost use Rattle.std.specs.declared.result.Result.TheVariants.{Err};
+ghost use Rattle.af_buffers.specs.Horizons.{IsListedRate};
+ghost use Rattle.af_outside.specs.Told.{Grew, Rose, Stays};
+ghost use Rattle.af_outside.specs.Flow.{GaveWithin, GaveTooMuch};
+ghost use Rattle.af_model.specs.State.{opening};
+ghost use Rattle.af_core.specs.Stands.{Stands};
+ghost use Rattle.afd_serve.specs.Ends.{IsFaultyAt, longest_config};
+ghost use Rattle.afd_serve.specs.Serving.{all_attached, started};
+ghost use Rattle.afd_serve.specs.Starting.{AttachedUntil, IsReadEnd, IsReadFrom, StartedUntil};
+
+use crate::LiveEnd;
+use af_core::Core;
+use af_live::{ConfigFault, Setting, read_config};
+use af_outside::{Live, Ready, Source, TextFault, read_text};
+use std::alloc::Global;
+
+/// How many bytes a configuration may have.
+const LONGEST_CONFIG: usize = 65536;
+
+/// The configuration that a source gives, or the end that its want makes.
+pub(crate) fn read_setting<S: Source>(alloc: Global, source: &mut S) -> Result<Setting, LiveEnd>
+    ensures setting { IfOk result (λ s. IsReadFrom (S.left source.old) (S.left source.new) s) }
+    ensures devices { IfOk result (λ s. length s.config ≤ 8) }
+    ensures rates { IfOk result (λ s. All (λ device. IsListedRate device.rate) s.config) }
+    ensures ends { IfErr result (λ end. IsReadEnd end) }
+    ensures fault { (line : ℕ) → result ≡ Err (LiveEnd.ConfigFault line) → IsFaultyAt line (S.left source.old) (S.left source.new) }
+    ensures long { result ≡ Err LiveEnd.TooLong → GaveTooMuch longest_config (S.left source.old) (S.left source.new) }
+    ensures within { result ≢ Err LiveEnd.TooLong → GaveWithin longest_config (S.left source.old) (S.left source.new) }
+    ensures read { result ≡ Err LiveEnd.ReadFault → Rose (S.faults source.old) (S.faults source.new) }
+    ensures count { S.faults source.old ≤ S.faults source.new }
+{
+    let text = match read_text(alloc, source, LONGEST_CONFIG) {
+        Ok(text) => text,
+        Err(TextFault::ReadFault) => return Err(LiveEnd::ReadFault),
+        Err(TextFault::TooLong) => return Err(LiveEnd::TooLong),
+        Err(TextFault::OutOfMemory) => return Err(LiveEnd::OutOfMemory),
+    };
+    match read_config(alloc, &text) {
+        Ok(setting) => Ok(setting),
+        Err(ConfigFault::Line(line)) => Err(LiveEnd::ConfigFault { line }),
+        Err(ConfigFault::OutOfMemory) => Err(LiveEnd::OutOfMemory),
+    }
+}
+
+// Attaches each device by rising number.
+fn attach_devices<W: Live>(alloc: Global, setting: &Setting, world: &mut W) -> Result<(), LiveEnd>
+    requires { length setting.now.config ≤ 8 }
+    ensures log { Stays (W.World.log world.old) (W.World.log world.new) }
+    ensures all { IfOk result (λ _. Grew (W.outer world.old) (all_attached setting.now) (W.outer world.new)) }
+    ensures some { IfErr result (λ end. AttachedUntil end setting.now (W.outer world.old) (W.outer world.new)) }
+    ensures cause { (d : ℕ) → result ≡ Err (LiveEnd.AttachFault d) → Rose (W.World.device_faults world.old) (W.World.device_faults world.new) }
+    ensures link_count { W.World.link_faults world.old ≤ W.World.link_faults world.new }
+    ensures device_count { W.World.device_faults world.old ≤ W.World.device_faults world.new }
+    ensures listen_count { W.listen_faults world.old ≤ W.listen_faults world.new }
+    ensures wait_count { W.wait_faults world.old ≤ W.wait_faults world.new }
+{
+    let config = setting.config().as_slice();
+    for number in 0..config.len() {
+        let device = number as u8;
+        match world.attach(alloc, device, &config[number], setting.kind(device)) {
+            Ready::Done => {}
+            Ready::Failed => return Err(LiveEnd::AttachFault { device }),
+            Ready::OutOfMemory => return Err(LiveEnd::OutOfMemory),
+        }
+    }
+    Ok(())
+}
+
+/// Listens at an address, makes the core of these devices, and attaches each of them by rising number.
+pub(crate) fn start<W: Live>(
+    alloc: Global,
+    address: &str,
+    setting: &Setting,
+    world: &mut W,
+) -> Result<Core, LiveEnd>
+    requires few { length setting.now.config ≤ 8 }
+    requires rates { All (λ device. IsListedRate device.rate) setting.now.config }
+    ensures core { IfOk result (λ core. Stands core (opening setting.now.config)) }
+    ensures log { Stays (W.World.log world.old) (W.World.log world.new) }
+    ensures whole { IfOk result (λ _. Grew (W.outer world.old) (started address.now setting.now) (W.outer world.new)) }
+    ensures part { IfErr result (λ end. StartedUntil end address.now setting.now (W.outer world.old) (W.outer world.new)) }
+    ensures listen { result ≡ Err LiveEnd.ListenFault → Rose (W.listen_faults world.old) (W.listen_faults world.new) }
+    ensures attach { (d : ℕ) → result ≡ Err (LiveEnd.AttachFault d) → Rose (W.World.device_faults world.old) (W.World.device_faults world.new) }
+    ensures link_count { W.World.link_faults world.old ≤ W.World.link_faults world.new }
+    ensures device_count { W.World.device_faults world.old ≤ W.World.device_faults world.new }
+    ensures listen_count { W.listen_faults world.old ≤ W.listen_faults world.new }
+    ensures wait_count { W.wait_faults world.old ≤ W.wait_faults world.new }
+{
+    match world.listen(alloc, address) {
+        Ready::Done => {}
+        Ready::Failed => return Err(LiveEnd::ListenFault),
+        Ready::OutOfMemory => return Err(LiveEnd::OutOfMemory),
+    }
+    let Ok(core) = Core::new(alloc, setting.config()) else {
+        return Err(LiveEnd::OutOfMemory);
+    };
+    match attach_devices(alloc, setting, world) {
+        Ok(()) => Ok(core),
+        Err(end) => Err(end),
+    }
+}

@@ -1,5 +1,6 @@
 # demo: runs the example through `afd script`, by the proved program where it is built
 # listen: runs the example in which three clients are heard, in the same way, and makes a sound file of it
+# demo-sound: the real server, two clients that play to it at once, and a sound file of what was heard; after make build
 # build: proves everything and leaves the programs in bin/
 # test: the whole gate
 # fmt: lays out each crate's files
@@ -16,6 +17,9 @@ listen:
 	tools/transcript-to-au --script examples/mixing.script --output examples/mixing.au "$$transcript" && \
 	echo "examples/mixing.au: let any player play it"
 
+demo-sound:
+	@tools/demo-sound
+
 build:
 	rt all check && mkdir -p bin && cd crates/afd && rt run -- script < stdin > /dev/null && cp out/afd ../../bin/afd
 	cd crates/af && rm -f out/af && { rt run -- arecord 127.0.0.1:1 --frames=1 2> /dev/null; cp out/af ../../bin/af; }
@@ -26,4 +30,4 @@ test:
 fmt:
 	for crate in crates/*; do (cd $$crate && rt fmt) || exit; done
 
-.PHONY: demo listen build test fmt
+.PHONY: demo listen demo-sound build test fmt

@@ -1,18 +1,19 @@
 -- Requests that are sent, and their answers.
 use Rattle.std.proofs.Common.{◌≡◌, ◌≢◌, ℕ, List, [], ◌-◌, length, take, drop, sym, ap, ◌∙◌, append-nil}
 use Rattle.std.proofs.lemmas.List.{take_rest}
-use Rattle.std.specs.Prelude.{Result, Ok, Err, Bool, refl, option_and_then, option_map}
+use Rattle.std.specs.Prelude.{Result, Ok, Err, Bool, IfOk, refl, option_and_then, option_map}
 use Rattle.std.specs.declared.option.Option.TheVariants.{None, Some}
 use Rattle.std.specs.declared.option.Option.{Option}
 use Rattle.af_outside.specs.Told.{Grew}
-use Rattle.af_request.specs.Answer.{Answer}
-use Rattle.af_request.specs.Replies.{answer_in}
+use Rattle.af_request.specs.Answer.{Answer, setup, plain, time, played, recorded, controls, phone}
+use Rattle.af_request.specs.Replies.{answer_in, IsReplyTo}
+use Rattle.af_request.proofs.Stating.{setup_stated}
 use Rattle.af_lib.specs.declared.fault.ConnFault.{ConnFault}
 use Rattle.af_lib.specs.declared.fault.ConnFault.TheVariants as fault
 use Rattle.af_lib.specs.Ring.{RingState}
 use Rattle.af_lib.specs.Incoming.{bad_reply}
-use Rattle.af_lib.specs.Answers.{and_then, value_or_bad}
-use Rattle.af_lib.specs.Calls.{as_devices, as_recorded, listed, recorded_in, stored_in, value_in, Answers, Sends}
+use Rattle.af_lib.specs.Answers.{and_then, answer_to, value_or_bad}
+use Rattle.af_lib.specs.Calls.{answered, as_devices, as_recorded, listed, recorded_in, stored_in, value_in, Answers, Sends}
 use Rattle.af_request.specs.declared.reply.DeviceInfo.{DeviceInfo}
 use Rattle.af_request.specs.Answer.{items_of}
 use Rattle.af_time.specs.declared.DevTime.{DevTime}
@@ -54,6 +55,29 @@ pub value_listed : (bytes : List ℕ) (answer : Answer) (value : Option (ArrayVe
     listed result ≡ value_in as_devices 0 bytes
 value_listed bytes answer value result is stated read =
     ap listed is ∙ listed_bad bytes value ∙ ap (value_or_bad bytes) (stated ∙ ap (option_and_then as_devices) (read ∙ ap (answer_in 0) (take_rest bytes 8)))
+
+only_setup : (bytes : List ℕ) (answer : Option Answer) (devices : List DeviceInfo) → value_or_bad bytes (option_and_then as_devices answer) ≡ Ok devices → answer ≡ Some (setup devices)
+only_setup bytes (Some (setup ds)) devices is = let same : ds ≡ devices = cc in ap (λ (l : List DeviceInfo). Some (setup l)) same
+only_setup bytes (Some plain) devices is = cc
+only_setup bytes (Some (time now)) devices is = cc
+only_setup bytes (Some (played now)) devices is = cc
+only_setup bytes (Some (recorded now samples)) devices is = cc
+only_setup bytes (Some (controls c)) devices is = cc
+only_setup bytes (Some (phone p)) devices is = cc
+only_setup bytes None devices is = cc
+
+-- these are such as the reply to a setup may state
+pub listed_stated : (bytes : List ℕ) (result : Result (ArrayVec DeviceInfo) ConnFault) → listed result ≡ value_in as_devices 0 bytes → IfOk result (λ devices. IsReplyTo 0 (setup devices.items))
+listed_stated bytes (Ok devices) is = setup_stated (drop 8 bytes) devices.items (only_setup bytes (answer_in 0 (drop 8 bytes)) devices.items (sym is))
+listed_stated bytes (Err fault) is = tt
+
+found_stated : (found : Result (List ℕ) ConnFault) (devices : List DeviceInfo) → and_then (value_in as_devices 0) found ≡ Ok devices → IsReplyTo 0 (setup devices)
+found_stated (Ok bytes) devices is = setup_stated (drop 8 bytes) devices (only_setup bytes (answer_in 0 (drop 8 bytes)) devices is)
+found_stated (Err fault) devices is = cc
+
+-- so are those of the answer to a setup
+pub answered_stated : (found : Result (List ℕ) ConnFault) (devices : List DeviceInfo) → answered as_devices 0 0 found ≡ Ok devices → IsReplyTo 0 (setup devices)
+answered_stated found devices is = found_stated (and_then (answer_to 0 0) found) devices is
 
 recorded_bad : (bytes into : List ℕ) (value : Option (DevTime × ℕ)) → recorded_in (value_or_bad bytes value) into ≡ value_or_bad bytes (stored_in value into)
 recorded_bad bytes into (Some r) = refl

@@ -1,8 +1,9 @@
 // Replies as the values that they state, for each kind of request.
 ghost use Rattle.std.specs.Prelude.{◌≡◌, ◌≢◌, ◌≤◌, length, option_map, Err, IfOk, IfSome, IsTrue, IsSome};
 ghost use Rattle.af_outside.specs.Told.{Rose};
-ghost use Rattle.af_request.specs.Answer.{meaning as answered_by, recorded, items_of};
+ghost use Rattle.af_request.specs.Answer.{meaning as answered_by, recorded, setup, items_of};
 ghost use Rattle.af_request.specs.Asked.{meaning};
+ghost use Rattle.af_request.specs.Replies.{IsReplyTo};
 ghost use Rattle.af_request.specs.Requests.{request_bytes, HasRoom};
 ghost use Rattle.af_lib.specs.Answers.{value_or_bad};
 ghost use Rattle.af_lib.specs.Ring.{Gained};
@@ -336,6 +337,7 @@ fn devices_of(reply: Reply<'_>) -> Option<Devices>
 fn devices_in(bytes: &[u8]) -> Result<Devices, ConnFault>
     requires { 8 ≤ length bytes.now }
     ensures value { listed result ≡ value_in as_devices 0 bytes.now }
+    ensures stated { IfOk result (λ devices. IsReplyTo 0 (setup devices.items)) }
     ensures fresh { IsFresh result }
     ensures sound { result ≢ Err ConnFault.LinkFault }
 {
@@ -353,6 +355,7 @@ pub fn set_up<L: Link>(
 ) -> Result<Devices, ConnFault>
     requires { 16016 ≤ length input.old }
     ensures answers { Answers as_devices 0 0 (listed result) ring.old ring.new (L.left link.old) (L.left link.new) }
+    ensures stated { IfOk result (λ devices. IsReplyTo 0 (setup devices.items)) }
     ensures fresh { IsFresh result }
     ensures sends { Sends (listed result) (L.sent link.old) setup_bytes (L.sent link.new) }
     ensures tells { IsSome (L.left link.old) → IsSome (L.left link.new) }

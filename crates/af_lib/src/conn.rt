@@ -1,9 +1,10 @@
 // A connection to a server.
-ghost use Rattle.std.specs.Prelude.{◌≡◌, ◌≤◌, false, [], drop, length, slice_get, IfOk, IsTrue};
+ghost use Rattle.std.specs.Prelude.{◌≡◌, ◌≤◌, false, [], drop, length, slice_get, All, IfOk, IsTrue};
 ghost use Rattle.af_sample.specs.SampleTypes.{code_of};
 ghost use Rattle.af_request.specs.Fields.{flag_byte};
 ghost use Rattle.af_request.specs.Asked.{meaning, create_ac, free_ac, get_time, hook_switch, play_run, query_controls, query_phone, record_run, select_events};
 ghost use Rattle.af_request.specs.Requests.{HasRoom};
+ghost use Rattle.af_request.specs.Replies.{IsStated};
 ghost use Rattle.af_lib.specs.Calls.{as_controls, as_done, as_phone, as_recorded, as_time, bit_if, controls_changed, flag_or_zero, gain_or_zero, recorded_in, settings_changed, Called, Connects, IsKeptBehind, Waited};
 
 use crate::asks::{ask_controls, ask_done, ask_phone, ask_recorded, ask_time, set_up};
@@ -35,13 +36,15 @@ pub struct Conn<L: Link + Drop> {
 
 impl<L: Link + Drop> Model for Conn<L> {
     ghost use Rattle.std.specs.Prelude.{◌≡◌, length};
+    ghost use Rattle.af_request.specs.Answer.{setup};
+    ghost use Rattle.af_request.specs.Replies.{IsReplyTo};
     ghost use Rattle.af_lib.specs.Calls.{ConnState};
 
     ghost Value = { ConnState L };
 
     ghost view = { λ a. record { link = a.link; devices = a.devices.items; sequence = a.sequence; ring = a.ring; cause = a.cause } };
 
-    ghost invariant = { λ a. (length a.input.items ≡ 16016) × (length a.output.items ≡ 16384) };
+    ghost invariant = { λ a. (length a.input.items ≡ 16016) × (length a.output.items ≡ 16384) × IsReplyTo 0 (setup a.devices.items) };
 }
 
 impl<L: Link + Drop> Conn<L> {
@@ -68,10 +71,13 @@ impl<L: Link + Drop> Conn<L> {
         }
     }
 
-    /// The devices of the server, by rising number.
+    /// The devices of the server, by rising number: 1 to 8, each of one channel, of a listed rate, and with a horizon of four
+    /// seconds.
     pub fn devices(&self) -> &[DeviceInfo]
         ensures value { result.now ≡ self.now.devices }
+        ensures some { 1 ≤ length result.now }
         ensures few { length result.now ≤ 8 }
+        ensures stated { All IsStated result.now }
     {
         self.devices.as_slice()
     }

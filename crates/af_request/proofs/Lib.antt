@@ -3,3 +3,4 @@ pub mod FieldTrips
 pub mod DeviceRun
 pub mod RequestTrips
 pub mod ReplyTrips
+pub mod Stating

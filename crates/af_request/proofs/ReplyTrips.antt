@@ -77,7 +77,7 @@ type_again Alaw = refl
 type_again Lin16 = refl
 type_again Lin32 = refl
 
-rate_below : (rate : ℕ) → IsTrue (is_rate rate) → rate ≤ 48000
+pub rate_below : (rate : ℕ) → IsTrue (is_rate rate) → rate ≤ 48000
 rate_below rate listed = grind (arith, nat_tests)
 
 -- a device that may be stated is read as it is

@@ -19,6 +19,5 @@ pub mod Hearing
 pub mod Intended
 pub mod Played
 pub mod Wording
-pub mod Stated
 pub mod Passable
 pub mod Outcomes

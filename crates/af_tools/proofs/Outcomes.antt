@@ -1,6 +1,7 @@
 -- What a tool that dials has done, where it is done.
-use Rattle.std.proofs.Common.{◌≡◌, ◌<◌, ℕ, List, [], ◌∷◌, ◌++◌, sym, ap, ◌∙◌, subst, refl, append-nil, arith}
-use Rattle.std.specs.Prelude.{Ok, All}
+use Rattle.std.proofs.Common.{◌≡◌, ◌<◌, ℕ, List, [], ◌∷◌, ◌++◌, sym, ap, ◌∙◌, subst, refl, append-nil, arith, slice_get}
+use Rattle.std.proofs.lemmas.Option.{get_or_from_slice_get, slice_get_within}
+use Rattle.std.specs.Prelude.{Result, Ok}
 use Rattle.std.specs.declared.option.Option.{Option}
 use Rattle.std.specs.declared.option.Option.TheVariants.{Some}
 use Rattle.clap.specs.Words.{Text}
@@ -8,7 +9,9 @@ use Rattle.af_outside.specs.Told.{Grew}
 use Rattle.af_outside.specs.Dial.{ToldLink}
 use Rattle.af_request.specs.declared.reply.DeviceInfo.{DeviceInfo}
 use Rattle.af_request.specs.Replies.{IsStated}
+use Rattle.af_lib.specs.declared.fault.ConnFault.{ConnFault}
 use Rattle.af_lib.specs.Calls.{answered, as_devices, setup_bytes}
+use Rattle.af_lib.proofs.Exchanges.{answered_stated}
 use Rattle.af_tools.specs.declared.end.ToolEnd.{ToolEnd}
 use Rattle.af_tools.specs.declared.end.ToolEnd.TheVariants as end
 use Rattle.af_jobs.specs.declared.job.PassJob.{PassJob}
@@ -28,7 +31,6 @@ use Rattle.af_tools.specs.Run.{GaveBack, PlayRan, Ran, RelayRan, one_course}
 use Rattle.af_jobs.specs.Words.{one, relay}
 use Rattle.af_tools.proofs.Passable.{answered_from, answered_to, course_relayed, finish_done}
 use Rattle.af_tools.proofs.Played.{answered_done, is_played}
-use Rattle.af_tools.proofs.Stated.{answered_stated}
 
 -- what was sent, where nothing is unsent
 sent_all : (whole part rest known : List ℕ) → whole ≡ part ++ rest → rest ≡ [] → whole ≡ known → part ≡ known
@@ -43,7 +45,7 @@ record BehindFirst (job : PassJob) (from : List DeviceInfo) (v : Wire) (links : 
   whole : course ≡ sending_to setup_bytes part
   relayed : Grew held part.output held' → IsRelayed job from v (set_up second.gives) (Some []) (Some part.from) (Some []) (Some part.to) held held'
 
-behind_first : (job : PassJob) (from : List DeviceInfo) (v : Wire) (links : List ToldLink) (held held' : Option (List ℕ)) → All IsStated from → IsPaced job →
+behind_first : (job : PassJob) (from : List DeviceInfo) (v : Wire) (links : List ToldLink) (held held' : Option (List ℕ)) → ((d : DeviceInfo) → slice_get from job.from_device ≡ Some d → IsStated d) → IsPaced job →
     (dials_to links (λ to w. apass_course job from to v w)).finish ≡ done → BehindFirst job from v links (dials_to links (λ to w. apass_course job from to v w)) held held'
 unfolding connects_by
 behind_first job from v [] held held' stated paced is = cc
@@ -70,6 +72,11 @@ behind_first job from v (second ∷ rest) held held' stated paced is =
       });
     }
 
+-- a device of a connection that was set up is one that may be stated
+answered_at : (k : ℕ) (found : Result (List ℕ) ConnFault) (devices : List DeviceInfo) → answered as_devices 0 0 found ≡ Ok devices → (d : DeviceInfo) → slice_get devices k ≡ Some d → IsStated d
+answered_at k found devices is d there =
+    subst IsStated (get_or_from_slice_get devices k d d there) ((answered_stated found devices is).3 k d (slice_get_within devices k d there))
+
 record BehindBoth (job : PassJob) (links : List ToldLink) (held held' : Option (List ℕ)) : Type 0 where
   first : ToldLink
   second : ToldLink
@@ -86,7 +93,7 @@ unfolding connects_by
 behind_both job [] held held' paced is = cc
 behind_both job (first ∷ links) held held' paced is =
     let a = answered_from setup_bytes (answered as_devices 0 0 (next_message (unused first.gives)).found) (set_up first.gives) (λ from v. dials_to links (λ to w. apass_course job from to v w)) is in
-    let b = behind_first job a.value (set_up first.gives) links held held' (answered_stated (next_message (unused first.gives)).found a.value a.good) paced (ap (λ (x : Relay). x.finish) (sym a.is) ∙ is) in
+    let b = behind_first job a.value (set_up first.gives) links held held' (answered_at job.from_device (next_message (unused first.gives)).found a.value a.good) paced (ap (λ (x : Relay). x.finish) (sym a.is) ∙ is) in
     record {
       first = first;
       second = b.second;

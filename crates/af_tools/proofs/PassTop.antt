@@ -7,6 +7,7 @@ use Rattle.af_outside.specs.Told.{Grew}
 use Rattle.af_request.specs.declared.reply.DeviceInfo.{DeviceInfo}
 use Rattle.af_request.specs.Asked.{Asked}
 use Rattle.af_request.specs.Answer.{Answer}
+use Rattle.af_request.specs.Replies.{IsStated}
 use Rattle.af_lib.specs.declared.fault.ConnFault.{ConnFault}
 use Rattle.af_tools.specs.declared.end.ToolEnd.{ToolEnd}
 use Rattle.af_tools.specs.declared.end.ToolEnd.TheVariants as end
@@ -83,6 +84,35 @@ apart_followed job from to v w how s t h is =
       link_to = grew_none t;
       sink = grew_none h;
     }
+
+-- the device that is recorded is one that may be stated
+first_rate : (b : Bool) (x y a : DeviceInfo) → (let r : Result DeviceInfo ToolEnd = Ok a in r ≡ (if b then Ok x else Err (end.RateMismatch x.rate y.rate))) → x ≡ a
+first_rate true x y a is = cc
+first_rate false x y a is = cc
+
+first_stated : (o : Option DeviceInfo) (n : ℕ) (p : Option DeviceInfo) (m : ℕ) (a : DeviceInfo) → (let r : Result DeviceInfo ToolEnd = Ok a in r ≡ pair_or_end o n p m) → IsStated a → (d : DeviceInfo) → o ≡ Some d → IsStated d
+first_stated (Some x) n (Some y) m a is stated d there =
+    let same : a ≡ d = (let one : x ≡ a = first_rate (x.rate == y.rate) x y a is in cc) in
+    subst (λ (e : DeviceInfo). IsStated e) same stated
+first_stated (Some x) n None m a is stated d there = cc
+first_stated None n p m a is stated d there = cc
+
+pub pair_stated : (from : List DeviceInfo) (k : ℕ) (to : List DeviceInfo) (l : ℕ) (a : DeviceInfo) → (let r : Result DeviceInfo ToolEnd = Ok a in r ≡ pair_of from k to l) → IsStated a → (d : DeviceInfo) → slice_get from k ≡ Some d → IsStated d
+pair_stated from k to l a is stated = first_stated (slice_get from k) (length from) (slice_get to l) (length to) a is stated
+
+-- a relay without its devices is not done
+undone_rate : (b : Bool) (x y : DeviceInfo) → (let r : Result DeviceInfo ToolEnd = Err end.Done in r ≡ (if b then Ok x else Err (end.RateMismatch x.rate y.rate))) → ⊥
+undone_rate true x y is = cc
+undone_rate false x y is = cc
+
+undone_between : (o : Option DeviceInfo) (n : ℕ) (p : Option DeviceInfo) (m : ℕ) → (let r : Result DeviceInfo ToolEnd = Err end.Done in r ≡ pair_or_end o n p m) → ⊥
+undone_between None n p m is = cc
+undone_between (Some x) n None m is = cc
+undone_between (Some x) n (Some y) m is = undone_rate (x.rate == y.rate) x y is
+
+pub pair_undone : (from : List DeviceInfo) (k : ℕ) (to : List DeviceInfo) (l : ℕ) (how : ToolEnd) → (let r : Result DeviceInfo ToolEnd = Err how in r ≡ pair_of from k to l) → how ≡ end.Done → ⊥
+pair_undone from k to l how is way =
+    undone_between (slice_get from k) (length from) (slice_get to l) (length to) (ap (λ (x : ToolEnd). (let r : Result DeviceInfo ToolEnd = Err x in r)) (sym way) ∙ is)
 
 -- a relay, as the link that is recorded on sees it
 pub seen_from : (relay : Relay) (how : ToolEnd) (s s' t t' h h' : Option (List ℕ)) → FollowedBoth relay how s s' t t' h h' → Followed (on_from relay) how s s' h h'

@@ -1,9 +1,10 @@
 -- A relay that is done passed all blocks.
-use Rattle.std.proofs.Common.{◌≡◌, ◌<◌, ◌+◌, ◌-◌, ◌%◌, ◌^◌, ◌==◌, ◌-ℤ◌, ℕ, ℤ, pos, zero, suc, nat_lt, unsigned_abs, Bool, true, false, List, [], ◌∷◌, ◌++◌, length, slice_get, sym, ap, ◌∙◌, subst, refl, append_assoc, append-nil, if◌then◌else◌, arith, to_z-of_z}
+use Rattle.std.proofs.Common.{◌≡◌, ◌<◌, ◌≤◌, ◌+◌, ◌-◌, ◌*◌, ◌%◌, ◌^◌, ◌==◌, ◌-ℤ◌, ℕ, ℤ, pos, zero, suc, nat_lt, unsigned_abs, Bool, true, false, List, [], ◌∷◌, ◌++◌, length, slice_get, sym, ap, ◌∙◌, subst, refl, append_assoc, append-nil, if◌then◌else◌, arith, to_z-of_z}
 use Rattle.std.proofs.lemmas.Int.{ints}
 use Rattle.std.proofs.lemmas.Bool.Decides.{nat_tests}
 use Rattle.std.specs.Int.{w32, cast_signed, cast_unsigned}
-use Rattle.std.specs.Prelude.{Result, Ok, Err, All}
+use Rattle.std.proofs.lemmas.Nat.{mul-le}
+use Rattle.std.specs.Prelude.{Result, Ok, Err}
 use Rattle.std.specs.declared.option.Option.{Option}
 use Rattle.std.specs.declared.option.Option.TheVariants.{None, Some}
 use Rattle.af_time.specs.declared.DevTime.{DevTime}
@@ -14,6 +15,7 @@ use Rattle.af_request.specs.Asked.{Asked, free_ac, get_time, play_run, record_ru
 use Rattle.af_request.specs.Answer.{Answer}
 use Rattle.af_request.specs.Requests.{request_bytes}
 use Rattle.af_request.specs.Replies.{IsStated}
+use Rattle.af_request.proofs.ReplyTrips.{rate_below}
 use Rattle.af_lib.specs.declared.fault.ConnFault.{ConnFault}
 use Rattle.af_lib.specs.declared.fault.ConnFault.TheVariants as fault
 use Rattle.af_lib.specs.Calls.{as_done, as_recorded, as_time, Recorded}
@@ -30,7 +32,6 @@ use Rattle.af_jobs.specs.Ranges.{IsPaced}
 use Rattle.af_tools.specs.Pass.{Relay, after, apass_course, as_word, asks_by, asks_from, asks_to, at_one_rate, begins_both, ends_both, ends_contexts, from_context, has_drifted, in_step, none_passed, on_one, pace_of, passed_between, passed_on, passed_text, passes, passes_block, place_of, relayed_by, sending_from, sending_to, to_context}
 use Rattle.af_tools.specs.Relayed.{AreTold, IsRelayed, PassedBlock, Relayed, is_moved, moves, plays, record_replies, records, reply_then, samples_of, type_from}
 use Rattle.af_tools.proofs.PassTop.{reports}
-use Rattle.af_tools.proofs.Stated.{few_frames, stated_at}
 use Rattle.af_tools.proofs.Wording.{told_low}
 
 -- a request in a relay that is done was answered
@@ -54,6 +55,13 @@ done_from asked value_of w next is = answered_from (request_bytes asked) (answer
 done_to : {X : Type 0} (asked : Asked) (value_of : Answer → Option X) (w : Wire) (next : X → Wire → Relay) → (asks_to asked value_of w next).finish ≡ done → WasAnswered sending_to (request_bytes asked) (answer_on asked value_of w) (behind w) next (asks_to asked value_of w next)
 unfolding asks_by
 done_to asked value_of w next is = answered_to (request_bytes asked) (answer_on asked value_of w) (behind w) next is
+
+-- a delay at the rate of a device that may be stated has few frames
+few_frames : (d : DeviceInfo) (delay : ℕ) → IsStated d → delay ≤ 3000 → frames_lasting d.rate delay < 2 ^ 31
+few_frames d delay s short =
+    let low : d.rate ≤ 48000 = rate_below d.rate s.rate in
+    let most : d.rate * delay ≤ 48000 * 3000 = mul-le d.rate delay 48000 3000 low short in
+    omega arith
 
 -- a time in step is the delay ahead
 ahead_of : (now delay : ℕ) → now < 2 ^ 32 → delay < 2 ^ 31 → ((now + delay) % 2 ^ 32 + (2 ^ 32 - now)) % 2 ^ 32 ≡ delay
@@ -217,12 +225,12 @@ devices_done (Some a) None n m next is = absurd (cc)
 devices_done (Some a) (Some b) n m next is = (a, refl, rate_done (a.rate == b.rate) a b (next a) is)
 
 -- a relay that is done has passed all blocks
-pub course_relayed : (job : PassJob) (from to : List DeviceInfo) (v w : Wire) → All IsStated from → IsPaced job → (apass_course job from to v w).finish ≡ done →
+pub course_relayed : (job : PassJob) (from to : List DeviceInfo) (v w : Wire) → ((d : DeviceInfo) → slice_get from job.from_device ≡ Some d → IsStated d) → IsPaced job → (apass_course job from to v w).finish ≡ done →
     (let r : Relay = apass_course job from to v w in (device : DeviceInfo) × (slice_get from job.from_device ≡ Some device) × Relayed job device v w r.from r.to r.output)
 unfolding apass_course
 course_relayed job from to v w stated paced is =
     let d = devices_done (slice_get from job.from_device) (slice_get to job.to_device) (length from) (length to) (λ a. passed_between job a v w (reports job)) is in
-    let small = few_frames d.0 job.delay (stated_at from job.from_device d.0 stated d.1) paced.2 in
+    let small = few_frames d.0 job.delay (stated d.0 d.1) paced.2 in
     (d.0, d.1, between_done job d.0 v w (apass_course job from to v w) d.2 small is)
 
 pub finish_done : (f : Finish) → end.Done ≡ end_of f → f ≡ done
@@ -244,7 +252,7 @@ all_sent whole part rest s s' is none grew = subst (λ (l : List ℕ). Grew s l 
 
 -- a relay that ended at Done has sent and written what it passed
 pub is_relayed : (job : PassJob) (from to : List DeviceInfo) (v w : Wire) (how : ToolEnd) (s s' t t' h h' : Option (List ℕ)) → FollowedBoth (apass_course job from to v w) how s s' t t' h h' →
-    All IsStated from → IsPaced job → how ≡ end.Done → IsRelayed job from v w s s' t t' h h'
+    ((d : DeviceInfo) → slice_get from job.from_device ≡ Some d → IsStated d) → IsPaced job → how ≡ end.Done → IsRelayed job from v w s s' t t' h h'
 is_relayed job from to v w how s s' t t' h h' f stated paced way =
     let relay = apass_course job from to v w in
     let r = f.recorded.whole (ap is_outer way) in

@@ -1,5 +1,6 @@
 // The device that a job names.
-ghost use Rattle.std.specs.Prelude.{◌≡◌, length, slice_get};
+ghost use Rattle.std.specs.Prelude.{◌≡◌, length, slice_get, IfOk};
+ghost use Rattle.af_request.specs.Replies.{IsStated};
 ghost use Rattle.af_tools.specs.Device.{device_or_end};
 
 use crate::end::ToolEnd;
@@ -9,7 +10,8 @@ use af_request::DeviceInfo;
 
 /// The device with this number.
 pub fn device_with<L: Link + Drop>(conn: &Conn<L>, number: u8) -> Result<DeviceInfo, ToolEnd>
-    ensures { result ≡ device_or_end (slice_get conn.now.devices number) (length conn.now.devices) }
+    ensures value { result ≡ device_or_end (slice_get conn.now.devices number) (length conn.now.devices) }
+    ensures stated { IfOk result (λ device. IsStated device) }
 {
     let devices = conn.devices();
     match devices.get(usize::from(number)) {

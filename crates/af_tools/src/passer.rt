@@ -1,5 +1,5 @@
 // apass: blocks are recorded on one server and played on another, and how that went is written to the sink.
-ghost use Rattle.std.specs.Prelude.{◌≡◌, ◌<◌, ◌≤◌, ◌+◌, ◌*◌, ◌^◌, ◌↔◌, ◌⊎◌, ℕ, List, true, length, take, All, Err, IfErr, IsOk};
+ghost use Rattle.std.specs.Prelude.{◌≡◌, ◌<◌, ◌≤◌, ◌+◌, ◌*◌, ◌^◌, ◌↔◌, ◌⊎◌, ℕ, List, true, length, take, Err, IfErr, IfOk, IsOk};
 ghost use Rattle.std.specs.declared.option.Option.{Option};
 ghost use Rattle.std.specs.declared.option.Option.TheVariants.{None, Some};
 ghost use Rattle.af_outside.specs.Told.{Rose};
@@ -130,7 +130,8 @@ fn pair_of<L: Link + Drop, M: Link + Drop>(
     from: &Conn<L>,
     to: &Conn<M>,
 ) -> Result<DeviceInfo, ToolEnd>
-    ensures { result ≡ pair_of from.now.devices job.now.from_device to.now.devices job.now.to_device }
+    ensures value { result ≡ pair_of from.now.devices job.now.from_device to.now.devices job.now.to_device }
+    ensures stated { IfOk result (λ device. IsStated device) }
 {
     let recorded = device_with(from, job.from_device)?;
     let played = device_with(to, job.to_device)?;
@@ -165,7 +166,7 @@ pub fn apass<L: Link + Drop, M: Link + Drop, K: Sink>(
 
     // done, the bytes of each play are those of the record reply with its number, and each play's time is the one before plus the
     // block, but at exactly so many plays as are written
-    ensures relayed { (v w : List ℕ) → L.left from.old.link ≡ Some v → M.left to.old.link ≡ Some w → All IsStated from.old.devices → result ≡ ToolEnd.Done →
+    ensures relayed { (v w : List ℕ) → L.left from.old.link ≡ Some v → M.left to.old.link ≡ Some w → result ≡ ToolEnd.Done →
         IsRelayed job.now from.old.devices (wire_of from.old v) (wire_of to.old w) (L.sent from.old.link) (L.sent from.new.link) (M.sent to.old.link) (M.sent to.new.link) (K.held sink.old) (K.held sink.new) }
 
     // each end has its cause

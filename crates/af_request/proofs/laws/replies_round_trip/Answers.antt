@@ -1,4 +1,5 @@
 use Rattle.af_request.proofs.ReplyTrips.{answer_again, length-body}
+use Rattle.af_request.proofs.Stating.{setup_stated}
 use Rattle.af_request.proofs.laws.replies_round_trip.Goals as goal
 
 pub returns-clause-again : goal.returns-clause-again
@@ -6,3 +7,6 @@ returns-clause-again c = answer_again
 
 pub returns-clause-words : goal.returns-clause-words
 returns-clause-words c = length-body
+
+pub returns-clause-stated : goal.returns-clause-stated
+returns-clause-stated c = setup_stated

@@ -13,24 +13,24 @@ use Rattle.af_tools.proofs.player.aplay.Goals as goal
 
 pub returns-in-Err-clause-followed : goal.returns-in-Err-clause-followed
 returns-in-Err-clause-followed g c input bytes told is tells =
-    let m = is_missing c.args.conn.now.devices c.args.job.now.device c.in-Err.end c.in-Err.ensures in
+    let m = is_missing c.args.conn.now.devices c.args.job.now.device c.in-Err.end c.in-Err.ensures.value in
     followed_missing _ (length c.args.conn.now.devices) _ _ _ (aplay_missing c.args.conn.now.devices (wire_of c.args.conn.now input) c.args.job.now bytes m.get) m.way
 
 pub returns-in-Err-clause-no_device : goal.returns-in-Err-clause-no_device
-returns-in-Err-clause-no_device g c n = missing_iff _ _ _ (is_missing c.args.conn.now.devices c.args.job.now.device c.in-Err.end c.in-Err.ensures) n
+returns-in-Err-clause-no_device g c n = missing_iff _ _ _ (is_missing c.args.conn.now.devices c.args.job.now.device c.in-Err.end c.in-Err.ensures.value) n
 
 pub returns-in-Err-clause-reply : goal.returns-in-Err-clause-reply
 returns-in-Err-clause-reply g c input bytes told is tells = ends_by_reply _ _ _ _ _ _ (returns-in-Err-clause-followed g c input bytes told is tells)
 
 pub returns-in-Err-clause-complete : goal.returns-in-Err-clause-complete
 returns-in-Err-clause-complete g c input bytes told is tells within few answered link read sink =
-    let m = is_missing c.args.conn.now.devices c.args.job.now.device c.in-Err.end c.in-Err.ensures in
+    let m = is_missing c.args.conn.now.devices c.args.job.now.device c.in-Err.end c.in-Err.ensures.value in
     let beyond = m.beyond in
     absurd (omega arith)
 
 pub returns-in-Ok-play_on-clause-followed : goal.returns-in-Ok-play_on-clause-followed
 returns-in-Ok-play_on-clause-followed g c input bytes told is tells =
-    let t = is_there c.args.conn.now.devices c.args.job.now.device c.in-Ok.device c.in-Ok.ensures in
+    let t = is_there c.args.conn.now.devices c.args.job.now.device c.in-Ok.device c.in-Ok.ensures.value in
     let w = wire_of c.args.conn.now input in
     let part : Part Played = λ next. played_on c.args.job.now c.in-Ok.device bytes w (λ frames start. next (record { frames = frames; start = record { 0 = start } })) in
     followed_same _ _ _ _ _ _ _ (aplay_there c.args.conn.now.devices w c.args.job.now bytes c.in-Ok.device t.get)
@@ -38,14 +38,14 @@ returns-in-Ok-play_on-clause-followed g c input bytes told is tells =
 
 pub returns-in-Ok-play_on-clause-no_device : goal.returns-in-Ok-play_on-clause-no_device
 returns-in-Ok-play_on-clause-no_device g c n =
-    there_iff _ _ _ _ (is_there c.args.conn.now.devices c.args.job.now.device c.in-Ok.device c.in-Ok.ensures) (never_report _ c.report.ensures.end) n
+    there_iff _ _ _ _ (is_there c.args.conn.now.devices c.args.job.now.device c.in-Ok.device c.in-Ok.ensures.value) (never_report _ c.report.ensures.end) n
 
 pub returns-in-Ok-play_on-clause-reply : goal.returns-in-Ok-play_on-clause-reply
 returns-in-Ok-play_on-clause-reply g c input bytes told is tells = ends_by_reply _ _ _ _ _ _ (returns-in-Ok-play_on-clause-followed g c input bytes told is tells)
 
 pub returns-in-Err-play_on-clause-followed : goal.returns-in-Err-play_on-clause-followed
 returns-in-Err-play_on-clause-followed g c input bytes told is tells =
-    let t = is_there c.args.conn.now.devices c.args.job.now.device c.in-Ok.device c.in-Ok.ensures in
+    let t = is_there c.args.conn.now.devices c.args.job.now.device c.in-Ok.device c.in-Ok.ensures.value in
     let w = wire_of c.args.conn.now input in
     let part : Part Played = λ next. played_on c.args.job.now c.in-Ok.device bytes w (λ frames start. next (record { frames = frames; start = record { 0 = start } })) in
     followed_same _ _ _ _ _ _ _ (aplay_there c.args.conn.now.devices w c.args.job.now bytes c.in-Ok.device t.get)
@@ -53,14 +53,14 @@ returns-in-Err-play_on-clause-followed g c input bytes told is tells =
 
 pub returns-in-Err-play_on-clause-no_device : goal.returns-in-Err-play_on-clause-no_device
 returns-in-Err-play_on-clause-no_device g c n =
-    there_iff _ _ _ _ (is_there c.args.conn.now.devices c.args.job.now.device c.in-Ok.device c.in-Ok.ensures) (never_blocks _ c.in-Err-play_on.ensures.end) n
+    there_iff _ _ _ _ (is_there c.args.conn.now.devices c.args.job.now.device c.in-Ok.device c.in-Ok.ensures.value) (never_blocks _ c.in-Err-play_on.ensures.end) n
 
 pub returns-in-Err-play_on-clause-reply : goal.returns-in-Err-play_on-clause-reply
 returns-in-Err-play_on-clause-reply g c input bytes told is tells = ends_by_reply _ _ _ _ _ _ (returns-in-Err-play_on-clause-followed g c input bytes told is tells)
 
 pub returns-in-Err-play_on-clause-complete : goal.returns-in-Err-play_on-clause-complete
 returns-in-Err-play_on-clause-complete g c input bytes told is tells within few answered link read sink =
-    let t = is_there c.args.conn.now.devices c.args.job.now.device c.in-Ok.device c.in-Ok.ensures in
+    let t = is_there c.args.conn.now.devices c.args.job.now.device c.in-Ok.device c.in-Ok.ensures.value in
     let w = wire_of c.args.conn.now input in
     let f = returns-in-Err-play_on-clause-followed g c input bytes told is tells in
     let e = c.in-Err-play_on.ensures in

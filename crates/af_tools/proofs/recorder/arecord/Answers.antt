@@ -11,52 +11,52 @@ use Rattle.af_tools.proofs.recorder.arecord.Goals as goal
 
 pub returns-in-Err-clause-followed : goal.returns-in-Err-clause-followed
 returns-in-Err-clause-followed g c input told =
-    let m = is_missing c.args.conn.now.devices c.args.job.now.device c.in-Err.end c.in-Err.ensures in
+    let m = is_missing c.args.conn.now.devices c.args.job.now.device c.in-Err.end c.in-Err.ensures.value in
     followed_missing _ (length c.args.conn.now.devices) _ _ _ (arecord_missing c.args.conn.now.devices (wire_of c.args.conn.now input) c.args.job.now m.get) m.way
 
 pub returns-in-Err-clause-no_device : goal.returns-in-Err-clause-no_device
-returns-in-Err-clause-no_device g c n = missing_iff _ _ _ (is_missing c.args.conn.now.devices c.args.job.now.device c.in-Err.end c.in-Err.ensures) n
+returns-in-Err-clause-no_device g c n = missing_iff _ _ _ (is_missing c.args.conn.now.devices c.args.job.now.device c.in-Err.end c.in-Err.ensures.value) n
 
 pub returns-in-Err-clause-reply : goal.returns-in-Err-clause-reply
 returns-in-Err-clause-reply g c input told = ends_by_reply _ _ _ _ _ _ (returns-in-Err-clause-followed g c input told)
 
 pub returns-in-Err-clause-complete : goal.returns-in-Err-clause-complete
 returns-in-Err-clause-complete g c input told within answered link sink =
-    let m = is_missing c.args.conn.now.devices c.args.job.now.device c.in-Err.end c.in-Err.ensures in
+    let m = is_missing c.args.conn.now.devices c.args.job.now.device c.in-Err.end c.in-Err.ensures.value in
     let beyond = m.beyond in
     absurd (omega arith)
 
 pub returns-in-Ok-record_on-clause-followed : goal.returns-in-Ok-record_on-clause-followed
 returns-in-Ok-record_on-clause-followed g c input told =
-    let t = is_there c.args.conn.now.devices c.args.job.now.device c.in-Ok.device c.in-Ok.ensures in
+    let t = is_there c.args.conn.now.devices c.args.job.now.device c.in-Ok.device c.in-Ok.ensures.value in
     let w = wire_of c.args.conn.now input in
     followed_same _ _ _ _ _ _ _ (arecord_there c.args.conn.now.devices w c.args.job.now c.in-Ok.device t.get)
     (followed_on (λ next. recorded_on c.args.job.now c.in-Ok.device w (next tt)) (λ _ _. ends done) tt _ _ (wire_of c.record_on.new.conn) _ _ _ _ _ _ (c.in-Ok-record_on.ensures.goes input told) (λ i t. followed_done _ _ _ refl))
 
 pub returns-in-Ok-record_on-clause-no_device : goal.returns-in-Ok-record_on-clause-no_device
 returns-in-Ok-record_on-clause-no_device g c n =
-    there_iff _ _ _ _ (is_there c.args.conn.now.devices c.args.job.now.device c.in-Ok.device c.in-Ok.ensures) (λ n e. cc) n
+    there_iff _ _ _ _ (is_there c.args.conn.now.devices c.args.job.now.device c.in-Ok.device c.in-Ok.ensures.value) (λ n e. cc) n
 
 pub returns-in-Ok-record_on-clause-reply : goal.returns-in-Ok-record_on-clause-reply
 returns-in-Ok-record_on-clause-reply g c input told = ends_by_reply _ _ _ _ _ _ (returns-in-Ok-record_on-clause-followed g c input told)
 
 pub returns-in-Err-record_on-clause-followed : goal.returns-in-Err-record_on-clause-followed
 returns-in-Err-record_on-clause-followed g c input told =
-    let t = is_there c.args.conn.now.devices c.args.job.now.device c.in-Ok.device c.in-Ok.ensures in
+    let t = is_there c.args.conn.now.devices c.args.job.now.device c.in-Ok.device c.in-Ok.ensures.value in
     let w = wire_of c.args.conn.now input in
     followed_same _ _ _ _ _ _ _ (arecord_there c.args.conn.now.devices w c.args.job.now c.in-Ok.device t.get)
     (followed_stop (λ next. recorded_on c.args.job.now c.in-Ok.device w (next tt)) (λ _ _. ends done) _ _ (wire_of c.record_on.new.conn) _ _ _ _ (c.in-Err-record_on.ensures.goes input told))
 
 pub returns-in-Err-record_on-clause-no_device : goal.returns-in-Err-record_on-clause-no_device
 returns-in-Err-record_on-clause-no_device g c n =
-    there_iff _ _ _ _ (is_there c.args.conn.now.devices c.args.job.now.device c.in-Ok.device c.in-Ok.ensures) (never_records _ c.in-Err-record_on.ensures.end) n
+    there_iff _ _ _ _ (is_there c.args.conn.now.devices c.args.job.now.device c.in-Ok.device c.in-Ok.ensures.value) (never_records _ c.in-Err-record_on.ensures.end) n
 
 pub returns-in-Err-record_on-clause-reply : goal.returns-in-Err-record_on-clause-reply
 returns-in-Err-record_on-clause-reply g c input told = ends_by_reply _ _ _ _ _ _ (returns-in-Err-record_on-clause-followed g c input told)
 
 pub returns-in-Err-record_on-clause-complete : goal.returns-in-Err-record_on-clause-complete
 returns-in-Err-record_on-clause-complete g c input told within answered link sink =
-    let t = is_there c.args.conn.now.devices c.args.job.now.device c.in-Ok.device c.in-Ok.ensures in
+    let t = is_there c.args.conn.now.devices c.args.job.now.device c.in-Ok.device c.in-Ok.ensures.value in
     let w = wire_of c.args.conn.now input in
     let f = returns-in-Err-record_on-clause-followed g c input told in
     let e = c.in-Err-record_on.ensures in

@@ -7,7 +7,8 @@ use Rattle.std.proofs.lemmas.Bool.Decides.{nat_tests}
 use Rattle.std.proofs.lemmas.List.{get_or-replicate, get_or_past, length-replicate}
 use Rattle.af_ring.specs.Cells.{cell}
 use Rattle.af_ring.proofs.Turning.{size_of}
-use Rattle.af_buffers.specs.Horizons.{listed_rates, IsListedRate, IsHorizon, IsRoomFor}
+use Rattle.af_sample.specs.Rates.{listed_rates, IsListedRate}
+use Rattle.af_buffers.specs.Horizons.{IsHorizon, IsRoomFor}
 
 -- a horizon is from 32000 to 192000 frames
 pub horizon_within : (n : ℕ) → IsHorizon n → (32000 ≤ n) × (n ≤ 192000)

@@ -1,15 +1,8 @@
 -- How much sound a buffer keeps, and the ring that holds it.
-use Rattle.std.specs.Prelude.{ℕ, ◌+◌, ◌*◌, ◌^◌, ◌<◌, ◌≤◌, List, [], ◌∷◌, ◌==◌, IsTrue}
+use Rattle.std.specs.Prelude.{ℕ, ◌+◌, ◌*◌, ◌^◌, ◌<◌, ◌≤◌, ◌==◌, IsTrue}
 use Rattle.std.specs.List.{list_any}
+use Rattle.af_sample.specs.Rates.{listed_rates}
 use Rattle.af_ring.specs.Cells.{IsSize}
-
--- the rates that a device can have, in frames a second
-abbrev pub listed_rates : List ℕ
-listed_rates = 8000 ∷ 11025 ∷ 16000 ∷ 22050 ∷ 32000 ∷ 44100 ∷ 48000 ∷ []
-
--- a rate that a device can have
-abbrev pub IsListedRate : ℕ → Type 0
-IsListedRate rate = IsTrue (list_any (λ listed. rate == listed) listed_rates)
 
 -- a horizon, into the future or into the past: the frames of four seconds at a listed rate
 abbrev pub IsHorizon : ℕ → Type 0

@@ -1,23 +1,14 @@
 -- Parts of a turn, one after the other.
-use Rattle.std.proofs.Common.{◌≡◌, List, [], ◌∷◌, ◌++◌, refl, sym, ap, ◌∙◌, append_assoc, append-nil}
+use Rattle.std.proofs.Common.{◌≡◌, List, [], ◌∷◌, ◌++◌, refl, sym, ap, ◌∙◌, append_assoc}
 use Rattle.std.specs.declared.option.Option.{Option}
 use Rattle.std.specs.declared.option.Option.TheVariants.{None, Some}
 use Rattle.af_outside.specs.declared.happening.Happening.{Happening}
 use Rattle.af_outside.specs.Told.{Log, Grew}
+use Rattle.af_outside.proofs.Growing.{grew_none, grew_on}
 use Rattle.af_model.specs.Turn.{Behind, behind, and_then}
 use Rattle.af_model.specs.Run.{wakes}
 use Rattle.af_model.proofs.Running.{wakes-append-none}
 use Rattle.af_core.specs.Does.{Does}
-
-pub grew_nothing : {A : Type 0} (t : Option (List A)) → Grew t [] t
-grew_nothing None = tt
-grew_nothing (Some xs) = sym (append-nil xs)
-
-pub grew_more : {A : Type 0} (a b c : Option (List A)) (p q : List A) → Grew a p b → Grew b q c → Grew a (p ++ q) c
-grew_more a b None p q h k = tt
-grew_more a None (Some z) p q h k = absurd k
-grew_more None (Some y) (Some z) p q h k = absurd h
-grew_more (Some x) (Some y) (Some z) p q h k = k ∙ ap (λ l. l ++ q) h ∙ append_assoc x p q
 
 module _ {S T R : Type 0} where
   -- nothing happened
@@ -25,7 +16,7 @@ module _ {S T R : Type 0} where
       ((s : S) → P s → Q (next s)) → ((s : S) → P s → (log : Log) → f s log ≡ g (next s) log) → Does t t P Q f g
   does_nothing t P Q f g next stands same = record {
     part = [];
-    told = grew_nothing t;
+    told = grew_none t;
     quiet = refl;
     each = λ s p. record { state = next s; stands = stands s p; same = λ more. same s p more };
   }
@@ -46,7 +37,7 @@ module _ {S T U R : Type 0} where
       Does a b P Q f g → Does b c Q X g h → Does a c P X f h
   does_more {a} {b} {c} {P} {Q} {X} {f} {g} {h} d e = record {
     part = d.part ++ e.part;
-    told = grew_more a b c d.part e.part d.told e.told;
+    told = grew_on a b c d.part e.part d.told e.told;
     quiet = wakes-append-none d.part e.part d.quiet e.quiet;
     each = λ s p.
         let first = d.each s p in

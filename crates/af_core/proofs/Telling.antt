@@ -25,7 +25,8 @@ use Rattle.af_perform.proofs.Controlling.{relined}
 use Rattle.af_perform.proofs.Keeping.{waits_set, without_later, without_others, without_waits}
 use Rattle.af_core.specs.Stands.{AtDoor, Sheds, StandsFor}
 use Rattle.af_core.specs.Does.{Does}
-use Rattle.af_core.proofs.Doing.{does_nothing, does_more, grew_nothing}
+use Rattle.af_outside.proofs.Growing.{grew_none}
+use Rattle.af_core.proofs.Doing.{does_nothing, does_more}
 
 -- a link is dropped
 pub drops_at : (ds : List KeptDevice) (ks ks' : List KeptWait) (k : ℕ) (cause : Why) (a : Around) (l l' : LinkState) → ks' ≡ kept_without k ks →
@@ -120,7 +121,7 @@ pub line_changed : (t : Option Log) (ds ds' : List KeptDevice) (ks ks' : List Ke
 unfolding wake_phase
 line_changed t ds ds' ks ks' links links' d change there step = record {
   part = [];
-  told = grew_nothing t;
+  told = grew_none t;
   quiet = refl;
   each = λ s h.
       let r = state_there ds s.devices d there h.devices in

@@ -29,7 +29,8 @@ use Rattle.af_sample.specs.SampleTypes.{width_of}
 use Rattle.af_sample.proofs.RunLemmas.{length-samples}
 use Rattle.af_core.specs.Does.{Does}
 use Rattle.af_core.specs.Live.{Passes, Ticks, TicksLive}
-use Rattle.af_core.proofs.Doing.{grew_nothing, grew_more, does_nothing}
+use Rattle.af_outside.proofs.Growing.{grew_none, grew_on}
+use Rattle.af_core.proofs.Doing.{does_nothing}
 use Rattle.af_perform.proofs.Devices.{found, stands_set}
 use Rattle.af_perform.proofs.Keeping.{waits_passed}
 use Rattle.af_perform.proofs.Sounding.{horizon_bounds}
@@ -98,7 +99,7 @@ turns a b c d wake ds ds' ds'' ks ks' ks'' links links' links'' fit devices_stay
   devices = devices_stay;
   links = links_stay;
   part = Woke wake ∷ (w.part ++ e.part);
-  told = grew_more a b d (Woke wake ∷ []) (w.part ++ e.part) told (grew_more b c d w.part e.part w.told e.told);
+  told = grew_on a b d (Woke wake ∷ []) (w.part ++ e.part) told (grew_on b c d w.part e.part w.told e.told);
   rest = w.part ++ e.part;
   begins = refl;
   only = wakes-append-none w.part e.part w.quiet e.quiet;
@@ -261,7 +262,7 @@ record PassesAll (a b : Option Log) (k n : ℕ) (ds : List KeptDevice) (d' : Kep
 passes_all : (a b : Option Log) (k n : ℕ) (ds : List KeptDevice) (d d' : KeptDevice) (ks : List KeptWait) (links : List (Option LinkState)) → n ≤ 4096 → AreLater ks → slice_get ds k ≡ Some d → Ticks d.is_dead k n d d' a b → PassesAll a b k n ds d' ks links
 passes_all a b k n ds d d' ks links few l here t =
     elim d.is_dead as (λ dead. d.is_dead ≡ dead → Ticks dead k n d d' a b → PassesAll a b k n ds d' ks links) [
-      | true ↦ λ e t. subst (λ y. PassesAll a y k n ds d' ks links) t.2 (record { part = []; told = grew_nothing a; quiet = refl; each = passes_dead k n ds d d' t.0 ks links few l here e t.1 })
+      | true ↦ λ e t. subst (λ y. PassesAll a y k n ds d' ks links) t.2 (record { part = []; told = grew_none a; quiet = refl; each = passes_dead k n ds d d' t.0 ks links few l here e t.1 })
       | false ↦ λ e t. record { part = t.part; told = t.told; quiet = t.quiet; each = passes_live a b k n ds d d' ks links few l here e t }
     ] refl t
 
@@ -313,7 +314,7 @@ capture_emitted : (a b c : Option Log) (k n : ℕ) (d d' e : KeptDevice) (bytes 
     ((device : DeviceState) → StandsForDevice d device → StandsForDevice e (later (capture_of d.ty n (Some bytes)) (not done) device)) → TicksLive k n d e a c
 capture_emitted a b c k n d d' e bytes given done size p told told' stands = record {
   part = Captured k n (Some bytes) ∷ Emitted k given done ∷ [];
-  told = grew_more a b c (Captured k n (Some bytes) ∷ []) (Emitted k given done ∷ []) told told';
+  told = grew_on a b c (Captured k n (Some bytes) ∷ []) (Emitted k given done ∷ []) told told';
   quiet = refl;
   captured = capture_of d.ty n (Some bytes);
   size = length-samples d.ty bytes n size;

@@ -5,6 +5,7 @@ use Rattle.rand_core.specs.Pcg32Seed.{pcg32_seed}
 use Rattle.rand_pcg.specs.Lcg.{Lcg}
 use Rattle.rand_pcg.specs.Pcg.{pcg32, pcg32_of_seed}
 use Rattle.af_sample.specs.declared.sample_type.SampleType.TheVariants.{Lin16}
+use Rattle.af_wire.specs.Front.{setup_bytes}
 use Rattle.af_request.specs.Asked.{get_time, create_ac, play_run, record_run, select_events}
 use Rattle.af_request.specs.Fields.{i16_bytes}
 use Rattle.af_request.specs.Requests.{request_bytes}
@@ -26,10 +27,6 @@ exercised = record { ty = Lin16; rate = 8000; start = start_time; line = true } 
 abbrev pub links : List ℕ
 links = 0 ∷ 1 ∷ 2 ∷ 3 ∷ []
 
--- a setup of version 1.0
-abbrev pub setup : List ℕ
-setup = 0x41 ∷ 0x46 ∷ 0x42 ∷ 0 ∷ 0 ∷ 1 ∷ 0 ∷ 0 ∷ []
-
 -- the plays of link 3 preempt, those of the others mix
 abbrev pub preempts : ℕ → ℕ
 preempts link = if link == 3 then 1 else 0
@@ -38,7 +35,7 @@ preempts link = if link == 3 then 1 else 0
 -- SelectEvents of every kind of event
 unfoldable pub greeting : ℕ → List ℕ
 greeting link =
-    setup ++ request_bytes (create_ac 0 1 2 1 (preempts link) (pos 0) (pos 0)) ++ request_bytes (select_events 0 15)
+    setup_bytes ++ request_bytes (create_ac 0 1 2 1 (preempts link) (pos 0) (pos 0)) ++ request_bytes (select_events 0 15)
 
 -- each link is opened, and each greets
 unfoldable pub first_steps : List Step

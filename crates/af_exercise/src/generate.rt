@@ -1,6 +1,6 @@
 // The script of an exercise is made of the words that a generator draws.
 ghost use Rattle.std.specs.Prelude.{◌≡◌, ◌≤◌, ◌<◌, ◌*◌, ◌++◌, ℕ, length, All, IfOk, OnOk};
-ghost use Rattle.af_buffers.specs.Horizons.{IsListedRate};
+ghost use Rattle.af_sample.specs.Rates.{IsListedRate};
 ghost use Rattle.af_request.specs.Asked.{meaning};
 ghost use Rattle.af_request.specs.Requests.{request_bytes, HasRoom};
 ghost use Rattle.af_outside.specs.declared.script.Step.TheVariants as step;
@@ -13,6 +13,7 @@ use af_request::{Request, write_request};
 use af_sample::SampleType;
 use af_script::{Script, Steps};
 use af_time::{DevTime, OutOfMemory};
+use af_wire::SETUP;
 use arrayvec::ArrayVec;
 use rand_core::SeedableRng;
 use rand_core::utils::NextWord;
@@ -24,9 +25,6 @@ const START_TIME: u32 = 4294960000;
 
 /// The links of an exercise.
 const LINKS: [u8; 4] = [0, 1, 2, 3];
-
-/// A setup of version 1.0.
-const SETUP: [u8; 8] = [0x41, 0x46, 0x42, 0, 0, 1, 0, 0];
 
 /// How many bytes the longest request has.
 const LONGEST_REQUEST: usize = 16384;

@@ -1,9 +1,7 @@
--- The values of words: numbers, gains and sample types.
-use Rattle.std.specs.Prelude.{Bool, true, false, ℕ, ℤ, pos, neg_ℤ, nat_le, ◌==◌, ◌&&◌, List, [], ◌∷◌, length, Option, Some, None, option_map, if◌then◌else◌, codes}
+-- The values of words: numbers, gains and switches.
+use Rattle.std.specs.Prelude.{Bool, true, false, ℕ, ℤ, pos, neg_ℤ, nat_le, ◌==◌, ◌&&◌, List, [], ◌∷◌, length, Option, Some, None, option_map, if◌then◌else◌}
 use Rattle.std.specs.Str.{all_ascii_digits, bytes_eq}
 use Rattle.std.specs.Str.Parse.{digits_value}
-use Rattle.af_sample.specs.declared.sample_type.SampleType.{SampleType}
-use Rattle.af_sample.specs.declared.sample_type.SampleType.TheVariants.{Mu255, Alaw, Lin16, Lin32}
 
 -- the number of some decimal digits, where it lies between these two
 abbrev pub number_in : ℕ → ℕ → List ℕ → Option ℕ
@@ -14,15 +12,6 @@ number_in low high text =
 abbrev pub gain_in : List ℕ → Option ℤ
 gain_in [] = None
 gain_in (c ∷ text) = if c == 45 then option_map (λ n. neg_ℤ (pos n)) (number_in 0 30 text) else option_map (λ n. pos n) (number_in 0 30 (c ∷ text))
-
--- the sample type of a name
-abbrev pub type_in : List ℕ → Option SampleType
-type_in text =
-    if bytes_eq text (codes "mu255") then Some Mu255
-    else if bytes_eq text (codes "alaw") then Some Alaw
-    else if bytes_eq text (codes "lin16") then Some Lin16
-    else if bytes_eq text (codes "lin32") then Some Lin32
-    else None
 
 -- a switch, by the word for it and the word against it
 abbrev pub switch_in : (when otherwise : List ℕ) → List ℕ → Option Bool

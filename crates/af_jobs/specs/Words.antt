@@ -16,7 +16,8 @@ use Rattle.af_jobs.specs.declared.job.Task.TheVariants as task
 use Rattle.af_jobs.specs.declared.tool.Tool.{Tool}
 use Rattle.af_jobs.specs.declared.tool.Tool.TheVariants as tool
 use Rattle.af_jobs.specs.declared.words.Basics.{Basics}
-use Rattle.af_jobs.specs.Numbers.{gain_in, if_there, number_in, or_else, switch_in, type_in}
+use Rattle.af_text.specs.Sound.{type_of}
+use Rattle.af_jobs.specs.Numbers.{gain_in, if_there, number_in, or_else, switch_in}
 
 -- `--id VALUE` or `--id=VALUE`
 abbrev pub option_rule : Text → Rule
@@ -109,7 +110,7 @@ basics_of rows =
     (if_there (number_in 0 4294967295) (first_of (codes "time") rows)))
     (number_at (codes "block") 1000 1 4000 rows))
     (or_else (pos 0) gain_in (first_of (codes "gain") rows)))
-    (if_there type_in (first_of (codes "type") rows)))
+    (if_there type_of (first_of (codes "type") rows)))
     (number_at (codes "device") 0 0 7 rows)
 
 -- the flag was given
@@ -168,7 +169,7 @@ pass_job rows =
     (number_at (codes "block") 1000 1 4000 rows))
     (option_and_then (number_in 1 1000000) (first_of (codes "blocks") rows)))
     (or_else (pos 0) gain_in (first_of (codes "gain") rows)))
-    (if_there type_in (first_of (codes "type") rows)))
+    (if_there type_of (first_of (codes "type") rows)))
     (number_at (codes "to-device") 0 0 7 rows))
     (number_at (codes "from-device") 0 0 7 rows)
 

@@ -1,8 +1,8 @@
-// The values of words: numbers, gains and sample types.
+// The values of words: numbers, gains and switches.
 ghost use Rattle.std.specs.Prelude.{◌≡◌, ◌<◌, ◌≤◌, ◌^◌, IfSome};
-ghost use Rattle.af_jobs.specs.Numbers.{gain_in, number_in, switch_in, type_in};
+ghost use Rattle.af_jobs.specs.Numbers.{gain_in, number_in, switch_in};
 
-use af_sample::{Gain, SampleType};
+use af_sample::Gain;
 
 /// The number of some decimal digits, of any number with zeros before them, where it lies between these two.
 pub fn number_in(low: u32, high: u32, text: &[u8]) -> Option<u32>
@@ -36,23 +36,6 @@ pub fn gain_in(text: &[u8]) -> Option<Gain>
         [] => None,
         [b'-', digits @ ..] => Gain::new(-(number_in(0, 30, digits)? as i32)),
         digits => Gain::new(number_in(0, 30, digits)? as i32),
-    }
-}
-
-/// The sample type of a name.
-pub fn type_in(text: &str) -> Option<SampleType>
-    ensures { result ≡ type_in text.now }
-{
-    if text == "mu255" {
-        Some(SampleType::Mu255)
-    } else if text == "alaw" {
-        Some(SampleType::Alaw)
-    } else if text == "lin16" {
-        Some(SampleType::Lin16)
-    } else if text == "lin32" {
-        Some(SampleType::Lin32)
-    } else {
-        None
     }
 }
 

@@ -1,14 +1,16 @@
 // The jobs of the tools, by their words.
 ghost use Rattle.std.specs.Prelude.{◌≡◌, ◌≤◌, codes, length, option_map, pos, IfSome};
 ghost use Rattle.clap.specs.Words.{first_of, found_of, rows_of};
-ghost use Rattle.af_jobs.specs.Numbers.{gain_in, if_there, number_in, or_else, switch_in, type_in};
+ghost use Rattle.af_text.specs.Sound.{type_of};
+ghost use Rattle.af_jobs.specs.Numbers.{gain_in, if_there, number_in, or_else, switch_in};
 ghost use Rattle.af_jobs.specs.Words.{address_at, basics_of, is_set, number_at, pass_job, play_job, record_job, set_job};
 ghost use Rattle.af_jobs.specs.Ranges.{IsPaced};
 
 use crate::command::text_of;
 use crate::job::{PassJob, PlayJob, RecordJob, SetJob};
-use crate::number::{gain_in, number_in, switch_in, type_in};
+use crate::number::{gain_in, number_in, switch_in};
 use af_sample::{Gain, SampleType};
+use af_text::sample_type;
 use clap::ArgMatches;
 
 /// What aplay and arecord have in common.
@@ -72,10 +74,10 @@ fn time_at(matches: &ArgMatches<'_>) -> Option<Option<u32>>
 
 // A sample type, which need not be there.
 fn type_at(matches: &ArgMatches<'_>) -> Option<Option<SampleType>>
-    ensures { result ≡ if_there type_in (first_of (codes "type") (rows_of (found_of matches.now))) }
+    ensures { result ≡ if_there type_of (first_of (codes "type") (rows_of (found_of matches.now))) }
 {
     match text_of(matches, "type") {
-        Some(text) => Some(Some(type_in(text)?)),
+        Some(text) => Some(Some(sample_type(text.as_bytes())?)),
         None => Some(None),
     }
 }

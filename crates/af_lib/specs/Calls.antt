@@ -13,6 +13,7 @@ use Rattle.af_request.specs.Answer.{Answer, setup, plain, time, played, recorded
 use Rattle.af_request.specs.Fields.{flag_byte}
 use Rattle.af_request.specs.Requests.{request_bytes}
 use Rattle.af_wire.specs.declared.event.Event.{Event}
+use Rattle.af_wire.specs.Front.{setup_bytes}
 use Rattle.arrayvec.specs.ArrayVec.{ArrayVec}
 use Rattle.af_request.specs.Replies.{answer_in}
 use Rattle.af_lib.specs.declared.fault.Cause.{Cause}
@@ -157,10 +158,6 @@ IsStoredIn None old new = new ≡ old
 abbrev pub listed : Result (ArrayVec DeviceInfo) ConnFault → Result (List DeviceInfo) ConnFault
 listed (Ok devices) = Ok devices.items
 listed (Err fault) = Err fault
-
--- the setup of version 1.0
-abbrev pub setup_bytes : List ℕ
-setup_bytes = 0x41 ∷ 0x46 ∷ 0x42 ∷ 0 ∷ 0 ∷ 1 ∷ 0 ∷ 0 ∷ []
 
 -- a field that a request changes, or zero
 abbrev pub gain_or_zero : Option ℤ → ℤ

@@ -1,13 +1,15 @@
 // Replies as the values that they state, for each kind of request.
 ghost use Rattle.std.specs.Prelude.{◌≡◌, ◌≢◌, ◌≤◌, length, option_map, Err, IfOk, IfSome, IsTrue, IsSome};
 ghost use Rattle.af_outside.specs.Told.{Rose};
-ghost use Rattle.af_request.specs.Answer.{meaning as answered_by, recorded, setup, items_of};
+ghost use Rattle.af_wire.specs.Front.{setup_bytes};
+ghost use Rattle.std.specs.declared.option.Option.{Option};
+ghost use Rattle.af_request.specs.Answer.{Answer, meaning as answered_by, recorded, setup, items_of};
 ghost use Rattle.af_request.specs.Asked.{meaning};
 ghost use Rattle.af_request.specs.Replies.{IsReplyTo};
 ghost use Rattle.af_request.specs.Requests.{request_bytes, HasRoom};
 ghost use Rattle.af_lib.specs.Answers.{value_or_bad};
 ghost use Rattle.af_lib.specs.Ring.{Gained};
-ghost use Rattle.af_lib.specs.Calls.{as_controls, as_devices, as_done, as_phone, as_recorded, as_time, listed, opcode_of, recorded_in, setup_bytes, stored_in, value_in, Answers, IsFresh, IsKeptBehind, IsStoredIn, Sends};
+ghost use Rattle.af_lib.specs.Calls.{as_controls, as_devices, as_done, as_phone, as_recorded, as_time, listed, opcode_of, recorded_in, stored_in, value_in, Answers, IsFresh, IsKeptBehind, IsStoredIn, Sends};
 
 use crate::exchange::{ask, await_setup, opcode_of};
 use crate::fault::ConnFault;
@@ -30,44 +32,104 @@ fn or_bad<T>(value: Option<T>, bytes: &[u8]) -> Result<T, ConnFault>
     }
 }
 
-fn done_of(reply: &Reply<'_>) -> Option<()>
-    ensures { result ≡ as_done (answered_by reply.now) }
-{
-    match reply {
-        Reply::Plain => Some(()),
-        Reply::Setup { .. }
-        | Reply::Time { .. }
-        | Reply::Played { .. }
-        | Reply::Recorded { .. }
-        | Reply::Controls { .. }
-        | Reply::Phone { .. } => None,
+/// A value that the reply to a request states.
+pub trait Stated: Sized {
+    ghost value_of: { Answer → Option Self };
+
+    /// The value, where the reply is of its kind.
+    fn stated_in(reply: &Reply<'_>) -> Option<Self>
+        ensures { result ≡ value_of (answered_by reply.now) };
+}
+
+/// That the request was performed, which is all that its reply says.
+impl Stated for () {
+    ghost value_of = { as_done };
+
+    fn stated_in(reply: &Reply<'_>) -> Option<()> {
+        match reply {
+            Reply::Plain => Some(()),
+            Reply::Setup { .. }
+            | Reply::Time { .. }
+            | Reply::Played { .. }
+            | Reply::Recorded { .. }
+            | Reply::Controls { .. }
+            | Reply::Phone { .. } => None,
+        }
     }
 }
 
-fn done_in(opcode: u8, bytes: &[u8]) -> Result<(), ConnFault>
+/// The device's time, behind GetTime and Play.
+impl Stated for DevTime {
+    ghost value_of = { as_time };
+
+    fn stated_in(reply: &Reply<'_>) -> Option<DevTime> {
+        match reply {
+            Reply::Time { time } | Reply::Played { time } => Some(*time),
+            Reply::Setup { .. }
+            | Reply::Plain
+            | Reply::Recorded { .. }
+            | Reply::Controls { .. }
+            | Reply::Phone { .. } => None,
+        }
+    }
+}
+
+impl Stated for Controls {
+    ghost value_of = { as_controls };
+
+    fn stated_in(reply: &Reply<'_>) -> Option<Controls> {
+        match reply {
+            Reply::Controls { controls } => Some(*controls),
+            Reply::Setup { .. }
+            | Reply::Plain
+            | Reply::Time { .. }
+            | Reply::Played { .. }
+            | Reply::Recorded { .. }
+            | Reply::Phone { .. } => None,
+        }
+    }
+}
+
+impl Stated for Phone {
+    ghost value_of = { as_phone };
+
+    fn stated_in(reply: &Reply<'_>) -> Option<Phone> {
+        match reply {
+            Reply::Phone { phone } => Some(*phone),
+            Reply::Setup { .. }
+            | Reply::Plain
+            | Reply::Time { .. }
+            | Reply::Played { .. }
+            | Reply::Recorded { .. }
+            | Reply::Controls { .. } => None,
+        }
+    }
+}
+
+fn value_in<T: Stated>(opcode: u8, bytes: &[u8]) -> Result<T, ConnFault>
     requires { 8 ≤ length bytes.now }
-    ensures value { result ≡ value_in as_done opcode bytes.now }
+    ensures value { result ≡ value_in T.value_of opcode bytes.now }
     ensures fresh { IsFresh result }
     ensures sound { result ≢ Err ConnFault.LinkFault }
 {
     match read_reply(opcode, &bytes[8..]) {
-        Some(reply) => or_bad(done_of(&reply), bytes),
+        Some(reply) => or_bad(T::stated_in(&reply), bytes),
         None => Err(bad_reply(bytes)),
     }
 }
 
-/// Sends a request that is not answered with a value, and takes its answer.
-pub fn ask_done<L: Link>(
+/// Sends a request, and takes its answer: a value that the reply states.
+pub fn ask_value<T: Stated, L: Link>(
     link: &mut L,
     ring: &mut Ring,
     input: &mut [u8],
     output: &mut [u8],
     request: &Request<'_>,
     sequence: u16,
-) -> Result<(), ConnFault>
+) -> Result<T, ConnFault>
     requires samples { HasRoom (meaning request.now) }
     requires room { (16016 ≤ length input.old) × (16384 ≤ length output.old) }
-    ensures answers { Answers as_done (opcode_of (meaning request.now)) sequence result ring.old ring.new (L.left link.old) (L.left link.new) }
+    ensures answers { Answers T.value_of (opcode_of (meaning request.now)) sequence result ring.old ring.new (L.left link.old) (L.left link.new) }
     ensures gained { Gained ring.old ring.new }
     ensures fresh { IsFresh result }
     ensures sends { Sends result (L.sent link.old) (request_bytes (meaning request.now)) (L.sent link.new) }
@@ -76,159 +138,7 @@ pub fn ask_done<L: Link>(
     ensures cause { result ≡ Err ConnFault.LinkFault → Rose (L.faults link.old) (L.faults link.new) }
 {
     match ask(link, ring, input, output, request, sequence) {
-        Ok(length) => done_in(opcode_of(request), &input[..length]),
-        Err(fault) => Err(fault),
-    }
-}
-
-fn time_of(reply: &Reply<'_>) -> Option<DevTime>
-    ensures { result ≡ as_time (answered_by reply.now) }
-{
-    match reply {
-        Reply::Time { time } | Reply::Played { time } => Some(*time),
-        Reply::Setup { .. }
-        | Reply::Plain
-        | Reply::Recorded { .. }
-        | Reply::Controls { .. }
-        | Reply::Phone { .. } => None,
-    }
-}
-
-fn time_in(opcode: u8, bytes: &[u8]) -> Result<DevTime, ConnFault>
-    requires { 8 ≤ length bytes.now }
-    ensures value { result ≡ value_in as_time opcode bytes.now }
-    ensures fresh { IsFresh result }
-    ensures sound { result ≢ Err ConnFault.LinkFault }
-{
-    match read_reply(opcode, &bytes[8..]) {
-        Some(reply) => or_bad(time_of(&reply), bytes),
-        None => Err(bad_reply(bytes)),
-    }
-}
-
-/// Sends a request that is answered with a time, and takes its answer.
-pub fn ask_time<L: Link>(
-    link: &mut L,
-    ring: &mut Ring,
-    input: &mut [u8],
-    output: &mut [u8],
-    request: &Request<'_>,
-    sequence: u16,
-) -> Result<DevTime, ConnFault>
-    requires samples { HasRoom (meaning request.now) }
-    requires room { (16016 ≤ length input.old) × (16384 ≤ length output.old) }
-    ensures answers { Answers as_time (opcode_of (meaning request.now)) sequence result ring.old ring.new (L.left link.old) (L.left link.new) }
-    ensures gained { Gained ring.old ring.new }
-    ensures fresh { IsFresh result }
-    ensures sends { Sends result (L.sent link.old) (request_bytes (meaning request.now)) (L.sent link.new) }
-    ensures tells { IsSome (L.left link.old) → IsSome (L.left link.new) }
-    ensures count { L.faults link.old ≤ L.faults link.new }
-    ensures cause { result ≡ Err ConnFault.LinkFault → Rose (L.faults link.old) (L.faults link.new) }
-{
-    match ask(link, ring, input, output, request, sequence) {
-        Ok(length) => time_in(opcode_of(request), &input[..length]),
-        Err(fault) => Err(fault),
-    }
-}
-
-fn controls_of(reply: &Reply<'_>) -> Option<Controls>
-    ensures { result ≡ as_controls (answered_by reply.now) }
-{
-    match reply {
-        Reply::Controls { controls } => Some(*controls),
-        Reply::Setup { .. }
-        | Reply::Plain
-        | Reply::Time { .. }
-        | Reply::Played { .. }
-        | Reply::Recorded { .. }
-        | Reply::Phone { .. } => None,
-    }
-}
-
-fn controls_in(opcode: u8, bytes: &[u8]) -> Result<Controls, ConnFault>
-    requires { 8 ≤ length bytes.now }
-    ensures value { result ≡ value_in as_controls opcode bytes.now }
-    ensures fresh { IsFresh result }
-    ensures sound { result ≢ Err ConnFault.LinkFault }
-{
-    match read_reply(opcode, &bytes[8..]) {
-        Some(reply) => or_bad(controls_of(&reply), bytes),
-        None => Err(bad_reply(bytes)),
-    }
-}
-
-/// Sends a request that is answered with controls, and takes its answer.
-pub fn ask_controls<L: Link>(
-    link: &mut L,
-    ring: &mut Ring,
-    input: &mut [u8],
-    output: &mut [u8],
-    request: &Request<'_>,
-    sequence: u16,
-) -> Result<Controls, ConnFault>
-    requires samples { HasRoom (meaning request.now) }
-    requires room { (16016 ≤ length input.old) × (16384 ≤ length output.old) }
-    ensures answers { Answers as_controls (opcode_of (meaning request.now)) sequence result ring.old ring.new (L.left link.old) (L.left link.new) }
-    ensures gained { Gained ring.old ring.new }
-    ensures fresh { IsFresh result }
-    ensures sends { Sends result (L.sent link.old) (request_bytes (meaning request.now)) (L.sent link.new) }
-    ensures tells { IsSome (L.left link.old) → IsSome (L.left link.new) }
-    ensures count { L.faults link.old ≤ L.faults link.new }
-    ensures cause { result ≡ Err ConnFault.LinkFault → Rose (L.faults link.old) (L.faults link.new) }
-{
-    match ask(link, ring, input, output, request, sequence) {
-        Ok(length) => controls_in(opcode_of(request), &input[..length]),
-        Err(fault) => Err(fault),
-    }
-}
-
-fn phone_of(reply: &Reply<'_>) -> Option<Phone>
-    ensures { result ≡ as_phone (answered_by reply.now) }
-{
-    match reply {
-        Reply::Phone { phone } => Some(*phone),
-        Reply::Setup { .. }
-        | Reply::Plain
-        | Reply::Time { .. }
-        | Reply::Played { .. }
-        | Reply::Recorded { .. }
-        | Reply::Controls { .. } => None,
-    }
-}
-
-fn phone_in(opcode: u8, bytes: &[u8]) -> Result<Phone, ConnFault>
-    requires { 8 ≤ length bytes.now }
-    ensures value { result ≡ value_in as_phone opcode bytes.now }
-    ensures fresh { IsFresh result }
-    ensures sound { result ≢ Err ConnFault.LinkFault }
-{
-    match read_reply(opcode, &bytes[8..]) {
-        Some(reply) => or_bad(phone_of(&reply), bytes),
-        None => Err(bad_reply(bytes)),
-    }
-}
-
-/// Sends a request that is answered with the state of a telephone line, and takes its answer.
-pub fn ask_phone<L: Link>(
-    link: &mut L,
-    ring: &mut Ring,
-    input: &mut [u8],
-    output: &mut [u8],
-    request: &Request<'_>,
-    sequence: u16,
-) -> Result<Phone, ConnFault>
-    requires samples { HasRoom (meaning request.now) }
-    requires room { (16016 ≤ length input.old) × (16384 ≤ length output.old) }
-    ensures answers { Answers as_phone (opcode_of (meaning request.now)) sequence result ring.old ring.new (L.left link.old) (L.left link.new) }
-    ensures gained { Gained ring.old ring.new }
-    ensures fresh { IsFresh result }
-    ensures sends { Sends result (L.sent link.old) (request_bytes (meaning request.now)) (L.sent link.new) }
-    ensures tells { IsSome (L.left link.old) → IsSome (L.left link.new) }
-    ensures count { L.faults link.old ≤ L.faults link.new }
-    ensures cause { result ≡ Err ConnFault.LinkFault → Rose (L.faults link.old) (L.faults link.new) }
-{
-    match ask(link, ring, input, output, request, sequence) {
-        Ok(length) => phone_in(opcode_of(request), &input[..length]),
+        Ok(length) => value_in(opcode_of(request), &input[..length]),
         Err(fault) => Err(fault),
     }
 }

@@ -7,7 +7,7 @@ ghost use Rattle.af_request.specs.Requests.{HasRoom};
 ghost use Rattle.af_request.specs.Replies.{IsStated};
 ghost use Rattle.af_lib.specs.Calls.{as_controls, as_done, as_phone, as_recorded, as_time, bit_if, controls_changed, flag_or_zero, gain_or_zero, recorded_in, settings_changed, Called, Connects, IsKeptBehind, Waited};
 
-use crate::asks::{ask_controls, ask_done, ask_phone, ask_recorded, ask_time, set_up};
+use crate::asks::{Stated, ask_recorded, ask_value, set_up};
 use crate::exchange::cause_of;
 use crate::fault::{Cause, ConnFault};
 use crate::receive::take_event;
@@ -134,7 +134,7 @@ impl<L: Link + Drop> Conn<L> {
     ) -> Result<(), ConnFault>
         ensures { Called L.left L.sent L.faults (create_ac device ac (code_of ty) 1 (flag_byte preempt) play record_by) as_done self.old self.new result }
     {
-        self.ask_done(&Request::CreateAc {
+        self.ask(&Request::CreateAc {
             device,
             ac,
             ty: ty.code(),
@@ -155,7 +155,7 @@ impl<L: Link + Drop> Conn<L> {
     ) -> Result<(), ConnFault>
         ensures { Called L.left L.sent L.faults (settings_changed ac play record_by preempt) as_done self.old self.new result }
     {
-        self.ask_done(&Request::ChangeAc {
+        self.ask(&Request::ChangeAc {
             mask: bit_if(1, play.is_some())
                 + bit_if(2, record_by.is_some())
                 + bit_if(4, preempt.is_some()),
@@ -170,14 +170,14 @@ impl<L: Link + Drop> Conn<L> {
     pub fn free_ac(&mut self, ac: u32) -> Result<(), ConnFault>
         ensures { Called L.left L.sent L.faults (free_ac ac) as_done self.old self.new result }
     {
-        self.ask_done(&Request::FreeAc { ac })
+        self.ask(&Request::FreeAc { ac })
     }
 
     /// The time of a device.
     pub fn get_time(&mut self, device: u8) -> Result<DevTime, ConnFault>
         ensures { Called L.left L.sent L.faults (get_time device) as_time self.old self.new result }
     {
-        self.ask_time(&Request::GetTime { device })
+        self.ask(&Request::GetTime { device })
     }
 
     /// Plays samples of a context from a time on: at most 16368 bytes. It answers the device's time, once they are taken.
@@ -185,7 +185,7 @@ impl<L: Link + Drop> Conn<L> {
         requires { length samples.now ≤ 16368 }
         ensures { Called L.left L.sent L.faults (play_run false ac time.0 samples.now) as_time self.old self.new result }
     {
-        self.ask_time(&Request::PlayRun {
+        self.ask(&Request::PlayRun {
             quiet: false,
             ac,
             time,
@@ -236,7 +236,7 @@ impl<L: Link + Drop> Conn<L> {
     pub fn select_events(&mut self, device: u8, mask: u32) -> Result<(), ConnFault>
         ensures { Called L.left L.sent L.faults (select_events device mask) as_done self.old self.new result }
     {
-        self.ask_done(&Request::SelectEvents { device, mask })
+        self.ask(&Request::SelectEvents { device, mask })
     }
 
     /// Changes the controls of a device that are stated.
@@ -250,7 +250,7 @@ impl<L: Link + Drop> Conn<L> {
     ) -> Result<(), ConnFault>
         ensures { Called L.left L.sent L.faults (controls_changed device input_gain output_gain input_on output_on) as_done self.old self.new result }
     {
-        self.ask_done(&Request::SetControls {
+        self.ask(&Request::SetControls {
             device,
             mask: bit_if(1, input_gain.is_some())
                 + bit_if(2, output_gain.is_some())
@@ -267,14 +267,14 @@ impl<L: Link + Drop> Conn<L> {
     pub fn query_controls(&mut self, device: u8) -> Result<Controls, ConnFault>
         ensures { Called L.left L.sent L.faults (query_controls device) as_controls self.old self.new result }
     {
-        self.ask_controls(&Request::QueryControls { device })
+        self.ask(&Request::QueryControls { device })
     }
 
     /// Takes the hook of a device's line off, or puts it on.
     pub fn hook(&mut self, device: u8, off: bool) -> Result<(), ConnFault>
         ensures { Called L.left L.sent L.faults (hook_switch device (flag_byte off)) as_done self.old self.new result }
     {
-        self.ask_done(&Request::HookSwitch {
+        self.ask(&Request::HookSwitch {
             device,
             off: u32::from(off),
         })
@@ -284,82 +284,19 @@ impl<L: Link + Drop> Conn<L> {
     pub fn query_phone(&mut self, device: u8) -> Result<Phone, ConnFault>
         ensures { Called L.left L.sent L.faults (query_phone device) as_phone self.old self.new result }
     {
-        self.ask_phone(&Request::QueryPhone { device })
+        self.ask(&Request::QueryPhone { device })
     }
 
-    // Sends a request that is not answered with a value, and takes its answer.
-    fn ask_done(&mut self, request: &Request<'_>) -> Result<(), ConnFault>
+    // Sends a request, and takes its answer: a value that the reply states.
+    fn ask<T: Stated>(&mut self, request: &Request<'_>) -> Result<T, ConnFault>
         requires { HasRoom (meaning request.now) }
-        ensures { Called L.left L.sent L.faults (meaning request.now) as_done self.old self.new result }
+        ensures { Called L.left L.sent L.faults (meaning request.now) T.value_of self.old self.new result }
     {
         if let Some(first) = self.cause {
             return Err(ConnFault::Spent { first });
         }
         self.sequence = self.sequence.wrapping_add(1);
-        let answer = ask_done(
-            &mut self.link,
-            &mut self.ring,
-            &mut self.input,
-            &mut self.output,
-            request,
-            self.sequence,
-        );
-        self.cause = cause_of(&answer);
-        answer
-    }
-
-    // Sends a request that is answered with a time, and takes its answer.
-    fn ask_time(&mut self, request: &Request<'_>) -> Result<DevTime, ConnFault>
-        requires { HasRoom (meaning request.now) }
-        ensures { Called L.left L.sent L.faults (meaning request.now) as_time self.old self.new result }
-    {
-        if let Some(first) = self.cause {
-            return Err(ConnFault::Spent { first });
-        }
-        self.sequence = self.sequence.wrapping_add(1);
-        let answer = ask_time(
-            &mut self.link,
-            &mut self.ring,
-            &mut self.input,
-            &mut self.output,
-            request,
-            self.sequence,
-        );
-        self.cause = cause_of(&answer);
-        answer
-    }
-
-    // Sends a request that is answered with controls, and takes its answer.
-    fn ask_controls(&mut self, request: &Request<'_>) -> Result<Controls, ConnFault>
-        requires { HasRoom (meaning request.now) }
-        ensures { Called L.left L.sent L.faults (meaning request.now) as_controls self.old self.new result }
-    {
-        if let Some(first) = self.cause {
-            return Err(ConnFault::Spent { first });
-        }
-        self.sequence = self.sequence.wrapping_add(1);
-        let answer = ask_controls(
-            &mut self.link,
-            &mut self.ring,
-            &mut self.input,
-            &mut self.output,
-            request,
-            self.sequence,
-        );
-        self.cause = cause_of(&answer);
-        answer
-    }
-
-    // Sends a request that is answered with the state of a telephone line, and takes its answer.
-    fn ask_phone(&mut self, request: &Request<'_>) -> Result<Phone, ConnFault>
-        requires { HasRoom (meaning request.now) }
-        ensures { Called L.left L.sent L.faults (meaning request.now) as_phone self.old self.new result }
-    {
-        if let Some(first) = self.cause {
-            return Err(ConnFault::Spent { first });
-        }
-        self.sequence = self.sequence.wrapping_add(1);
-        let answer = ask_phone(
+        let answer = ask_value(
             &mut self.link,
             &mut self.ring,
             &mut self.input,

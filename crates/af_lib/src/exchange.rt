@@ -2,10 +2,11 @@
 ghost use Rattle.std.specs.Prelude.{◌≡◌, ◌≢◌, ◌≤◌, length, IfOk, Ok, Err, IsSome};
 ghost use Rattle.af_outside.specs.Told.{Rose};
 ghost use Rattle.af_outside.specs.Flow.{Written};
+ghost use Rattle.af_wire.specs.Front.{setup_bytes};
 ghost use Rattle.af_request.specs.Asked.{meaning};
 ghost use Rattle.af_request.specs.Requests.{request_bytes, HasRoom};
 ghost use Rattle.af_lib.specs.Answers.{answer_to, refused_in};
-ghost use Rattle.af_lib.specs.Calls.{cause_of, held_in, opcode_of, setup_bytes, IsFresh, Sends};
+ghost use Rattle.af_lib.specs.Calls.{cause_of, held_in, opcode_of, IsFresh, Sends};
 ghost use Rattle.af_lib.specs.Exchange.{Finds};
 ghost use Rattle.af_lib.specs.Ring.{Gained};
 
@@ -14,6 +15,7 @@ use crate::receive::{await_message, bad_reply};
 use crate::ring::Ring;
 use af_outside::{Link, Put};
 use af_request::{Request, write_request};
+use af_wire::SETUP;
 
 /// The fault, if a connection can be used no more behind it.
 pub fn cause_of<T>(answer: &Result<T, ConnFault>) -> Option<Cause>
@@ -167,7 +169,7 @@ pub fn await_setup<L: Link>(
     ensures count { L.faults link.old ≤ L.faults link.new }
     ensures cause { result ≡ Err ConnFault.LinkFault → Rose (L.faults link.old) (L.faults link.new) }
 {
-    match link.write(&[0x41, 0x46, 0x42, 0, 0, 1, 0, 0]) {
+    match link.write(&SETUP) {
         Put::Done => await_answer(link, ring, input, 0, 0),
         Put::Failed => Err(ConnFault::LinkFault),
     }

@@ -2,7 +2,7 @@
 use Rattle.std.proofs.Common.{◌≡◌, List, [], ◌∷◌, ◌++◌, sym, subst}
 use Rattle.std.specs.Prelude.{All, Option, Some, IfSome}
 use Rattle.std.proofs.lemmas.List.Elements.{All-nil, All-push}
-use Rattle.af_buffers.specs.Horizons.{IsListedRate}
+use Rattle.af_sample.specs.Rates.{IsListedRate}
 use Rattle.af_outside.specs.declared.script.DeviceSpec.{DeviceSpec}
 
 -- the rates of all these devices are listed

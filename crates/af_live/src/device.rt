@@ -1,7 +1,7 @@
 // What a line of a configuration states: a device, and what stands behind it.
 ghost use Rattle.std.specs.Prelude.{◌≡◌, IfOk, IfSome, MatchOption, None, option_map, string_bytes};
 ghost use Rattle.std.specs.Str.{IsUtf8, is_utf8};
-ghost use Rattle.af_buffers.specs.Horizons.{IsListedRate};
+ghost use Rattle.af_sample.specs.Rates.{IsListedRate};
 ghost use Rattle.af_text.specs.Lines.{words};
 ghost use Rattle.af_live.specs.Stating.{device_of, device_with, placed_at, ending_of, kind_of, silent_of, files_of};
 ghost use Rattle.af_live.specs.Kept.{placed, backing, ending};

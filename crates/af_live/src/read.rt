@@ -1,6 +1,6 @@
 // A text is read as a configuration, line by line.
 ghost use Rattle.std.specs.Prelude.{◌≡◌, ◌≤◌, ◌⊎◌, ℕ, length, All, IfOk, IfErr};
-ghost use Rattle.af_buffers.specs.Horizons.{IsListedRate};
+ghost use Rattle.af_sample.specs.Rates.{IsListedRate};
 ghost use Rattle.af_text.specs.Words.{then_some};
 ghost use Rattle.af_live.specs.Configuration.{config_of, IsFault};
 ghost use Rattle.af_live.specs.Reading.{with_line};

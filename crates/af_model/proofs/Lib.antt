@@ -18,3 +18,4 @@ pub mod Waking
 pub mod Prefixing
 pub mod Folding
 pub mod Example
+pub mod NoLoss

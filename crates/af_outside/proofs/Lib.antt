@@ -6,3 +6,4 @@ pub mod Silence
 pub mod Stations
 pub mod Tapes
 pub mod Flowing
+pub mod Growing

@@ -4,7 +4,6 @@ use Rattle.af_outside.specs.declared.live.Kind.{Kind}
 use Rattle.af_outside.specs.declared.live.Kind.TheVariants as kind
 use Rattle.af_outside.specs.declared.outer.Backing.{Backing}
 use Rattle.af_outside.specs.declared.outer.Backing.TheVariants as backing
-pub use Rattle.af_outside.specs.declared.outer.Backing.{Backing}
 
 -- silence, or the names of the two files that the device captures from and hands its sound out to
 abbrev pub silence : Backing

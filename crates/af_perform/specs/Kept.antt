@@ -3,7 +3,7 @@ use Rattle.std.specs.Prelude.{◌≡◌, ℕ, ◌*◌, Bool, List, length, slice
 use Rattle.std.specs.declared.option.Option.{Option}
 use Rattle.std.specs.declared.option.Option.TheVariants.{None, Some}
 use Rattle.af_sample.specs.declared.sample_type.SampleType.{SampleType}
-use Rattle.af_buffers.specs.Horizons.{IsListedRate}
+use Rattle.af_sample.specs.Rates.{IsListedRate}
 use Rattle.af_buffers.specs.PlayBuffer.{Next, Hears}
 use Rattle.af_buffers.specs.RecordBuffer.{Last, Keeps}
 use Rattle.af_request.specs.declared.reply.Controls.{Controls}

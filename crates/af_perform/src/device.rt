@@ -2,7 +2,7 @@
 ghost use Rattle.std.specs.Prelude.{◌≡◌, ◌*◌, ◌≤◌, length, IfOk, MatchOption, true};
 ghost use Rattle.af_time.specs.DeviceTime.{unwrap};
 ghost use Rattle.af_sample.specs.SampleTypes.{width_of};
-ghost use Rattle.af_buffers.specs.Horizons.{IsListedRate};
+ghost use Rattle.af_sample.specs.Rates.{IsListedRate};
 ghost use Rattle.af_buffers.specs.PlayBuffer.{accepted_at, frames_beyond as play_beyond, frames_within};
 ghost use Rattle.af_buffers.specs.RecordBuffer.{frames_before, frames_beyond as record_beyond};
 ghost use Rattle.af_model.specs.State.{DeviceState, opening_controls, opening_device, opening_line};
@@ -37,7 +37,7 @@ pub struct Device {
 
 impl Model for Device {
     ghost use Rattle.std.specs.Prelude.{length};
-    ghost use Rattle.af_buffers.specs.Horizons.{IsListedRate};
+    ghost use Rattle.af_sample.specs.Rates.{IsListedRate};
     ghost use Rattle.af_perform.specs.Kept.{KeptDevice};
 
     ghost Value = { KeptDevice };

@@ -10,6 +10,7 @@ use Rattle.std.proofs.Math.Seq.{drop-append_seam}
 use Rattle.af_sample.specs.declared.sample_type.SampleType.{SampleType}
 use Rattle.af_sample.specs.declared.sample_type.SampleType.TheVariants.{Mu255, Alaw, Lin16, Lin32}
 use Rattle.af_sample.specs.SampleTypes.{code_of, type_of_code}
+use Rattle.af_sample.specs.Rates.{IsListedRate}
 use Rattle.af_sample.specs.Gains.{gain_of, IsGain}
 use Rattle.af_wire.specs.Message.{head}
 use Rattle.af_request.specs.declared.reply.DeviceInfo.{DeviceInfo}
@@ -17,7 +18,7 @@ use Rattle.af_request.specs.declared.reply.Controls.{Controls}
 use Rattle.af_request.specs.declared.reply.Phone.{Phone}
 use Rattle.af_request.specs.Answer.{Answer, setup, plain, time, played, recorded, controls, phone}
 use Rattle.af_request.specs.Fields.{flag_byte, u32_bytes, i16_bytes, words_for, padded}
-use Rattle.af_request.specs.Replies.{answer_in, body_bytes, body_words, controls_of, phone_of, reply_bytes, device_bytes, device_in, device_of, device_then, devices_in, flag_of, is_plain, is_rate, is_zero, IsReplyTo, IsStated}
+use Rattle.af_request.specs.Replies.{answer_in, body_bytes, body_words, controls_of, phone_of, reply_bytes, device_bytes, device_in, device_of, device_then, devices_in, flag_of, is_plain, is_zero, IsReplyTo, IsStated}
 use Rattle.af_request.proofs.FieldTrips.{ap_2, ap_3, u32_again, i16_again, length-padded, take-padded}
 
 flag_again : (set : Bool) → flag_of (flag_byte set) ≡ Some set
@@ -77,7 +78,7 @@ type_again Alaw = refl
 type_again Lin16 = refl
 type_again Lin32 = refl
 
-pub rate_below : (rate : ℕ) → IsTrue (is_rate rate) → rate ≤ 48000
+pub rate_below : (rate : ℕ) → IsListedRate rate → rate ≤ 48000
 rate_below rate listed = grind (arith, nat_tests)
 
 -- a device that may be stated is read as it is

@@ -4,15 +4,12 @@ use Rattle.std.specs.List.{list_all, list_any, flat_map}
 use Rattle.af_wire.specs.Message.{head}
 use Rattle.af_sample.specs.declared.sample_type.SampleType.{SampleType}
 use Rattle.af_sample.specs.SampleTypes.{code_of, type_of_code}
+use Rattle.af_sample.specs.Rates.{is_listed_rate, IsListedRate}
 use Rattle.af_sample.specs.Gains.{gain_of, IsGain}
 use Rattle.af_request.specs.declared.reply.DeviceInfo.{DeviceInfo}
 use Rattle.af_request.specs.declared.reply.Phone.{Phone}
 use Rattle.af_request.specs.Answer.{Answer, setup, plain, time, played, recorded, controls, phone}
 use Rattle.af_request.specs.Fields.{u8_at, u16_at, u32_at, i16_at, u32_bytes, i16_bytes, flag_byte, words_for, padded}
-
--- the rates that a device may have, in frames a second
-abbrev pub is_rate : ℕ → Bool
-is_rate rate = list_any (λ r. rate == r) (8000 ∷ 11025 ∷ 16000 ∷ 22050 ∷ 32000 ∷ 44100 ∷ 48000 ∷ [])
 
 -- whether all bytes are zero, as padding is
 abbrev pub is_zero : List ℕ → Bool
@@ -25,7 +22,7 @@ flag_of byte = if byte == 0 then Some false else if byte == 1 then Some true els
 -- a device of so many channels, of a listed rate, that can be played to four seconds ahead
 abbrev pub device_of : Option SampleType → ℕ → Option Bool → ℕ → ℕ → Option DeviceInfo
 device_of (Some ty) channels (Some line) rate horizon =
-    if channels == 1 && is_rate rate && horizon == rate * 4
+    if channels == 1 && is_listed_rate rate && horizon == rate * 4
     then Some (record { ty = ty; channels = channels; line = line; rate = rate; horizon = horizon })
     else None
 device_of _ _ _ _ _ = None
@@ -151,7 +148,7 @@ HasRoom _ = ⊤
 -- a device as the reply to a setup may state it
 pub record IsStated (d : DeviceInfo) : Type 0 where
   pub channels : d.channels ≡ 1
-  pub rate : IsTrue (is_rate d.rate)
+  pub rate : IsListedRate d.rate
   pub horizon : d.horizon ≡ d.rate * 4
 
 -- a reply that a request of an opcode may get

@@ -3,10 +3,10 @@ ghost use Rattle.std.specs.Prelude.{◌≡◌, ◌≤◌, ◌*◌, length, optio
 ghost use Rattle.std.specs.Int.{w16, cast_signed, from_be_bytes};
 ghost use Rattle.af_sample.specs.Gains.{gain_of};
 ghost use Rattle.af_request.specs.Answer.{meaning, items_of};
-ghost use Rattle.af_request.specs.Replies.{answer_in, controls_in, device_in, devices_in, flag_of, is_rate, phone_in, phone_of, plain_in, played_in, recorded_in, setup_in, time_in, is_zero};
+ghost use Rattle.af_request.specs.Replies.{answer_in, controls_in, device_in, devices_in, flag_of, phone_in, phone_of, plain_in, played_in, recorded_in, setup_in, time_in, is_zero};
 
 use crate::reply::{Controls, DeviceInfo, Devices, Phone, Reply};
-use af_sample::{Gain, SampleType};
+use af_sample::{Gain, SampleType, is_listed_rate};
 use af_time::DevTime;
 
 /// Reads the body of a reply to a request of this opcode, 0 standing for a setup. None exactly where it is no such body:
@@ -164,7 +164,7 @@ fn device(bytes: &[u8]) -> Option<DeviceInfo>
     let horizon = u32::from_be_bytes([*e, *f, *g, *h]);
     let ty = SampleType::of_code(*ty)?;
     let line = flag(*line)?;
-    if *channels == 1 && is_listed(rate) && horizon == rate * 4 {
+    if *channels == 1 && is_listed_rate(rate) && horizon == rate * 4 {
         Some(DeviceInfo {
             ty,
             channels: *channels,
@@ -192,14 +192,6 @@ fn gain(bytes: [u8; 2]) -> Option<Gain>
     ensures { result ≡ gain_of (cast_signed w16 (from_be_bytes w16 bytes)) }
 {
     Gain::new(i32::from(i16::from_be_bytes(bytes)))
-}
-
-// Whether a device may have this rate, in frames a second.
-fn is_listed(rate: u32) -> bool
-    ensures value { result ≡ is_rate rate }
-    ensures most { result ≡ true → rate ≤ 48000 }
-{
-    matches!(rate, 8000 | 11025 | 16000 | 22050 | 32000 | 44100 | 48000)
 }
 
 fn is_padding(bytes: &[u8]) -> bool

@@ -1,4 +1,5 @@
 pub mod SampleTypes
+pub mod Rates
 pub mod Mixing
 pub mod Gains
 pub mod G711

@@ -10,11 +10,13 @@ mod coding;
 mod decibels;
 pub mod laws;
 mod mu_law;
+mod rate;
 mod runs;
 mod sample_type;
 
 pub use coding::{convert_in, convert_out, decode, encode};
 pub use decibels::{Gain, gained};
+pub use rate::is_listed_rate;
 pub use runs::{gain_run, mix_into};
 pub use sample_type::SampleType;
 

@@ -33,6 +33,15 @@ fn sums_saturate(rt: HostRuntime) {
 }
 
 #[test]
+fn seven_rates_are_listed(rt: HostRuntime) {
+    for rate in [8000, 11025, 16000, 22050, 32000, 44100, 48000] {
+        assert!(rt; is_listed_rate(rate));
+        assert!(rt; !is_listed_rate(rate + 1));
+    }
+    assert!(rt; !is_listed_rate(0));
+}
+
+#[test]
 fn types_have_codes_and_widths(rt: HostRuntime) -> Result<(), Fail> {
     for code in 0..4u8 {
         let ty = SampleType::of_code(code).ok_or("a type")?;

@@ -1,6 +1,5 @@
 -- A tape that is being run: the turns so far are a run, and their answers are those that the steps so far give.
 use Rattle.std.proofs.Common.{◌≡◌, suc, ◌<◌, Bool, true, false, List, [], ◌∷◌, ◌++◌, length, map, is_some, IfSome, All, refl, sym, ap, ◌∙◌, subst, append_assoc, append-nil, arith}
-use Rattle.std.proofs.lemmas.List.Elements.{All-cons}
 use Rattle.std.specs.declared.option.Option.{Option}
 use Rattle.std.specs.declared.option.Option.TheVariants.{None, Some}
 use Rattle.af_outside.specs.declared.happening.Happening.TheVariants.{Woke}
@@ -12,8 +11,9 @@ use Rattle.af_outside.specs.Outside.{Outside, Peer, outside_start, TapeState, fr
 use Rattle.af_model.specs.State.{State, LinkState, opening, opening_device, opening_line, lines_of, links_of, outline, outline_with}
 use Rattle.af_model.specs.Turn.{behind, turn, fits}
 use Rattle.af_model.specs.Run.{wakes}
-use Rattle.af_model.specs.NoLoss.{LosesNone, RunLosesNone, StateLosesNone}
+use Rattle.af_model.specs.NoLoss.{RunLosesNone, StateLosesNone}
 use Rattle.af_model.specs.Script.{AnswersTo, ScriptLog, OneLog}
+use Rattle.af_model.proofs.NoLoss.{opening_loses_none}
 use Rattle.af_model.proofs.Running.{TurnsTo, turns_end_state, joined, joined-more, turns_more, turns_run, answers_more, replayed_answers}
 use Rattle.af_model.proofs.Alike.{Agree}
 use Rattle.af_model.proofs.Waking.{turn_lines}
@@ -39,11 +39,6 @@ pub record Plays (config : List DeviceSpec) (steps : List Step) (kept : Kept) (t
   pub agree : Agree state tape.outside
   pub lines : lines_of state.devices ≡ map line_of config
   pub links : length kept.links ≡ 32
-
--- no device has completed a request at its start
-pub opening_loses_none : (config : List DeviceSpec) → All (λ device. LosesNone device) (map opening_device config)
-opening_loses_none [] = λ k d low. absurd (omega arith)
-opening_loses_none (c ∷ config) = All-cons (λ device. LosesNone device) (opening_device c) (map opening_device config) (λ k d low. absurd (omega arith)) (opening_loses_none config)
 
 -- a device has a line from the start just where it is stated to
 opening_has_line : (line : Bool) → is_some (opening_line line) ≡ line

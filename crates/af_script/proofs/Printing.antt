@@ -7,21 +7,12 @@ use Rattle.std.proofs.lemmas.Fmt.{decimal_digit, decimal_step_wide}
 use Rattle.std.proofs.lemmas.Bool.Decides.{nat_tests}
 use Rattle.hex.specs.Hex.{encode_with, encode_lower, lower_digits}
 use Rattle.af_outside.specs.Told.{Grew}
+use Rattle.af_outside.proofs.Growing.{grew_none, grew_on}
 use Rattle.af_script.specs.Printing.{Filled, Added, CutOff, Prints}
 use Rattle.af_script.specs.Transcript.{transcript, line_for}
 use Rattle.af_outside.specs.Told.{Log}
 use Rattle.af_outside.specs.declared.happening.Happening.{Happening}
 use Rattle.af_script.specs.declared.print.Broken.{Broken}
-
-grew_none : (h : Option (List ℕ)) → Grew h [] h
-grew_none None = tt
-grew_none (Some xs) = sym (append-nil xs)
-
-grew_on : (h h' h'' : Option (List ℕ)) (p q : List ℕ) → Grew h p h' → Grew h' q h'' → Grew h (p ++ q) h''
-grew_on h h' None p q a b = tt
-grew_on h None (Some zs) p q a b = absurd b
-grew_on None (Some ys) (Some zs) p q a b = absurd a
-grew_on (Some xs) (Some ys) (Some zs) p q a b = b ∙ ap (λ l. l ++ q) a ∙ append_assoc xs p q
 
 -- a number has a digit
 pub some_digit : (n : ℕ) → n < 2 ^ 128 → 0 < length (decimal n)

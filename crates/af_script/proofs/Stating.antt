@@ -5,7 +5,7 @@ use Rattle.std.proofs.lemmas.Bool.{and_parts}
 use Rattle.std.proofs.lemmas.Bool.Decides.{nat_tests}
 use Rattle.std.proofs.lemmas.List.Elements.{All-nil, All-cons}
 use Rattle.af_sample.specs.declared.sample_type.SampleType.{SampleType}
-use Rattle.af_buffers.specs.Horizons.{IsListedRate}
+use Rattle.af_sample.specs.Rates.{is_listed_rate, IsListedRate}
 use Rattle.af_phone.specs.Lines.{is_digit}
 use Rattle.af_phone.specs.declared.line.LineChange.TheVariants as change
 use Rattle.af_outside.specs.declared.script.DeviceSpec.{DeviceSpec}
@@ -17,7 +17,7 @@ use Rattle.hex.specs.Hex.{decode_of}
 use Rattle.af_script.specs.declared.statement.Kind.{Kind}
 use Rattle.af_script.specs.declared.statement.Kind.TheVariants as kind
 use Rattle.af_script.specs.Words.{number_of, number_within, only_if, then_some, bytes_within}
-use Rattle.af_script.specs.Statement.{kind_of, is_device_kind, is_listed_rate, type_of, rate_of, line_stated, device_at, device_with, device_of, link_of, device_number, line_number, switch_of, digit_of, with_link, send_of, room_stated, room_of, capture_of, tick_of, ring_of, loop_of, dial_of, fail_capture_of, fail_emit_of, fail_hook_of, idle_of, step_of_kind, step_of, is_device_line}
+use Rattle.af_script.specs.Statement.{kind_of, is_device_kind, type_of, rate_of, line_stated, device_at, device_with, device_of, link_of, device_number, line_number, switch_of, digit_of, with_link, send_of, room_stated, room_of, capture_of, tick_of, ring_of, loop_of, dial_of, fail_capture_of, fail_emit_of, fail_hook_of, idle_of, step_of_kind, step_of, is_device_line}
 use Rattle.af_script.specs.Script.{Stated, Entry, most_devices, device_lines, with_first, each_says, first_number, with_steps, with_config, stated_by, script_of, entries}
 use Rattle.af_script.specs.Lines.{lines}
 use Rattle.af_script.proofs.LineByLine.{read_on}

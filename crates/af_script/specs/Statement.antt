@@ -9,7 +9,7 @@ use Rattle.af_outside.specs.declared.script.Step.TheVariants as step
 use Rattle.af_outside.specs.Outside.{line_at, width_at}
 use Rattle.af_script.specs.declared.statement.Kind.{Kind}
 use Rattle.af_script.specs.declared.statement.Kind.TheVariants as kind
-pub use Rattle.af_text.specs.Sound.{type_of, is_listed_rate, rate_of}
+pub use Rattle.af_text.specs.Sound.{type_of, rate_of}
 use Rattle.af_script.specs.Words.{number_of, number_within, only_if, bytes_within}
 
 -- the kind of a line by its first word

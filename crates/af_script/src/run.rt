@@ -1,6 +1,6 @@
 // A tape is run to its end: one turn for each step.
 ghost use Rattle.std.specs.Prelude.{◌≡◌, All, OnOk};
-ghost use Rattle.af_buffers.specs.Horizons.{IsListedRate};
+ghost use Rattle.af_sample.specs.Rates.{IsListedRate};
 ghost use Rattle.af_outside.specs.Outside.{fresh, IsStep};
 ghost use Rattle.af_script.specs.Run.{HasOneLog};
 

@@ -1,7 +1,6 @@
 -- The words that say how a device sounds.
-use Rattle.std.specs.Prelude.{ℕ, ◌==◌, Bool, List, codes, bytes_eq, Option, Some, None, option_and_then, if◌then◌else◌}
-use Rattle.std.specs.List.{list_any}
-use Rattle.af_buffers.specs.Horizons.{listed_rates}
+use Rattle.std.specs.Prelude.{ℕ, List, codes, bytes_eq, Option, Some, None, option_and_then, if◌then◌else◌}
+use Rattle.af_sample.specs.Rates.{is_listed_rate}
 use Rattle.af_sample.specs.declared.sample_type.SampleType.{SampleType}
 use Rattle.af_sample.specs.declared.sample_type.SampleType.TheVariants.{Mu255, Alaw, Lin16, Lin32}
 use Rattle.af_text.specs.Words.{number_of, only_if}
@@ -14,10 +13,6 @@ type_of word =
     else if bytes_eq word (codes "lin16") then Some Lin16
     else if bytes_eq word (codes "lin32") then Some Lin32
     else None
-
--- whether a device can have this rate
-abbrev pub is_listed_rate : ℕ → Bool
-is_listed_rate rate = list_any (λ listed. rate == listed) listed_rates
 
 -- the rate of a word, where it is listed
 abbrev pub rate_of : List ℕ → Option ℕ

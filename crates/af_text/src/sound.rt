@@ -1,10 +1,10 @@
 // Words that say how a device sounds: its sample type, and its rate.
 ghost use Rattle.std.specs.Prelude.{◌≡◌, IfSome};
-ghost use Rattle.af_buffers.specs.Horizons.{IsListedRate};
+ghost use Rattle.af_sample.specs.Rates.{IsListedRate};
 ghost use Rattle.af_text.specs.Sound.{type_of, rate_of};
 
 use crate::{is_word, number};
-use af_sample::SampleType;
+use af_sample::{SampleType, is_listed_rate};
 
 /// The sample type that a word names: `mu255`, `alaw`, `lin16` or `lin32`.
 pub fn sample_type(word: &[u8]) -> Option<SampleType>
@@ -28,8 +28,10 @@ pub fn listed_rate(word: &[u8]) -> Option<u32>
     ensures value { result ≡ rate_of word.now }
     ensures listed { IfSome result IsListedRate }
 {
-    match number(word)? {
-        rate @ (8000 | 11025 | 16000 | 22050 | 32000 | 44100 | 48000) => Some(rate as u32),
-        _ => None,
+    let rate = number(word)?;
+    if rate <= 48000 && is_listed_rate(rate as u32) {
+        Some(rate as u32)
+    } else {
+        None
     }
 }

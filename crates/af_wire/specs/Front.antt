@@ -15,6 +15,10 @@ abbrev pub setup_with : ℕ → ℕ → SetupFront
 setup_with name major =
     if name == magic then (if major == 1 then setup.Setup else setup.BadSetup major) else setup.BadSetup name
 
+-- the setup that a client sends, of version 1.0
+abbrev pub setup_bytes : List ℕ
+setup_bytes = 0x41 ∷ 0x46 ∷ 0x42 ∷ 0 ∷ 0 ∷ 1 ∷ 0 ∷ 0 ∷ []
+
 -- what the bytes of a link that is not set up begin with; nothing is decided before 8 bytes are there
 abbrev pub setup_front : List ℕ → SetupFront
 setup_front (a ∷ b ∷ c ∷ d ∷ e ∷ f ∷ g ∷ h ∷ rest) =

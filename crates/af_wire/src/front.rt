@@ -4,6 +4,9 @@ ghost use Rattle.af_wire.specs.declared.front.SetupFront.TheVariants as setup;
 ghost use Rattle.af_wire.specs.declared.front.Front.TheVariants as frame;
 ghost use Rattle.af_wire.specs.Front.{setup_front, frame_front, IsFrameWithin, IsSetupWithin};
 
+/// The setup that a client sends, of version 1.0.
+pub const SETUP: [u8; 8] = [0x41, 0x46, 0x42, 0, 0, 1, 0, 0];
+
 /// What the bytes of a link that is not set up begin with.
 #[derive(Clone, Copy, Debug, PartialEq, Eq)]
 pub enum SetupFront {

@@ -3,6 +3,8 @@ ghost use Rattle.std.specs.Prelude.{◌≡◌, ◌<◌, ◌+◌, ◌*◌, ◌^�
 ghost use Rattle.af_wire.specs.declared.event.Event.{Event};
 ghost use Rattle.af_wire.specs.declared.message_front.MessageFront.TheVariants.{Message};
 ghost use Rattle.af_wire.specs.Event.{code_of, event_bytes, event_in, IsStated};
+ghost use Rattle.af_wire.specs.declared.front.SetupFront.TheVariants.{Setup};
+ghost use Rattle.af_wire.specs.Front.{setup_bytes, setup_front};
 ghost use Rattle.af_wire.specs.Message.{head};
 ghost use Rattle.af_wire.specs.MessageFront.{is_head, message_front};
 
@@ -15,4 +17,9 @@ pub fn messages_round_trip()
     ensures events { (e : Event) (sequence : ℕ) (rest : List ℕ) → sequence < 2 ^ 16
         → message_front (event_bytes e sequence ++ rest) ≡ Message 2 (code_of e.kind) sequence 20 }
     ensures again { (e : Event) (sequence : ℕ) → IsStated e → event_in (code_of e.kind) (drop 8 (event_bytes e sequence)) ≡ Some e }
+{}
+
+/// The setup that a client sends is a good one to a server, whatever follows it.
+pub fn setup_is_good()
+    ensures { (rest : List ℕ) → setup_front (setup_bytes ++ rest) ≡ Setup }
 {}

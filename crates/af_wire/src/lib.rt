@@ -9,7 +9,7 @@ mod message;
 mod message_front;
 
 pub use event::{Event, EventKind, read_event, write_event};
-pub use front::{Front, SetupFront, frame_at, setup_of};
+pub use front::{Front, SETUP, SetupFront, frame_at, setup_of};
 pub use message::{write_error, write_head};
 pub use message_front::{MessageFront, message_at};
 

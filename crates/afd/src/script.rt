@@ -5,7 +5,7 @@ ghost use Rattle.std.specs.declared.option.Option.TheVariants.{None, Some};
 ghost use Rattle.af_outside.specs.Told.{Rose};
 ghost use Rattle.af_outside.specs.declared.flow.Put.TheVariants as put;
 ghost use Rattle.af_outside.specs.Flow.{GaveWithin, GaveTooMuch};
-ghost use Rattle.af_buffers.specs.Horizons.{IsListedRate};
+ghost use Rattle.af_sample.specs.Rates.{IsListedRate};
 ghost use Rattle.af_outside.specs.Outside.{IsStep};
 ghost use Rattle.af_script.specs.Run.{HasOneLog};
 ghost use Rattle.af_script.specs.Script.{script_of, IsFault};

@@ -1,4 +1,3 @@
-pub mod Growing
 pub mod Rounds
 pub mod Starting
 pub mod Ending

@@ -17,10 +17,9 @@ use Rattle.af_model.proofs.Running.{TurnsTo, joined, joined-more, turns_end_stat
 use Rattle.af_model.proofs.Prefixing.{takes_in_order}
 use Rattle.af_model.proofs.Folding.{mixes_all}
 use Rattle.af_core.specs.Stands.{Kept, Stands, Turns, kept_lines, outline_of}
-use Rattle.af_core.proofs.Doing.{grew_nothing, grew_more}
 use Rattle.af_core.proofs.Turning.{same_lines}
-use Rattle.af_script.proofs.Playing.{opening_loses_none}
-use Rattle.afd_serve.proofs.Growing.{stays_grew, grew_stays, stays_same}
+use Rattle.af_model.proofs.NoLoss.{opening_loses_none}
+use Rattle.af_outside.proofs.Growing.{grew_none, grew_on, grew_stays, stays_grew, stays_same}
 use Rattle.afd_serve.specs.declared.live.LiveEnd.{LiveEnd}
 use Rattle.afd_serve.specs.declared.live.LiveEnd.TheVariants as end
 use Rattle.afd_serve.specs.Serving.{Asked, HasTurn, Served, Serves, entry_of, taken_as}
@@ -99,8 +98,8 @@ module _ (config : List DeviceSpec) where
     count = refl;
     parts = [];
     state = opening config;
-    added = grew_nothing log;
-    told = grew_nothing outer;
+    added = grew_none log;
+    told = grew_none outer;
     serves = (refl, refl);
     turns = refl;
     stands = stands;
@@ -131,8 +130,8 @@ module _ (config : List DeviceSpec) where
         count = length-more r.waits wait ∙ omega (arith, count);
         parts = r.parts ++ turns.part ∷ [];
         state = from.next;
-        added = subst (λ l. Grew log l log3) (sym (joined-more r.parts turns.part)) (grew_more log log1 log3 (joined r.parts) turns.part r.added (stays_grew log1 log2 log3 turns.part quiet turns.told));
-        told = subst (λ l. Grew outer l outer3) (sym (map-more entry_of r.waits wait)) (grew_more outer outer1 outer3 (map entry_of r.waits) (entry_of wait ∷ []) r.told (grew_stays outer1 outer2 outer3 (entry_of wait ∷ []) entry apart));
+        added = subst (λ l. Grew log l log3) (sym (joined-more r.parts turns.part)) (grew_on log log1 log3 (joined r.parts) turns.part r.added (stays_grew log1 log2 log3 turns.part quiet turns.told));
+        told = subst (λ l. Grew outer l outer3) (sym (map-more entry_of r.waits wait)) (grew_on outer outer1 outer3 (map entry_of r.waits) (entry_of wait ∷ []) r.told (grew_stays outer1 outer2 outer3 (entry_of wait ∷ []) entry apart));
         serves = subst (λ l. Serves (opening config) (r.waits ++ wait ∷ []) l from.next) (sym (joined-more r.parts turns.part)) (serves_more (opening config) r.state from.next r.waits (joined r.parts) wait turns.part r.serves turn);
         turns = turns_more (opening config) r.state from.next r.parts turns.part r.turns (record { is_turn = from.is_turn; one = one });
         stands = from.stands;
@@ -151,7 +150,7 @@ module _ (config : List DeviceSpec) where
       grew = grew_stays log log1 log2 (joined r.parts) r.added quiet;
       end = r.state;
       serves = r.serves;
-      told = grew_more outer outer1 outer2 (map entry_of r.waits) (last_of end r.state) r.told last;
+      told = grew_on outer outer1 outer2 (map entry_of r.waits) (last_of end r.state) r.told last;
       is_run = turns_run config r.state r.parts r.turns;
       lossless = subst (λ o. IfSome o StateLosesNone) (sym (turns_end_state config r.state r.parts r.turns)) r.lossless;
       prefixes = takes_in_order config (joined r.parts);
@@ -177,7 +176,7 @@ module _ (config : List DeviceSpec) where
   -- all waits had their turns
   pub runs_spent : (kept : Kept) (n most : ℕ) (log log1 : Option Log) (outer outer1 : Option (List Outer)) → Runs config kept n log log1 outer outer1 → n ≡ most → ServedUntil config end.WaitsSpent most log log1 outer outer1
   runs_spent kept n most log log1 outer outer1 r all =
-      runs_end kept n most end.WaitsSpent log log1 log1 outer outer1 outer1 r refl (r.count ∙ all) (stays_same log1) (grew_nothing outer1)
+      runs_end kept n most end.WaitsSpent log log1 log1 outer outer1 outer1 r refl (r.count ∙ all) (stays_same log1) (grew_none outer1)
 
 -- the same behind a start
 pub served_behind : (config : List DeviceSpec) (front : List Outer) (last : State → List Outer) (waits : List Asked) (log log1 log2 : Option Log) (outer outer1 outer2 : Option (List Outer)) →
@@ -187,7 +186,7 @@ served_behind config front last waits log log1 log2 outer outer1 outer2 quiet gr
   grew = stays_grew log log1 log2 s.added quiet s.grew;
   end = s.end;
   serves = s.serves;
-  told = grew_more outer outer1 outer2 front (map entry_of waits ++ last s.end) grew s.told;
+  told = grew_on outer outer1 outer2 front (map entry_of waits ++ last s.end) grew s.told;
   is_run = s.is_run;
   lossless = s.lossless;
   prefixes = s.prefixes;

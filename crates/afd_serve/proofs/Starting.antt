@@ -9,7 +9,7 @@ use Rattle.af_outside.specs.declared.outer.Outer.TheVariants as noted
 use Rattle.af_outside.specs.declared.script.DeviceSpec.{DeviceSpec}
 use Rattle.af_outside.specs.declared.outer.Backing.{Backing}
 use Rattle.af_outside.specs.Told.{Grew}
-use Rattle.af_core.proofs.Doing.{grew_more}
+use Rattle.af_outside.proofs.Growing.{grew_on}
 use Rattle.af_live.specs.Stating.{Settings}
 use Rattle.afd_serve.specs.declared.live.LiveEnd.{LiveEnd}
 use Rattle.afd_serve.specs.declared.live.LiveEnd.TheVariants as end
@@ -50,7 +50,7 @@ module _ (settings : Settings) (outer outer1 : Option (List Outer)) (n : ℕ) (b
       let this : slice_get (all_attached settings) n ≡ Some (noted.Attached n spec kind) = attached_at 0 n settings.config settings.kinds spec kind at behind ∙ ap (λ d. Some (noted.Attached d spec kind)) from_none in
       subst (λ m. Grew outer (take m (all_attached settings)) outer2) one_more
       (subst (λ l. Grew outer l outer2) (sym (take_next (all_attached settings) n (noted.Attached n spec kind) this))
-      (grew_more outer outer1 outer2 (take n (all_attached settings)) (noted.Attached n spec kind ∷ []) below entry))
+      (grew_on outer outer1 outer2 (take n (all_attached settings)) (noted.Attached n spec kind ∷ []) below entry))
 
   pub attached_all : length settings.config ≤ n → Grew outer (all_attached settings) outer1
   attached_all l = subst (λ x. Grew outer x outer1) (take_all n (all_attached settings) (let fewer = attached_fewer 0 settings.config settings.kinds in omega arith)) below
@@ -65,12 +65,12 @@ module _ (address : List ℕ) (settings : Settings) (outer outer1 : Option (List
 
   -- the attaches ended behind the listen
   pub started_until : (ended : LiveEnd) (outer2 : Option (List Outer)) → AttachedUntil ended settings outer1 outer2 → StartedUntil ended address settings outer outer2
-  started_until (end.AttachFault d) outer2 s = (s.0, grew_more outer outer1 outer2 (noted.Listened address ∷ []) (take d (all_attached settings)) heard s.1)
+  started_until (end.AttachFault d) outer2 s = (s.0, grew_on outer outer1 outer2 (noted.Listened address ∷ []) (take d (all_attached settings)) heard s.1)
   started_until end.OutOfMemory outer2 s = record {
     front = noted.Listened address ∷ s.front;
     rest = s.rest;
     whole = ap (λ l. noted.Listened address ∷ l) s.whole;
-    grew = grew_more outer outer1 outer2 (noted.Listened address ∷ []) s.front heard s.grew;
+    grew = grew_on outer outer1 outer2 (noted.Listened address ∷ []) s.front heard s.grew;
   }
   started_until end.Done outer2 s = absurd s
   started_until end.Usage outer2 s = absurd s

@@ -1,7 +1,7 @@
 // The start of a server: its configuration is read, it is listened in, and its devices are attached.
 ghost use Rattle.std.specs.Prelude.{◌≡◌, ◌≢◌, ◌≤◌, ℕ, length, All, IfOk, IfErr, IsErrOf};
 ghost use Rattle.std.specs.declared.result.Result.TheVariants.{Err};
-ghost use Rattle.af_buffers.specs.Horizons.{IsListedRate};
+ghost use Rattle.af_sample.specs.Rates.{IsListedRate};
 ghost use Rattle.af_outside.specs.Told.{Grew, Rose, Stays};
 ghost use Rattle.af_outside.specs.Flow.{GaveWithin, GaveTooMuch};
 ghost use Rattle.af_model.specs.State.{opening};

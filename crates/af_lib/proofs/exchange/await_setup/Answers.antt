@@ -1,6 +1,7 @@
 use Rattle.std.proofs.Common.{sym, subst, List, ℕ}
 use Rattle.std.specs.declared.option.Option.{Option}
-use Rattle.af_lib.specs.Calls.{setup_bytes, Sends}
+use Rattle.af_wire.specs.Front.{setup_bytes}
+use Rattle.af_lib.specs.Calls.{Sends}
 use Rattle.af_lib.proofs.Exchanges.{sends_all}
 use Rattle.af_lib.proofs.exchange.await_setup.Goals as goal
 

@@ -1,6 +1,6 @@
 use Rattle.std.proofs.Common.{◌≡◌, ◌+◌, ◌≤◌, length}
 use Rattle.std.specs.Prelude.{All}
-use Rattle.af_buffers.specs.Horizons.{IsListedRate}
+use Rattle.af_sample.specs.Rates.{IsListedRate}
 use Rattle.af_text.specs.Lines.{lines}
 use Rattle.af_live.specs.Configuration.{config_of}
 use Rattle.af_live.proofs.LineByLine.{read_on}

@@ -1,5 +1,5 @@
 use Rattle.std.proofs.Common.{rules, length, ap, ◌∙◌, arith}
-use Rattle.afd_serve.proofs.Growing.{stays_stays, grew_by_none}
+use Rattle.af_outside.proofs.Growing.{stays_stays, grew_by_none}
 use Rattle.afd_serve.proofs.Starting.{attached_more, attached_all, attached_in_part, stated_at}
 use Rattle.afd_serve.proofs.start.attach_devices.Goals as goal
 

@@ -1,9 +1,0 @@
-use Rattle.af_request.specs.Asked.{meaning}
-use Rattle.af_lib.specs.Calls.{as_done, opcode_of}
-use Rattle.af_lib.proofs.Exchanges.{answers_value}
-use Rattle.af_lib.proofs.asks.ask_done.Goals as goal
-
-pub returns-in-Ok-clause-answers : goal.returns-in-Ok-clause-answers
-returns-in-Ok-clause-answers g c =
-    answers_value as_done (opcode_of (meaning c.args.request.now)) c.opcode_of.result c.args.sequence c.in-Ok.length c.ask.new.input c.args.ring.now c.ask.new.ring
-    (g.L.Link.left c.args.link.now) (g.L.Link.left c.ask.new.link) c.done_in.result c.in-Ok.ensures.finds c.opcode_of.ensures c.done_in.ensures.value

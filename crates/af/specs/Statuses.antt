@@ -1,7 +1,7 @@
 -- The exit statuses of the tools.
 use Rattle.std.specs.Prelude.{ℕ}
-use Rattle.af_tools.specs.declared.end.ToolEnd.{ToolEnd}
-use Rattle.af_tools.specs.declared.end.ToolEnd.TheVariants as end
+use Rattle.af_course.specs.declared.end.ToolEnd.{ToolEnd}
+use Rattle.af_course.specs.declared.end.ToolEnd.TheVariants as end
 
 abbrev pub status : ToolEnd → ℕ
 status end.Done = 0

@@ -1,20 +1,20 @@
 -- The bytes that a link gives, over several reads.
-use Rattle.std.proofs.Common.{◌≡◌, ℕ, ◌+◌, ◌<◌, ◌≤◌, List, [], ◌++◌, length, take, sym, ap, ap₂, ◌∙◌, subst, arith, append_assoc, append-nil}
+use Rattle.std.proofs.Common.{◌≡◌, refl, IsSome, ℕ, ◌+◌, ◌<◌, ◌≤◌, List, [], ◌++◌, length, take, sym, ap, ap₂, ◌∙◌, subst, arith, append_assoc, append-nil}
 use Rattle.std.proofs.Math.Seq.{take-add}
 use Rattle.std.proofs.lemmas.List.{take_at, drop_at, take_all, length-take-le, take-append-le}
 use Rattle.std.specs.declared.option.Option.{Option}
 use Rattle.std.specs.declared.option.Option.TheVariants.{None, Some}
 use Rattle.af_outside.specs.Told.{Gave}
 use Rattle.af_outside.specs.Flow.{IsSpent}
+use Rattle.af_outside.proofs.Flowing.{gave_on}
 use Rattle.af_lib.specs.Told.{BothTold}
 
--- what two reads gave
-pub Gave-trans : (a b c : Option (List ℕ)) (p q : List ℕ) → Gave a p b → Gave b q c → Gave a (p ++ q) c
-Gave-trans a b None p q first second = tt
-Gave-trans None None (Some z) p q first second = second
-Gave-trans (Some x) None (Some z) p q first second = absurd second
-Gave-trans None (Some y) (Some z) p q first second = absurd first
-Gave-trans (Some x) (Some y) (Some z) p q first second = first ∙ ap (λ (t : List ℕ). p ++ t) second ∙ sym (append_assoc p q z)
+-- bytes that stay told
+pub told_both : (before after : Option (List ℕ)) (input : List ℕ) (P : List ℕ → List ℕ → Type 0) → before ≡ Some input → (IsSome before → IsSome after) →
+    BothTold before after P → (a : List ℕ) × (after ≡ Some a) × P input a
+told_both None after input P is stays told = cc is
+told_both (Some x) None input P is stays told = cc (stays refl)
+told_both (Some x) (Some a) input P is stays told = let same : x ≡ input = cc in (a, refl, subst (λ (i : List ℕ). P i a) same told)
 
 -- a slice whose first part stands before what was read into the rest of it
 pub take-part : (filled count : ℕ) (into part : List ℕ) → filled ≤ length into → take (filled + count) (take filled into ++ part) ≡ take filled into ++ take count part
@@ -28,7 +28,7 @@ pub Gave-part : (before now after : Option (List ℕ)) (filled count : ℕ) (int
 Gave-part before now after filled count into part past fits few first second =
     let P : List ℕ → Type 0 = λ bytes. Gave before bytes after in
     let bytes = take-part filled count into (part ++ past) fits ∙ ap (λ (t : List ℕ). take filled into ++ t) (take-append-le count part past few) in
-    subst P (sym bytes) (Gave-trans before now after (take filled into) (take count part) first second)
+    subst P (sym bytes) (gave_on before now after (take filled into) (take count part) first second)
 
 -- a slice that is full
 pub Gave-whole : (before after : Option (List ℕ)) (filled : ℕ) (into : List ℕ) → length into ≤ filled → Gave before (take filled into) after → Gave before into after

@@ -8,7 +8,7 @@ use Rattle.af_wire.specs.declared.message_front.MessageFront.TheVariants.{NeedMo
 use Rattle.af_wire.specs.MessageFront.{message_front}
 use Rattle.af_lib.specs.Told.{BothTold}
 use Rattle.af_lib.specs.Receive.{IsWhole, IsCut}
-use Rattle.af_lib.proofs.Bytes.{BothTold-map, BothTold-Gave, BothTold-behind, Gave-trans}
+use Rattle.af_lib.proofs.Bytes.{BothTold-map, BothTold-Gave, BothTold-behind, gave_on}
 use Rattle.af_lib.proofs.Fronts.{whole-longer, cut-longer, bad-longer, head-longer, short-cut}
 
 -- the link ended within a head
@@ -46,7 +46,7 @@ head_and_body before now after head rest body past n eight least size first seco
     let total : length (head ++ body) ≡ n = omega (arith, length-append head body) in
     let whole : take n (take 8 (head ++ rest) ++ (body ++ past)) ≡ head ++ body =
     ap (λ (t : List ℕ). take n (t ++ (body ++ past))) (take_at head rest 8 eight) ∙ ap (take n) (sym (append_assoc head body past)) ∙ take_at (head ++ body) past n total in
-    BothTold-map before after _ _ (BothTold-Gave before after (head ++ body) (Gave-trans before now after head body first second))
+    BothTold-map before after _ _ (BothTold-Gave before after (head ++ body) (gave_on before now after head body first second))
     (λ b a e.
     let there : n ≤ length (head ++ (body ++ a)) = omega (arith, length-append head body, length-append head (body ++ a), length-append body a) in
     let joined = e ∙ append_assoc head body a in

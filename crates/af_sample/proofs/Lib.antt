@@ -7,3 +7,4 @@ pub mod MuLawLemmas
 pub mod AlawLemmas
 pub mod RunLemmas
 pub mod Hearing
+pub mod Alone

@@ -15,7 +15,7 @@ use Rattle.af_sample.specs.Heard.{blended, covers, heard, Entry}
 use Rattle.af_tools.specs.Play.{blocks}
 use Rattle.af_tools.specs.Blocks.{gained_samples, sent_blocks, AreAccepted, Block, HeardAsIntended, IsEntryOf}
 use Rattle.af_tools.proofs.Sending.{find_block, one_block, IsAt}
-use Rattle.af_tools.proofs.Hearing.{blended_with_silence, covers_its, heard_alone}
+use Rattle.af_sample.proofs.Alone.{blended_with_silence, covers_its, heard_alone}
 
 length-gained_samples : (ty : SampleType) (gain : ℤ) (bytes : List ℕ) → length (gained_samples ty gain bytes) ≡ length bytes / width_of ty
 unfolding samples

@@ -10,26 +10,28 @@ use Rattle.af_outside.specs.Dial.{ToldLink}
 use Rattle.af_request.specs.declared.reply.DeviceInfo.{DeviceInfo}
 use Rattle.af_request.specs.Replies.{IsStated}
 use Rattle.af_lib.specs.declared.fault.ConnFault.{ConnFault}
-use Rattle.af_lib.specs.Calls.{answered, as_devices, setup_bytes}
+use Rattle.af_wire.specs.Front.{setup_bytes}
+use Rattle.af_lib.specs.Calls.{answered, as_devices}
 use Rattle.af_lib.proofs.Exchanges.{answered_stated}
-use Rattle.af_tools.specs.declared.end.ToolEnd.{ToolEnd}
-use Rattle.af_tools.specs.declared.end.ToolEnd.TheVariants as end
+use Rattle.af_course.specs.declared.end.ToolEnd.{ToolEnd}
+use Rattle.af_course.specs.declared.end.ToolEnd.TheVariants as end
 use Rattle.af_jobs.specs.declared.job.PassJob.{PassJob}
 use Rattle.af_jobs.specs.declared.job.PlayJob.{PlayJob}
 use Rattle.af_jobs.specs.declared.job.Task.{Task}
 use Rattle.af_jobs.specs.declared.job.Task.TheVariants as task
 use Rattle.af_jobs.specs.declared.call.Call.{Call}
 use Rattle.af_jobs.specs.declared.call.Call.TheVariants as call
-use Rattle.af_tools.specs.Course.{Course, Wire, connects, done, end_of, next_message, sending, set_up, unused}
+use Rattle.af_course.specs.Course.{Course, Wire, connects, done, end_of, next_message, sending, set_up, unused}
 use Rattle.af_jobs.specs.Call.{IsCall, meaning}
 use Rattle.af_jobs.specs.Ranges.{IsPaced, IsRanged}
-use Rattle.af_tools.specs.Pass.{Relay, apass_course, connects_by, dials_to, relay_course, sending_from, sending_to}
+use Rattle.af_relay.specs.Pass.{Relay, apass_course, sending_from, sending_to}
+use Rattle.af_tools.specs.Dialled.{connects_by, dials_to, relay_course}
 use Rattle.af_tools.specs.Play.{aplay_course}
-use Rattle.af_tools.specs.Ends.{Followed, is_outer}
-use Rattle.af_tools.specs.Relayed.{IsRelayed}
+use Rattle.af_course.specs.Ends.{Followed, is_outer}
+use Rattle.af_relay.specs.Relayed.{IsRelayed}
 use Rattle.af_tools.specs.Run.{GaveBack, PlayRan, Ran, RelayRan, one_course}
 use Rattle.af_jobs.specs.Words.{one, relay}
-use Rattle.af_tools.proofs.Passable.{answered_from, answered_to, course_relayed, finish_done}
+use Rattle.af_relay.proofs.Passable.{answered_from, answered_to, course_relayed, finish_done}
 use Rattle.af_tools.proofs.Played.{answered_done, is_played}
 
 -- what was sent, where nothing is unsent

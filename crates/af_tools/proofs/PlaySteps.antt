@@ -10,13 +10,14 @@ use Rattle.af_outside.specs.Told.{Gave}
 use Rattle.af_outside.specs.Flow.{IsSpent}
 use Rattle.af_request.specs.Asked.{play_run}
 use Rattle.af_lib.specs.Calls.{as_time}
-use Rattle.af_tools.specs.declared.end.ToolEnd.{ToolEnd}
-use Rattle.af_tools.specs.declared.end.ToolEnd.TheVariants as end
-use Rattle.af_tools.specs.Course.{Course, Wire, asks, too_long}
+use Rattle.af_course.specs.declared.end.ToolEnd.{ToolEnd}
+use Rattle.af_course.specs.declared.end.ToolEnd.TheVariants as end
+use Rattle.af_course.specs.Course.{Course, Wire, asks, too_long}
 use Rattle.af_tools.specs.Play.{blocks, frames_in, most_bytes, plays, whole_frames}
-use Rattle.af_tools.specs.Ends.{GaveAbove, Goes, is_outer}
-use Rattle.af_tools.proofs.Growing.{gave_known}
-use Rattle.af_tools.proofs.Going.{goes_stop}
+use Rattle.af_tools.specs.Fill.{GaveAbove}
+use Rattle.af_course.specs.Ends.{Goes, is_outer}
+use Rattle.af_outside.proofs.Flowing.{gave_known}
+use Rattle.af_course.proofs.Going.{goes_stop}
 use Rattle.af_tools.proofs.Reaching.{goes_at_once, goes_early, goes_same, goes_value, Reaches, reaches_goes, reaches_none, reaches_on}
 use Rattle.af_tools.proofs.Playing.{IsPlaying, plays_beyond, plays_next, plays_over}
 

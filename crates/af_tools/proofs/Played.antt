@@ -16,12 +16,12 @@ use Rattle.af_request.specs.Requests.{request_bytes}
 use Rattle.af_lib.specs.declared.fault.ConnFault.{ConnFault}
 use Rattle.af_lib.specs.declared.fault.ConnFault.TheVariants as fault
 use Rattle.af_lib.specs.Calls.{as_done, as_time}
-use Rattle.af_tools.specs.declared.end.ToolEnd.{ToolEnd}
-use Rattle.af_tools.specs.declared.end.ToolEnd.TheVariants as end
+use Rattle.af_course.specs.declared.end.ToolEnd.{ToolEnd}
+use Rattle.af_course.specs.declared.end.ToolEnd.TheVariants as end
 use Rattle.af_jobs.specs.declared.job.PlayJob.{PlayJob}
-use Rattle.af_tools.specs.Course.{Course, Finish, Wire, answer_on, answered_by, asks, behind, done, end_of, ends, fault_end, mismatch, no_device, not_dialled, on_device, refused, sending, too_long, writing}
+use Rattle.af_course.specs.Course.{Course, Finish, Wire, answer_on, answered_by, asks, behind, done, end_of, ends, fault_end, mismatch, no_device, not_dialled, on_device, refused, sending, too_long, writing}
 use Rattle.af_tools.specs.Play.{aplay_course, blocks, frames_in, most_bytes, play_context, played, played_on, plays, start_at, whole_frames}
-use Rattle.af_tools.specs.Ends.{Followed, is_outer}
+use Rattle.af_course.specs.Ends.{Followed, is_outer}
 use Rattle.af_tools.specs.Blocks.{sent_behind, sent_blocks, Block}
 use Rattle.af_tools.specs.Intent.{play_of, played_whole, type_on, IsPlayed}
 use Rattle.af_tools.proofs.Playing.{plays_block, plays_last, plays_long, plays_none}

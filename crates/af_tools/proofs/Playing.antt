@@ -9,7 +9,7 @@ use Rattle.std.specs.declared.option.Option.TheVariants.{Some}
 use Rattle.af_outside.specs.Told.{Gave}
 use Rattle.af_request.specs.Asked.{play_run}
 use Rattle.af_lib.specs.Calls.{as_time}
-use Rattle.af_tools.specs.Course.{Course, Wire, asks, ends, too_long}
+use Rattle.af_course.specs.Course.{Course, Wire, asks, ends, too_long}
 use Rattle.af_tools.specs.Play.{blocks, cut, frames_in, most_bytes, plays, whole_frames}
 use Rattle.af_tools.proofs.Reaching.{Reaches}
 

@@ -4,11 +4,12 @@ use Rattle.std.specs.Prelude.{Result, Ok, Err}
 use Rattle.std.specs.declared.option.Option.{Option}
 use Rattle.std.specs.declared.option.Option.TheVariants.{Some}
 use Rattle.af_outside.specs.Told.{Grew}
-use Rattle.af_tools.specs.declared.end.ToolEnd.{ToolEnd}
-use Rattle.af_tools.specs.Course.{Course, Finish, Wire, end_of, ends}
-use Rattle.af_tools.specs.Ends.{Came, Goes, Part, is_outer}
-use Rattle.af_tools.proofs.Growing.{grew_none, grew_on}
-use Rattle.af_tools.proofs.Going.{doing, ended_at_once, ended_behind, ended_early, ended_same}
+use Rattle.af_course.specs.declared.end.ToolEnd.{ToolEnd}
+use Rattle.af_course.specs.Course.{Course, Finish, Wire, end_of, ends}
+use Rattle.af_course.specs.Ends.{Came, Goes, Part, is_outer}
+use Rattle.af_outside.proofs.Growing.{grew_none, grew_on}
+use Rattle.af_course.proofs.Going.{doing, ended_at_once, ended_behind, ended_early}
+use Rattle.af_tools.proofs.Following.{ended_same}
 
 -- a part has come to another, which is what is left of it
 pub record Reaches {X : Type 0} (part now : Part X) (sent sent' held held' : Option (List ℕ)) : Type 0 where

@@ -6,12 +6,12 @@ use Rattle.std.specs.declared.option.Option.TheVariants.{Some}
 use Rattle.af_sample.specs.declared.sample_type.SampleType.{SampleType}
 use Rattle.af_request.specs.Asked.{free_ac}
 use Rattle.af_lib.specs.Calls.{as_done}
-use Rattle.af_tools.specs.declared.end.ToolEnd.{ToolEnd}
+use Rattle.af_course.specs.declared.end.ToolEnd.{ToolEnd}
 use Rattle.af_jobs.specs.declared.job.RecordJob.{RecordJob}
-use Rattle.af_tools.specs.Course.{Course, Wire, asks}
+use Rattle.af_course.specs.Course.{Course, Wire, asks}
 use Rattle.af_tools.specs.Record.{block_lengths, records}
-use Rattle.af_tools.specs.Ends.{Goes, Part}
-use Rattle.af_tools.proofs.Going.{goes_on, goes_stop}
+use Rattle.af_course.specs.Ends.{Goes, Part}
+use Rattle.af_course.proofs.Going.{goes_on, goes_stop}
 
 -- the blocks are recorded
 abbrev pub all_records : RecordJob → SampleType → (start : ℕ) → Wire → Part (Unit {0})

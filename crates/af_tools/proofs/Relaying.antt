@@ -10,22 +10,25 @@ use Rattle.af_request.specs.declared.reply.DeviceInfo.{DeviceInfo}
 use Rattle.af_lib.specs.declared.fault.ConnFault.{ConnFault}
 use Rattle.af_lib.specs.declared.fault.ConnFault.TheVariants as fault
 use Rattle.af_lib.specs.Ring.{RingState}
-use Rattle.af_lib.specs.Calls.{IsFresh, IsSetUp, answered, as_devices, setup_bytes}
-use Rattle.af_tools.specs.declared.end.ToolEnd.{ToolEnd}
-use Rattle.af_tools.specs.declared.end.ToolEnd.TheVariants as end
+use Rattle.af_wire.specs.Front.{setup_bytes}
+use Rattle.af_lib.specs.Calls.{IsFresh, IsSetUp, answered, as_devices}
+use Rattle.af_course.specs.declared.end.ToolEnd.{ToolEnd}
+use Rattle.af_course.specs.declared.end.ToolEnd.TheVariants as end
 use Rattle.af_jobs.specs.declared.job.PassJob.{PassJob}
 use Rattle.af_jobs.specs.declared.job.Task.{Task}
-use Rattle.af_tools.specs.Course.{Course, Wire, end_of, fault_end, mismatch, next_message, set_up, unused}
-use Rattle.af_tools.specs.Both.{FollowedBoth, RelayedOver}
-use Rattle.af_tools.specs.Ends.{Ended, is_outer}
-use Rattle.af_tools.specs.Pass.{Relay, alone, apass_course, at_one_rate, connects_by, dials_to, ends_both, on_from, on_one, on_to, passed_between, relay_course, relayed_by, sending_from, sending_to}
+use Rattle.af_course.specs.Course.{Course, Wire, end_of, fault_end, mismatch, next_message, set_up, unused}
+use Rattle.af_relay.specs.Both.{FollowedBoth}
+use Rattle.af_tools.specs.Dialled.{RelayedOver, alone, connects_by, dials_to, relay_course}
+use Rattle.af_course.specs.Ends.{Ended, is_outer}
+use Rattle.af_relay.specs.Pass.{Relay, apass_course, at_one_rate, ends_both, on_from, on_one, on_to, passed_between, relayed_by, sending_from, sending_to}
 use Rattle.af_tools.specs.Play.{most_bytes}
 use Rattle.af_tools.specs.Run.{IsEarly, IsServed, Ran, RanOne, RanTo, one_course, run_course}
 use Rattle.af_jobs.specs.Words.{Job, one, relay}
-use Rattle.af_tools.proofs.Growing.{grew_none, grew_on}
-use Rattle.af_tools.proofs.Going.{ended_behind, ended_early, ended_same, setup_known}
-use Rattle.af_tools.proofs.Pairing.{is_from, is_to, one_goes}
-use Rattle.af_tools.proofs.PassTop.{between_finish, reports}
+use Rattle.af_outside.proofs.Growing.{grew_none, grew_on}
+use Rattle.af_course.proofs.Going.{ended_behind, ended_early}
+use Rattle.af_tools.proofs.Following.{ended_same, setup_known}
+use Rattle.af_relay.proofs.Pairing.{is_from, is_to, one_goes}
+use Rattle.af_relay.proofs.PassTop.{between_finish, reports}
 use Rattle.af_tools.proofs.Running.{IsShort, gave_entry, one_short, served_done, short_of}
 
 -- a tool with one server is a relay that does not use its second link

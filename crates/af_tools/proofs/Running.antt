@@ -9,19 +9,20 @@ use Rattle.af_request.specs.declared.reply.DeviceInfo.{DeviceInfo}
 use Rattle.af_lib.specs.declared.fault.ConnFault.{ConnFault}
 use Rattle.af_lib.specs.declared.fault.ConnFault.TheVariants as fault
 use Rattle.af_lib.specs.Calls.{answered, as_devices}
-use Rattle.af_tools.specs.declared.end.ToolEnd.{ToolEnd}
-use Rattle.af_tools.specs.declared.end.ToolEnd.TheVariants as end
+use Rattle.af_course.specs.declared.end.ToolEnd.{ToolEnd}
+use Rattle.af_course.specs.declared.end.ToolEnd.TheVariants as end
 use Rattle.af_jobs.specs.declared.job.Task.{Task}
 use Rattle.af_jobs.specs.declared.job.Task.TheVariants as task
-use Rattle.af_tools.specs.Course.{Course, Finish, Wire, answered_by, connects, dials, done, end_of, ends, mismatch, no_device, not_dialled, on_device, next_message, refused, set_up, too_long, unused, writing}
+use Rattle.af_course.specs.Course.{Course, Finish, Wire, answered_by, connects, dials, done, end_of, ends, mismatch, no_device, not_dialled, on_device, next_message, refused, set_up, too_long, unused, writing}
 use Rattle.af_tools.specs.Play.{aplay_course, most_bytes, played}
 use Rattle.af_tools.specs.Record.{arecord_course}
 use Rattle.af_tools.specs.Set.{aset_course, standing_text}
 use Rattle.af_tools.specs.Run.{EndsByDevice, EndsByRates, RanOne, is_of_run, one_course, task_course}
-use Rattle.af_tools.specs.Ends.{Ended, Followed, is_outer}
-use Rattle.af_tools.proofs.Growing.{grew_none}
-use Rattle.af_tools.proofs.Going.{ended_early}
-use Rattle.af_tools.proofs.Endings.{IsDoneOrRefused, played_finish, recorded_finish, set_finish}
+use Rattle.af_course.specs.Ends.{Ended, Followed, is_outer}
+use Rattle.af_outside.proofs.Growing.{grew_none}
+use Rattle.af_course.proofs.Going.{ended_early}
+use Rattle.af_course.proofs.Endings.{IsDoneOrRefused}
+use Rattle.af_tools.proofs.Finishing.{played_finish, recorded_finish, set_finish}
 
 -- what a link was sent in all is its entry
 pub gave_entry : (back back' : Option (List (List ℕ))) (before after : Option (List ℕ)) (first sends : List ℕ) → before ≡ Some first → Grew before sends after → GrewBack back after back' → Grew back ((first ++ sends) ∷ []) back'

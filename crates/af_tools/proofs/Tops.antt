@@ -5,19 +5,20 @@ use Rattle.std.proofs.lemmas.Option.{slice_get_cases}
 use Rattle.std.specs.declared.option.Option.{Option}
 use Rattle.std.specs.declared.option.Option.TheVariants.{None, Some}
 use Rattle.af_request.specs.declared.reply.DeviceInfo.{DeviceInfo}
-use Rattle.af_tools.specs.declared.end.ToolEnd.{ToolEnd}
-use Rattle.af_tools.specs.declared.end.ToolEnd.TheVariants as end
+use Rattle.af_course.specs.declared.end.ToolEnd.{ToolEnd}
+use Rattle.af_course.specs.declared.end.ToolEnd.TheVariants as end
 use Rattle.af_jobs.specs.declared.job.PlayJob.{PlayJob}
 use Rattle.af_jobs.specs.declared.job.RecordJob.{RecordJob}
 use Rattle.af_jobs.specs.declared.job.SetJob.{SetJob}
-use Rattle.af_tools.specs.Course.{Course, Wire, done, ends, no_device, on_device, writing}
-use Rattle.af_tools.specs.Device.{device_or_end}
+use Rattle.af_course.specs.Course.{Course, Wire, done, ends, no_device, on_device, writing}
+use Rattle.af_course.specs.Device.{device_or_end}
 use Rattle.af_tools.specs.Play.{aplay_course, played, played_on}
 use Rattle.af_tools.specs.Record.{arecord_course, recorded_on}
 use Rattle.af_tools.specs.Set.{aset_course, set_on, standing_text}
-use Rattle.af_tools.specs.Ends.{Followed, is_of_blocks, is_of_link, is_of_records, is_of_report}
-use Rattle.af_tools.proofs.Growing.{grew_none}
-use Rattle.af_tools.proofs.Going.{ended_at_once}
+use Rattle.af_course.specs.Ends.{Followed, is_of_link, is_of_report}
+use Rattle.af_tools.specs.Ways.{is_of_blocks, is_of_records}
+use Rattle.af_outside.proofs.Growing.{grew_none}
+use Rattle.af_course.proofs.Going.{ended_at_once}
 
 -- the device with a number
 pub record IsThere (devices : List DeviceInfo) (number : ℕ) (device : DeviceInfo) : Type 0 where

@@ -14,7 +14,7 @@ use Rattle.af_request.specs.Asked.{free_ac, get_time, play_run}
 use Rattle.af_request.specs.Requests.{request_bytes}
 use Rattle.af_lib.specs.Calls.{as_time}
 use Rattle.af_jobs.specs.declared.job.PlayJob.{PlayJob}
-use Rattle.af_tools.specs.Course.{Wire, answer_on, behind}
+use Rattle.af_course.specs.Course.{Wire, answer_on, behind}
 use Rattle.af_tools.specs.Play.{play_context, played, start_at}
 use Rattle.af_tools.specs.Blocks.{gained_samples, sent_blocks, AreAccepted, Block}
 

@@ -1,15 +1,9 @@
-pub mod Course
 pub mod Play
 pub mod Blocks
 pub mod Intent
 pub mod Record
 pub mod Set
-pub mod Ends
-pub mod Pass
-pub mod Both
-pub mod Relayed
-pub mod Pair
+pub mod Ways
 pub mod Fill
-pub mod Device
-pub mod Talk
+pub mod Dialled
 pub mod Run

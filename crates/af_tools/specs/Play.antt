@@ -9,7 +9,7 @@ use Rattle.af_request.specs.Asked.{Asked, create_ac, free_ac, play_run}
 use Rattle.af_request.specs.Fields.{flag_byte}
 use Rattle.af_lib.specs.Calls.{as_done, as_time}
 use Rattle.af_jobs.specs.declared.job.PlayJob.{PlayJob}
-use Rattle.af_tools.specs.Course.{Course, Wire, asks, begins, done, ends, too_long, with_device, writing}
+use Rattle.af_course.specs.Course.{Course, Wire, asks, begins, done, ends, too_long, with_device, writing}
 
 -- how many bytes a source may give
 abbrev pub most_bytes : ℕ

@@ -1,5 +1,5 @@
 -- What arecord does: it records block behind block, and writes each.
-use Rattle.std.specs.Prelude.{ℕ, suc, ◌+◌, ◌*◌, ◌/◌, ◌%◌, ◌^◌, ◌==◌, max, nat_le, nat_lt, unsigned_abs, if◌then◌else◌, pos, Bool, true, List, [], ◌∷◌, ◌++◌, map, replicate, unwrap_or}
+use Rattle.std.specs.Prelude.{ℕ, suc, ◌+◌, ◌*◌, ◌/◌, ◌%◌, ◌^◌, ◌==◌, max, nat_le, nat_lt, unsigned_abs, if◌then◌else◌, pos, Bool, true, List, [], ◌∷◌, ◌++◌, map, replicate, unwrap_or, Result, Ok, Err}
 use Rattle.af_sample.specs.declared.sample_type.SampleType.{SampleType}
 use Rattle.af_sample.specs.SampleTypes.{code_of, width_of}
 use Rattle.af_sample.specs.Samples.{samples}
@@ -7,7 +7,8 @@ use Rattle.af_request.specs.declared.reply.DeviceInfo.{DeviceInfo}
 use Rattle.af_request.specs.Asked.{Asked, create_ac, free_ac, record_run}
 use Rattle.af_lib.specs.Calls.{as_done, as_recorded}
 use Rattle.af_jobs.specs.declared.job.RecordJob.{RecordJob}
-use Rattle.af_tools.specs.Course.{Course, Wire, asks, begins, done, ends, with_device, writing}
+use Rattle.af_course.specs.declared.end.ToolEnd.{ToolEnd}
+use Rattle.af_course.specs.Course.{Course, Wire, asks, begins, done, ends, with_device, writing}
 
 -- how many frames each block has: so many, and the last what is left of all
 unfoldable pub block_lengths : ℕ → ℕ → List ℕ
@@ -64,3 +65,8 @@ arecord_sends job devices w = (arecord_course job devices w).sends
 
 abbrev pub arecord_output : RecordJob → List DeviceInfo → Wire → List ℕ
 arecord_output job devices w = (arecord_course job devices w).output
+
+-- a part whose value stands in a buffer
+abbrev pub value_in : Result (Unit {0}) ToolEnd → List ℕ → Result (List ℕ) ToolEnd
+value_in (Ok _) bytes = Ok bytes
+value_in (Err how) bytes = Err how

@@ -7,23 +7,26 @@ use Rattle.af_outside.specs.Told.{Grew}
 use Rattle.af_outside.specs.Flow.{IsSpent}
 use Rattle.af_outside.specs.Dial.{GrewBack, ToldLink}
 use Rattle.af_request.specs.declared.reply.DeviceInfo.{DeviceInfo}
-use Rattle.af_tools.specs.declared.end.ToolEnd.{ToolEnd}
-use Rattle.af_tools.specs.declared.end.ToolEnd.TheVariants as end
+use Rattle.af_course.specs.declared.end.ToolEnd.{ToolEnd}
+use Rattle.af_course.specs.declared.end.ToolEnd.TheVariants as end
 use Rattle.af_jobs.specs.declared.job.Task.{Task}
 use Rattle.af_jobs.specs.declared.job.Task.TheVariants as task
-use Rattle.af_tools.specs.Course.{Course, Wire, dials, mismatch, next_message, no_device, not_dialled, set_up, unused}
+use Rattle.af_course.specs.Course.{Course, Wire, dials, mismatch, next_message, no_device, not_dialled, set_up, unused}
 use Rattle.af_tools.specs.Play.{aplay_course}
 use Rattle.af_tools.specs.Record.{arecord_course}
 use Rattle.af_tools.specs.Set.{aset_course}
 use Rattle.af_jobs.specs.declared.job.PassJob.{PassJob}
 use Rattle.af_jobs.specs.declared.job.PlayJob.{PlayJob}
-use Rattle.af_lib.specs.Calls.{answered, as_devices, setup_bytes}
-use Rattle.af_tools.specs.Pass.{Relay, alone, apass_course, dials_to, on_from, on_to, relay_course}
-use Rattle.af_tools.specs.Relayed.{IsRelayed}
+use Rattle.af_wire.specs.Front.{setup_bytes}
+use Rattle.af_lib.specs.Calls.{answered, as_devices}
+use Rattle.af_relay.specs.Pass.{Relay, apass_course, on_from, on_to}
+use Rattle.af_tools.specs.Dialled.{alone, dials_to, relay_course}
+use Rattle.af_relay.specs.Relayed.{IsRelayed}
 use Rattle.af_tools.specs.Intent.{IsPlayed}
 use Rattle.af_jobs.specs.Words.{Job, one, relay}
-use Rattle.af_tools.specs.Pair.{is_of_pass}
-use Rattle.af_tools.specs.Ends.{Ended, IsAnswered, is_of_play, is_outer}
+use Rattle.af_relay.specs.Pair.{is_of_pass}
+use Rattle.af_course.specs.Ends.{Ended, IsAnswered, is_outer}
+use Rattle.af_tools.specs.Ways.{is_of_play}
 
 -- the course of a task on a server that was set up
 abbrev pub task_course : Task → List DeviceInfo → List ℕ → Wire → Course

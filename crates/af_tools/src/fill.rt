@@ -2,8 +2,9 @@
 ghost use Rattle.std.specs.Prelude.{◌≡◌, ◌<◌, ◌≤◌, ◌^◌, length, take, Err, IfOk, IsErrOf};
 ghost use Rattle.af_outside.specs.Told.{Gave, Rose};
 ghost use Rattle.af_outside.specs.Flow.{IsSpent};
-ghost use Rattle.af_tools.specs.Ends.{GaveAbove, GaveUpTo};
+ghost use Rattle.af_tools.specs.Fill.{fill_end, GaveAbove, GaveUpTo};
 
+use af_course::ToolEnd;
 use af_outside::{Got, Source};
 
 /// Why a source gave no block.
@@ -12,6 +13,18 @@ pub enum FillFault {
     ReadFault,
     /// More came than was allowed.
     TooLong,
+}
+
+impl From<FillFault> for ToolEnd {
+    ghost from_gives = { λ fault end. end ≡ fill_end fault };
+
+    /// The end of a tool whose source gave no block.
+    fn from(fault: FillFault) -> ToolEnd {
+        match fault {
+            FillFault::ReadFault => ToolEnd::ReadFault,
+            FillFault::TooLong => ToolEnd::TooLong,
+        }
+    }
 }
 
 /// Reads until the block is full or the source has ended: how many bytes it has. At most so many bytes are allowed.

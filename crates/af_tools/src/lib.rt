@@ -1,12 +1,8 @@
 //! The tools: what they send, read and write, by their words.
 #![tactic(auto)]
 
-mod device;
-mod end;
 mod fill;
 pub mod laws;
-mod pass;
-mod passer;
 mod play;
 mod player;
 mod record;
@@ -17,12 +13,10 @@ mod run;
 mod set;
 mod setter;
 mod standing;
-mod talk;
-mod text;
 
+pub use af_course::ToolEnd;
 pub use af_jobs::{PassJob, PlayJob, RecordJob, SetJob};
-pub use end::ToolEnd;
-pub use passer::apass;
+pub use af_relay::apass;
 pub use player::aplay;
 pub use recorder::arecord;
 pub use run::af_run;

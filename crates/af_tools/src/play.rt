@@ -5,13 +5,14 @@ ghost use Rattle.std.specs.declared.option.Option.TheVariants.{None, Some};
 ghost use Rattle.af_outside.specs.Told.{Rose};
 ghost use Rattle.af_outside.specs.Flow.{IsSpent, Written};
 ghost use Rattle.af_sample.specs.SampleTypes.{width_of};
-ghost use Rattle.af_tools.specs.Course.{asks};
+ghost use Rattle.af_course.specs.Course.{asks};
 ghost use Rattle.af_tools.specs.Play.{blocks, played, plays, start_at};
-ghost use Rattle.af_tools.specs.Ends.{is_of_blocks, wire_of, GaveTooMuch, GaveWithin, Goes, Holds};
+ghost use Rattle.af_tools.specs.Ways.{is_of_blocks};
+ghost use Rattle.af_course.specs.Ends.{wire_of, Goes, Holds};
+ghost use Rattle.af_tools.specs.Fill.{GaveTooMuch, GaveWithin};
 
-use crate::end::ToolEnd;
 use crate::fill::fill_block;
-use crate::talk::CONTEXT;
+use af_course::{CONTEXT, ToolEnd, time_behind};
 use af_lib::Conn;
 use af_outside::{Link, Source};
 use af_time::DevTime;
@@ -56,11 +57,4 @@ pub fn play_blocks<L: Link + Drop, S: Source>(
             return Ok(frames);
         }
     }
-}
-
-/// The time of a frame behind so many from a start on.
-pub fn time_behind(start: DevTime, frames: u64) -> DevTime
-    ensures { result.0 ≡ (start.0 + frames) % 2 ^ 32 }
-{
-    start.after((frames % (1 << 32)) as u32)
 }

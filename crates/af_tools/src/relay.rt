@@ -4,18 +4,18 @@ ghost use Rattle.std.specs.declared.option.Option.{Option};
 ghost use Rattle.std.specs.declared.option.Option.TheVariants.{None, Some};
 ghost use Rattle.af_outside.specs.Told.{Grew, Rose};
 ghost use Rattle.af_outside.specs.Dial.{ToldLink};
-ghost use Rattle.af_tools.specs.Both.{RelayedOver};
-ghost use Rattle.af_tools.specs.Ends.{wire_of};
-ghost use Rattle.af_tools.specs.Pass.{apass_course, connects_by, sending_to};
+ghost use Rattle.af_tools.specs.Dialled.{RelayedOver, connects_by};
+ghost use Rattle.af_course.specs.Ends.{wire_of};
+ghost use Rattle.af_relay.specs.Pass.{apass_course, sending_to};
 ghost use Rattle.af_tools.specs.Run.{is_of_over, is_of_relay, AskedFor, Ran, RanTo};
 ghost use Rattle.af_jobs.specs.Ranges.{IsAddress, IsPaced};
 ghost use Rattle.af_jobs.specs.Words.{relay};
 
-use crate::end::ToolEnd;
-use crate::passer::apass;
+use af_course::ToolEnd;
 use af_jobs::PassJob;
 use af_lib::Conn;
 use af_outside::{Dial, Dialed, Link, Sink};
+use af_relay::apass;
 use std::alloc::Global;
 
 // Sets the link to the other server up, and passes blocks to it. The link comes back.

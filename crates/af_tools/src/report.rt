@@ -2,12 +2,11 @@
 ghost use Rattle.std.specs.Prelude.{◌≡◌, ◌≤◌, List, ℕ, length, take, true};
 ghost use Rattle.std.specs.declared.option.Option.{Option};
 ghost use Rattle.af_outside.specs.Told.{Rose};
-ghost use Rattle.af_tools.specs.Course.{done, ends, writing};
+ghost use Rattle.af_course.specs.Course.{done, ends, writing};
 ghost use Rattle.af_tools.specs.Play.{played};
-ghost use Rattle.af_tools.specs.Ends.{is_of_report, Followed};
+ghost use Rattle.af_course.specs.Ends.{is_of_report, Followed};
 
-use crate::end::ToolEnd;
-use crate::text::{put, put_number, write_text};
+use af_course::{ToolEnd, put, put_number, write_text};
 use af_outside::Sink;
 use af_time::DevTime;
 

@@ -3,15 +3,14 @@ ghost use Rattle.std.specs.Prelude.{◌≡◌, ◌<◌, ◌≤◌, ◌↔◌, �
 ghost use Rattle.std.specs.declared.option.Option.{Option};
 ghost use Rattle.std.specs.declared.option.Option.TheVariants.{None, Some};
 ghost use Rattle.af_outside.specs.Told.{Rose};
-ghost use Rattle.af_tools.specs.Course.{done, ends, writing};
+ghost use Rattle.af_course.specs.Course.{done, ends, writing};
 ghost use Rattle.af_tools.specs.Set.{aset_course, standing_text};
-ghost use Rattle.af_tools.specs.Ends.{is_of_report, is_of_writer, wire_of, EndsByReply, Followed, IsAnswered};
+ghost use Rattle.af_course.specs.Ends.{is_of_report, wire_of, EndsByReply, Followed, IsAnswered};
+ghost use Rattle.af_tools.specs.Ways.{is_of_writer};
 
-use crate::device::device_with;
-use crate::end::ToolEnd;
 use crate::set::set_on;
 use crate::standing::{Standing, write_standing};
-use crate::text::write_text;
+use af_course::{ToolEnd, device_with, write_text};
 use af_jobs::SetJob;
 use af_lib::Conn;
 use af_outside::{Link, Sink};

@@ -2,7 +2,7 @@
 ghost use Rattle.std.specs.Prelude.{◌≡◌, ◌<◌, ◌≤◌, ◌+◌, ◌++◌, codes, length, take};
 ghost use Rattle.af_tools.specs.Set.{control_text, flag_text, line_text, standing_text};
 
-use crate::text::{put, put_gain};
+use af_course::{put, put_gain};
 use af_request::{Controls, Phone};
 use af_sample::Gain;
 

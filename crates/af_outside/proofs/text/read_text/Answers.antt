@@ -1,9 +1,9 @@
 use Rattle.std.proofs.Common.{◌≡◌, ℕ, ◌++◌, take, length, ap, rules, arith, refl, length-append, length-take, length-take-le}
-use Rattle.af_outside.proofs.Flowing.{gave_nothing, gave_more, gave_in_all}
+use Rattle.af_outside.proofs.Flowing.{gave_none, gave_on, gave_in_all}
 use Rattle.af_outside.proofs.text.read_text.Goals as goal
 
 pub loop-n-init : goal.loop-n-init
-loop-n-init g c = record { gave = rw c.new-text.ensures.items (gave_nothing _); within = rw c.new-text.ensures.items (omega arith); count = omega arith; room = refl }
+loop-n-init g c = record { gave = rw c.new-text.ensures.items (gave_none _); within = rw c.new-text.ensures.items (omega arith); count = omega arith; room = refl }
 
 pub loop-n-preserved : goal.loop-n-preserved
 loop-n-preserved g c =
@@ -19,11 +19,11 @@ returns-then-n-most-clause-long g c = λ e.
     let size : c.len.result ≡ length items = search rules in
     record {
       text = items ++ take n c.read.new.into;
-      gave = gave_more _ _ _ _ _ c.loop-n.invariant.gave c.in-Bytes.ensures.gave;
+      gave = gave_on _ _ _ _ _ c.loop-n.invariant.gave c.in-Bytes.ensures.gave;
       beyond = omega (arith, given, size, length-append items (take n c.read.new.into));
     }
 
 pub returns-then-is_err-clause-within : goal.returns-then-is_err-clause-within
 returns-then-is_err-clause-within g c = λ e.
     let all = c.loop-n.text.items ++ take c.in-Bytes.n c.read.new.into in
-    record { text = all; gave = gave_more _ _ _ _ _ c.loop-n.invariant.gave c.in-Bytes.ensures.gave; within = omega (arith, length-append {A = ℕ}, length-take {A = ℕ}) }
+    record { text = all; gave = gave_on _ _ _ _ _ c.loop-n.invariant.gave c.in-Bytes.ensures.gave; within = omega (arith, length-append {A = ℕ}, length-take {A = ℕ}) }

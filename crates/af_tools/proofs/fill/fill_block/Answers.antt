@@ -1,7 +1,7 @@
 use Rattle.std.proofs.Common.{◌-◌, ◌+◌, ◌≤◌, [], ◌++◌, length, take, rules, arith, append-nil, length-take-le}
 use borrow.Rule.Slice.PartMut.{post_of, put_mid}
 use Rattle.af_lib.proofs.Bytes.{Gave-part}
-use Rattle.af_tools.proofs.Growing.{gave_on}
+use Rattle.af_outside.proofs.Flowing.{gave_on}
 use Rattle.af_tools.proofs.fill.fill_block.Goals as goal
 
 pub loop-filled-preserved : goal.loop-filled-preserved

@@ -5,16 +5,16 @@ use Rattle.std.specs.declared.option.Option.{Option}
 use Rattle.af_outside.specs.Told.{Gave}
 use Rattle.af_request.specs.Asked.{play_run}
 use Rattle.af_lib.specs.Calls.{as_time, ConnState}
-use Rattle.af_tools.specs.declared.end.ToolEnd.{ToolEnd}
-use Rattle.af_tools.specs.declared.end.ToolEnd.TheVariants as end
+use Rattle.af_course.specs.declared.end.ToolEnd.{ToolEnd}
+use Rattle.af_course.specs.declared.end.ToolEnd.TheVariants as end
 use Rattle.af_tools.specs.declared.fill.FillFault.{FillFault}
 use Rattle.af_tools.specs.declared.fill.FillFault.TheVariants as fill
-use Rattle.af_tools.specs.Course.{fault_end}
-use Rattle.af_tools.specs.Fill.{fill_end}
+use Rattle.af_course.specs.Course.{fault_end}
+use Rattle.af_tools.specs.Fill.{fill_end, GaveAbove, GaveTooMuch, GaveUpTo}
 use Rattle.af_tools.specs.Play.{blocks, most_bytes, plays}
-use Rattle.af_tools.specs.Ends.{wire_of, GaveAbove, GaveTooMuch, GaveUpTo, Goes}
-use Rattle.af_tools.proofs.Growing.{gave_none, gave_on, gave_told}
-use Rattle.af_tools.proofs.Going.{asked_goes}
+use Rattle.af_course.specs.Ends.{wire_of, Goes}
+use Rattle.af_outside.proofs.Flowing.{gave_none, gave_on, gave_told}
+use Rattle.af_course.proofs.Going.{asked_goes}
 use Rattle.af_tools.proofs.Playing.{GaveAll}
 use Rattle.af_tools.proofs.PlaySteps.{is_read, play_begin, play_done, play_on, play_over, play_refused, play_stopped, play_too_long, samples_of}
 use Rattle.af_tools.proofs.play.play_blocks.Goals as goal

@@ -1,7 +1,7 @@
 use Rattle.std.proofs.Common.{◌≡◌, ◌≤◌, ◌+◌, ◌-◌, ◌^◌, ℕ, List, length, IsSome}
 use Rattle.std.specs.declared.option.Option.{Option}
 use Rattle.std.specs.declared.option.Option.TheVariants.{None, Some}
-use Rattle.af_tools.specs.Ends.{wire_of}
+use Rattle.af_course.specs.Ends.{wire_of}
 use Rattle.af_tools.proofs.Playing.{GaveAll, IsPlaying}
 use Rattle.af_tools.proofs.play.play_blocks.Given as goal
 

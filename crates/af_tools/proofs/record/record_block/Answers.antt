@@ -7,12 +7,12 @@ use Rattle.af_outside.specs.Told.{Grew}
 use Rattle.af_outside.specs.Flow.{GrewByPrefix}
 use Rattle.af_request.specs.Asked.{record_run}
 use Rattle.af_lib.specs.Calls.{as_recorded, Recorded}
-use Rattle.af_tools.specs.declared.end.ToolEnd.TheVariants as end
-use Rattle.af_tools.specs.Course.{Wire, asks, fault_end, writing}
+use Rattle.af_course.specs.declared.end.ToolEnd.TheVariants as end
+use Rattle.af_course.specs.Course.{Wire, asks, fault_end, writing}
 use Rattle.af_tools.specs.Record.{takes_block}
-use Rattle.af_tools.specs.Ends.{Goes, Part, wire_of}
-use Rattle.af_tools.proofs.Growing.{grew_none}
-use Rattle.af_tools.proofs.Going.{asked_goes, ended_early, goes_on, goes_stop}
+use Rattle.af_course.specs.Ends.{Goes, Part, wire_of}
+use Rattle.af_outside.proofs.Growing.{grew_none}
+use Rattle.af_course.proofs.Going.{asked_goes, ended_early, goes_on, goes_stop}
 use Rattle.af_tools.proofs.record.record_block.Goals as goal
 
 -- a block is written

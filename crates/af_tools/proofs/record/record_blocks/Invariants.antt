@@ -1,6 +1,6 @@
 use Rattle.std.proofs.Common.{◌≡◌, ◌≤◌, ◌<◌, ℕ, List, IsSome}
 use Rattle.std.specs.declared.option.Option.TheVariants.{None, Some}
-use Rattle.af_tools.specs.Ends.{wire_of}
+use Rattle.af_course.specs.Ends.{wire_of}
 use Rattle.af_tools.proofs.Recording.{IsRecording}
 use Rattle.af_tools.proofs.record.record_blocks.Given as goal
 

@@ -1,10 +1,11 @@
 use Rattle.std.proofs.Common.{◌≡◌, ℕ, false, true, ap, sym, ◌∙◌, subst, inl, inr}
-use Rattle.af_tools.specs.declared.end.ToolEnd.TheVariants as end
-use Rattle.af_tools.specs.Both.{FollowedBoth}
-use Rattle.af_tools.specs.Course.{fault_end}
-use Rattle.af_tools.specs.Ends.{wire_of}
-use Rattle.af_tools.specs.Pair.{is_of_pass}
-use Rattle.af_tools.specs.Pass.{apass_course, connects_by, sending_to}
+use Rattle.af_course.specs.declared.end.ToolEnd.TheVariants as end
+use Rattle.af_relay.specs.Both.{FollowedBoth}
+use Rattle.af_course.specs.Course.{fault_end}
+use Rattle.af_course.specs.Ends.{wire_of}
+use Rattle.af_relay.specs.Pair.{is_of_pass}
+use Rattle.af_relay.specs.Pass.{apass_course, sending_to}
+use Rattle.af_tools.specs.Dialled.{connects_by}
 use Rattle.af_tools.proofs.Relaying.{over_answered, over_none, over_refused, setup_memory}
 use Rattle.af_tools.proofs.relay.pass_over.Goals as goal
 

@@ -3,11 +3,11 @@ use Rattle.std.specs.declared.option.Option.{Option}
 use Rattle.clap.specs.Words.{Text}
 use Rattle.af_outside.specs.Told.{Grew}
 use Rattle.af_outside.specs.Dial.{GrewBack, IsFirstOf, ToldLink}
-use Rattle.af_tools.specs.declared.end.ToolEnd.TheVariants as end
-use Rattle.af_tools.specs.Course.{fault_end}
+use Rattle.af_course.specs.declared.end.ToolEnd.TheVariants as end
+use Rattle.af_course.specs.Course.{fault_end}
 use Rattle.af_tools.specs.Run.{RanTo}
 use Rattle.af_jobs.specs.Words.{relay}
-use Rattle.af_tools.proofs.Growing.{grew_on}
+use Rattle.af_outside.proofs.Growing.{grew_on}
 use Rattle.af_tools.proofs.Relaying.{never_done, ran_none, ran_over_links, ran_refused_links, ran_unset_links}
 use Rattle.af_tools.proofs.relay.run_relay.Goals as goal
 

@@ -1,8 +1,8 @@
 use Rattle.std.proofs.Common.{List, ℕ, refl, ap, ◌∙◌, subst}
 use Rattle.std.specs.declared.option.Option.{Option}
 use Rattle.af_outside.specs.Dial.{GrewBack, IsFirstOf, ToldLink}
-use Rattle.af_tools.specs.declared.end.ToolEnd.TheVariants as end
-use Rattle.af_tools.specs.Ends.{wire_of}
+use Rattle.af_course.specs.declared.end.ToolEnd.TheVariants as end
+use Rattle.af_course.specs.Ends.{wire_of}
 use Rattle.af_tools.proofs.Relaying.{to_none, to_over_links}
 use Rattle.af_tools.proofs.relay.run_to.Goals as goal
 

@@ -1,7 +1,7 @@
 use Rattle.std.proofs.Common.{List, refl, ◌∙◌, subst}
 use Rattle.std.specs.declared.option.Option.{Option}
 use Rattle.af_outside.specs.Dial.{IsFirstOf, ToldLink}
-use Rattle.af_tools.specs.declared.end.ToolEnd.TheVariants as end
+use Rattle.af_course.specs.declared.end.ToolEnd.TheVariants as end
 use Rattle.af_tools.specs.Run.{one_course, task_course}
 use Rattle.af_tools.proofs.Running.{ran_early, ran_over}
 use Rattle.af_tools.proofs.run.run_one.Goals as goal

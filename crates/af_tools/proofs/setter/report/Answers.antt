@@ -1,6 +1,6 @@
 use Rattle.std.proofs.Common.{List, ℕ, subst}
-use Rattle.af_tools.specs.Course.{done, ends, writing}
-use Rattle.af_tools.specs.Ends.{Followed}
+use Rattle.af_course.specs.Course.{done, ends, writing}
+use Rattle.af_course.specs.Ends.{Followed}
 use Rattle.af_tools.proofs.setter.report.Goals as goal
 
 pub returns-clause-followed : goal.returns-clause-followed

@@ -1,0 +1,124 @@
+-- The course of a tool: what it sends on its link, what it writes, and why it ends, by what the link gives. A tool sends each
+-- request when the reply to the one before it was read, so a course goes on from reply to reply.
+use Rattle.std.specs.Prelude.{ℕ, List, [], ◌∷◌, ◌++◌, length, slice_get, Result, Ok, Err}
+use Rattle.std.specs.declared.option.Option.{Option}
+use Rattle.std.specs.declared.option.Option.TheVariants.{None, Some}
+use Rattle.af_request.specs.declared.reply.DeviceInfo.{DeviceInfo}
+use Rattle.af_time.specs.declared.DevTime.{DevTime}
+use Rattle.af_request.specs.Asked.{Asked, get_time}
+use Rattle.af_request.specs.Answer.{Answer}
+use Rattle.af_request.specs.Requests.{request_bytes}
+use Rattle.af_lib.specs.declared.fault.ConnFault.{ConnFault}
+use Rattle.af_lib.specs.declared.fault.ConnFault.TheVariants as fault
+use Rattle.af_lib.specs.Ring.{RingState}
+use Rattle.af_lib.specs.Incoming.{Awaited, awaited}
+use Rattle.af_wire.specs.Front.{setup_bytes}
+use Rattle.af_lib.specs.Calls.{answered, as_devices, as_done, as_time, following, opcode_of}
+use Rattle.af_outside.specs.Dial.{ToldLink}
+use Rattle.af_course.specs.declared.end.ToolEnd.{ToolEnd}
+use Rattle.af_course.specs.declared.end.ToolEnd.TheVariants as end
+
+-- how far a client has come with what its link gives: the number of its last request, its ring of events, and the bytes that
+-- it has not taken
+pub record Wire : Type 0 where
+  pub sequence : ℕ
+  pub ring : RingState
+  pub input : List ℕ
+
+-- why a tool ends
+pub data Finish : Type 0 where
+  done : Finish
+  not_dialled : Finish
+  no_device : (devices : ℕ) → Finish
+  -- two devices have these different rates
+  mismatch : (from to : ℕ) → Finish
+  too_long : Finish
+  -- a request was answered with this fault
+  refused : (fault : ConnFault) → Finish
+
+pub record Course : Type 0 where
+  pub sends : List ℕ
+  pub output : List ℕ
+  pub finish : Finish
+
+-- nothing more is sent or written
+abbrev pub ends : Finish → Course
+ends finish = record { sends = []; output = []; finish = finish }
+
+-- these bytes are sent first
+abbrev pub sending : List ℕ → Course → Course
+sending bytes c = record { sends = bytes ++ c.sends; output = c.output; finish = c.finish }
+
+-- these bytes are written first
+abbrev pub writing : List ℕ → Course → Course
+writing bytes c = record { sends = c.sends; output = bytes ++ c.output; finish = c.finish }
+
+-- what follows an answer: a fault ends the tool
+abbrev pub answered_by : {X : Type 0} → Result X ConnFault → Wire → (X → Wire → Course) → Course
+answered_by (Ok x) w next = next x w
+answered_by (Err fault) w next = ends (refused fault)
+
+-- the message that a client awaits next
+abbrev pub next_message : Wire → Awaited
+next_message w = awaited 4096 w.ring w.input
+
+-- a client that has sent a request and taken its answer
+abbrev pub behind : Wire → Wire
+behind w = record { sequence = following w.sequence; ring = (next_message w).ring; input = (next_message w).rest }
+
+-- what the link answers to a request
+abbrev pub answer_on : {X : Type 0} → Asked → (Answer → Option X) → Wire → Result X ConnFault
+answer_on asked value_of w = answered value_of (opcode_of asked) (following w.sequence) (next_message w).found
+
+-- a request is sent, and what follows goes by its answer
+unfoldable pub asks : {X : Type 0} → Asked → (Answer → Option X) → Wire → (X → Wire → Course) → Course
+asks asked value_of w next = sending (request_bytes asked) (answered_by (answer_on asked value_of w) (behind w) next)
+
+-- a context is made, and the time of its device asked
+abbrev pub begins : Asked → ℕ → Wire → (DevTime → Wire → Course) → Course
+begins context device w next = asks context as_done w (λ _ v. asks (get_time device) as_time v next)
+
+-- a tool is about the device with this number, which is to be there
+abbrev pub on_device : Option DeviceInfo → ℕ → (DeviceInfo → Course) → Course
+on_device (Some device) devices next = next device
+on_device None devices next = ends (no_device devices)
+
+abbrev pub with_device : ℕ → List DeviceInfo → (DeviceInfo → Course) → Course
+with_device number devices next = on_device (slice_get devices number) (length devices) next
+
+-- a client whose link gives these bytes, before its setup
+abbrev pub unused : List ℕ → Wire
+unused input = record { sequence = 0; ring = record { events = []; lost = 0 }; input = input }
+
+-- a client that has taken the answer to its setup
+abbrev pub set_up : List ℕ → Wire
+set_up input = record { sequence = 0; ring = (next_message (unused input)).ring; input = (next_message (unused input)).rest }
+
+-- the setup is sent, and what follows goes by the devices of its answer
+unfoldable pub connects : List ℕ → (List DeviceInfo → Wire → Course) → Course
+connects input next =
+    sending setup_bytes (answered_by (answered as_devices 0 0 (next_message (unused input)).found) (set_up input) next)
+
+-- the first link that a dial gives is set up
+abbrev pub dials : List ToldLink → (List DeviceInfo → Wire → Course) → Course
+dials [] next = ends not_dialled
+dials (link ∷ links) next = connects link.gives next
+
+-- how a tool ends at a fault of its connection
+abbrev pub fault_end : ConnFault → ToolEnd
+fault_end fault.LinkFault = end.LinkFault
+fault_end fault.LinkEnded = end.LinkEnded
+fault_end (fault.Spent first) = end.LinkFault
+fault_end (fault.ServerError code value) = end.Refused code value
+fault_end (fault.BadReply header first) = end.BadReply header first
+fault_end fault.OutOfMemory = end.OutOfMemory
+fault_end fault.EventFlood = end.EventFlood
+
+-- how a tool ends
+abbrev pub end_of : Finish → ToolEnd
+end_of done = end.Done
+end_of not_dialled = end.DialFault
+end_of (no_device devices) = end.NoDevice devices
+end_of (mismatch from to) = end.RateMismatch from to
+end_of too_long = end.TooLong
+end_of (refused fault) = fault_end fault

@@ -1,0 +1,5 @@
+pub mod Pairing
+pub mod Passing
+pub mod PassTop
+pub mod Wording
+pub mod Passable

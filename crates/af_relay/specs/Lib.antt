@@ -1,0 +1,4 @@
+pub mod Pass
+pub mod Both
+pub mod Relayed
+pub mod Pair

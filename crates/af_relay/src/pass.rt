@@ -1,0 +1,145 @@
+// Block behind block is recorded on one server, and played on another.
+ghost use Rattle.std.specs.Prelude.{◌≡◌, ◌<◌, ◌≤◌, ◌+◌, ◌^◌, ℕ, List, true, length, IfErr, IfOk};
+ghost use Rattle.std.specs.declared.option.Option.{Option};
+ghost use Rattle.std.specs.declared.option.Option.TheVariants.{None, Some};
+ghost use Rattle.af_relay.specs.Pass.{has_drifted, in_step, none_passed, passed_on, passes, passes_block, place_of};
+ghost use Rattle.af_relay.specs.Both.{GoesBoth, HoldsBoth};
+ghost use Rattle.af_course.specs.Ends.{is_of_link, wire_of};
+
+use af_course::{CONTEXT, ToolEnd, time_behind};
+use af_jobs::PassJob;
+use af_lib::Conn;
+use af_outside::Link;
+use af_time::DevTime;
+
+/// The pace of a relay: the bytes of a block, and in frames how far ahead of the other server's time it plays, and by how much
+/// it may drift from that.
+#[derive(Clone, Copy)]
+pub struct Pace {
+    pub size: u32,
+    pub delay: u64,
+    pub slack: u64,
+}
+
+/// When a block is played, and whether the relay fell in step anew for it.
+#[derive(Clone, Copy)]
+pub struct Place {
+    pub time: DevTime,
+    pub resynced: bool,
+}
+
+/// How far a relay has come: when the next block is recorded, when it is due to be played where one was played before, and how
+/// often the relay fell in step anew.
+#[derive(Clone, Copy)]
+pub struct Passed {
+    pub at: DevTime,
+    pub due: Option<DevTime>,
+    pub resynced: u32,
+}
+
+// Whether a block that is due then is too far from where it is to be.
+fn has_drifted(due: DevTime, now: DevTime, delay: u64, slack: u64) -> bool
+    requires { delay < 2 ^ 40 }
+    ensures { result ≡ has_drifted due now delay slack }
+{
+    let ahead = i64::from(due.diff(now)) - delay as i64;
+    ahead.unsigned_abs() > slack
+}
+
+// The place of a block in step with the other server, where its time is now.
+fn in_step(now: DevTime, delay: u64, resynced: bool) -> Place
+    ensures { result ≡ in_step now delay resynced }
+{
+    Place {
+        time: time_behind(now, delay),
+        resynced,
+    }
+}
+
+// When a block is played, where the other server's time is now.
+fn place_of(due: Option<DevTime>, now: DevTime, delay: u64, slack: u64) -> Place
+    requires { delay < 2 ^ 40 }
+    ensures { result ≡ place_of due now delay slack }
+{
+    let Some(due) = due else {
+        return in_step(now, delay, false);
+    };
+    if has_drifted(due, now, delay, slack) {
+        in_step(now, delay, true)
+    } else {
+        Place {
+            time: due,
+            resynced: false,
+        }
+    }
+}
+
+// How far a relay has come behind one more block of so many frames.
+fn passed_on(passed: Passed, place: Place, frames: u32) -> Passed
+    requires { passed.resynced + 1 < 2 ^ 32 }
+    ensures value { result ≡ passed_on passed place frames }
+    ensures few { result.resynced ≤ passed.resynced + 1 }
+{
+    Passed {
+        at: passed.at.after(frames),
+        due: Some(place.time.after(frames)),
+        resynced: passed.resynced + u32::from(place.resynced),
+    }
+}
+
+// Records a block on the one server, and plays it on the other.
+fn pass_block<L: Link + Drop, M: Link + Drop>(
+    job: &PassJob,
+    pace: Pace,
+    passed: Passed,
+    from: &mut Conn<L>,
+    to: &mut Conn<M>,
+    block: &mut [u8],
+) -> Result<Passed, ToolEnd>
+    requires usable { (from.old.cause ≡ None) × (to.old.cause ≡ None) }
+    requires block { (length block.old ≡ pace.size) × (length block.old ≤ 16000) }
+    requires pace { pace.delay < 2 ^ 40 }
+    requires few { passed.resynced + 1 < 2 ^ 32 }
+    ensures goes { (v w : List ℕ) → L.left from.old.link ≡ Some v → M.left to.old.link ≡ Some w →
+        GoesBoth (passes_block job.now pace passed (wire_of from.old v) (wire_of to.old w)) result (L.left from.new.link) (wire_of from.new) (L.sent from.old.link) (L.sent from.new.link) (M.left to.new.link) (wire_of to.new) (M.sent to.old.link) (M.sent to.new.link) }
+    ensures holds { HoldsBoth L.left L.faults M.left M.faults from.old from.new to.old to.new result }
+    ensures end { IfErr result (λ how. is_of_link how ≡ true) }
+    ensures few { IfOk result (λ p. p.resynced ≤ passed.resynced + 1) }
+    ensures size { length block.new ≡ length block.old }
+{
+    from.record_run(CONTEXT, passed.at, true, block)?;
+    let now = to.get_time(job.to_device)?;
+    let place = place_of(passed.due, now, pace.delay, pace.slack);
+    to.play_run(CONTEXT, place.time, block)?;
+    Ok(passed_on(passed, place, job.block))
+}
+
+/// Passes all blocks of a job, the first of them recorded from a time on.
+pub fn pass_blocks<L: Link + Drop, M: Link + Drop>(
+    job: &PassJob,
+    pace: Pace,
+    start: DevTime,
+    from: &mut Conn<L>,
+    to: &mut Conn<M>,
+    block: &mut [u8],
+) -> Result<Passed, ToolEnd>
+    requires usable { (from.old.cause ≡ None) × (to.old.cause ≡ None) }
+    requires block { (length block.old ≡ pace.size) × (length block.old ≤ 16000) }
+    requires pace { pace.delay < 2 ^ 40 }
+    ensures goes { (v w : List ℕ) → L.left from.old.link ≡ Some v → M.left to.old.link ≡ Some w →
+        GoesBoth (passes job.now.blocks job.now pace (none_passed start) (wire_of from.old v) (wire_of to.old w)) result (L.left from.new.link) (wire_of from.new) (L.sent from.old.link) (L.sent from.new.link) (M.left to.new.link) (wire_of to.new) (M.sent to.old.link) (M.sent to.new.link) }
+    ensures holds { HoldsBoth L.left L.faults M.left M.faults from.old from.new to.old to.new result }
+    ensures end { IfErr result (λ how. is_of_link how ≡ true) }
+{
+    let mut passed = Passed {
+        at: start,
+        due: None,
+        resynced: 0,
+    };
+    let mut left = job.blocks;
+    while left > 0 {
+        passed = pass_block(job, pace, passed, from, to, block)?;
+        left -= 1;
+    }
+    Ok(passed)
+}

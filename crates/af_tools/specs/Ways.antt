@@ -1,0 +1,32 @@
+-- The ends that a tool of one link may have, and those of its parts that do more than to send requests and take their replies.
+use Rattle.std.specs.Prelude.{Bool, true}
+use Rattle.af_course.specs.declared.end.ToolEnd.{ToolEnd}
+use Rattle.af_course.specs.declared.end.ToolEnd.TheVariants as end
+use Rattle.af_course.specs.Ends.{is_of_link}
+
+-- the ends of a part that also reads the source
+abbrev pub is_of_blocks : ToolEnd → Bool
+is_of_blocks end.ReadFault = true
+is_of_blocks end.TooLong = true
+is_of_blocks how = is_of_link how
+
+-- the ends of a part that also writes
+abbrev pub is_of_records : ToolEnd → Bool
+is_of_records end.SinkFault = true
+is_of_records how = is_of_link how
+
+-- a tool may also end in another way than by its link
+abbrev pub is_of_play : ToolEnd → Bool
+is_of_play end.Done = true
+is_of_play (end.NoDevice devices) = true
+is_of_play end.ReadFault = true
+is_of_play end.TooLong = true
+is_of_play end.SinkFault = true
+is_of_play how = is_of_link how
+
+-- the ends of a tool that reads no source
+abbrev pub is_of_writer : ToolEnd → Bool
+is_of_writer end.Done = true
+is_of_writer (end.NoDevice devices) = true
+is_of_writer end.SinkFault = true
+is_of_writer how = is_of_link how

@@ -73,3 +73,22 @@ is_done course how s s' h h' f finish answered inner = elim finish [
   | inl is ↦ (f.ended.whole inner).0 ∙ ap end_of is
   | inr r ↦ absurd (answered r.0 r.1)
 ]
+
+-- no fault is done
+pub fault_undone : (f : ConnFault) → fault_end f ≡ end.Done → ⊥
+fault_undone fault.LinkFault is = cc
+fault_undone fault.LinkEnded is = cc
+fault_undone (fault.Spent first) is = cc
+fault_undone (fault.ServerError code value) is = cc
+fault_undone (fault.BadReply header first) is = cc
+fault_undone fault.OutOfMemory is = cc
+fault_undone fault.EventFlood is = cc
+
+-- only a course that is done to its end is told as done
+pub finish_done : (f : Finish) → end_of f ≡ end.Done → f ≡ done
+finish_done done is = refl
+finish_done not_dialled is = absurd (cc)
+finish_done (no_device devices) is = absurd (cc)
+finish_done (mismatch from to) is = absurd (cc)
+finish_done too_long is = absurd (cc)
+finish_done (refused f) is = absurd (fault_undone f is)

@@ -8,7 +8,8 @@ use Rattle.af_wire.specs.declared.message_front.MessageFront.TheVariants.{NeedMo
 use Rattle.af_wire.specs.MessageFront.{message_front}
 use Rattle.af_lib.specs.Told.{BothTold}
 use Rattle.af_lib.specs.Receive.{IsWhole, IsCut}
-use Rattle.af_lib.proofs.Bytes.{BothTold-map, BothTold-Gave, BothTold-behind, gave_on}
+use Rattle.af_outside.proofs.Flowing.{gave_on}
+use Rattle.af_lib.proofs.Bytes.{BothTold-map, BothTold-Gave, BothTold-behind}
 use Rattle.af_lib.proofs.Fronts.{whole-longer, cut-longer, bad-longer, head-longer, short-cut}
 
 -- the link ended within a head

@@ -17,7 +17,6 @@ use Rattle.af_request.specs.Requests.{request_bytes}
 use Rattle.af_request.specs.Replies.{IsStated}
 use Rattle.af_request.proofs.ReplyTrips.{rate_below}
 use Rattle.af_lib.specs.declared.fault.ConnFault.{ConnFault}
-use Rattle.af_lib.specs.declared.fault.ConnFault.TheVariants as fault
 use Rattle.af_lib.specs.Calls.{as_done, as_recorded, as_time, Recorded}
 use Rattle.af_course.specs.declared.end.ToolEnd.{ToolEnd}
 use Rattle.af_course.specs.declared.end.ToolEnd.TheVariants as end
@@ -27,7 +26,8 @@ use Rattle.af_course.specs.Ends.{is_outer}
 use Rattle.af_relay.specs.declared.pass.Pace.{Pace}
 use Rattle.af_relay.specs.declared.pass.Passed.{Passed}
 use Rattle.af_relay.specs.declared.pass.Place.{Place}
-use Rattle.af_course.specs.Course.{Finish, Wire, answer_on, behind, done, end_of, mismatch, no_device, not_dialled, refused, too_long}
+use Rattle.af_course.proofs.Endings.{finish_done}
+use Rattle.af_course.specs.Course.{Wire, answer_on, behind, done, mismatch}
 use Rattle.af_jobs.specs.Ranges.{IsPaced}
 use Rattle.af_relay.specs.Pass.{Relay, after, apass_course, as_word, asks_by, asks_from, asks_to, at_one_rate, begins_both, ends_both, ends_contexts, from_context, has_drifted, in_step, none_passed, on_one, pace_of, passed_between, passed_on, passed_text, passes, passes_block, place_of, relayed_by, sending_from, sending_to, to_context}
 use Rattle.af_relay.specs.Relayed.{AreTold, IsRelayed, PassedBlock, Relayed, is_moved, moves, plays, record_replies, records, reply_then, samples_of, type_from}
@@ -233,20 +233,6 @@ course_relayed job from to v w stated paced is =
     let small = few_frames d.0 job.delay (stated d.0 d.1) paced.2 in
     (d.0, d.1, between_done job d.0 v w (apass_course job from to v w) d.2 small is)
 
-pub finish_done : (f : Finish) → end.Done ≡ end_of f → f ≡ done
-finish_done done is = refl
-finish_done not_dialled is = cc
-finish_done (no_device devices) is = cc
-finish_done (mismatch from to) is = cc
-finish_done too_long is = cc
-finish_done (refused fault.LinkFault) is = cc
-finish_done (refused fault.LinkEnded) is = cc
-finish_done (refused (fault.Spent first)) is = cc
-finish_done (refused (fault.ServerError code value)) is = cc
-finish_done (refused (fault.BadReply header first)) is = cc
-finish_done (refused fault.OutOfMemory) is = cc
-finish_done (refused fault.EventFlood) is = cc
-
 all_sent : (whole part rest : List ℕ) (s s' : Option (List ℕ)) → whole ≡ part ++ rest → rest ≡ [] → Grew s part s' → Grew s whole s'
 all_sent whole part rest s s' is none grew = subst (λ (l : List ℕ). Grew s l s') (sym (is ∙ ap (λ (l : List ℕ). part ++ l) none ∙ append-nil part)) grew
 
@@ -257,7 +243,7 @@ is_relayed job from to v w how s s' t t' h h' f stated paced way =
     let relay = apass_course job from to v w in
     let r = f.recorded.whole (ap is_outer way) in
     let p = f.played.whole (ap is_outer way) in
-    let c = course_relayed job from to v w stated paced (finish_done relay.finish (sym way ∙ r.0)) in
+    let c = course_relayed job from to v w stated paced (finish_done relay.finish (sym r.0 ∙ way)) in
     record {
       device = c.0;
       is_there = c.1;

@@ -31,7 +31,8 @@ use Rattle.af_course.specs.Ends.{Followed, is_outer}
 use Rattle.af_relay.specs.Relayed.{IsRelayed}
 use Rattle.af_tools.specs.Run.{GaveBack, PlayRan, Ran, RelayRan, one_course}
 use Rattle.af_jobs.specs.Words.{one, relay}
-use Rattle.af_relay.proofs.Passable.{answered_from, answered_to, course_relayed, finish_done}
+use Rattle.af_course.proofs.Endings.{finish_done}
+use Rattle.af_relay.proofs.Passable.{answered_from, answered_to, course_relayed}
 use Rattle.af_tools.proofs.Played.{answered_done, is_played}
 
 -- what was sent, where nothing is unsent
@@ -119,7 +120,7 @@ ran_relayed from to job bytes how links links' held held' back back' r paced way
     let course = relay_course job links in
     let a = r.recorded.whole (ap is_outer way) in
     let p = r.played.whole (ap is_outer way) in
-    let b = behind_both job links held held' paced (finish_done course.finish (sym way ∙ a.0)) in
+    let b = behind_both job links held held' paced (finish_done course.finish (sym a.0 ∙ way)) in
     let from_is = sent_all course.from r.sends_from r.recorded.unsent (setup_bytes ++ b.part.from) r.recorded.sent a.1 (ap (λ (x : Relay). x.from) b.whole) in
     let to_is = sent_all course.to r.sends_to r.played.unsent (setup_bytes ++ b.part.to) r.played.sent p.1 (ap (λ (x : Relay). x.to) b.whole) in
     let output_is = sent_all course.output r.output r.recorded.unwritten b.part.output r.recorded.wrote a.2 (ap (λ (x : Relay). x.output) b.whole) in
@@ -175,7 +176,7 @@ ran_played server job bytes how links links' held held' back back' r some way =
     let course = one_course (task.Play job) links bytes in
     let a = r.recorded.whole (ap is_outer way) in
     let p = r.played.whole (ap is_outer way) in
-    let finish = finish_done course.finish (sym way ∙ a.0) in
+    let finish = finish_done course.finish (sym a.0 ∙ way) in
     let b = behind_setup job bytes links finish in
     let w = set_up b.first.gives in
     let inner = aplay_course job b.devices bytes w in

@@ -14,12 +14,12 @@ use Rattle.af_request.specs.Asked.{Asked, free_ac, get_time, play_run}
 use Rattle.af_request.specs.Answer.{Answer}
 use Rattle.af_request.specs.Requests.{request_bytes}
 use Rattle.af_lib.specs.declared.fault.ConnFault.{ConnFault}
-use Rattle.af_lib.specs.declared.fault.ConnFault.TheVariants as fault
 use Rattle.af_lib.specs.Calls.{as_done, as_time}
 use Rattle.af_course.specs.declared.end.ToolEnd.{ToolEnd}
 use Rattle.af_course.specs.declared.end.ToolEnd.TheVariants as end
 use Rattle.af_jobs.specs.declared.job.PlayJob.{PlayJob}
-use Rattle.af_course.specs.Course.{Course, Finish, Wire, answer_on, answered_by, asks, behind, done, end_of, ends, fault_end, mismatch, no_device, not_dialled, on_device, refused, sending, too_long, writing}
+use Rattle.af_course.proofs.Endings.{finish_done}
+use Rattle.af_course.specs.Course.{Course, Wire, answer_on, answered_by, asks, behind, done, ends, on_device, sending, too_long, writing}
 use Rattle.af_tools.specs.Play.{aplay_course, blocks, frames_in, most_bytes, play_context, played, played_on, plays, start_at, whole_frames}
 use Rattle.af_course.specs.Ends.{Followed, is_outer}
 use Rattle.af_tools.specs.Blocks.{sent_behind, sent_blocks, Block}
@@ -116,23 +116,6 @@ done_on job device bytes w next way =
 on_device_done : (o : Option DeviceInfo) (n : ℕ) (next : DeviceInfo → Course) → (on_device o n next).finish ≡ done → (device : DeviceInfo) × (o ≡ Some device) × (on_device o n next ≡ next device)
 on_device_done (Some device) n next way = (device, refl, refl)
 on_device_done None n next way = absurd (cc)
-
-fault_not_done : (f : ConnFault) → fault_end f ≡ end.Done → ⊥
-fault_not_done fault.LinkFault is = cc
-fault_not_done fault.LinkEnded is = cc
-fault_not_done (fault.Spent first) is = cc
-fault_not_done (fault.ServerError code value) is = cc
-fault_not_done (fault.BadReply header first) is = cc
-fault_not_done fault.OutOfMemory is = cc
-fault_not_done fault.EventFlood is = cc
-
-finish_done : (f : Finish) → end_of f ≡ end.Done → f ≡ done
-finish_done done is = refl
-finish_done not_dialled is = absurd (cc)
-finish_done (no_device devices) is = absurd (cc)
-finish_done (mismatch from to) is = absurd (cc)
-finish_done too_long is = absurd (cc)
-finish_done (refused f) is = absurd (fault_not_done f is)
 
 whole_part : (all part rest : List ℕ) (known : List ℕ) → all ≡ part ++ rest → rest ≡ [] → all ≡ known ++ [] → part ≡ known
 whole_part all part rest known is none same = sym (append-nil part) ∙ ap (λ (r : List ℕ). part ++ r) (sym none) ∙ sym is ∙ same ∙ append-nil known

@@ -242,16 +242,6 @@ module _ (from to : Text) (job : PassJob) (bytes : List ℕ) where
       let e = g.came next in
       ran_first (fault_end f) link rest links' links'' (sent old) (sent new) held back back' back'' g.sends e.0 e.1 is_sent g.link is_rest is_back entry is_links (λ memory. absurd (never memory))
 
--- a fault that a setup answers is no want of memory, and no fault is done
-pub never_done : (f : ConnFault) → fault_end f ≡ end.Done → ⊥
-never_done fault.LinkFault e = cc
-never_done fault.LinkEnded e = cc
-never_done (fault.ServerError code value) e = cc
-never_done (fault.BadReply header first) e = cc
-never_done fault.OutOfMemory e = cc
-never_done fault.EventFlood e = cc
-never_done (fault.Spent first) e = cc
-
 -- a relay is not too long
 rate_short : (b : Bool) (next : Relay) (x y : ℕ) → IsShort next.finish → IsShort (if b then next else ends_both (mismatch x y)).finish
 rate_short true next x y short = short

@@ -8,7 +8,8 @@ use Rattle.af_course.specs.Course.{fault_end}
 use Rattle.af_tools.specs.Run.{RanTo}
 use Rattle.af_jobs.specs.Words.{relay}
 use Rattle.af_outside.proofs.Growing.{grew_on}
-use Rattle.af_tools.proofs.Relaying.{never_done, ran_none, ran_over_links, ran_refused_links, ran_unset_links}
+use Rattle.af_course.proofs.Endings.{fault_undone}
+use Rattle.af_tools.proofs.Relaying.{ran_none, ran_over_links, ran_refused_links, ran_unset_links}
 use Rattle.af_tools.proofs.relay.run_relay.Goals as goal
 
 pub returns-in-Ok-clause-ran : goal.returns-in-Ok-clause-ran
@@ -50,7 +51,7 @@ returns-in-Err-clause-asked g c =
       whole = refl;
       grew = subst (λ (x : Option (List Text)). Grew (g.D.Dial.asked c.args.dial.now) (c.args.from.now ∷ []) x) (sym c.hang_up.ensures.asked) c.in-Far.ensures.asked;
       none = λ e. cc;
-      all = λ done. absurd (never_done c.in-Err.fault (sym way ∙ done));
+      all = λ done. absurd (fault_undone c.in-Err.fault (sym way ∙ done));
     }
 
 pub returns-in-Failed-clause-ran : goal.returns-in-Failed-clause-ran

@@ -14,13 +14,13 @@ use Rattle.af_model.specs.Advance.{advance, or_else}
 use Rattle.af_model.specs.Tick.{answer_held, complete, complete_at, complete_by, complete_due, complete_first, complete_for, complete_step, completing}
 use Rattle.af_model.proofs.Tests.{both-true}
 use Rattle.af_model.proofs.Slots.{some_link, slot_link, links_of-set}
-use Rattle.af_perform.specs.Kept.{KeptDevice, StandsForDevice}
+use Rattle.af_kept.specs.Kept.{KeptDevice, StandsForDevice}
 use Rattle.af_perform.specs.Waits.{KeptWait, has_waiting, kept_due, worded, EndsWithin, Grows, IsNear, StandForWaits}
 use Rattle.af_perform.specs.Places.{At, StandAround}
-use Rattle.af_perform.proofs.Devices.{state_there}
+use Rattle.af_kept.proofs.Devices.{state_there}
 use Rattle.af_perform.proofs.Keeping.{dues, dues_few, dues_grown, dues_taken, first_due, grows_others, length-waits, none_due}
 use Rattle.af_perform.proofs.Requests.{stands_here}
-use Rattle.af_perform.proofs.Sounding.{near_start, within-same}
+use Rattle.af_kept.proofs.Sounding.{near_start, within-same}
 use Rattle.af_core.specs.Stands.{AtDoor, CompletesTo, StandsFor}
 
 -- The first that is due

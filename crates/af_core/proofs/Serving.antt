@@ -18,7 +18,7 @@ use Rattle.af_model.specs.Turn.{behind, and_then, then_go, take_one, wants_read,
 use Rattle.af_model.proofs.Tests.{both-true}
 use Rattle.af_model.proofs.Lists.{get-set_other}
 use Rattle.af_model.proofs.Slots.{some_link, slot_link, links_of-set, length-links_of}
-use Rattle.af_perform.specs.Kept.{KeptDevice}
+use Rattle.af_kept.specs.Kept.{KeptDevice}
 use Rattle.af_perform.specs.Waits.{KeptWait, has_waiting}
 use Rattle.af_perform.specs.Places.{At, StandAround}
 use Rattle.af_perform.proofs.Keeping.{same_waiting}

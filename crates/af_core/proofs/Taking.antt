@@ -11,8 +11,8 @@ use Rattle.af_model.specs.Waiting.{is_waiting}
 use Rattle.af_model.specs.Reply.{reply_message}
 use Rattle.af_model.specs.Advance.{advance, advance_step, after_front, after_setup, takes_more, without_front}
 use Rattle.af_model.proofs.Advancing.{advance-some, advance-none}
-use Rattle.af_perform.proofs.Devices.{same_infos}
-use Rattle.af_perform.specs.Kept.{KeptDevice, kept_info}
+use Rattle.af_kept.proofs.Devices.{same_infos}
+use Rattle.af_kept.specs.Kept.{KeptDevice, kept_info}
 use Rattle.af_perform.specs.Waits.{KeptWait, has_waiting}
 use Rattle.af_perform.specs.Places.{StandAround}
 use Rattle.af_perform.proofs.Keeping.{same_waiting}

@@ -17,10 +17,10 @@ use Rattle.af_model.specs.State.{State, DeviceState, LinkState, Around, place, d
 use Rattle.af_model.specs.Events.{dropped, hook_given, hook_refused, line_changes, tell, tell_at, tell_from, tell_open, tell_selected, without_waiter}
 use Rattle.af_model.specs.Turn.{behind, and_then, wake_phase, line_phase, hook_all, hook_at, hook_for, hook_from, hook_wanted, same_flag}
 use Rattle.af_model.proofs.Slots.{some_link, slot_link, links_of-set, length-links_of}
-use Rattle.af_perform.specs.Kept.{KeptDevice, StandsForDevice}
+use Rattle.af_kept.specs.Kept.{KeptDevice, StandsForDevice}
 use Rattle.af_perform.specs.Waits.{KeptWait, has_waiting, kept_without, AreLater, StandForWaits}
 use Rattle.af_perform.specs.Places.{At, StandAround}
-use Rattle.af_perform.proofs.Devices.{Found, found, state_there, stands_length, stands_set}
+use Rattle.af_kept.proofs.Devices.{Found, found, state_there, stands_length, stands_set}
 use Rattle.af_perform.proofs.Controlling.{relined}
 use Rattle.af_perform.proofs.Keeping.{waits_set, without_later, without_others, without_waits}
 use Rattle.af_core.specs.Stands.{AtDoor, Sheds, StandsFor}

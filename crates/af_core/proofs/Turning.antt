@@ -21,9 +21,8 @@ use Rattle.af_model.specs.Turn.{Behind, behind, and_then, take_one, turn, fits, 
 use Rattle.af_model.specs.Run.{wakes}
 use Rattle.af_model.proofs.Running.{wakes-append-none}
 use Rattle.af_model.proofs.Slots.{slot_link, links_of-set, some_link}
-use Rattle.af_perform.specs.Kept.{KeptDevice, StandsForDevice}
+use Rattle.af_kept.specs.Kept.{KeptDevice, StandsForDevice, StandForDevices}
 use Rattle.af_perform.specs.Waits.{KeptWait, kept_passed, waits_of, AreLater, StandForWaits}
-use Rattle.af_perform.specs.Places.{StandForDevices}
 use Rattle.af_core.specs.Stands.{AreSettled, IsSettled, Stands, StandsFor, StandForWaiting, Turns, kept_lines, outline_of}
 use Rattle.af_sample.specs.SampleTypes.{width_of}
 use Rattle.af_sample.proofs.RunLemmas.{length-samples}
@@ -31,9 +30,9 @@ use Rattle.af_core.specs.Does.{Does}
 use Rattle.af_core.specs.Live.{Passes, Ticks, TicksLive}
 use Rattle.af_outside.proofs.Growing.{grew_none, grew_on}
 use Rattle.af_core.proofs.Doing.{does_nothing}
-use Rattle.af_perform.proofs.Devices.{found, stands_set}
+use Rattle.af_kept.proofs.Devices.{found, stands_set}
 use Rattle.af_perform.proofs.Keeping.{waits_passed}
-use Rattle.af_perform.proofs.Sounding.{horizon_bounds}
+use Rattle.af_kept.proofs.Sounding.{horizon_bounds}
 
 -- what waits a frame or more is due later
 due_later : (devices : List DeviceState) (ks : List KeptWait) (waiting : List Waiter) → AreLater ks → StandForWaits devices ks waiting → AreDueLater devices waiting

@@ -6,7 +6,7 @@ use Rattle.std.specs.declared.option.Option.TheVariants.{None, Some}
 use Rattle.af_model.specs.State.{LinkState, State}
 use Rattle.af_model.specs.Waiting.{is_waiting}
 use Rattle.af_model.specs.More.{any_wants, has_more, open_wants}
-use Rattle.af_perform.specs.Kept.{KeptDevice}
+use Rattle.af_kept.specs.Kept.{KeptDevice}
 use Rattle.af_perform.specs.Waits.{KeptWait, has_waiting}
 use Rattle.af_perform.proofs.Keeping.{same_waiting}
 use Rattle.af_core.specs.Stands.{StandsFor}

@@ -7,7 +7,7 @@ use Rattle.af_model.specs.State.{State, DeviceState}
 use Rattle.af_model.specs.Tick.{capture_of, later, sound, tick}
 use Rattle.af_model.specs.Turn.{behind, and_then, take_one, capture_by, after_capture}
 use Rattle.af_model.specs.Run.{wakes}
-use Rattle.af_perform.specs.Kept.{KeptDevice, StandsForDevice}
+use Rattle.af_kept.specs.Kept.{KeptDevice, StandsForDevice}
 
 -- n sample periods of a device went by in which these bytes came, or none, and this sound is handed out
 pub record Passes (old new : KeptDevice) (n : ℕ) (came : Option (List ℕ)) (given : List ℕ) : Type 0 where

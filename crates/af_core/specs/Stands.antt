@@ -13,9 +13,9 @@ use Rattle.af_model.specs.Advance.{takes_more}
 use Rattle.af_model.specs.Turn.{IsTurn, wants_write}
 use Rattle.af_model.specs.Run.{wakes}
 use Rattle.af_model.specs.NoLoss.{StateLosesNone}
-use Rattle.af_perform.specs.Kept.{KeptDevice}
+use Rattle.af_kept.specs.Kept.{KeptDevice, StandForDevices, IsBounded}
 use Rattle.af_perform.specs.Waits.{KeptWait, has_waiting, kept_without, StandForWaits}
-use Rattle.af_perform.specs.Places.{StandForDevices, StandAround, At, IsBounded}
+use Rattle.af_perform.specs.Places.{StandAround, At}
 
 -- a link's number, open or not, with what is around it
 abbrev pub AtDoor : List KeptDevice → List KeptWait → Option LinkState → Door → Type 0

@@ -8,13 +8,14 @@ ghost use Rattle.af_request.specs.Answer.{setup};
 ghost use Rattle.af_model.specs.State.{Around, place, stopped};
 ghost use Rattle.af_model.specs.Reply.{reply_message};
 ghost use Rattle.af_model.specs.Advance.{after_setup, after_frame, advance_step, advance, takes_more};
-ghost use Rattle.af_perform.specs.Kept.{kept_info};
+ghost use Rattle.af_kept.specs.Kept.{kept_info, IsBounded};
 ghost use Rattle.af_perform.specs.Waits.{has_waiting, Grows, KeptWait};
-ghost use Rattle.af_perform.specs.Places.{StandAround, At, IsBounded};
+ghost use Rattle.af_perform.specs.Places.{StandAround, At};
 ghost use Rattle.af_core.specs.Stands.{StepsTo, IsSettled};
 
+use af_kept::{Device, Link};
 use af_outside::Why;
-use af_perform::{Device, Link, Waits, Work, perform};
+use af_perform::{Waits, Work, perform};
 use af_request::{Devices, Reply, read_request, write_reply};
 use af_wire::{Front, SetupFront, frame_at, setup_of, write_error};
 

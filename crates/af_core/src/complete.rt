@@ -12,7 +12,8 @@ ghost use Rattle.af_core.specs.Stands.{AreSettled, CompletesTo, IsSettled, Stand
 
 use crate::advance::advance;
 use crate::slot::Slot;
-use af_perform::{Device, Link, Scratch, Waits, Work};
+use af_kept::{Device, Link};
+use af_perform::{Scratch, Waits, Work};
 
 /// The first request that is due of a device, which is this link's, completes, and then those that the link may then make.
 pub fn complete_link(

@@ -4,14 +4,15 @@ ghost use Rattle.std.specs.declared.option.Option.TheVariants.{Some};
 ghost use Rattle.af_request.specs.declared.reply.Phone.{Phone};
 ghost use Rattle.af_model.specs.State.{Around, DeviceState, State, place};
 ghost use Rattle.af_model.specs.Events.{dropped, line_becomes, tell, tell_link, tell_selected};
-ghost use Rattle.af_perform.specs.Kept.{KeptDevice};
+ghost use Rattle.af_kept.specs.Kept.{KeptDevice};
 ghost use Rattle.af_perform.specs.Waits.{has_waiting, kept_without, AreLater};
 ghost use Rattle.af_perform.specs.Places.{At, StandAround};
 ghost use Rattle.af_core.specs.Stands.{AreSettled, IsSettled, Sheds, StandsFor, writes_left};
 
 use crate::slot::Slot;
+use af_kept::{Device, Link};
 use af_outside::Why;
-use af_perform::{Device, Link, Waits};
+use af_perform::Waits;
 use af_phone::Line;
 use af_wire::{Event, EventKind};
 

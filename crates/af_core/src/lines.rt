@@ -7,15 +7,16 @@ ghost use Rattle.af_outside.specs.declared.happening.Wake.TheVariants as wake;
 ghost use Rattle.af_outside.specs.Told.{Grew, Log};
 ghost use Rattle.af_phone.specs.Lines.{changed, flag_value, hook_due, hooked, is_change};
 ghost use Rattle.af_model.specs.Turn.{behind, hook_all, hook_at, wake_phase};
-ghost use Rattle.af_perform.specs.Kept.{KeptDevice};
+ghost use Rattle.af_kept.specs.Kept.{KeptDevice};
 ghost use Rattle.af_perform.specs.Waits.{AreLater};
 ghost use Rattle.af_core.specs.Does.{Does};
 ghost use Rattle.af_core.specs.Stands.{AreSettled, StandsFor};
 
 use crate::events::become_line;
 use crate::slot::Slot;
+use af_kept::Device;
 use af_outside::{Put, World};
-use af_perform::{Device, Waits};
+use af_perform::Waits;
 use af_phone::{Line, LineChange};
 use af_wire::EventKind;
 

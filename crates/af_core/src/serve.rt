@@ -2,7 +2,7 @@
 ghost use Rattle.std.specs.Prelude.{◌≡◌, ◌≤◌, ◌<◌, List, length, IsTrue, if◌then◌else◌};
 ghost use Rattle.std.specs.declared.option.Option.TheVariants.{None, Some};
 ghost use Rattle.af_model.specs.Turn.{behind, wants_write, read_phase, write_phase, close_phase, serve_link};
-ghost use Rattle.af_perform.specs.Kept.{KeptDevice};
+ghost use Rattle.af_kept.specs.Kept.{KeptDevice};
 ghost use Rattle.af_perform.specs.Waits.{has_waiting, KeptWait, Touches};
 ghost use Rattle.af_perform.specs.Places.{At};
 ghost use Rattle.af_core.specs.Does.{Does};
@@ -10,8 +10,9 @@ ghost use Rattle.af_core.specs.Stands.{AtDoor, IsSettled, writes_left};
 
 use crate::advance::advance;
 use crate::events::drop_link;
+use af_kept::{Device, Link};
 use af_outside::{LinkGot, LinkTook, Why, World};
-use af_perform::{Device, Link, Waits, Work};
+use af_perform::{Waits, Work};
 
 // One read, where the link is to be read.
 fn read_link<W: World>(

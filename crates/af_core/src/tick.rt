@@ -15,8 +15,9 @@ ghost use Rattle.af_core.specs.Stands.{AreSettled, StandsFor};
 
 use crate::complete::complete_due;
 use crate::slot::Slot;
+use af_kept::{Device, silence};
 use af_outside::{Put, World};
-use af_perform::{Device, Scratch, Waits, Work, silence};
+use af_perform::{Scratch, Waits, Work};
 use af_sample::{SampleType, convert_in, convert_out};
 
 /// How many frames a tick may have.

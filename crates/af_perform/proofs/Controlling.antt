@@ -12,10 +12,11 @@ use Rattle.af_model.specs.Reply.{reply_message, replied}
 use Rattle.af_model.specs.Checks.{in_device}
 use Rattle.af_model.specs.DeviceRequests.{controlling, on_line, tell_controls, with_named}
 use Rattle.af_model.specs.Play.{in_devices}
-use Rattle.af_perform.specs.Kept.{KeptDevice, StandsForDevice, device_line_or, line_at, line_or}
+use Rattle.af_kept.specs.Kept.{KeptDevice, StandsForDevice}
+use Rattle.af_perform.specs.Lines.{device_line_or, line_at, line_or}
 use Rattle.af_perform.specs.Waits.{KeptWait}
 use Rattle.af_perform.specs.Places.{StandAround, At, LeadsLink}
-use Rattle.af_perform.proofs.Devices.{Found, found, not_found}
+use Rattle.af_kept.proofs.Devices.{Found, found, not_found}
 use Rattle.af_perform.proofs.Requests.{device_changes, with_error}
 
 -- a device changes, but not its time and its rate, and the link is replied to

@@ -1,7 +1,6 @@
 pub mod Keeping
 pub mod Holding
-pub mod Devices
-pub mod Sounding
+pub mod Checking
 pub mod Requests
 pub mod Controlling
 pub mod Asking

@@ -24,12 +24,13 @@ use Rattle.af_model.specs.Record.{give_record, given_frames, recorded_bytes, sta
 use Rattle.af_model.specs.Tick.{answer_held, completing}
 use Rattle.af_model.specs.Perform.{tell_time}
 use Rattle.af_model.proofs.Tests.{both-true}
-use Rattle.af_perform.specs.Kept.{KeptDevice, StandsForDevice}
+use Rattle.af_kept.specs.Kept.{KeptDevice, StandsForDevice, StandForDevices}
 use Rattle.af_perform.specs.Waits.{KeptWait, IsNear, StandsForWait, StandForWaits}
-use Rattle.af_perform.specs.Places.{StandForDevices, StandAround, At, LeadsAt, LeadsLink}
-use Rattle.af_perform.proofs.Devices.{Found, found, not_found, same_set, state_there, stands_length, stands_set}
+use Rattle.af_perform.specs.Places.{StandAround, At, LeadsAt, LeadsLink}
+use Rattle.af_kept.proofs.Devices.{Found, found, not_found, same_set, state_there, stands_length, stands_set}
+use Rattle.af_kept.proofs.Sounding.{before-same, within-same, play_beyond-same, record_beyond-same, near_start, start_meant, horizon_bounds, completes}
 use Rattle.af_perform.proofs.Keeping.{waits_push, waits_set}
-use Rattle.af_perform.proofs.Sounding.{pass_first, not_false, before-same, within-same, play_beyond-same, record_beyond-same, near_start, start_meant, horizon_bounds, completes}
+use Rattle.af_perform.proofs.Checking.{pass_first, not_false}
 
 -- what leads a link, leads it at each place
 pub leads_at : (ds : List KeptDevice) (ks : List KeptWait) (l l' : LinkState) (f : Place → Place) (a : Around) → LeadsAt a f l l' → StandAround ds ks a → At ds ks l' (f (place a l))

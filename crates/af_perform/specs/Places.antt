@@ -1,21 +1,8 @@
 -- A link with what is around it, as the server keeps them.
-use Rattle.std.specs.Prelude.{◌≡◌, ◌+◌, ◌≤◌, List, [], ◌∷◌, length}
-use Rattle.af_model.specs.State.{DeviceState, LinkState, Around, Place, place}
-use Rattle.af_perform.specs.Kept.{KeptDevice, StandsForDevice}
+use Rattle.std.specs.Prelude.{◌≡◌, List}
+use Rattle.af_model.specs.State.{LinkState, Around, Place, place}
+use Rattle.af_kept.specs.Kept.{KeptDevice, StandForDevices}
 use Rattle.af_perform.specs.Waits.{KeptWait, StandForWaits}
-
--- A link never has more than 32768 bytes unread, nor more to send than 49152 bytes and the reply that is made while no more
--- than these wait to be sent.
-pub record IsBounded (l : LinkState) : Type 0 where
-  pub rest : length l.rest ≤ 32768
-  pub pending : length l.pending ≤ 49152 + 16016
-
--- devices stand for states of devices one by one
-abbrev pub StandForDevices : List KeptDevice → List DeviceState → Type 0
-StandForDevices [] [] = Unit {0}
-StandForDevices [] (s ∷ ss) = ⊥
-StandForDevices (d ∷ ds) [] = ⊥
-StandForDevices (d ∷ ds) (s ∷ ss) = StandsForDevice d s × StandForDevices ds ss
 
 -- what is kept of what is around a link: the devices, and the links that wait
 abbrev pub StandAround : List KeptDevice → List KeptWait → Around → Type 0

@@ -9,7 +9,7 @@ use Rattle.af_model.specs.State.{DeviceState, Held, held_play, held_record, Wait
 use Rattle.af_model.specs.Reply.{horizon_of}
 use Rattle.af_model.specs.Waiting.{due}
 use Rattle.af_buffers.specs.PlayBuffer.{frames_within}
-use Rattle.af_perform.specs.Kept.{KeptDevice}
+use Rattle.af_kept.specs.Kept.{KeptDevice}
 use Rattle.af_perform.specs.declared.held.What.{What}
 use Rattle.af_perform.specs.declared.held.What.TheVariants.{Play, Record}
 

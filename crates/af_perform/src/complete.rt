@@ -7,16 +7,15 @@ ghost use Rattle.af_model.specs.State.{Around, DeviceState, held_play, held_reco
 ghost use Rattle.af_model.specs.Reply.{horizon_of};
 ghost use Rattle.af_model.specs.Play.{in_devices};
 ghost use Rattle.af_model.specs.Tick.{answer_held, completing};
-ghost use Rattle.af_perform.specs.Kept.{KeptDevice};
+ghost use Rattle.af_kept.specs.Kept.{KeptDevice};
 ghost use Rattle.af_perform.specs.Waits.{IsNear, KeptWait};
 ghost use Rattle.af_perform.specs.Places.{At, StandAround};
 
-use crate::device::Device;
-use crate::link::Link;
 use crate::play::tell_played;
 use crate::record::give_frames;
 use crate::scratch::Work;
 use af_context::Context;
+use af_kept::{Device, Link};
 use af_time::DevTime;
 
 /// A device accepts a play that waited, and it is replied to.

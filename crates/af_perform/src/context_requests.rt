@@ -12,10 +12,9 @@ ghost use Rattle.af_perform.specs.Places.{At, LeadsLink, StandAround};
 use crate::checks::{
     check, check_gain, context_refusal, first_refusal, named_gain, names, where_named,
 };
-use crate::device::Device;
-use crate::link::Link;
 use crate::scratch::Work;
 use af_context::Context;
+use af_kept::{Device, Link};
 use af_model::{Cause, Refusal};
 use af_request::Reply;
 use af_sample::{Gain, SampleType};

@@ -11,14 +11,13 @@ ghost use Rattle.af_model.specs.Checks.{names};
 ghost use Rattle.af_model.specs.Play.{in_devices};
 ghost use Rattle.af_model.specs.DeviceRequests.{controls_refusal, select, set_device_controls, switch_hook, switch_refusal, wanting_hook, with_named};
 ghost use Rattle.af_model.specs.Perform.{done};
-ghost use Rattle.af_perform.specs.Kept.{line_at};
+ghost use Rattle.af_perform.specs.Lines.{line_at};
 ghost use Rattle.af_perform.specs.Waits.{KeptWait};
 ghost use Rattle.af_perform.specs.Places.{At, LeadsLink, StandAround};
 
 use crate::checks::{check, check_gain, first_refusal, named_gain, names, where_named};
-use crate::device::Device;
-use crate::link::Link;
 use crate::scratch::Work;
+use af_kept::{Device, Link};
 use af_model::{Cause, Refusal};
 use af_phone::Line;
 use af_request::{Controls, Phone, Reply};

@@ -8,15 +8,14 @@ ghost use Rattle.af_perform.specs.Waits.{has_waiting, is_done_at_once, Grows, Ke
 ghost use Rattle.af_perform.specs.Places.{At, StandAround};
 
 use crate::context_requests::{NewContext, NewSettings, change_ac, create_ac, free_ac};
-use crate::device::Device;
 use crate::device_requests::{
     NewControls, hook_switch, query_controls, query_phone, select_events, set_controls,
 };
-use crate::link::Link;
 use crate::play::play_run;
 use crate::record::record_run;
 use crate::scratch::Work;
 use crate::waits::Waits;
+use af_kept::{Device, Link};
 use af_model::{Cause, Refusal};
 use af_request::{Reply, Request};
 

@@ -6,15 +6,14 @@ ghost use Rattle.af_model.specs.State.{Around, DeviceState, Held, held_play, hel
 ghost use Rattle.af_model.specs.Reply.{horizon_of};
 ghost use Rattle.af_model.specs.Play.{in_devices};
 ghost use Rattle.af_model.specs.Tick.{answer_held, completing};
-ghost use Rattle.af_perform.specs.Kept.{KeptDevice};
+ghost use Rattle.af_kept.specs.Kept.{KeptDevice};
 ghost use Rattle.af_perform.specs.Waits.{EndsWithin, IsNear, KeptWait, worded};
 ghost use Rattle.af_perform.specs.Places.{At, StandAround};
 
 use crate::complete::{complete_play, complete_record};
-use crate::device::Device;
-use crate::link::Link;
 use crate::scratch::Work;
 use af_context::Context;
+use af_kept::{Device, Link};
 use af_time::{DevTime, OutOfMemory};
 use std::alloc::Global;
 use std::marker::Model;

@@ -10,16 +10,15 @@ ghost use Rattle.af_model.specs.Reply.{reply_message};
 ghost use Rattle.af_model.specs.Checks.{in_device};
 ghost use Rattle.af_model.specs.Play.{accepting, frames_of, in_devices, play, play_refusal, sent_sound, start_play, tell_played};
 ghost use Rattle.af_model.specs.Perform.{done};
-ghost use Rattle.af_perform.specs.Kept.{KeptDevice};
+ghost use Rattle.af_kept.specs.Kept.{KeptDevice};
 ghost use Rattle.af_perform.specs.Waits.{has_waiting, Grows, KeptWait};
 ghost use Rattle.af_perform.specs.Places.{At, StandAround};
 
 use crate::checks::check;
-use crate::device::Device;
-use crate::link::Link;
 use crate::scratch::Work;
 use crate::waits::Waits;
 use af_context::Context;
+use af_kept::{Device, Link};
 use af_model::{Cause, Refusal};
 use af_request::Reply;
 use af_sample::{convert_in, gain_run};

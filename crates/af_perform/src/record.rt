@@ -9,16 +9,15 @@ ghost use Rattle.af_model.specs.Checks.{in_device};
 ghost use Rattle.af_model.specs.Play.{frames_of};
 ghost use Rattle.af_model.specs.Record.{give_record, given_frames, record_refusal, record_sound, start_record};
 ghost use Rattle.af_model.specs.Perform.{done};
-ghost use Rattle.af_perform.specs.Kept.{KeptDevice, StandsForDevice};
+ghost use Rattle.af_kept.specs.Kept.{KeptDevice, StandsForDevice};
 ghost use Rattle.af_perform.specs.Waits.{has_waiting, Grows};
 ghost use Rattle.af_perform.specs.Places.{At, LeadsLink, StandAround};
 
 use crate::checks::{check, first_refusal};
-use crate::device::Device;
-use crate::link::Link;
 use crate::scratch::Work;
 use crate::waits::Waits;
 use af_context::Context;
+use af_kept::{Device, Link};
 use af_model::{Cause, Refusal};
 use af_request::Reply;
 use af_time::DevTime;

@@ -2,7 +2,7 @@ use Rattle.std.proofs.Common.{refl, sym, subst, List, arith}
 use Rattle.std.specs.declared.option.Option.{Option}
 use Rattle.af_model.specs.State.{LinkState}
 use Rattle.af_model.specs.Tick.{complete_due}
-use Rattle.af_perform.specs.Kept.{KeptDevice}
+use Rattle.af_kept.specs.Kept.{KeptDevice}
 use Rattle.af_perform.specs.Waits.{KeptWait, AreLater}
 use Rattle.af_perform.proofs.Keeping.{all_later}
 use Rattle.af_core.specs.Stands.{StandsFor}

@@ -2,8 +2,8 @@ use Rattle.std.proofs.Common.{ℕ, ◌∙◌, ap, option_map, refl, slice_set, s
 use Rattle.af_wire.specs.declared.event.Event.{Event}
 use Rattle.af_model.specs.State.{State, with_device}
 use Rattle.af_model.specs.Events.{tell}
-use Rattle.af_perform.specs.Kept.{KeptDevice}
-use Rattle.af_perform.proofs.Devices.{device_at}
+use Rattle.af_kept.specs.Kept.{KeptDevice}
+use Rattle.af_kept.proofs.Devices.{device_at}
 use Rattle.af_core.specs.Stands.{StandsFor}
 use Rattle.af_core.proofs.Telling.{lines_set, time_is}
 use Rattle.af_core.proofs.events.become_line.Goals as goal

@@ -1,6 +1,6 @@
 use Rattle.std.proofs.Common.{◌-◌, List, length}
 use Rattle.af_model.specs.State.{State}
-use Rattle.af_perform.specs.Kept.{KeptDevice}
+use Rattle.af_kept.specs.Kept.{KeptDevice}
 use Rattle.af_perform.specs.Waits.{AreLater}
 use Rattle.af_core.specs.Stands.{AreSettled, StandsFor}
 use Rattle.af_core.proofs.Telling.{TellsOn}

@@ -1,7 +1,7 @@
 use Rattle.std.proofs.Common.{◌∙◌, ap, option_map, refl, subst}
 use Rattle.af_phone.specs.Lines.{changed, value_of}
 use Rattle.af_model.specs.Events.{line_becomes}
-use Rattle.af_perform.proofs.Devices.{device_at}
+use Rattle.af_kept.proofs.Devices.{device_at}
 use Rattle.af_core.specs.Stands.{StandsFor}
 use Rattle.af_core.proofs.Telling.{line_changed, line_is}
 use Rattle.af_core.proofs.lines.change_line.Goals as goal

@@ -1,7 +1,7 @@
 use Rattle.std.proofs.Common.{◌∙◌, ap, option_and_then, refl, sym}
 use Rattle.af_phone.specs.Lines.{hook_due}
-use Rattle.af_perform.specs.Kept.{KeptDevice}
-use Rattle.af_perform.proofs.Devices.{device_at, device_is}
+use Rattle.af_kept.specs.Kept.{KeptDevice}
+use Rattle.af_kept.proofs.Devices.{device_at, device_is}
 use Rattle.af_core.proofs.Telling.{hooks_nothing}
 use Rattle.af_core.proofs.lines.give_hook.Goals as goal
 

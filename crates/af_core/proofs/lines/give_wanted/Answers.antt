@@ -2,7 +2,7 @@ use Rattle.std.proofs.Common.{◌∙◌, ap, cond, true, false, option_map, slic
 use Rattle.af_wire.specs.declared.event.EventKind.TheVariants as kind
 use Rattle.af_phone.specs.Lines.{hooked}
 use Rattle.af_model.specs.Events.{hook_given, hook_refused, line_becomes}
-use Rattle.af_perform.proofs.Devices.{device_at}
+use Rattle.af_kept.proofs.Devices.{device_at}
 use Rattle.af_core.specs.Stands.{StandsFor}
 use Rattle.af_core.proofs.Telling.{hooks_one, line_is, lines_set}
 use Rattle.af_core.proofs.lines.give_wanted.Goals as goal

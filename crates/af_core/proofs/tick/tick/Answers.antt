@@ -1,7 +1,7 @@
 use Rattle.std.proofs.Common.{refl, sym, slice_set, subst, List}
 use Rattle.af_model.specs.State.{State}
 use Rattle.af_perform.specs.Waits.{KeptWait, has_waiting, AreLaterBut}
-use Rattle.af_perform.proofs.Devices.{device_at}
+use Rattle.af_kept.proofs.Devices.{device_at}
 use Rattle.af_perform.proofs.Keeping.{later_passed, passed_waiting}
 use Rattle.af_core.specs.Stands.{IsSettled, StandsFor}
 use Rattle.af_core.proofs.Turning.{passed_state, ticks}

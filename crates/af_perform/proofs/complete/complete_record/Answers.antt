@@ -1,6 +1,6 @@
 use Rattle.std.proofs.Common.{◌∙◌, ap, sym, rules}
 use Rattle.std.specs.declared.option.Option.TheVariants.{Some}
-use Rattle.af_perform.proofs.Devices.{device_at}
+use Rattle.af_kept.proofs.Devices.{device_at}
 use Rattle.af_perform.proofs.Requests.{record_completed, stands_here}
 use Rattle.af_perform.proofs.complete.complete_record.Goals as goal
 

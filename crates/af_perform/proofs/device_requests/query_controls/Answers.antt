@@ -1,7 +1,7 @@
 use Rattle.std.proofs.Common.{◌∙◌, ap, refl, sym, arith, rules}
 use Rattle.std.specs.declared.option.Option.TheVariants.{Some}
 use Rattle.af_model.specs.DeviceRequests.{tell_controls}
-use Rattle.af_perform.proofs.Devices.{device_at}
+use Rattle.af_kept.proofs.Devices.{device_at}
 use Rattle.af_perform.proofs.Requests.{device_missing, device_found, leads_at, with_error}
 use Rattle.af_perform.proofs.Controlling.{controls_told}
 use Rattle.af_perform.proofs.device_requests.query_controls.Goals as goal

@@ -1,5 +1,5 @@
 use Rattle.std.proofs.Common.{◌∙◌, ap, sym, arith, rules}
-use Rattle.af_perform.proofs.Devices.{device_at}
+use Rattle.af_kept.proofs.Devices.{device_at}
 use Rattle.std.specs.declared.option.Option.TheVariants.{Some}
 use Rattle.af_model.specs.Perform.{tell_time}
 use Rattle.af_perform.proofs.Requests.{device_missing, device_found, leads_at, time_told}

@@ -1,7 +1,7 @@
 use Rattle.std.proofs.Common.{refl, rules}
 use Rattle.af_buffers.specs.PlayBuffer.{accepted_at}
 use Rattle.af_model.specs.Play.{accepting}
-use Rattle.af_perform.proofs.Devices.{device_at}
+use Rattle.af_kept.proofs.Devices.{device_at}
 use Rattle.af_perform.proofs.Requests.{play_told, stands_here}
 use Rattle.af_perform.proofs.play.accept_now.Goals as goal
 

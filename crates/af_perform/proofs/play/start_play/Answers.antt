@@ -1,5 +1,5 @@
 use Rattle.std.proofs.Common.{◌<◌, ◌≤◌, ◌^◌, subst, length, rules}
-use Rattle.af_perform.proofs.Devices.{device_at}
+use Rattle.af_kept.proofs.Devices.{device_at}
 use Rattle.af_perform.proofs.Requests.{play_started, play_waits, stands_here}
 use Rattle.af_perform.proofs.play.start_play.Goals as goal
 

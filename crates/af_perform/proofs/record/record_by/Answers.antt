@@ -1,9 +1,9 @@
 use Rattle.std.proofs.Common.{◌<◌, ◌∙◌, ap, sym, length, arith, rules}
 use Rattle.std.specs.declared.option.Option.TheVariants.{Some}
 use Rattle.af_model.specs.Record.{record_refusal, record_sound, start_record}
-use Rattle.af_perform.proofs.Devices.{device_at}
+use Rattle.af_kept.proofs.Devices.{device_at}
 use Rattle.af_perform.proofs.Requests.{any_device, device_missing, stands_here, at_refused, at_passed}
-use Rattle.af_perform.proofs.Sounding.{record_passes}
+use Rattle.af_perform.proofs.Checking.{record_passes}
 use Rattle.af_perform.proofs.record.record_by.Goals as goal
 
 pub returns-then-from-devices-clause-step : goal.returns-then-from-devices-clause-step

@@ -1,6 +1,6 @@
 use Rattle.std.proofs.Common.{◌<◌, ◌≤◌, ◌^◌, ◌/◌, ◌∙◌, ◌&&◌, nat_lt, ap, sym, subst, arith, rules}
 use Rattle.af_perform.proofs.Requests.{record_started, record_waits}
-use Rattle.af_perform.proofs.Sounding.{few_frames}
+use Rattle.af_perform.proofs.Checking.{few_frames}
 use Rattle.af_perform.proofs.record.start_record.Goals as goal
 
 pub returns-then-is_to_wait-clause-step : goal.returns-then-is_to_wait-clause-step

@@ -2,9 +2,9 @@ use Rattle.std.proofs.Common.{◌≡◌, ◌∙◌, ap, sym, subst, rules, Match
 use Rattle.std.specs.declared.option.Option.{Option}
 use Rattle.std.specs.declared.option.Option.TheVariants.{None, Some}
 use Rattle.af_request.specs.declared.reply.Phone.{Phone}
-use Rattle.af_perform.specs.Kept.{KeptDevice}
+use Rattle.af_kept.specs.Kept.{KeptDevice}
 use Rattle.af_core.specs.Stands.{Kept, Stands}
-use Rattle.af_perform.proofs.Devices.{device_at, found}
+use Rattle.af_kept.proofs.Devices.{device_at, found}
 use Rattle.af_core.proofs.server.Core.line.Goals as goal
 
 pub returns-clause-shows : goal.returns-clause-shows

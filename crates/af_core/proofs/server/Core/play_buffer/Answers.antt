@@ -1,8 +1,8 @@
 use Rattle.std.proofs.Common.{◌∙◌, ap, sym, subst, rules, IsSomeAnd}
 use Rattle.af_buffers.specs.PlayBuffer.{Next, Hears}
-use Rattle.af_perform.specs.Kept.{KeptDevice}
+use Rattle.af_kept.specs.Kept.{KeptDevice}
 use Rattle.af_core.specs.Stands.{Kept, Stands}
-use Rattle.af_perform.proofs.Devices.{device_at, found}
+use Rattle.af_kept.proofs.Devices.{device_at, found}
 use Rattle.af_core.proofs.server.Core.play_buffer.Goals as goal
 
 pub returns-clause-hears : goal.returns-clause-hears

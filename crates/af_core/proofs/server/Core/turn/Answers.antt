@@ -2,7 +2,7 @@ use Rattle.std.proofs.Common.{◌≡◌, ◌≤◌, slice_get, option_and_then, 
 use Rattle.std.specs.declared.option.Option.{Option}
 use Rattle.std.specs.declared.option.Option.TheVariants.{Some}
 use Rattle.af_model.specs.State.{State, LinkState}
-use Rattle.af_perform.specs.Kept.{KeptDevice}
+use Rattle.af_kept.specs.Kept.{KeptDevice}
 use Rattle.af_core.specs.Stands.{AreSettled, StandsFor}
 use Rattle.af_core.proofs.Turning.{written}
 use Rattle.af_core.proofs.Wanting.{kept_open}

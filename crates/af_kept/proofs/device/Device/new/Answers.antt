@@ -1,6 +1,6 @@
 use Rattle.std.proofs.Common.{rules}
-use Rattle.af_perform.proofs.Sounding.{starts}
-use Rattle.af_perform.proofs.device.Device.new.Goals as goal
+use Rattle.af_kept.proofs.Sounding.{starts}
+use Rattle.af_kept.proofs.device.Device.new.Goals as goal
 
 pub returns : goal.returns
 returns c =

@@ -1,17 +1,12 @@
 -- A device goes on to stand for its states as it plays and records.
-use Rattle.std.proofs.Common.{◌≡◌, ℕ, ℤ, pos, true, false, not, cond, ◌==◌, nat_lt, ◌+◌, ◌-◌, ◌*◌, ◌/◌, ◌%◌, ◌^◌, ◌<◌, ◌≤◌, Bool, List, [], ◌∷◌, ◌++◌, length, take, replicate, map, refl, sym, ap, ◌∙◌, subst, arith, length-take-le}
+use Rattle.std.proofs.Common.{◌≡◌, ℕ, ℤ, pos, false, cond, ◌==◌, ◌+◌, ◌-◌, ◌*◌, ◌%◌, ◌^◌, ◌<◌, ◌≤◌, Bool, List, [], ◌∷◌, ◌++◌, length, replicate, map, refl, sym, ap, ◌∙◌, subst, arith}
 use Rattle.std.specs.declared.option.Option.{Option}
-use Rattle.std.specs.declared.option.Option.TheVariants.{None}
 use Rattle.std.proofs.lemmas.List.Elements.{All-push}
 use Rattle.std.proofs.lemmas.Bool.Decides.{nat_tests}
-use Rattle.af_model.specs.declared.refusal.Refusal.{Refusal}
 use Rattle.std.proofs.lemmas.List.{ext_get_or, length-map, length-replicate}
 use Rattle.std.proofs.lemmas.List.FromFn.{length-map-range_with_len, get_or-map-range_with_len}
 use Rattle.af_time.specs.DeviceTime.{unwrap, IsMeant}
 use Rattle.af_time.proofs.WholeTimes.{meant_unwrap, unwrap_meant}
-use Rattle.af_sample.specs.declared.sample_type.SampleType.{SampleType}
-use Rattle.af_sample.specs.declared.sample_type.SampleType.TheVariants.{Mu255, Alaw, Lin16, Lin32}
-use Rattle.af_sample.specs.SampleTypes.{width_of}
 use Rattle.af_sample.specs.Samples.{bytes_of}
 use Rattle.af_sample.specs.Gains.{gained}
 use Rattle.af_sample.specs.Heard.{heard}
@@ -24,18 +19,15 @@ use Rattle.af_buffers.specs.RecordBuffer.{Last, Captures, Keeps, frames_before, 
 use Rattle.af_buffers.proofs.Rooms.{horizon_of_rate, horizon_within}
 use Rattle.af_buffers.proofs.Hearing.{hears_silence, hears_play, hears_hand_out, gives_heard, frames_beyond-same as play_later, frames_within-same, size_hand_out}
 use Rattle.af_buffers.proofs.Windows.{keeps_silence, keeps_capture, reads_window, frames_before-same, frames_beyond-same as record_later, size_capture}
-use Rattle.af_model.specs.declared.refusal.Cause.{Cause}
-use Rattle.af_model.specs.declared.refusal.Cause.TheVariants.{BadValue}
 use Rattle.af_model.specs.State.{DeviceState, Held, opening_controls, opening_device, opening_line}
-use Rattle.af_model.specs.Checks.{check, first_refusal}
-use Rattle.af_model.specs.Play.{accepting, are_frames}
-use Rattle.af_model.specs.Record.{recorded_bytes, record_refusal}
+use Rattle.af_model.specs.Play.{accepting}
+use Rattle.af_model.specs.Record.{recorded_bytes}
 use Rattle.af_request.specs.declared.reply.Controls.{Controls}
 use Rattle.af_request.specs.declared.reply.Phone.{Phone}
 use Rattle.af_model.specs.Controls.{let_out, passed_on, taken_in}
 use Rattle.af_model.specs.Tick.{completing, later, next_sound, with_held}
 use Rattle.af_model.specs.NoLoss.{IsWholeAt}
-use Rattle.af_perform.specs.Kept.{KeptDevice, StandsForDevice}
+use Rattle.af_kept.specs.Kept.{KeptDevice, StandsForDevice}
 
 -- a device at its start
 pub starts : (spec : DeviceSpec) (next : Next) (last : Last) (controls : Controls) (line : Option Phone) → controls ≡ opening_controls → line ≡ opening_line spec.line → IsListedRate spec.rate → spec.start < 2 ^ 32 → next.time ≡ spec.start → next.next ≡ replicate (spec.rate * 4) (pos 0) →
@@ -82,60 +74,6 @@ start_meant d s start word h = unwrap_meant s.now start h.hears.late word
 
 pub horizon_bounds : (s : DeviceState) (d : KeptDevice) → StandsForDevice d s → (32000 ≤ s.rate * 4) × (s.rate * 4 ≤ 192000)
 horizon_bounds s d h = horizon_within (s.rate * 4) (horizon_of_rate s.rate h.listed)
-
--- checks that pass
-
-check_passes : (b : Bool) (cause : Cause) (value : ℕ) → check b cause value ≡ None → b ≡ false
-check_passes true cause value e = absurd cc
-check_passes false cause value e = refl
-
-pub pass_first : (b : Bool) (cause : Cause) (value : ℕ) (o : Option Refusal) (checks : List (Option Refusal)) → o ≡ check b cause value → first_refusal (o ∷ checks) ≡ None → (b ≡ false) × (first_refusal checks ≡ None)
-pass_first true cause value o checks is e = absurd (let f : first_refusal (check true cause value ∷ checks) ≡ None = subst (λ x. first_refusal (x ∷ checks) ≡ None) is e in cc)
-pass_first false cause value o checks is e = (refl, subst (λ x. first_refusal (x ∷ checks) ≡ None) is e)
-
-pub not_false : (b : Bool) → not b ≡ false → b ≡ true
-not_false true e = refl
-not_false false e = absurd cc
-
-not_lt : (a b : ℕ) → nat_lt a b ≡ false → b ≤ a
-not_lt a b e = grind (arith, nat_tests)
-
-pub record_passes : (c : Context) (bytes : ℕ) → record_refusal c bytes ≡ None → bytes ≤ 16000
-unfolding record_refusal
-record_passes c bytes e =
-    let one = pass_first (nat_lt 16000 bytes) BadValue bytes (check (nat_lt 16000 bytes) BadValue bytes) (check (not (are_frames c bytes)) BadValue bytes ∷ []) refl e in
-    not_lt 16000 bytes one.0
-
--- bytes that are whole frames
-pub whole_frames : (ty : SampleType) (n : ℕ) → n % width_of ty ≡ 0 → n ≡ n / width_of ty * width_of ty
-whole_frames Mu255 n e = omega arith
-whole_frames Alaw n e = omega arith
-whole_frames Lin16 n e = omega arith
-whole_frames Lin32 n e = omega arith
-
-pub few_frames : (ty : SampleType) (n : ℕ) → (n / width_of ty ≤ n) × (n / width_of ty * width_of ty ≤ n)
-few_frames Mu255 n = (omega arith, omega arith)
-few_frames Alaw n = (omega arith, omega arith)
-few_frames Lin16 n = (omega arith, omega arith)
-few_frames Lin32 n = (omega arith, omega arith)
-
-pub few_bytes : (ty : SampleType) (m n : ℕ) → m ≤ n / width_of ty → m * width_of ty ≤ n
-few_bytes Mu255 m n e = omega arith
-few_bytes Alaw m n e = omega arith
-few_bytes Lin16 m n e = omega arith
-few_bytes Lin32 m n e = omega arith
-
--- the room that so many frames take
-pub taken_frames : (ty : SampleType) (n w : ℕ) (room : List ℤ) → w ≡ width_of ty → n ≤ 16368 → length room ≡ 16384 → length (take (n / w) room) ≡ n / width_of ty
-taken_frames ty n w room e few size =
-    let less = (few_frames ty n).0 in
-    ap (λ w. length (take (n / w) room)) e ∙ length-take-le (n / width_of ty) room (omega (arith, less, few, size))
-
-pub some_samples : (ty : SampleType) (bytes samples : ℕ) → bytes ≡ samples * width_of ty → 0 < samples → 0 < bytes
-some_samples Mu255 bytes samples e some = omega arith
-some_samples Alaw bytes samples e some = omega arith
-some_samples Lin16 bytes samples e some = omega arith
-some_samples Lin32 bytes samples e some = omega arith
 
 -- a play without a sample is none
 pub accepts_nothing : (d : KeptDevice) (start : ℕ) (sound : List ℤ) (preempt : Bool) (s : DeviceState) → length sound ≡ 0 → StandsForDevice d s → StandsForDevice d (accepting (accepted_at s.now start sound preempt) s)

@@ -8,8 +8,7 @@ use Rattle.af_request.specs.declared.reply.DeviceInfo.{DeviceInfo}
 use Rattle.af_request.specs.declared.reply.Phone.{Phone}
 use Rattle.af_model.specs.State.{DeviceState, with_device, device_set}
 use Rattle.af_model.specs.Reply.{info_of, infos_of}
-use Rattle.af_perform.specs.Kept.{KeptDevice, StandsForDevice, kept_info}
-use Rattle.af_perform.specs.Places.{StandForDevices}
+use Rattle.af_kept.specs.Kept.{KeptDevice, StandsForDevice, StandForDevices, kept_info}
 
 -- there are as many
 pub stands_length : (ds : List KeptDevice) (ss : List DeviceState) → StandForDevices ds ss → length ss ≡ length ds

@@ -1,8 +1,8 @@
 use Rattle.std.proofs.Common.{◌<◌, ◌≤◌, ◌^◌, length, sym, arith, rules, subst}
 use Rattle.af_buffers.specs.PlayBuffer.{frames_within}
-use Rattle.af_perform.specs.Kept.{KeptDevice, StandsForDevice}
-use Rattle.af_perform.proofs.Sounding.{accepts, accepts_nothing}
-use Rattle.af_perform.proofs.device.Device.accept.Goals as goal
+use Rattle.af_kept.specs.Kept.{KeptDevice, StandsForDevice}
+use Rattle.af_kept.proofs.Sounding.{accepts, accepts_nothing}
+use Rattle.af_kept.proofs.device.Device.accept.Goals as goal
 
 pub returns-then-is_empty : goal.returns-then-is_empty
 returns-then-is_empty c = λ s h. accepts_nothing _ c.args.start.0 c.args.sound.now c.args.preempt s (grind (arith, rules)) h

@@ -1,7 +1,6 @@
 -- What the core keeps of a device and of a link.
-use Rattle.std.specs.Prelude.{◌≡◌, ℕ, ◌*◌, Bool, List, length, slice_get, is_some, Ok, Err, Result}
+use Rattle.std.specs.Prelude.{◌≡◌, ℕ, ◌+◌, ◌*◌, ◌≤◌, Bool, List, [], ◌∷◌, length, is_some}
 use Rattle.std.specs.declared.option.Option.{Option}
-use Rattle.std.specs.declared.option.Option.TheVariants.{None, Some}
 use Rattle.af_sample.specs.declared.sample_type.SampleType.{SampleType}
 use Rattle.af_sample.specs.Rates.{IsListedRate}
 use Rattle.af_buffers.specs.PlayBuffer.{Next, Hears}
@@ -9,10 +8,8 @@ use Rattle.af_buffers.specs.RecordBuffer.{Last, Keeps}
 use Rattle.af_request.specs.declared.reply.Controls.{Controls}
 use Rattle.af_request.specs.declared.reply.DeviceInfo.{DeviceInfo}
 use Rattle.af_request.specs.declared.reply.Phone.{Phone}
-use Rattle.af_model.specs.declared.refusal.Cause.TheVariants.{BadDevice, BadLine}
-use Rattle.af_model.specs.declared.refusal.Refusal.{Refusal}
-use Rattle.af_model.specs.State.{DeviceState}
-use Rattle.af_model.specs.Reply.{horizon_of, refusal}
+use Rattle.af_model.specs.State.{DeviceState, LinkState}
+use Rattle.af_model.specs.Reply.{horizon_of}
 use Rattle.af_model.specs.NoLoss.{LosesNone}
 
 -- A device: the samples next from its time on, and the last ones up to then. The time is that of both.
@@ -41,18 +38,19 @@ pub record StandsForDevice (d : KeptDevice) (s : DeviceState) : Type 0 where
   pub line : d.line ≡ s.line
   pub dead : d.is_dead ≡ s.is_dead
 
+-- devices stand for states of devices one by one
+abbrev pub StandForDevices : List KeptDevice → List DeviceState → Type 0
+StandForDevices [] [] = Unit {0}
+StandForDevices [] (s ∷ ss) = ⊥
+StandForDevices (d ∷ ds) [] = ⊥
+StandForDevices (d ∷ ds) (s ∷ ss) = StandsForDevice d s × StandForDevices ds ss
+
 -- what the reply to a setup says of a device
 abbrev pub kept_info : KeptDevice → DeviceInfo
 kept_info d = record { ty = d.ty; channels = 1; line = is_some d.line; rate = d.rate; horizon = d.rate * 4 }
 
--- the line of a device, or why there is none
-abbrev pub line_or : ℕ → Option Phone → Result Phone Refusal
-line_or d None = Err (refusal BadLine d)
-line_or d (Some line) = Ok line
-
-abbrev pub device_line_or : ℕ → Option KeptDevice → Result Phone Refusal
-device_line_or d None = Err (refusal BadDevice d)
-device_line_or d (Some device) = line_or d device.line
-
-abbrev pub line_at : List KeptDevice → ℕ → Result Phone Refusal
-line_at ds d = device_line_or d (slice_get ds d)
+-- A link never has more than 32768 bytes unread, nor more to send than 49152 bytes and the reply that is made while no more
+-- than these wait to be sent.
+pub record IsBounded (l : LinkState) : Type 0 where
+  pub rest : length l.rest ≤ 32768
+  pub pending : length l.pending ≤ 49152 + 16016

@@ -1,6 +1,6 @@
 use Rattle.std.proofs.Common.{◌∙◌, sym, pos, replicate, length, arith}
 use Rattle.std.proofs.lemmas.List.{ext_get_or, get_or-replicate, length-replicate}
-use Rattle.af_perform.proofs.level.silence.Goals as goal
+use Rattle.af_kept.proofs.level.silence.Goals as goal
 
 pub returns : goal.returns
 returns c =

@@ -1,7 +1,7 @@
 use Rattle.std.proofs.Common.{◌≡◌, sym, length, rules, subst}
-use Rattle.af_perform.specs.Kept.{KeptDevice, StandsForDevice}
-use Rattle.af_perform.proofs.Sounding.{passes, hands_out}
-use Rattle.af_perform.proofs.device.Device.pass.Goals as goal
+use Rattle.af_kept.specs.Kept.{KeptDevice, StandsForDevice}
+use Rattle.af_kept.proofs.Sounding.{passes, hands_out}
+use Rattle.af_kept.proofs.device.Device.pass.Goals as goal
 
 pub returns-clause-stands : goal.returns-clause-stands
 returns-clause-stands c = λ s h.

@@ -17,7 +17,7 @@ ghost use Rattle.af_model.specs.Perform.{counted};
 ghost use Rattle.af_model.specs.Advance.{takes_more, without_front};
 ghost use Rattle.af_model.specs.More.{wants_turn};
 ghost use Rattle.af_model.specs.Turn.{wants_read, wants_write, close_due, ready, sent, writable};
-ghost use Rattle.af_perform.specs.Places.{IsBounded};
+ghost use Rattle.af_kept.specs.Kept.{IsBounded};
 
 use af_context::{Context, ContextFault, Contexts};
 use af_model::Refusal;

@@ -2,9 +2,9 @@ use Rattle.std.proofs.Common.{◌≡◌, ◌<◌, ◌^◌, ◌∙◌, ap, sym, l
 use Rattle.af_sample.specs.Gains.{gained}
 use Rattle.af_sample.specs.Samples.{bytes_of}
 use Rattle.af_buffers.specs.RecordBuffer.{samples_from}
-use Rattle.af_perform.specs.Kept.{KeptDevice, StandsForDevice}
-use Rattle.af_perform.proofs.Sounding.{records}
-use Rattle.af_perform.proofs.device.Device.record.Goals as goal
+use Rattle.af_kept.specs.Kept.{KeptDevice, StandsForDevice}
+use Rattle.af_kept.proofs.Sounding.{records}
+use Rattle.af_kept.proofs.device.Device.record.Goals as goal
 
 pub returns : goal.returns
 returns c = λ s h.

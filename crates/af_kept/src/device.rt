@@ -10,7 +10,7 @@ ghost use Rattle.af_model.specs.Play.{accepting};
 ghost use Rattle.af_model.specs.Record.{recorded_bytes};
 ghost use Rattle.af_model.specs.Controls.{let_out};
 ghost use Rattle.af_model.specs.Tick.{later, next_sound};
-ghost use Rattle.af_perform.specs.Kept.{StandsForDevice, kept_info};
+ghost use Rattle.af_kept.specs.Kept.{StandsForDevice, kept_info};
 
 use crate::level::level;
 use af_buffers::{PlayBuffer, RecordBuffer};
@@ -38,7 +38,7 @@ pub struct Device {
 impl Model for Device {
     ghost use Rattle.std.specs.Prelude.{length};
     ghost use Rattle.af_sample.specs.Rates.{IsListedRate};
-    ghost use Rattle.af_perform.specs.Kept.{KeptDevice};
+    ghost use Rattle.af_kept.specs.Kept.{KeptDevice};
 
     ghost Value = { KeptDevice };
 

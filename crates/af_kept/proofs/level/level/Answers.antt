@@ -1,7 +1,7 @@
 use Rattle.std.proofs.Common.{◌∙◌, ap, sym, map}
 use Rattle.af_model.specs.Controls.{passed_on}
-use Rattle.af_perform.proofs.Sounding.{silenced}
-use Rattle.af_perform.proofs.level.level.Goals as goal
+use Rattle.af_kept.proofs.Sounding.{silenced}
+use Rattle.af_kept.proofs.level.level.Goals as goal
 
 pub returns-then-is_on : goal.returns-then-is_on
 returns-then-is_on c = c.gain_run.ensures ∙ ap (λ b. map (passed_on b c.args.gain) c.args.samples.now) (sym c.if-is_on.true)

@@ -1,5 +1,5 @@
 -- The bytes that a link gives, over several reads.
-use Rattle.std.proofs.Common.{◌≡◌, refl, IsSome, ℕ, ◌+◌, ◌<◌, ◌≤◌, List, [], ◌++◌, length, take, sym, ap, ap₂, ◌∙◌, subst, arith, append_assoc, append-nil}
+use Rattle.std.proofs.Common.{◌≡◌, refl, IsSome, ℕ, ◌+◌, ◌<◌, ◌≤◌, List, [], ◌++◌, length, take, sym, ap, ap₂, ◌∙◌, subst, arith, append-nil}
 use Rattle.std.proofs.Math.Seq.{take-add}
 use Rattle.std.proofs.lemmas.List.{take_at, drop_at, take_all, length-take-le, take-append-le}
 use Rattle.std.specs.declared.option.Option.{Option}

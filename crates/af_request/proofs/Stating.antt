@@ -8,7 +8,7 @@ use Rattle.af_sample.specs.declared.sample_type.SampleType.{SampleType}
 use Rattle.af_sample.specs.SampleTypes.{type_of_code}
 use Rattle.af_sample.specs.Rates.{is_listed_rate}
 use Rattle.af_request.specs.declared.reply.DeviceInfo.{DeviceInfo}
-use Rattle.af_request.specs.Answer.{Answer, setup}
+use Rattle.af_request.specs.Answer.{setup}
 use Rattle.af_request.specs.Fields.{u8_at, u16_at, u32_at}
 use Rattle.af_request.specs.Replies.{answer_in, device_in, device_of, device_then, devices_in, flag_of, IsReplyTo, IsStated}
 

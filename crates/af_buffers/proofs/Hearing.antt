@@ -9,7 +9,7 @@ use Rattle.af_time.specs.DeviceTime.{unwrap}
 use Rattle.af_sample.specs.Heard.{Entry, heard, with_entry}
 use Rattle.af_sample.proofs.Hearing.{heard-push}
 use Rattle.af_buffers.specs.Horizons.{whole_time}
-use Rattle.af_buffers.specs.PlayBuffer.{Next, accepted_at, accepted_by, frames_beyond, frames_within, EndsWithin, Plays, HandsOut, Hears}
+use Rattle.af_buffers.specs.PlayBuffer.{Next, accepted_at, accepted_by, frames_beyond, frames_within, Plays, HandsOut, Hears}
 use Rattle.af_buffers.proofs.Rooms.{get_or-silence}
 use Rattle.af_buffers.proofs.Entries.{covers_past, not_covered, with_entry-later, unwrap-same}
 
@@ -29,10 +29,6 @@ same_start b accepted now start h word =
     let late : 2 ^ 32 ≤ now = h.late in
     let time : b.time ≡ now % 2 ^ 32 = h.time in
     unwrap-same (whole_time b.time) now start (omega arith) late (omega arith) word
-
--- what ends within the horizon in whole times, a buffer takes
-pub ends_within : (b : Next) (accepted : List Entry) (now start n : ℕ) → Hears b accepted now → start < 2 ^ 32 → unwrap now start + n ≤ now + length b.next → EndsWithin b start n
-ends_within b accepted now start n h word within = let same = same_start b accepted now start h word in omega arith
 
 -- a play
 pub hears_play : (b c : Next) (accepted : List Entry) (now start : ℕ) (samples : List ℤ) (preempt : Bool) → Hears b accepted now → start < 2 ^ 32 →

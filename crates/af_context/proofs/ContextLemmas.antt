@@ -2,10 +2,10 @@
 use Rattle.std.proofs.Common.{◌≡◌, ◌≢◌, ℕ, zero, suc, ◌+◌, ◌<◌, ◌==◌, nat_lt, Bool, true, false, cond, not, ◌||◌, List, [], ◌∷◌, ◌++◌, length, find, position, take, drop, set, get_or, option_map, length-append, Option, Some, None, Ok, refl, sym, ap, ◌∙◌, subst, arith, rules}
 use Rattle.std.proofs.lemmas.Bool.Decides.{nat_tests}
 use Rattle.std.specs.List.{list_any, refill, remove, position_or_len, All, AllPairs}
-use Rattle.std.proofs.lemmas.List.{length_push, get_or-map}
+use Rattle.std.proofs.lemmas.List.{get_or-map}
 use Rattle.std.proofs.lemmas.List.Folds.{find_at, find-append, list_any_at}
 use Rattle.std.proofs.lemmas.List.Edits.{length-remove}
-use Rattle.std.proofs.lemmas.List.Quantifiers.{all_pairs_push, all_pairs_remove}
+use Rattle.std.proofs.lemmas.List.Quantifiers.{all_pairs_remove}
 use Rattle.std.proofs.lemmas.Option.{slice_get-get_or}
 use Rattle.std.proofs.Math.Seq.{map-set_same, take-append_seam}
 use Rattle.std.proofs.Math.ListN.{length-set}
@@ -64,13 +64,6 @@ apart xs c free k d low same =
     let is : ((get_or xs k d).ac == c.ac) ≡ true = grind (arith, nat_tests) in
     let used : is_in_use xs c.ac ≡ true = list_any_at (λ x. x.ac == c.ac) xs k d low is in
     absurd cc
-
--- one context more, whose number is not in use
-pub AreContexts-push : (xs : List Context) (c : Context) → AreContexts xs → is_in_use xs c.ac ≡ false → length xs < 16 → AreContexts (xs ++ c ∷ [])
-AreContexts-push xs c h free room = record {
-  distinct = all_pairs_push (λ a b. a.ac ≢ b.ac) xs c h.distinct (apart xs c free);
-  few = let n : length (xs ++ c ∷ []) ≡ length xs + 1 = length_push xs c in omega arith;
-}
 
 -- one context less
 pub AreContexts-remove : (xs : List Context) (at : ℕ) → AreContexts xs → at < length xs → AreContexts (remove xs at)

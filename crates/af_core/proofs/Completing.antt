@@ -112,11 +112,6 @@ completes_link ds ds1 ds2 ks ks1 ks2 l l1 l2 number d held a s w h here first du
     (subst (λ o. At ds2 ks2 l2 (complete_for f.waiter o (place left l))) (sym there)
     (subst (λ n. At ds2 ks2 l2 (advance n (q f.waiter.device))) (sym f.link) (subst (λ e. At ds2 ks2 l2 (advance number (q e))) (sym f.device) goes)))
 
--- the same at a number's link
-pub completes_at : (ds ds' : List KeptDevice) (ks ks' : List KeptWait) (old : Option LinkState) (l l' : LinkState) (w : Waiter) (a : Around) → old ≡ Some l → At ds' ks' l' (complete_for w (slice_get a.devices w.device) (place a l)) →
-    AtDoor ds' ks' (Some l') (complete_at w a old)
-completes_at ds ds' ks ks' old l l' w a is at = subst (λ o. AtDoor ds' ks' (Some l') (complete_at w a o)) (sym is) (at.0, ap (λ m. Some m) at.1)
-
 -- a number where no link is open
 pub completes_closed : (ds : List KeptDevice) (ks ks' : List KeptWait) (d : ℕ) (old : Option LinkState) (s : DeviceState) (w : Waiter) (number : ℕ) (a : Around) → StandAround ds ks a → slice_get a.devices d ≡ Some s → old ≡ None → option_map (λ k. k.wait.link) (find (kept_due d) ks) ≡ Some number →
     ks' ≡ without_first (kept_due d) ks → AtDoor ds ks' old (complete_at w (record a { waiting = without_first (is_due d s) a.waiting }) old)

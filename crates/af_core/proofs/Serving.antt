@@ -141,10 +141,6 @@ unfolding serve_link
 serves a b c d k ds ds' ds'' ks ks' ks'' l l' l'' link read write close =
     does_more (does_then (λ p log. and_then (write_phase k p log) (close_phase k)) read) (does_more (does_then (close_phase k) write) close)
 
-pub door_idle : (t : Option Log) (k : ℕ) (ds : List KeptDevice) (ks : List KeptWait) → Does t t (AtDoor ds ks None) (AtDoor ds ks None) (serve_door k) behind
-door_idle t k ds ks =
-    does_nothing t (AtDoor ds ks None) (AtDoor ds ks None) (serve_door k) behind (λ s. door s.around None) (λ s h. (h.0, refl)) (λ s h log. ap (λ o. serve_open k s.around o log) h.1)
-
 door_serves : (a b : Option Log) (k : ℕ) (ds ds' : List KeptDevice) (ks ks' : List KeptWait) (l : LinkState) (link : Option LinkState) →
     Does a b (At ds ks l) (AtDoor ds' ks' link) (serve_link k) behind → Does a b (AtDoor ds ks (Some l)) (AtDoor ds' ks' link) (serve_door k) behind
 door_serves a b k ds ds' ks ks' l link d = record {
@@ -180,9 +176,6 @@ one_served a b n k ds ds' ks ks' links link link' here d = record {
         same = λ more. ap (λ o. and_then (and_then o (λ d log. behind (with_door k s d) log)) (serve_from n (k + 1))) (r.same more);
       };
 }
-
-pub none_served : (t : Option Log) (n m : ℕ) (ds : List KeptDevice) (ks : List KeptWait) (links : List (Option LinkState)) → n ≡ m → Does t t (StandsFor ds ks links) (StandsFor ds ks links) (serve_from n 0) (serve_from m 0)
-none_served t n m ds ks links e = does_nothing t (StandsFor ds ks links) (StandsFor ds ks links) (serve_from n 0) (serve_from m 0) (λ s. s) (λ s h. h) (λ s h log. ap (λ x. serve_from x 0 s log) e)
 
 pub next_served : (a b c : Option Log) (count n k : ℕ) (ds ds' ds'' : List KeptDevice) (ks ks' ks'' : List KeptWait) (links links' : List (Option LinkState)) (link link' : Option LinkState) →
     n ≡ suc (count - (k + 1)) → some_link (slice_get links' k) ≡ link →

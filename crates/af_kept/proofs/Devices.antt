@@ -6,7 +6,7 @@ use Rattle.std.specs.declared.option.Option.TheVariants.{None, Some}
 use Rattle.af_sample.specs.declared.sample_type.SampleType.{SampleType}
 use Rattle.af_request.specs.declared.reply.DeviceInfo.{DeviceInfo}
 use Rattle.af_request.specs.declared.reply.Phone.{Phone}
-use Rattle.af_model.specs.State.{DeviceState, with_device, device_set}
+use Rattle.af_model.specs.State.{DeviceState}
 use Rattle.af_model.specs.Reply.{info_of, infos_of}
 use Rattle.af_kept.specs.Kept.{KeptDevice, StandsForDevice, StandForDevices, kept_info}
 
@@ -76,9 +76,3 @@ stands_set [] (y ∷ ss) k d s h e = absurd h
 stands_set (x ∷ ds) [] k d s h e = absurd h
 stands_set (x ∷ ds) (y ∷ ss) zero d s h e = (e, h.1)
 stands_set (x ∷ ds) (y ∷ ss) (suc k) d s h e = (h.0, stands_set ds ss k d s h.1 e)
-
-pub stands_with : (ds : List KeptDevice) (ss : List DeviceState) (k : ℕ) (d d' : KeptDevice) (f : DeviceState → DeviceState) → slice_get ds k ≡ Some d → StandForDevices ds ss →
-    ((s : DeviceState) → StandsForDevice d s → StandsForDevice d' (f s)) → StandForDevices (slice_set ds k d') (with_device k f ss)
-stands_with ds ss k d d' f here h step =
-    let r = found ds ss k d here h in
-    subst (λ o. StandForDevices (slice_set ds k d') (device_set k f ss o)) (sym r.here) (stands_set ds ss k d' (f r.state) h (step r.state r.stands))

@@ -1,11 +1,10 @@
 -- The bytes that a link gives, over several reads.
-use Rattle.std.proofs.Common.{◌≡◌, refl, IsSome, ℕ, ◌+◌, ◌<◌, ◌≤◌, List, [], ◌++◌, length, take, sym, ap, ap₂, ◌∙◌, subst, arith, append-nil}
+use Rattle.std.proofs.Common.{◌≡◌, refl, IsSome, ℕ, ◌+◌, ◌≤◌, List, ◌++◌, length, take, sym, ap, ap₂, ◌∙◌, subst}
 use Rattle.std.proofs.Math.Seq.{take-add}
-use Rattle.std.proofs.lemmas.List.{take_at, drop_at, take_all, length-take-le, take-append-le}
+use Rattle.std.proofs.lemmas.List.{take_at, drop_at, length-take-le, take-append-le}
 use Rattle.std.specs.declared.option.Option.{Option}
 use Rattle.std.specs.declared.option.Option.TheVariants.{None, Some}
 use Rattle.af_outside.specs.Told.{Gave}
-use Rattle.af_outside.specs.Flow.{IsSpent}
 use Rattle.af_outside.proofs.Flowing.{gave_on}
 use Rattle.af_lib.specs.Told.{BothTold}
 
@@ -29,21 +28,6 @@ Gave-part before now after filled count into part past fits few first second =
     let P : List ℕ → Type 0 = λ bytes. Gave before bytes after in
     let bytes = take-part filled count into (part ++ past) fits ∙ ap (λ (t : List ℕ). take filled into ++ t) (take-append-le count part past few) in
     subst P (sym bytes) (gave_on before now after (take filled into) (take count part) first second)
-
--- a slice that is full
-pub Gave-whole : (before after : Option (List ℕ)) (filled : ℕ) (into : List ℕ) → length into ≤ filled → Gave before (take filled into) after → Gave before into after
-Gave-whole before after filled into full gave = let P : List ℕ → Type 0 = λ bytes. Gave before bytes after in subst P (take_all filled into full) gave
-
--- the end came before a slice was full
-pub Gave-cut : (before now after : Option (List ℕ)) (filled room : ℕ) (into : List ℕ) → filled < room → filled ≤ length into →
-    Gave before (take filled into) now → Gave now [] after → IsSpent after → BothTold before after (λ b a. (length b < room) × (a ≡ []))
-Gave-cut before now None filled room into short fits first second spent = tt
-Gave-cut before None (Some z) filled room into short fits first second spent = absurd second
-Gave-cut None (Some y) (Some z) filled room into short fits first second spent = absurd first
-Gave-cut (Some x) (Some y) (Some z) filled room into short fits first second spent =
-    let whole : x ≡ take filled into = first ∙ ap (λ (t : List ℕ). take filled into ++ t) (second ∙ spent) ∙ append-nil (take filled into) in
-    let len : length x ≡ filled = ap length whole ∙ length-take-le filled into fits in
-    (omega arith, spent)
 
 -- what is told in other words
 pub BothTold-map : (before after : Option (List ℕ)) (P Q : List ℕ → List ℕ → Type 0) → BothTold before after P → ((b a : List ℕ) → P b a → Q b a) → BothTold before after Q

@@ -1,5 +1,5 @@
 -- What a call of a connection sends, takes and answers.
-use Rattle.std.specs.Prelude.{◌≡◌, ◌≢◌, ◌≤◌, ◌+◌, ◌%◌, ◌^◌, ◌↔◌, ◌==◌, nat_le, if◌then◌else◌, ⊤, ◌⊎◌, ℕ, ℤ, pos, Bool, List, [], ◌∷◌, length, take, drop, slice_get, is_some, option_and_then, Result, Ok, Err, IsOk, IsSome}
+use Rattle.std.specs.Prelude.{◌≡◌, ◌≢◌, ◌≤◌, ◌+◌, ◌%◌, ◌^◌, ◌↔◌, ◌==◌, nat_le, if◌then◌else◌, ⊤, ◌⊎◌, ℕ, ℤ, pos, Bool, List, [], length, take, drop, slice_get, is_some, option_and_then, Result, Ok, Err, IsOk, IsSome}
 use Rattle.std.specs.declared.option.Option.{Option}
 use Rattle.std.specs.declared.option.Option.TheVariants.{None, Some}
 use Rattle.af_time.specs.declared.DevTime.{DevTime}

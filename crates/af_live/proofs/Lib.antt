@@ -1,4 +1,3 @@
 pub mod LineByLine
 pub mod Texts
 pub mod Rates
-pub mod Openings

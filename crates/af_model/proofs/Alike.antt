@@ -560,9 +560,6 @@ in_open-some f (Some l) = refl
 flagged : (f : LinkState → LinkState) (s : State) (k : ℕ) → open_links (slice_set s.slots k (in_slot f (slot_at k s))) ≡ open_links s.slots
 flagged f s k = open_links-set s.slots k (in_slot f (slot_at k s)) ∙ ap (λ b. slice_set (open_links s.slots) k b) (in_open-some f (slot_at k s).link) ∙ open_links-same s.slots k
 
-station_opens : (o : Outside) (d : ℕ) (station : Station) → opens (with_station o d station) ≡ opens o
-station_opens o d station = refl
-
 -- Captures
 
 -- the one answer of a capture of so many bytes

@@ -1,5 +1,5 @@
 -- Checks that pass, and how many frames bytes are.
-use Rattle.std.proofs.Common.{◌≡◌, ℕ, ℤ, true, false, not, nat_lt, ◌*◌, ◌/◌, ◌%◌, ◌<◌, ◌≤◌, Bool, List, [], ◌∷◌, length, take, refl, ap, ◌∙◌, subst, arith, length-take-le}
+use Rattle.std.proofs.Common.{◌≡◌, ℕ, true, false, not, nat_lt, ◌*◌, ◌/◌, ◌%◌, ◌≤◌, Bool, List, [], ◌∷◌, refl, subst, arith}
 use Rattle.std.specs.declared.option.Option.{Option}
 use Rattle.std.specs.declared.option.Option.TheVariants.{None}
 use Rattle.std.proofs.lemmas.Bool.Decides.{nat_tests}
@@ -13,10 +13,6 @@ use Rattle.af_model.specs.declared.refusal.Refusal.{Refusal}
 use Rattle.af_model.specs.Checks.{check, first_refusal}
 use Rattle.af_model.specs.Play.{are_frames}
 use Rattle.af_model.specs.Record.{record_refusal}
-
-check_passes : (b : Bool) (cause : Cause) (value : ℕ) → check b cause value ≡ None → b ≡ false
-check_passes true cause value e = absurd cc
-check_passes false cause value e = refl
 
 pub pass_first : (b : Bool) (cause : Cause) (value : ℕ) (o : Option Refusal) (checks : List (Option Refusal)) → o ≡ check b cause value → first_refusal (o ∷ checks) ≡ None → (b ≡ false) × (first_refusal checks ≡ None)
 pass_first true cause value o checks is e = absurd (let f : first_refusal (check true cause value ∷ checks) ≡ None = subst (λ x. first_refusal (x ∷ checks) ≡ None) is e in cc)
@@ -47,21 +43,3 @@ few_frames Mu255 n = (omega arith, omega arith)
 few_frames Alaw n = (omega arith, omega arith)
 few_frames Lin16 n = (omega arith, omega arith)
 few_frames Lin32 n = (omega arith, omega arith)
-
-pub few_bytes : (ty : SampleType) (m n : ℕ) → m ≤ n / width_of ty → m * width_of ty ≤ n
-few_bytes Mu255 m n e = omega arith
-few_bytes Alaw m n e = omega arith
-few_bytes Lin16 m n e = omega arith
-few_bytes Lin32 m n e = omega arith
-
--- the room that so many frames take
-pub taken_frames : (ty : SampleType) (n w : ℕ) (room : List ℤ) → w ≡ width_of ty → n ≤ 16368 → length room ≡ 16384 → length (take (n / w) room) ≡ n / width_of ty
-taken_frames ty n w room e few size =
-    let less = (few_frames ty n).0 in
-    ap (λ w. length (take (n / w) room)) e ∙ length-take-le (n / width_of ty) room (omega (arith, less, few, size))
-
-pub some_samples : (ty : SampleType) (bytes samples : ℕ) → bytes ≡ samples * width_of ty → 0 < samples → 0 < bytes
-some_samples Mu255 bytes samples e some = omega arith
-some_samples Alaw bytes samples e some = omega arith
-some_samples Lin16 bytes samples e some = omega arith
-some_samples Lin32 bytes samples e some = omega arith

@@ -226,21 +226,10 @@ without_others link j (k ∷ ks) apart =
       | false ↦ λ t. ap (λ b. k.wait.link == j || b) (without_others link j ks apart)
     ] refl
 
-pub without_own : (link : ℕ) (ks : List KeptWait) → has_waiting (kept_without link ks) link ≡ false
-without_own link [] = refl
-without_own link (k ∷ ks) =
-    elim (k.wait.link == link) as (λ b. (k.wait.link == link) ≡ b → has_waiting (cond (not b) (k ∷ kept_without link ks) (kept_without link ks)) link ≡ false) [
-      | true ↦ λ t. without_own link ks
-      | false ↦ λ t. ap (λ b. b || has_waiting (kept_without link ks) link) t ∙ without_own link ks
-    ] refl
-
 -- Growing
 
 pub grows_nothing : (link : ℕ) (ks : List KeptWait) → Grows link ks ks
 grows_nothing link ks = record { more = []; is = sym (append-nil ks); are_new = tt }
-
-pub grows_one : (link : ℕ) (ks ks' : List KeptWait) (k : KeptWait) → ks' ≡ ks ++ k ∷ [] → k.wait.link ≡ link → 0 < k.wait.left → Grows link ks ks'
-grows_one link ks ks' k is number some = record { more = k ∷ []; is = is; are_new = (number, some, tt) }
 
 new_append : (link : ℕ) (xs ys : List KeptWait) → AreNew link xs → AreNew link ys → AreNew link (xs ++ ys)
 new_append link [] ys a b = b
@@ -341,12 +330,3 @@ all_later d (k ∷ ks) e l =
       | true ↦ λ t. let g : Some k ≡ None = ap (λ b. cond b (Some k) (find (kept_due d) ks)) (sym t) ∙ e in absurd cc
       | false ↦ λ t. (l.0 t, all_later d ks (ap (λ b. cond b (Some k) (find (kept_due d) ks)) (sym t) ∙ e) l.1)
     ] refl
-
-pub none_of_dues : (d : ℕ) (ks : List KeptWait) → dues d ks ≡ 0 → find (kept_due d) ks ≡ None
-unfolding dues
-none_of_dues d [] e = refl
-none_of_dues d (k ∷ ks) e =
-    elim (kept_due d k) as (λ b. cond b (suc (dues d ks)) (dues d ks) ≡ 0 → cond b (Some k) (find (kept_due d) ks) ≡ None) [
-      | true ↦ λ e. absurd cc
-      | false ↦ λ e. none_of_dues d ks e
-    ] e

@@ -1,5 +1,5 @@
 -- Fields that are written and read again.
-use Rattle.std.proofs.Common.{◌≡◌, ◌<◌, ◌≤◌, ◌+◌, ◌-◌, ◌*◌, ◌^◌, ◌∙◌, ℕ, ℤ, List, length, take, replicate, ap, arith}
+use Rattle.std.proofs.Common.{◌≡◌, ◌<◌, ◌+◌, ◌-◌, ◌*◌, ◌^◌, ◌∙◌, ℕ, ℤ, List, length, take, replicate, ap, arith}
 use Rattle.std.specs.Prelude.{FitsSigned}
 use Rattle.std.specs.Int.{w16, w32, cast_signed, cast_unsigned, from_be_bytes}
 use Rattle.std.proofs.Math.Facts.{Fits-of_z, Fits-lt-pow}
@@ -21,10 +21,6 @@ u32_again n low = from_be_bytes-to_be_bytes_4 n low
 
 pub i16_again : (x : ℤ) → FitsSigned w16 x → cast_signed w16 (from_be_bytes w16 (i16_bytes x)) ≡ x
 i16_again x fits = ap (cast_signed w16) (from_be_bytes-to_be_bytes_2 (cast_unsigned w16 x) (Fits-lt-pow (Fits-of_z fits))) ∙ to_z-of_z w16 x fits
-
--- so many bytes fit into their words
-pub le-words_for : (n : ℕ) → n ≤ 4 * words_for n
-le-words_for n = omega arith
 
 pub length-padded : (bytes : List ℕ) → length (padded bytes) ≡ 4 * words_for (length bytes)
 length-padded bytes =

@@ -1,5 +1,5 @@
 -- Steps round a ring.
-use Rattle.std.proofs.Common.{◌≡◌, ℕ, ℤ, pos, ◌+◌, ◌-◌, ◌*◌, ◌%◌, ◌^◌, ◌<◌, ◌≤◌, ◌≢◌, ◌⊎◌, inl, inr, cond, nat_lt, List, length, set, get_or, refl, sym, ap, ◌∙◌, subst, arith, get_or-set_same, get_or-set_other, length-set}
+use Rattle.std.proofs.Common.{◌≡◌, ℕ, ℤ, pos, ◌+◌, ◌-◌, ◌*◌, ◌%◌, ◌^◌, ◌<◌, ◌≤◌, ◌≢◌, ◌⊎◌, inl, inr, cond, nat_lt, List, length, set, get_or, sym, ap, ◌∙◌, subst, arith, get_or-set_same, get_or-set_other, length-set}
 use Rattle.std.proofs.lemmas.Bool.{cases_lt, cases_eq, lt-ltb, le-ltb}
 use Rattle.std.proofs.Math.Nat.{mod-add-mod, mod-lt, mod-eq_of_lt, mod-eq-sub-mod, mod-mod_of_dvd, add-mod_right, mod-mod, pow-le-pow_right, dvd-mul_left}
 use Rattle.std.proofs.lemmas.Nat.{pow-add}
@@ -87,10 +87,6 @@ changes_more old mid new t k n x f size within so_far place is value =
             ∙ ap (λ b. cond b (f j (cell old (t + j))) (cell old (t + j))) tests
       ];
     }
-
--- no cell is changed yet
-pub changes_none : (old : List ℤ) (t : ℕ) (f : ℕ → ℤ → ℤ) → ChangesRun old old t 0 f
-changes_none old t f = record { size = refl; each = λ k h. sym (ap (λ b. cond b (f k (cell old (t + k))) (cell old (t + k))) (le-ltb k 0 (omega arith))) }
 
 -- one more cell is read
 pub read_more : (out cells : List ℤ) (t k n : ℕ) (x : ℤ) → IsSize (length cells) → k < length out → ((j : ℕ) → j < k → get_or out j (pos 0) ≡ cell cells (t + j)) →

@@ -1,7 +1,7 @@
 -- Runs of samples, from what holds at each place.
-use Rattle.std.proofs.Common.{◌≡◌, ◌<◌, ◌≤◌, ◌+◌, ◌*◌, ◌/◌, ℕ, ℤ, pos, suc, List, [], ◌∷◌, ◌++◌, map, take, length, get_or, refl, sym, ap, ◌∙◌, arith}
+use Rattle.std.proofs.Common.{◌≡◌, ◌<◌, ◌≤◌, ◌+◌, ◌*◌, ◌/◌, ℕ, ℤ, pos, List, [], ◌++◌, map, take, length, get_or, refl, sym, ap, ◌∙◌, arith}
 use Rattle.std.specs.List.{range_with_len}
-use Rattle.std.proofs.lemmas.List.{ext_get_or, get_or-map, length-map, take_more, flat_map_more, length-append}
+use Rattle.std.proofs.lemmas.List.{ext_get_or, get_or-map, length-map, take_more, flat_map_more}
 use Rattle.std.proofs.lemmas.List.FromFn.{fill_by_all, length-map-range_with_len}
 use Rattle.std.proofs.lemmas.Simd.{length-zip2, get_or-zip2}
 use Rattle.std.proofs.lemmas.Slice.{take-put_mid}
@@ -51,18 +51,6 @@ length-encoded Mu255 x = refl
 length-encoded Alaw x = refl
 length-encoded Lin16 x = refl
 length-encoded Lin32 x = refl
-
-pub length-bytes_of : (ty : SampleType) (xs : List ℤ) → length (bytes_of ty xs) ≡ length xs * width_of ty
-length-bytes_of ty [] = omega arith
-length-bytes_of ty (x ∷ xs) =
-    length-append (encoded ty x) (bytes_of ty xs) ∙ ap (λ n. n + length (bytes_of ty xs)) (length-encoded ty x)
-    ∙ ap (λ n. width_of ty + n) (length-bytes_of ty xs) ∙ more ty (length xs)
-  where
-    more : (ty : SampleType) (n : ℕ) → width_of ty + n * width_of ty ≡ suc n * width_of ty
-    more Mu255 n = omega arith
-    more Alaw n = omega arith
-    more Lin16 n = omega arith
-    more Lin32 n = omega arith
 
 -- the bytes of one sample more
 pub encoded_more : (ty : SampleType) (xs : List ℤ) (out new : List ℕ) (i w k : ℕ) → w ≡ width_of ty → i < length xs → i * w ≤ length out →

@@ -56,10 +56,6 @@ ended_at_once c how s o sent wrote is = record {
 pub ended_early : (c : Course) (how : ToolEnd) (s o s' o' : List ℕ) → is_outer how ≡ true → c.sends ≡ s ++ s' → c.output ≡ o ++ o' → Ended c how s o
 ended_early c how s o s' o' outer sent wrote = record { unsent = s'; unwritten = o'; sent = sent; wrote = wrote; whole = λ inner. absurd (let bad : true ≡ false = sym outer ∙ inner in cc bad) }
 
-module _ {X Y : Type 0} (first : Part X) (second : X → Wire → Part Y) where
-  abbrev pub then : Part Y
-  then next = first (λ x w. second x w next)
-
 -- an end within the first of two parts
 pub goes_stop : {X Y : Type 0} (first : Part X) (second : X → Wire → Part Y) (how : ToolEnd) (left left' : Option (List ℕ)) (wire wire' : List ℕ → Wire) (s s' h h' : Option (List ℕ)) →
     Goes {X = X} first (Err how) left wire s s' h h' → Goes {X = Y} (λ next. first (λ x w. second x w next)) (Err how) left' wire' s s' h h'

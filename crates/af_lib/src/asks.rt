@@ -1,8 +1,8 @@
 // Replies as the values that they state, for each kind of request.
 ghost use Rattle.std.specs.Prelude.{◌≡◌, ◌≢◌, ◌≤◌, length, option_map, Err, IfOk, IfSome, IsTrue, IsSome};
+ghost use Rattle.std.specs.declared.option.Option.{Option};
 ghost use Rattle.af_outside.specs.Told.{Rose};
 ghost use Rattle.af_wire.specs.Front.{setup_bytes};
-ghost use Rattle.std.specs.declared.option.Option.{Option};
 ghost use Rattle.af_request.specs.Answer.{Answer, meaning as answered_by, recorded, setup, items_of};
 ghost use Rattle.af_request.specs.Asked.{meaning};
 ghost use Rattle.af_request.specs.Replies.{IsReplyTo};
@@ -106,6 +106,7 @@ impl Stated for Phone {
     }
 }
 
+// The value of a message that is a reply, or the fault of one whose body states none.
 fn value_in<T: Stated>(opcode: u8, bytes: &[u8]) -> Result<T, ConnFault>
     requires { 8 ≤ length bytes.now }
     ensures value { result ≡ value_in T.value_of opcode bytes.now }

@@ -13,10 +13,10 @@ use Rattle.af_request.specs.Requests.{request_bytes}
 use Rattle.af_lib.specs.declared.fault.ConnFault.{ConnFault}
 use Rattle.af_lib.specs.Calls.{as_done, as_recorded, as_time}
 use Rattle.af_jobs.specs.declared.job.PassJob.{PassJob}
+use Rattle.af_course.specs.Course.{Course, Finish, Wire, answer_on, behind, done, mismatch, no_device, refused}
 use Rattle.af_relay.specs.declared.pass.Pace.{Pace}
 use Rattle.af_relay.specs.declared.pass.Passed.{Passed}
 use Rattle.af_relay.specs.declared.pass.Place.{Place}
-use Rattle.af_course.specs.Course.{Course, Finish, Wire, answer_on, behind, done, mismatch, no_device, refused}
 
 -- what a relay sends on each of its two links, what it writes, and why it ends
 pub record Relay : Type 0 where

@@ -2,9 +2,9 @@
 ghost use Rattle.std.specs.Prelude.{◌≡◌, ◌<◌, ◌≤◌, ◌+◌, ◌^◌, ℕ, List, true, length, IfErr, IfOk};
 ghost use Rattle.std.specs.declared.option.Option.{Option};
 ghost use Rattle.std.specs.declared.option.Option.TheVariants.{None, Some};
+ghost use Rattle.af_course.specs.Ends.{is_of_link, wire_of};
 ghost use Rattle.af_relay.specs.Pass.{has_drifted, in_step, none_passed, passed_on, passes, passes_block, place_of};
 ghost use Rattle.af_relay.specs.Both.{GoesBoth, HoldsBoth};
-ghost use Rattle.af_course.specs.Ends.{is_of_link, wire_of};
 
 use af_course::{CONTEXT, ToolEnd, time_behind};
 use af_jobs::PassJob;

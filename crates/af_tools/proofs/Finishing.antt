@@ -16,14 +16,14 @@ use Rattle.af_course.specs.declared.end.ToolEnd.TheVariants as end
 use Rattle.af_jobs.specs.declared.job.PlayJob.{PlayJob}
 use Rattle.af_jobs.specs.declared.job.RecordJob.{RecordJob}
 use Rattle.af_jobs.specs.declared.job.SetJob.{SetJob}
-use Rattle.af_tools.specs.declared.standing.Standing.{Standing}
 use Rattle.af_course.specs.Course.{Course, Wire, answer_on, answered_by, asks, behind}
+use Rattle.af_course.specs.Ends.{is_outer}
+use Rattle.af_course.proofs.Endings.{IsDoneOrRefused}
+use Rattle.af_tools.specs.declared.standing.Standing.{Standing}
 use Rattle.af_tools.specs.Play.{blocks, cut, most_bytes, play_context, played_on, plays}
 use Rattle.af_tools.specs.Record.{block_lengths, ends_row, peak, record_context, recorded_on, records}
 use Rattle.af_tools.specs.Set.{asks_line, asks_where, control_request, hooks, set_on, states_controls}
-use Rattle.af_course.specs.Ends.{is_outer}
 use Rattle.af_tools.specs.Ways.{is_of_play, is_of_writer}
-use Rattle.af_course.proofs.Endings.{IsDoneOrRefused}
 
 answer_finish : {X : Type 0} (r : Result X ConnFault) (w : Wire) (next : X → Wire → Course) → ((x : X) (v : Wire) → IsDoneOrRefused (next x v).finish) → IsDoneOrRefused (answered_by r w next).finish
 answer_finish (Ok x) w next more = more x w

@@ -7,11 +7,11 @@ use Rattle.af_request.specs.Asked.{Asked, free_ac}
 use Rattle.af_time.specs.declared.DevTime.{DevTime}
 use Rattle.af_lib.specs.Calls.{as_done}
 use Rattle.af_course.specs.declared.end.ToolEnd.{ToolEnd}
-use Rattle.af_tools.specs.declared.player.Played.{Played}
 use Rattle.af_course.specs.Course.{Course, Wire, asks, begins}
-use Rattle.af_tools.specs.Play.{blocks, plays}
 use Rattle.af_course.specs.Ends.{Goes, Part}
 use Rattle.af_course.proofs.Going.{goes_on, goes_stop}
+use Rattle.af_tools.specs.declared.player.Played.{Played}
+use Rattle.af_tools.specs.Play.{blocks, plays}
 use Rattle.af_tools.proofs.Reaching.{goes_value}
 
 -- the blocks are played, and the context is freed

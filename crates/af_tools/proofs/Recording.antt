@@ -15,9 +15,9 @@ use Rattle.af_sample.specs.Samples.{decoded, piece, samples}
 use Rattle.af_course.specs.declared.end.ToolEnd.{ToolEnd}
 use Rattle.af_jobs.specs.declared.job.RecordJob.{RecordJob}
 use Rattle.af_course.specs.Course.{Course, Wire}
-use Rattle.af_tools.specs.Record.{block_lengths, ends_row, greatest, peak, records, row_below, takes_block}
 use Rattle.af_course.specs.Ends.{Goes, Part}
 use Rattle.af_course.proofs.Going.{doing, goes_stop}
+use Rattle.af_tools.specs.Record.{block_lengths, ends_row, greatest, peak, records, row_below, takes_block}
 use Rattle.af_tools.proofs.Reaching.{Reaches, goes_same, goes_value, reaches_goes, reaches_none, reaches_on}
 
 -- what is left of recording

@@ -9,12 +9,12 @@ use Rattle.af_request.specs.declared.reply.Phone.{Phone}
 use Rattle.af_request.specs.Asked.{Asked, query_controls, query_phone}
 use Rattle.af_lib.specs.Calls.{as_controls, as_done, as_phone}
 use Rattle.af_jobs.specs.declared.job.SetJob.{SetJob}
-use Rattle.af_tools.specs.declared.standing.Standing.{Standing}
 use Rattle.af_course.specs.declared.end.ToolEnd.{ToolEnd}
 use Rattle.af_course.specs.Course.{Course, Wire, asks}
-use Rattle.af_tools.specs.Set.{asks_line, asks_where, hooks}
 use Rattle.af_course.specs.Ends.{Goes, Part}
 use Rattle.af_course.proofs.Going.{goes_on, goes_stop}
+use Rattle.af_tools.specs.declared.standing.Standing.{Standing}
+use Rattle.af_tools.specs.Set.{asks_line, asks_where, hooks}
 use Rattle.af_tools.proofs.Reaching.{goes_value}
 
 module _ (asked : Asked) (w : Wire) (left : Option (List ℕ)) (wire : List ℕ → Wire) (s s' h h' : Option (List ℕ)) where

@@ -9,8 +9,8 @@ use Rattle.af_request.specs.Asked.{Asked, hook_switch, query_controls, query_pho
 use Rattle.af_request.specs.Fields.{flag_byte}
 use Rattle.af_lib.specs.Calls.{as_controls, as_done, as_phone, controls_changed}
 use Rattle.af_jobs.specs.declared.job.SetJob.{SetJob}
-use Rattle.af_tools.specs.declared.standing.Standing.{Standing}
 use Rattle.af_course.specs.Course.{Course, Wire, asks, done, ends, with_device, writing}
+use Rattle.af_tools.specs.declared.standing.Standing.{Standing}
 
 -- some control is stated
 abbrev pub states_controls : SetJob → Bool

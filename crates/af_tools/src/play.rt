@@ -1,14 +1,12 @@
 // What a source gives is played, block by block.
-ghost use Rattle.std.specs.Prelude.{◌≡◌, ◌≢◌, ◌<◌, ◌≤◌, ◌*◌, ◌+◌, ◌%◌, ◌^◌, ℕ, List, true, length, pos, unwrap_or, IfErr, IfOk, IsErrOf, IsSome};
+ghost use Rattle.std.specs.Prelude.{◌≡◌, ◌<◌, ◌≤◌, ◌*◌, ◌+◌, ℕ, List, true, length, IfErr, IfOk, IsErrOf, IsSome};
 ghost use Rattle.std.specs.declared.option.Option.{Option};
 ghost use Rattle.std.specs.declared.option.Option.TheVariants.{None, Some};
 ghost use Rattle.af_outside.specs.Told.{Rose};
-ghost use Rattle.af_outside.specs.Flow.{IsSpent, Written};
-ghost use Rattle.af_sample.specs.SampleTypes.{width_of};
-ghost use Rattle.af_course.specs.Course.{asks};
-ghost use Rattle.af_tools.specs.Play.{blocks, played, plays, start_at};
-ghost use Rattle.af_tools.specs.Ways.{is_of_blocks};
+ghost use Rattle.af_outside.specs.Flow.{IsSpent};
 ghost use Rattle.af_course.specs.Ends.{wire_of, Goes, Holds};
+ghost use Rattle.af_tools.specs.Play.{blocks, plays};
+ghost use Rattle.af_tools.specs.Ways.{is_of_blocks};
 ghost use Rattle.af_tools.specs.Fill.{GaveTooMuch, GaveWithin};
 
 use crate::fill::fill_block;

@@ -7,11 +7,11 @@ ghost use Rattle.af_outside.specs.Told.{Rose};
 ghost use Rattle.af_outside.specs.Flow.{IsSpent};
 ghost use Rattle.af_request.specs.declared.reply.DeviceInfo.{DeviceInfo};
 ghost use Rattle.af_course.specs.Course.{with_device};
+ghost use Rattle.af_course.specs.Talk.{creates};
+ghost use Rattle.af_course.specs.Ends.{wire_of, EndsByReply, Followed, Goes, Holds, IsAnswered};
 ghost use Rattle.af_tools.specs.Play.{aplay_course, most_bytes, play_context, played_on, start_at};
 ghost use Rattle.af_tools.specs.Intent.{IsPlayed};
-ghost use Rattle.af_course.specs.Talk.{creates};
 ghost use Rattle.af_tools.specs.Ways.{is_of_blocks, is_of_play};
-ghost use Rattle.af_course.specs.Ends.{wire_of, EndsByReply, Followed, Goes, Holds, IsAnswered};
 ghost use Rattle.af_tools.specs.Fill.{GaveTooMuch, GaveWithin};
 
 use crate::play::play_blocks;

@@ -4,9 +4,9 @@ ghost use Rattle.std.specs.declared.option.Option.{Option};
 ghost use Rattle.std.specs.declared.option.Option.TheVariants.{None, Some};
 ghost use Rattle.af_outside.specs.Told.{Rose};
 ghost use Rattle.af_sample.specs.SampleTypes.{width_of};
+ghost use Rattle.af_course.specs.Ends.{wire_of, Goes, Holds};
 ghost use Rattle.af_tools.specs.Record.{block_lengths, peak, records, takes_block, value_in};
 ghost use Rattle.af_tools.specs.Ways.{is_of_records};
-ghost use Rattle.af_course.specs.Ends.{wire_of, Goes, Holds};
 
 use af_course::{CONTEXT, ToolEnd};
 use af_jobs::RecordJob;

@@ -3,10 +3,10 @@ ghost use Rattle.std.specs.Prelude.{◌≡◌, ◌<◌, ◌≤◌, ◌↔◌, �
 ghost use Rattle.std.specs.declared.option.Option.{Option};
 ghost use Rattle.std.specs.declared.option.Option.TheVariants.{None, Some};
 ghost use Rattle.af_outside.specs.Told.{Rose};
-ghost use Rattle.af_tools.specs.Record.{arecord_course, record_context, recorded_on};
 ghost use Rattle.af_course.specs.Talk.{creates};
-ghost use Rattle.af_tools.specs.Ways.{is_of_writer, is_of_records};
 ghost use Rattle.af_course.specs.Ends.{wire_of, EndsByReply, Followed, Goes, Holds, IsAnswered};
+ghost use Rattle.af_tools.specs.Record.{arecord_course, record_context, recorded_on};
+ghost use Rattle.af_tools.specs.Ways.{is_of_writer, is_of_records};
 
 use crate::record::record_blocks;
 use af_course::{Context, ToolEnd, begin, device_with, finish};

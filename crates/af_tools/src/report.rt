@@ -3,8 +3,8 @@ ghost use Rattle.std.specs.Prelude.{◌≡◌, ◌≤◌, List, ℕ, length, tak
 ghost use Rattle.std.specs.declared.option.Option.{Option};
 ghost use Rattle.af_outside.specs.Told.{Rose};
 ghost use Rattle.af_course.specs.Course.{done, ends, writing};
-ghost use Rattle.af_tools.specs.Play.{played};
 ghost use Rattle.af_course.specs.Ends.{is_of_report, Followed};
+ghost use Rattle.af_tools.specs.Play.{played};
 
 use af_course::{ToolEnd, put, put_number, write_text};
 use af_outside::Sink;

@@ -7,15 +7,15 @@ ghost use Rattle.af_outside.specs.Told.{Grew, Rose};
 ghost use Rattle.af_outside.specs.Dial.{ToldLink};
 ghost use Rattle.af_jobs.specs.declared.job.PlayJob.{PlayJob};
 ghost use Rattle.af_course.specs.Course.{connects};
-ghost use Rattle.af_tools.specs.Play.{most_bytes};
+ghost use Rattle.af_course.specs.Ends.{wire_of, EndsByReply, Followed};
 ghost use Rattle.af_jobs.specs.Words.{is_spelled, job, one, relay, Job};
 ghost use Rattle.af_jobs.specs.Call.{meaning, IsCall};
 ghost use Rattle.af_jobs.specs.Ranges.{IsAddress, IsRanged};
+ghost use Rattle.af_relay.specs.Pass.{on_from};
+ghost use Rattle.af_tools.specs.Play.{most_bytes};
 ghost use Rattle.af_tools.specs.Ways.{is_of_play};
-ghost use Rattle.af_course.specs.Ends.{wire_of, EndsByReply, Followed};
 ghost use Rattle.af_tools.specs.Fill.{GaveTooMuch, GaveWithin};
 ghost use Rattle.af_tools.specs.Run.{is_of_af, is_of_far, is_of_run, job_reads, one_course, reads_source, run_course, servers_of, task_course, AskedFor, EndsByDevice, EndsByRates, IsRead, IsReadWhole, IsServed, PlayRan, Ran, RanOne, RelayRan};
-ghost use Rattle.af_relay.specs.Pass.{on_from};
 
 use crate::player::aplay;
 use crate::recorder::arecord;

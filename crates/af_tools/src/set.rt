@@ -2,8 +2,8 @@
 ghost use Rattle.std.specs.Prelude.{◌≡◌, ◌≤◌, ℕ, List, true, IfErr};
 ghost use Rattle.std.specs.declared.option.Option.{Option};
 ghost use Rattle.std.specs.declared.option.Option.TheVariants.{None, Some};
-ghost use Rattle.af_tools.specs.Set.{asks_line, asks_where, control_request, hooks, set_on, states_controls};
 ghost use Rattle.af_course.specs.Ends.{is_of_link, wire_of, Goes, Holds};
+ghost use Rattle.af_tools.specs.Set.{asks_line, asks_where, control_request, hooks, set_on, states_controls};
 
 use crate::standing::Standing;
 use af_course::ToolEnd;

@@ -4,8 +4,8 @@ ghost use Rattle.std.specs.declared.option.Option.{Option};
 ghost use Rattle.std.specs.declared.option.Option.TheVariants.{None, Some};
 ghost use Rattle.af_outside.specs.Told.{Rose};
 ghost use Rattle.af_course.specs.Course.{done, ends, writing};
-ghost use Rattle.af_tools.specs.Set.{aset_course, standing_text};
 ghost use Rattle.af_course.specs.Ends.{is_of_report, wire_of, EndsByReply, Followed, IsAnswered};
+ghost use Rattle.af_tools.specs.Set.{aset_course, standing_text};
 ghost use Rattle.af_tools.specs.Ways.{is_of_writer};
 
 use crate::set::set_on;

@@ -2,9 +2,9 @@ use Rattle.std.proofs.Common.{rules, ◌≡◌, ◌∙◌, inl, inr, true, false
 use Rattle.std.specs.Prelude.{Err}
 use Rattle.af_course.specs.declared.end.ToolEnd.{ToolEnd}
 use Rattle.af_course.specs.Ends.{is_of_link, is_of_report, wire_of}
+use Rattle.af_course.proofs.Endings.{IsDoneOrRefused, ends_by_reply, is_done}
 use Rattle.af_relay.specs.Pair.{is_of_pass}
 use Rattle.af_relay.specs.Pass.{apass_course, passed_between, passed_text}
-use Rattle.af_course.proofs.Endings.{IsDoneOrRefused, ends_by_reply, is_done}
 use Rattle.af_relay.proofs.Passable.{is_relayed}
 use Rattle.af_relay.proofs.PassTop.{apart_followed, apart_iff, apass_there, between_finish, both_followed_on, both_followed_stop, inner_pass, pair_stated, pair_undone, reports, seen_from, there_neither}
 use Rattle.af_relay.proofs.passer.apass.Goals as goal

@@ -1,8 +1,8 @@
 use Rattle.std.proofs.Common.{rules, ◌≡◌, ◌∙◌, refl, ap, unwrap_or}
 use Rattle.std.specs.Prelude.{Err}
 use Rattle.af_sample.specs.declared.sample_type.SampleType.{SampleType}
-use Rattle.af_relay.specs.declared.pass.Pace.{Pace}
 use Rattle.af_course.specs.Ends.{wire_of}
+use Rattle.af_relay.specs.declared.pass.Pace.{Pace}
 use Rattle.af_relay.specs.Pass.{begins_both, ends_contexts, none_passed, pace_of, passed_between, passes}
 use Rattle.af_relay.proofs.Pairing.{both_named, both_on, both_stop, both_value}
 use Rattle.af_relay.proofs.Passing.{behind_begun, behind_passed}

@@ -1,14 +1,14 @@
 use Rattle.std.proofs.Common.{rules, arith, inl, true, false, ◌≡◌, length, refl, sym, ap, ◌∙◌}
 use Rattle.std.specs.Prelude.{Err}
-use Rattle.af_tools.specs.declared.player.Played.{Played}
 use Rattle.af_course.specs.declared.end.ToolEnd.{ToolEnd}
 use Rattle.af_course.specs.Course.{done, ends, writing}
+use Rattle.af_course.specs.Ends.{wire_of, Part}
+use Rattle.af_course.proofs.Endings.{IsDoneOrRefused, ends_by_reply, is_done}
+use Rattle.af_tools.specs.declared.player.Played.{Played}
 use Rattle.af_tools.specs.Play.{aplay_course, played, played_on}
 use Rattle.af_tools.specs.Ways.{is_of_blocks, is_of_play}
-use Rattle.af_course.specs.Ends.{wire_of, Part}
 use Rattle.af_tools.proofs.Played.{is_played}
 use Rattle.af_tools.proofs.Following.{followed_on, followed_stop}
-use Rattle.af_course.proofs.Endings.{IsDoneOrRefused, ends_by_reply, is_done}
 use Rattle.af_tools.proofs.Finishing.{inner_play, played_finish}
 use Rattle.af_tools.proofs.Tops.{aplay_missing, aplay_there, followed_missing, followed_same, is_missing, is_there, missing_iff, never_blocks, never_report, there_iff}
 use Rattle.af_tools.proofs.player.aplay.Goals as goal

@@ -3,9 +3,9 @@ use Rattle.std.specs.Prelude.{Err}
 use Rattle.af_time.specs.DeviceTime.{frames_lasting}
 use Rattle.af_sample.specs.SampleTypes.{width_of}
 use Rattle.af_course.specs.Course.{begins}
-use Rattle.af_tools.specs.Play.{play_context, played_on, start_at}
 use Rattle.af_course.specs.Ends.{wire_of}
 use Rattle.af_course.proofs.Going.{goes_on, goes_stop}
+use Rattle.af_tools.specs.Play.{play_context, played_on, start_at}
 use Rattle.af_tools.proofs.PlayTail.{begins_named, tail, tail_freed, tail_named, tail_stop, tail_unfreed}
 use Rattle.af_tools.proofs.player.play_on.Goals as goal
 

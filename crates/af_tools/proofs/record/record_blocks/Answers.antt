@@ -2,8 +2,8 @@ use Rattle.std.proofs.Common.{rules, arith, ◌≡◌, ◌≤◌, ◌*◌, ℕ, 
 use Rattle.std.specs.Prelude.{Err}
 use Rattle.std.proofs.lemmas.List.{take_at}
 use Rattle.af_sample.specs.SampleTypes.{width_of}
-use Rattle.af_tools.specs.Record.{peak}
 use Rattle.af_course.specs.Ends.{wire_of}
+use Rattle.af_tools.specs.Record.{peak}
 use Rattle.af_tools.proofs.Recording.{record_begin, record_done, record_on, record_quiet, record_stopped}
 use Rattle.af_tools.proofs.record.record_blocks.Goals as goal
 

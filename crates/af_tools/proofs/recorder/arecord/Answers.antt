@@ -2,11 +2,11 @@ use Rattle.std.proofs.Common.{rules, arith, inl, true, ◌≡◌, length, refl, 
 use Rattle.std.specs.Prelude.{Err}
 use Rattle.af_course.specs.declared.end.ToolEnd.{ToolEnd}
 use Rattle.af_course.specs.Course.{done, ends}
+use Rattle.af_course.specs.Ends.{wire_of}
+use Rattle.af_course.proofs.Endings.{IsDoneOrRefused, ends_by_reply, is_done}
 use Rattle.af_tools.specs.Record.{arecord_course, recorded_on}
 use Rattle.af_tools.specs.Ways.{is_of_writer}
-use Rattle.af_course.specs.Ends.{wire_of}
 use Rattle.af_tools.proofs.Following.{followed_on, followed_stop}
-use Rattle.af_course.proofs.Endings.{IsDoneOrRefused, ends_by_reply, is_done}
 use Rattle.af_tools.proofs.Finishing.{inner_writer, recorded_finish}
 use Rattle.af_tools.proofs.Tops.{arecord_missing, arecord_there, followed_done, followed_missing, followed_same, is_missing, is_there, missing_iff, never_records, there_iff}
 use Rattle.af_tools.proofs.recorder.arecord.Goals as goal

@@ -1,9 +1,9 @@
 use Rattle.std.proofs.Common.{rules, ◌≡◌, unwrap_or}
 use Rattle.std.specs.Prelude.{Err}
 use Rattle.af_course.specs.Course.{begins}
-use Rattle.af_tools.specs.Record.{record_context, recorded_on}
 use Rattle.af_course.specs.Ends.{wire_of}
 use Rattle.af_course.proofs.Going.{goes_on, goes_stop}
+use Rattle.af_tools.specs.Record.{record_context, recorded_on}
 use Rattle.af_tools.proofs.PlayTail.{begins_named}
 use Rattle.af_tools.proofs.RecordTail.{tail, tail_named, tail_on, tail_stop}
 use Rattle.af_tools.proofs.recorder.record_on.Goals as goal

@@ -1,8 +1,8 @@
 use Rattle.std.proofs.Common.{◌≡◌, ℕ, false, true, ap, sym, ◌∙◌, subst, inl, inr}
 use Rattle.af_course.specs.declared.end.ToolEnd.TheVariants as end
-use Rattle.af_relay.specs.Both.{FollowedBoth}
 use Rattle.af_course.specs.Course.{fault_end}
 use Rattle.af_course.specs.Ends.{wire_of}
+use Rattle.af_relay.specs.Both.{FollowedBoth}
 use Rattle.af_relay.specs.Pair.{is_of_pass}
 use Rattle.af_relay.specs.Pass.{apass_course, sending_to}
 use Rattle.af_tools.specs.Dialled.{connects_by}

@@ -1,7 +1,7 @@
 use Rattle.std.proofs.Common.{◌<◌, List, ℕ, length, sym, subst, arith, length-append}
 use Rattle.af_course.specs.Course.{done, ends, writing}
-use Rattle.af_tools.specs.Play.{played}
 use Rattle.af_course.specs.Ends.{Followed}
+use Rattle.af_tools.specs.Play.{played}
 use Rattle.af_tools.proofs.report.report.Goals as goal
 
 played_some : (frames start : ℕ) → 0 < length (played frames start)

@@ -1,9 +1,9 @@
 use Rattle.std.proofs.Common.{◌≡◌, ◌∙◌, inl, inr, refl, subst, sym}
 use Rattle.af_course.specs.declared.end.ToolEnd.TheVariants as end
-use Rattle.af_tools.specs.Run.{Ran}
+use Rattle.af_course.proofs.Endings.{reply_of}
 use Rattle.af_jobs.specs.declared.job.Task.TheVariants as task
 use Rattle.af_jobs.specs.Words.{Job, one, relay}
-use Rattle.af_course.proofs.Endings.{reply_of}
+use Rattle.af_tools.specs.Run.{Ran}
 use Rattle.af_tools.proofs.Outcomes.{paced_call, played_call, ran_played, ran_relayed}
 use Rattle.af_tools.proofs.Relaying.{ran_none, run_done, same_job}
 use Rattle.af_tools.proofs.Running.{device_of, rates_of, run_cases}

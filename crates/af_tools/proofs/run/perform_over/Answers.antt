@@ -2,8 +2,8 @@ use Rattle.std.proofs.Common.{◌≡◌, ℕ, ap, ◌∙◌, subst, refl, inl, i
 use Rattle.af_course.specs.declared.end.ToolEnd.TheVariants as end
 use Rattle.std.specs.Prelude.{Ok, Err}
 use Rattle.af_course.specs.Course.{connects, fault_end}
-use Rattle.af_tools.specs.Run.{task_course}
 use Rattle.af_course.specs.Ends.{Followed}
+use Rattle.af_tools.specs.Run.{task_course}
 use Rattle.af_tools.proofs.Following.{followed_early, followed_on, followed_stop, setup_goes}
 use Rattle.af_tools.proofs.run.perform_over.Goals as goal
 

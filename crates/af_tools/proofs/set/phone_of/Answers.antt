@@ -4,9 +4,9 @@ use Rattle.std.specs.declared.option.Option.TheVariants.{None}
 use Rattle.af_request.specs.Asked.{query_phone}
 use Rattle.af_lib.specs.Calls.{as_phone}
 use Rattle.af_course.specs.Course.{fault_end}
-use Rattle.af_tools.specs.Set.{asks_line}
 use Rattle.af_course.specs.Ends.{wire_of}
 use Rattle.af_course.proofs.Going.{asked_goes}
+use Rattle.af_tools.specs.Set.{asks_line}
 use Rattle.af_tools.proofs.Reaching.{goes_value}
 use Rattle.af_tools.proofs.Setting.{line_refused, line_told}
 use Rattle.af_tools.proofs.set.phone_of.Goals as goal

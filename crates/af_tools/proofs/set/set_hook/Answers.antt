@@ -5,9 +5,9 @@ use Rattle.af_request.specs.Asked.{hook_switch}
 use Rattle.af_request.specs.Fields.{flag_byte}
 use Rattle.af_lib.specs.Calls.{as_done}
 use Rattle.af_course.specs.Course.{fault_end}
-use Rattle.af_tools.specs.Set.{hooks}
 use Rattle.af_course.specs.Ends.{wire_of}
 use Rattle.af_course.proofs.Going.{asked_goes}
+use Rattle.af_tools.specs.Set.{hooks}
 use Rattle.af_tools.proofs.Reaching.{goes_value}
 use Rattle.af_tools.proofs.set.set_hook.Goals as goal
 

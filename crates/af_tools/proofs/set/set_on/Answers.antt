@@ -3,9 +3,9 @@ use Rattle.std.specs.Prelude.{Ok, Err}
 use Rattle.af_request.specs.Asked.{query_controls}
 use Rattle.af_lib.specs.Calls.{as_controls}
 use Rattle.af_course.specs.Course.{asks, fault_end}
-use Rattle.af_tools.specs.Set.{asks_line, asks_where, control_request, hooks, set_on, states_controls}
 use Rattle.af_course.specs.Ends.{wire_of}
 use Rattle.af_course.proofs.Going.{asked_goes, goes_on, goes_stop}
+use Rattle.af_tools.specs.Set.{asks_line, asks_where, control_request, hooks, set_on, states_controls}
 use Rattle.af_tools.proofs.Setting.{behind_hook, behind_set, behind_told, told_standing}
 use Rattle.af_tools.proofs.set.set_on.Goals as goal
 

@@ -2,11 +2,11 @@ use Rattle.std.proofs.Common.{rules, arith, inl, true, false, ◌≡◌, ◌∙�
 use Rattle.std.specs.Prelude.{Err}
 use Rattle.af_course.specs.declared.end.ToolEnd.{ToolEnd}
 use Rattle.af_course.specs.Course.{done, ends, writing}
-use Rattle.af_tools.specs.Set.{aset_course, set_on, standing_text}
 use Rattle.af_course.specs.Ends.{is_of_link, wire_of}
+use Rattle.af_course.proofs.Endings.{IsDoneOrRefused, ends_by_reply, is_done}
+use Rattle.af_tools.specs.Set.{aset_course, set_on, standing_text}
 use Rattle.af_tools.specs.Ways.{is_of_writer}
 use Rattle.af_tools.proofs.Following.{followed_on, followed_stop}
-use Rattle.af_course.proofs.Endings.{IsDoneOrRefused, ends_by_reply, is_done}
 use Rattle.af_tools.proofs.Finishing.{inner_writer, set_finish}
 use Rattle.af_tools.proofs.Tops.{aset_missing, aset_there, followed_missing, followed_same, is_missing, is_there, missing_iff, never_link, never_report, there_iff}
 use Rattle.af_tools.proofs.setter.aset.Goals as goal

@@ -1,33 +1,12 @@
 //! The server's program: it makes the real objects, calls the one function that its first word names, and says how that ended.
 #![tactic(auto)]
 
-ghost use Rattle.std.specs.Prelude.{◌≡◌};
-ghost use Rattle.afd.specs.Ends.{status};
-
-mod job;
-mod script;
-
 use af_live::MioWorld;
 use af_outside::{Args, StdSink, StdSource, WordsFault, program_words};
+use afd_script::{ScriptEnd, afd_script};
 use afd_serve::{LiveEnd, afd_live};
-use script::{ScriptEnd, afd_script};
 use std::io;
 use std::process::ExitCode;
-
-// The exit status of an end.
-fn status_of(end: ScriptEnd) -> u8
-    ensures { result ≡ status end }
-{
-    match end {
-        ScriptEnd::Done => 0,
-        ScriptEnd::Usage => 2,
-        ScriptEnd::ScriptFault { line: _ } => 3,
-        ScriptEnd::TooLong => 4,
-        ScriptEnd::ReadFault => 5,
-        ScriptEnd::SinkFault => 6,
-        ScriptEnd::OutOfMemory => 7,
-    }
-}
 
 // Says on standard error how a script ended.
 fn report_script(rt: &impl Eprint, end: ScriptEnd) -> io::Result<()> {
@@ -78,7 +57,7 @@ fn run_server(rt: &HostRuntime, words: &Args) -> LiveEnd {
 // Where standard error takes nothing, the status still says how it ended.
 fn ended_script(rt: &HostRuntime, end: ScriptEnd) -> ExitCode {
     let _ = report_script(rt, end);
-    ExitCode::from(status_of(end))
+    ExitCode::from(afd_script::status_of(end))
 }
 
 fn ended_live(rt: &HostRuntime, end: LiveEnd) -> ExitCode {
@@ -94,6 +73,3 @@ fn main(rt: HostRuntime) -> ExitCode {
         Err(WordsFault::OutOfMemory) => ended_script(&rt, ScriptEnd::OutOfMemory),
     }
 }
-
-#[cfg(test)]
-mod tests;

@@ -4,11 +4,11 @@ use Rattle.std.specs.declared.option.Option.{Option}
 use Rattle.std.specs.declared.option.Option.TheVariants.{None, Some}
 use Rattle.af_outside.specs.declared.flow.Put.TheVariants as put
 use Rattle.af_outside.specs.Told.{Rose}
-use Rattle.afd.specs.declared.job.Job.{Job}
-use Rattle.afd.specs.declared.job.Job.TheVariants as job
-use Rattle.afd.specs.declared.script.ScriptEnd.{ScriptEnd}
-use Rattle.afd.specs.declared.script.ScriptEnd.TheVariants as end
-use Rattle.afd.specs.Ends.{RanWhole, RanCutOff, WroteSummary, IsGood, DidWhole, DidCutOff, CanBeDone}
+use Rattle.afd_script.specs.declared.job.Job.{Job}
+use Rattle.afd_script.specs.declared.job.Job.TheVariants as job
+use Rattle.afd_script.specs.declared.script.ScriptEnd.{ScriptEnd}
+use Rattle.afd_script.specs.declared.script.ScriptEnd.TheVariants as end
+use Rattle.afd_script.specs.Ends.{RanWhole, RanCutOff, WroteSummary, IsGood, DidWhole, DidCutOff, CanBeDone}
 
 module _ (asked : Option Job) (left left' held held' : Option (List ℕ)) where
   pub did_script : asked ≡ Some job.Script → RanWhole left left' held held' → DidWhole asked left left' held held'

@@ -9,10 +9,10 @@ ghost use Rattle.af_sample.specs.Rates.{IsListedRate};
 ghost use Rattle.af_outside.specs.Outside.{IsStep};
 ghost use Rattle.af_script.specs.Run.{HasOneLog};
 ghost use Rattle.af_script.specs.Script.{script_of, IsFault};
-ghost use Rattle.afd.specs.declared.job.Job.TheVariants as job;
-ghost use Rattle.afd.specs.Ends.{RanWhole, RanCutOff, DidWhole, DidCutOff, CanBeDone, WroteSummary, IsFaultyAt, IsGood, longest_script, reads, writes};
-ghost use Rattle.afd.specs.Run.{TellsLogOf};
-ghost use Rattle.afd.specs.Words.{job_of};
+ghost use Rattle.afd_script.specs.declared.job.Job.TheVariants as job;
+ghost use Rattle.afd_script.specs.Ends.{RanWhole, RanCutOff, DidWhole, DidCutOff, CanBeDone, WroteSummary, IsFaultyAt, IsGood, longest_script, reads, status, writes};
+ghost use Rattle.afd_script.specs.Run.{TellsLogOf};
+ghost use Rattle.afd_script.specs.Words.{job_of};
 
 use crate::job::{Job, job_of};
 use af_exercise::make_script;
@@ -37,6 +37,21 @@ pub enum ScriptEnd {
     ScriptFault { line: u32 },
     SinkFault,
     OutOfMemory,
+}
+
+/// The exit status of an end.
+pub fn status_of(end: ScriptEnd) -> u8
+    ensures { result ≡ status end }
+{
+    match end {
+        ScriptEnd::Done => 0,
+        ScriptEnd::Usage => 2,
+        ScriptEnd::ScriptFault { line: _ } => 3,
+        ScriptEnd::TooLong => 4,
+        ScriptEnd::ReadFault => 5,
+        ScriptEnd::SinkFault => 6,
+        ScriptEnd::OutOfMemory => 7,
+    }
 }
 
 /// The server's command over scripts. With the word `script` it reads the source to its end, runs the script that it gave,

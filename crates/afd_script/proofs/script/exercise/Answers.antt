@@ -1,6 +1,6 @@
 use Rattle.std.proofs.Common.{length, ap, arith}
-use Rattle.afd.proofs.Exercising.{exercise_length}
-use Rattle.afd.proofs.script.exercise.Goals as goal
+use Rattle.afd_script.proofs.Exercising.{exercise_length}
+use Rattle.afd_script.proofs.script.exercise.Goals as goal
 
 pub overflow_cast-steps : goal.overflow_cast-steps
 overflow_cast-steps g c =

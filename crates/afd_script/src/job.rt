@@ -1,6 +1,6 @@
 // What the words of the command ask for.
 ghost use Rattle.std.specs.Prelude.{◌≡◌, IfSome};
-ghost use Rattle.afd.specs.Words.{job_of, job_of_one, job_of_three, HasTurns};
+ghost use Rattle.afd_script.specs.Words.{job_of, job_of_one, job_of_three, HasTurns};
 
 use af_outside::Args;
 use af_text::{is_word, long_number_between};

@@ -1,9 +1,9 @@
 use Rattle.std.proofs.Common.{◌≡◌}
 use Rattle.std.specs.declared.option.Option.TheVariants.{None, Some}
-use Rattle.afd.specs.declared.job.Job.TheVariants as job
-use Rattle.afd.specs.Words.{job_of}
-use Rattle.afd.proofs.Jobs.{did_script, cut_script, did_exercise, cut_exercise, nothing_asked, good_script, exercise_done}
-use Rattle.afd.proofs.script.afd_script.Goals as goal
+use Rattle.afd_script.specs.declared.job.Job.TheVariants as job
+use Rattle.afd_script.specs.Words.{job_of}
+use Rattle.afd_script.proofs.Jobs.{did_script, cut_script, did_exercise, cut_exercise, nothing_asked, good_script, exercise_done}
+use Rattle.afd_script.proofs.script.afd_script.Goals as goal
 
 pub returns-in-None-clause-complete : goal.returns-in-None-clause-complete
 returns-in-None-clause-complete g c =

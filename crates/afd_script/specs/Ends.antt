@@ -15,10 +15,10 @@ use Rattle.af_script.specs.Transcript.{transcript}
 use Rattle.af_script.specs.Summary.{summary}
 use Rattle.af_script.specs.Run.{RanTo}
 use Rattle.af_exercise.specs.Exercise.{generated}
-use Rattle.afd.specs.declared.job.Job.{Job}
-use Rattle.afd.specs.declared.job.Job.TheVariants as job
-use Rattle.afd.specs.declared.script.ScriptEnd.{ScriptEnd}
-use Rattle.afd.specs.declared.script.ScriptEnd.TheVariants as end
+use Rattle.afd_script.specs.declared.job.Job.{Job}
+use Rattle.afd_script.specs.declared.job.Job.TheVariants as job
+use Rattle.afd_script.specs.declared.script.ScriptEnd.{ScriptEnd}
+use Rattle.afd_script.specs.declared.script.ScriptEnd.TheVariants as end
 
 -- how many bytes a script may have
 abbrev pub longest_script : ℕ

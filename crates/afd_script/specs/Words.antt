@@ -1,8 +1,8 @@
 -- What the words of the command ask for. Each word is a list of bytes.
 use Rattle.std.specs.Prelude.{ℕ, ◌≤◌, ◌-◌, ◌^◌, List, [], ◌∷◌, codes, bytes_eq, Option, Some, None, if◌then◌else◌}
 use Rattle.af_text.specs.Words.{long_number_within}
-use Rattle.afd.specs.declared.job.Job.{Job}
-use Rattle.afd.specs.declared.job.Job.TheVariants as job
+use Rattle.afd_script.specs.declared.job.Job.{Job}
+use Rattle.afd_script.specs.declared.job.Job.TheVariants as job
 
 -- the exercise of a seed and so many turns, where both are there
 abbrev pub exercise_of : Option ℕ → Option ℕ → Option Job

@@ -2,6 +2,7 @@
 # listen: runs the example in which three clients are heard, in the same way, and makes a sound file of it
 # demo-sound: the real server, two clients that play to it at once, and a sound file of what was heard; after make build
 # build: proves everything and leaves the programs in bin/
+# check-scripts: runs the worked scripts and exercises of tests/, in seconds; after make build
 # test: the whole gate
 # fmt: lays out each crate's files
 
@@ -24,10 +25,13 @@ build:
 	rt all check && mkdir -p bin && cd crates/afd && rt run -- script < stdin > /dev/null && cp out/afd ../../bin/afd
 	cd crates/af && rm -f out/af && { rt run -- arecord 127.0.0.1:1 --frames=1 2> /dev/null; cp out/af ../../bin/af; }
 
+check-scripts:
+	@tools/check-scripts
+
 test:
 	.ci/run
 
 fmt:
 	for crate in crates/*; do (cd $$crate && rt fmt) || exit; done
 
-.PHONY: demo listen demo-sound build test fmt
+.PHONY: demo listen demo-sound build check-scripts test fmt

@@ -15,12 +15,12 @@ HALF = 1 << 31
 
 
 def program(name):
-    """The proved program: that of make build, or of the last gate, or else it is built now."""
+    """The proved program: that of make build or that of the last gate, the newer of the two, or else it is built now."""
     crate = os.path.join(ROOT, "crates", name)
     left = os.path.join(crate, "out", name)
-    for whole in (os.path.join(ROOT, "bin", name), left):
-        if os.access(whole, os.X_OK):
-            return whole
+    whole = [it for it in (os.path.join(ROOT, "bin", name), left) if os.access(it, os.X_OK)]
+    if whole:
+        return max(whole, key=os.path.getmtime)
     built = subprocess.run(["rt", "run", "--", "usage"], cwd=crate, stdin=subprocess.DEVNULL, capture_output=True)
     if not os.access(left, os.X_OK):
         sys.stderr.buffer.write(built.stdout + built.stderr)

@@ -4,8 +4,8 @@ use Rattle.std.proofs.lemmas.List.{get_or_past, get_or-replicate, length-replica
 use Rattle.std.proofs.lemmas.Bool.{cases_lt}
 use Rattle.std.proofs.lemmas.List.FromFn.{length-map-range_with_len, get_or-map-range_with_len}
 use Rattle.std.proofs.Math.Nat.{mod-add-mod}
-use Rattle.af_time.specs.DeviceTime.{ahead, unwrap, AreNear, IsMeant}
-use Rattle.af_time.proofs.WholeTimes.{unwrap_meant, unwrap_ahead, unwrap_late}
+use Rattle.af_time.specs.DeviceTime.{unwrap, AreNear, IsMeant}
+use Rattle.af_time.proofs.WholeTimes.{unwrap_meant}
 use Rattle.af_sample.specs.Heard.{Entry, blended, with_entry}
 use Rattle.af_ring.specs.Cells.{cell, ChangesRun, IsSize}
 use Rattle.af_ring.proofs.Turning.{same_cell, around, in_run, past_run, before_run}
@@ -232,10 +232,3 @@ ahead_by t start far word word' begun is =
     let same : unwrap (whole_time t) start % 2 ^ 32 ≡ start = meant.word in
     let late : unwrap (whole_time t) start < whole_time t + 2 ^ 31 = meant.late in
     omega arith
-
--- a play whose start is ahead ends within the horizon where its words say so, and a late one always
-pub ends_ahead : (b : Next) (start n : ℕ) → ahead (whole_time b.time) start < 2 ^ 31 → ahead (whole_time b.time) start + n ≤ length b.next → EndsWithin b start n
-ends_ahead b start n early within = let e = unwrap_ahead (whole_time b.time) start early in omega arith
-
-pub ends_late : (b : Next) (start n : ℕ) → 2 ^ 31 ≤ ahead (whole_time b.time) start → n ≤ length b.next → EndsWithin b start n
-ends_late b start n late within = let e = unwrap_late (whole_time b.time) start late in omega arith

@@ -8,6 +8,3 @@ mod room;
 
 pub use play::PlayBuffer;
 pub use record::RecordBuffer;
-
-#[cfg(test)]
-mod tests;

@@ -32,6 +32,3 @@ pub enum ContextFault {
     #[error("a link has 16 contexts at most")]
     TooMany,
 }
-
-#[cfg(test)]
-mod tests;

@@ -4,6 +4,3 @@
 mod generate;
 
 pub use generate::make_script;
-
-#[cfg(test)]
-mod tests;

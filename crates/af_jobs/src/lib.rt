@@ -10,6 +10,3 @@ mod words;
 
 pub use call::{Call, WordsFault, call_of};
 pub use job::{PassJob, PlayJob, RecordJob, SetJob, Task};
-
-#[cfg(test)]
-mod tests;

@@ -11,6 +11,3 @@ mod ring;
 
 pub use conn::Conn;
 pub use fault::{Cause, ConnFault};
-
-#[cfg(test)]
-mod tests;

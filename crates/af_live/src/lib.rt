@@ -20,8 +20,3 @@ pub use mio_world::MioWorld;
 pub use pace::Pace;
 pub use read::read_config;
 pub use setting::Setting;
-
-#[cfg(test)]
-mod tests;
-#[cfg(test)]
-mod world_tests;

@@ -43,10 +43,3 @@ pub use tape::Tape;
 pub use tcp::{TcpDial, TcpLink};
 pub use text::{TextFault, read_text};
 pub use world::{LinkGot, LinkTook, World};
-
-#[cfg(test)]
-mod dial_tests;
-#[cfg(test)]
-mod live_tests;
-#[cfg(test)]
-mod tests;

@@ -5,6 +5,3 @@ pub mod laws;
 mod line;
 
 pub use line::{Line, LineChange, event_for, is_digit};
-
-#[cfg(test)]
-mod tests;

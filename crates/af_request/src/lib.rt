@@ -16,6 +16,3 @@ pub use reply_writer::write_reply;
 pub use request::Request;
 pub use request_reader::read_request;
 pub use request_writer::write_request;
-
-#[cfg(test)]
-mod tests;

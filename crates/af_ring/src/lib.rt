@@ -6,6 +6,3 @@ mod runs;
 mod time_ring;
 
 pub use time_ring::TimeRing;
-
-#[cfg(test)]
-mod tests;

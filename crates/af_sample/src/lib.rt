@@ -26,8 +26,3 @@ pub fn mixed(a: i16, b: i16) -> i16
 {
     a.saturating_add(b)
 }
-
-#[cfg(test)]
-mod reference;
-#[cfg(test)]
-mod tests;

@@ -15,8 +15,3 @@ pub use read::{Script, read_script};
 pub use run::run_tape;
 pub use steps::Steps;
 pub use summary::print_summary;
-
-#[cfg(test)]
-mod summary_tests;
-#[cfg(test)]
-mod tests;

@@ -6,6 +6,3 @@ mod unread;
 
 pub use session::{MOST_PENDING, Session};
 pub use unread::MOST_UNREAD;
-
-#[cfg(test)]
-mod tests;

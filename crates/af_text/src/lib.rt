@@ -9,6 +9,3 @@ mod sound;
 pub use lines::{is_word, next_line, next_word, one_word, passes_over, two_words};
 pub use numbers::{long_number_between, number, number_between};
 pub use sound::{listed_rate, sample_type};
-
-#[cfg(test)]
-mod tests;

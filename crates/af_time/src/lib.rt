@@ -63,6 +63,3 @@ pub fn frames_of_ms(rate: u32, ms: u32) -> Option<u32>
     let frames = u64::from(rate) * u64::from(ms) / 1000;
     u32::try_from(frames).ok().filter(|n| *n < 1 << 31)
 }
-
-#[cfg(test)]
-mod tests;

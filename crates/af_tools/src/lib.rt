@@ -21,6 +21,3 @@ pub use player::aplay;
 pub use recorder::arecord;
 pub use run::af_run;
 pub use setter::aset;
-
-#[cfg(test)]
-mod tests;

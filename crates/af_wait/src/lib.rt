@@ -16,6 +16,3 @@ pub struct Wait {
     /// 2^31 frames or more from now.
     pub left: u32,
 }
-
-#[cfg(test)]
-mod tests;

@@ -12,6 +12,3 @@ pub use event::{Event, EventKind, read_event, write_event};
 pub use front::{Front, SETUP, SetupFront, frame_at, setup_of};
 pub use message::{write_error, write_head};
 pub use message_front::{MessageFront, message_at};
-
-#[cfg(test)]
-mod tests;

@@ -7,6 +7,3 @@ mod start;
 mod words;
 
 pub use live::{LiveEnd, afd_live, status_of};
-
-#[cfg(test)]
-mod tests;

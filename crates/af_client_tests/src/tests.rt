@@ -1,0 +1,5 @@
+// One file for each subject.
+mod checks;
+mod connection;
+mod jobs;
+mod tools;

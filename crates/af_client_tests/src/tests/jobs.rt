@@ -1,0 +1,98 @@
+// Words of the tools, and what they ask.
+use crate::tests::checks::{holds, words_of};
+use af_jobs::{Call, PassJob, PlayJob, Task, WordsFault, call_of};
+use af_sample::{Gain, SampleType};
+use std::alloc::Global;
+use std::process::Abort;
+use std::test::Fail;
+
+// These words ask one server for a task.
+fn ask_task(rt: &impl Abort, alloc: Global, words: &[&str], wanted: Task) -> Result<(), Fail> {
+    let args = words_of(alloc, words)?;
+    let Ok(Call::One { server, task }) = call_of(alloc, &args) else {
+        return Err(Fail::from("no task"));
+    };
+    holds(rt, "the server", server == "h:1");
+    holds(rt, "the task", task == wanted);
+    Ok(())
+}
+
+// These words ask for a relay between two servers.
+fn ask_relay(rt: &impl Abort, alloc: Global, words: &[&str], wanted: PassJob) -> Result<(), Fail> {
+    let args = words_of(alloc, words)?;
+    let Ok(Call::Relay { from, to, job }) = call_of(alloc, &args) else {
+        return Err(Fail::from("no relay"));
+    };
+    holds(rt, "the first server", from == "a:1");
+    holds(rt, "the second server", to == "b:2");
+    holds(rt, "the job", job == wanted);
+    Ok(())
+}
+
+// These words ask for nothing.
+fn ask_nothing(rt: &impl Abort, alloc: Global, words: &[&str]) -> Result<(), Fail> {
+    let args = words_of(alloc, words)?;
+    let Err(fault) = call_of(alloc, &args) else {
+        return Err(Fail::from("a call"));
+    };
+    holds(rt, "the fault", fault == WordsFault::Usage);
+    Ok(())
+}
+
+#[test]
+fn a_server_alone_has_the_defaults(rt: HostRuntime) -> Result<(), Fail> {
+    let job = PlayJob {
+        device: 0,
+        ty: None,
+        gain: Gain::default(),
+        block: 1000,
+        lead: 100,
+        time: None,
+        preempt: false,
+    };
+    ask_task(&rt, rt.alloc(), &["aplay", "h:1"], Task::Play(job))
+}
+
+#[test]
+fn values_stand_behind_a_sign_or_a_blank(rt: HostRuntime) -> Result<(), Fail> {
+    let job = PlayJob {
+        device: 0,
+        ty: Some(SampleType::Lin16),
+        gain: Gain::default(),
+        block: 4000,
+        lead: 100,
+        time: Some(7),
+        preempt: true,
+    };
+    let words = [
+        "aplay",
+        "h:1",
+        "--type=lin16",
+        "--block",
+        "4000",
+        "--time=7",
+        "--preempt",
+    ];
+    ask_task(&rt, rt.alloc(), &words, Task::Play(job))
+}
+
+#[test]
+fn a_relay_names_two_servers(rt: HostRuntime) -> Result<(), Fail> {
+    let job = PassJob {
+        from_device: 0,
+        to_device: 0,
+        ty: None,
+        gain: Gain::default(),
+        blocks: 3,
+        block: 1000,
+        delay: 0,
+        slack: 100,
+    };
+    let words = ["apass", "a:1", "b:2", "--blocks=3", "--delay=0"];
+    ask_relay(&rt, rt.alloc(), &words, job)
+}
+
+#[test]
+fn a_value_out_of_its_range_is_no_call(rt: HostRuntime) -> Result<(), Fail> {
+    ask_nothing(&rt, rt.alloc(), &["aplay", "h:1", "--block=4001"])
+}

@@ -1,0 +1,206 @@
+// The tools over sources, sinks and links in memory, which give their bytes in pieces. What the tools send for which words is
+// shown by the worked runs in tests/tools.
+use crate::tests::checks::{SETUP_REPLY, bytes_of, holds, same_bytes, words_of};
+use af_outside::{MemDial, MemLink, MemSink, MemSource};
+use af_tools::{ToolEnd, af_run};
+use std::alloc::Global;
+use std::process::Abort;
+use std::test::Fail;
+
+// What the first or the second link is sent that a dial was given back.
+fn sent_over(dial: &MemDial, place: usize) -> &[u8] {
+    match dial.kept(place) {
+        Some(link) => link.sent(),
+        None => &[],
+    }
+}
+
+// The links that a dial was given back are sent this, one behind the other.
+fn was_sent(rt: &impl Abort, what: &str, dial: &MemDial, wanted: &[u8]) {
+    let first = sent_over(dial, 0);
+    let second = sent_over(dial, 1);
+    same_bytes(rt, what, first, wanted.get(..first.len()).unwrap_or(&[]));
+    same_bytes(rt, what, second, wanted.get(first.len()..).unwrap_or(&[]));
+}
+
+// What fails in a run: these calls of the first link, of the source and of the sink.
+#[derive(Clone, Copy)]
+struct Failing<'a> {
+    link: &'a [u64],
+    source: &'a [u64],
+    sink: &'a [u64],
+}
+
+const NOTHING: Failing<'static> = Failing {
+    link: &[],
+    source: &[],
+    sink: &[],
+};
+
+// What a run comes to: how it ends, what its links are sent, and what the sink holds.
+#[derive(Clone, Copy)]
+struct Outcome<'a> {
+    end: ToolEnd,
+    sent: &'a str,
+    held: &'a [u8],
+}
+
+// A run with these words, a source that gives these bytes 3 at a time, and links that give these replies 7 at a time.
+fn comes_to(
+    rt: &impl Abort,
+    alloc: Global,
+    what: &str,
+    words: &[&str],
+    source: &[u8],
+    replies: &[&str; 2],
+    failing: Failing<'_>,
+    wanted: Outcome<'_>,
+) -> Result<(), Fail> {
+    let args = words_of(alloc, words)?;
+    let first = bytes_of(alloc, replies[0])?;
+    let second = bytes_of(alloc, replies[1])?;
+    let requests = bytes_of(alloc, wanted.sent)?;
+    let mut source = MemSource::new(source, 3, failing.source);
+    let mut room = [0u8; 100];
+    let mut sink = MemSink::new(&mut room, failing.sink);
+    let one = MemLink::new(alloc, first.as_slice(), 7, 1000, failing.link)?;
+    let other = MemLink::new(alloc, second.as_slice(), 7, 1000, &[])?;
+    let mut dial = MemDial::new(Some(one), Some(other));
+    let end = af_run(alloc, &args, &mut source, &mut sink, &mut dial);
+    holds(rt, what, end == wanted.end);
+    same_bytes(rt, what, sink.held(), wanted.held);
+    was_sent(rt, what, &dial, requests.as_slice());
+    Ok(())
+}
+
+const PLAY: [&str; 4] = ["aplay", "h:1", "--type=mu255", "--block=2"];
+
+// The replies to a play of two blocks.
+const PLAYED: &str =
+    "01000000 00000005 00010000 00000001 02010000 00001f40 00007d00 01030001 00000000 \
+    01020002 00000001 00000000 01060003 00000001 00000000 01060004 00000001 00000000 01050005 00000000";
+
+// What fails in a play of two blocks, and what it comes to.
+static CASES: [(&str, Failing<'static>, Outcome<'static>); 5] = [
+    (
+        "nothing fails",
+        NOTHING,
+        Outcome {
+            end: ToolEnd::Done,
+            sent: "41464200 00010000 03000004 00000001 00010000 00000000 02000001 \
+                   06000005 00000001 00000320 00000002 cece0000 \
+                   06000005 00000001 00000322 00000001 ce000000 05000002 00000001",
+            held: b"played 3 at 800\n",
+        },
+    ),
+    (
+        "a read of the link fails in a reply",
+        Failing {
+            link: &[11],
+            ..NOTHING
+        },
+        Outcome {
+            end: ToolEnd::LinkFault,
+            sent: "41464200 00010000 03000004 00000001 00010000 00000000 02000001",
+            held: b"",
+        },
+    ),
+    (
+        "the first play is not taken",
+        Failing {
+            link: &[13],
+            ..NOTHING
+        },
+        Outcome {
+            end: ToolEnd::LinkFault,
+            sent: "41464200 00010000 03000004 00000001 00010000 00000000 02000001",
+            held: b"",
+        },
+    ),
+    (
+        "the second read of the source fails, behind two bytes",
+        Failing {
+            source: &[1],
+            ..NOTHING
+        },
+        Outcome {
+            end: ToolEnd::ReadFault,
+            sent: "41464200 00010000 03000004 00000001 00010000 00000000 02000001 \
+                   06000005 00000001 00000320 00000002 cece0000",
+            held: b"",
+        },
+    ),
+    (
+        "the sink fails",
+        Failing {
+            sink: &[0],
+            ..NOTHING
+        },
+        Outcome {
+            end: ToolEnd::SinkFault,
+            sent: "41464200 00010000 03000004 00000001 00010000 00000000 02000001 \
+                   06000005 00000001 00000320 00000002 cece0000 \
+                   06000005 00000001 00000322 00000001 ce000000 05000002 00000001",
+            held: b"",
+        },
+    ),
+];
+
+// Plays over each of these.
+fn play_each(
+    rt: &impl Abort,
+    alloc: Global,
+    cases: &[(&str, Failing<'_>, Outcome<'_>)],
+) -> Result<(), Fail> {
+    let replies = [PLAYED, SETUP_REPLY];
+    for (what, failing, wanted) in cases {
+        comes_to(
+            rt, alloc, what, &PLAY, &[0xCE; 3], &replies, *failing, *wanted,
+        )?;
+    }
+    Ok(())
+}
+
+#[test]
+fn blocks_are_played_or_what_fails_is_told(rt: HostRuntime) -> Result<(), Fail> {
+    play_each(&rt, rt.alloc(), &CASES)
+}
+
+#[test]
+fn a_block_is_passed_from_link_to_link(rt: HostRuntime) -> Result<(), Fail> {
+    comes_to(
+        &rt,
+        rt.alloc(),
+        "a relay",
+        &["apass", "h:1", "h:2", "--blocks=1", "--block=2"],
+        &[],
+        &[
+            "01000000 00000005 00010000 00000001 02010000 00001f40 00007d00 01030001 00000000 \
+             01020002 00000001 00000000 01070003 00000003 00000002 00000004 000a000b 01050004 00000000",
+            "01000000 00000005 00010000 00000001 02010000 00001f40 00007d00 01030001 00000000 \
+             01020002 00000001 00000000 01060003 00000001 00000000 01050004 00000000",
+        ],
+        NOTHING,
+        Outcome {
+            end: ToolEnd::Done,
+            sent: "41464200 00010000 03000004 00000001 02010000 00000000 02000001 \
+                   07010004 00000001 00000000 00000004 05000002 00000001 \
+                   41464200 00010000 03000004 00000001 02010000 00000000 02000001 \
+                   06000005 00000001 00000640 00000004 000a000b 05000002 00000001",
+            held: b"passed 1 resynced 0\n",
+        },
+    )
+}
+
+#[test]
+fn a_dial_without_links_fails(rt: HostRuntime) -> Result<(), Fail> {
+    let args = words_of(rt.alloc(), &PLAY)?;
+    let mut source = MemSource::new(&[], 1, &[]);
+    let mut room = [0u8; 4];
+    let mut sink = MemSink::new(&mut room, &[]);
+    let mut dial = MemDial::new(None, None);
+    let end = af_run(rt.alloc(), &args, &mut source, &mut sink, &mut dial);
+    holds(&rt, "no link", end == ToolEnd::DialFault);
+    was_sent(&rt, "what was sent", &dial, &[]);
+    Ok(())
+}

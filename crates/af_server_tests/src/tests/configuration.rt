@@ -1,0 +1,137 @@
+// Configurations are read and their faults numbered, and devices are paced, each against what was worked out by hand.
+use af_live::{ConfigFault, Pace, read_config};
+use af_outside::{DeviceSpec, Kind};
+use af_sample::SampleType;
+use std::alloc::Global;
+use std::process::Abort;
+use std::test::Fail;
+
+// The line of a text's fault, or 0 where it is a configuration.
+fn faulty_line(alloc: Global, text: &[u8]) -> Result<u32, Fail> {
+    if text.len() > 65536 {
+        return Err(Fail::from("the text is too long"));
+    }
+    match read_config(alloc, text) {
+        Ok(_) => Ok(0),
+        Err(ConfigFault::Line(line)) => Ok(line),
+        Err(ConfigFault::OutOfMemory) => Err(Fail::from("out of memory")),
+    }
+}
+
+// Each text is at fault in this line.
+fn assert_faults(rt: &impl Abort, alloc: Global, cases: &[(&[u8], u32)]) -> Result<(), Fail> {
+    for (text, line) in cases {
+        let found = faulty_line(alloc, text)?;
+        assert_eq!(rt; found, *line, "{text:?}");
+    }
+    Ok(())
+}
+
+// The names of the files behind a device.
+fn names(kind: Kind<'_>) -> Option<(&str, &str)> {
+    match kind {
+        Kind::Silent => None,
+        Kind::Files { input, output } => Some((input, output)),
+    }
+}
+
+// A text states these devices, over these files or none.
+fn assert_states(
+    rt: &impl Abort,
+    alloc: Global,
+    text: &[u8],
+    devices: &[(DeviceSpec, Option<(&str, &str)>)],
+) -> Result<(), Fail> {
+    if text.len() > 65536 {
+        return Err(Fail::from("the text is too long"));
+    }
+    let setting = read_config(alloc, text)?;
+    assert_eq!(rt; setting.config().len(), devices.len());
+    for number in 0..8u8 {
+        let place = number as usize;
+        if place < setting.config().len() && place < devices.len() {
+            assert_eq!(rt; setting.config()[place], devices[place].0);
+            assert_eq!(rt; names(setting.kind(number)), devices[place].1);
+        }
+    }
+    Ok(())
+}
+
+// At these readings of the clock so many frames of each rate are due.
+fn assert_due(rt: &impl Abort, cases: &[(u32, &[(u64, u32)])]) {
+    for (rate, readings) in cases {
+        let mut pace = Pace::new(*rate);
+        for (nanos, frames) in *readings {
+            assert_eq!(rt; pace.due(*nanos), *frames, "{rate} at {nanos}");
+        }
+    }
+}
+
+#[test]
+fn configurations_are_read(rt: HostRuntime) -> Result<(), Fail> {
+    let text =
+        "# two devices\n\n device  mu255 08000 4294967295   silent\ndevice lin32 44100 7 line files grüße.raw /dev/null";
+    let first = DeviceSpec {
+        ty: SampleType::Mu255,
+        rate: 8000,
+        start: 4294967295,
+        line: false,
+    };
+    let second = DeviceSpec {
+        ty: SampleType::Lin32,
+        rate: 44100,
+        start: 7,
+        line: true,
+    };
+    let devices = [(first, None), (second, Some(("grüße.raw", "/dev/null")))];
+    assert_states(&rt, rt.alloc(), text.as_bytes(), &devices)
+}
+
+#[test]
+fn the_first_faulty_line_is_numbered(rt: HostRuntime) -> Result<(), Fail> {
+    assert_faults(
+        &rt,
+        rt.alloc(),
+        &[
+            (b"", 1),
+            (b"# nothing\n\n", 3),
+            (b"device lin16 8001 0 silent", 1),
+            (b"device lin16 8000 0 files a b c", 1),
+            (b"device lin16 8000 0 line line silent\n", 1),
+            (b"device lin16 8000 0 silent\r\n", 1),
+            (b"device lin16 8000 0 silent\ndevice lin16 8000 0", 2),
+            (b"device lin16 8000 0 silent\nopen 0\n", 2),
+            (b"device lin16 8000 0 silent\n# \xff\n", 2),
+            // a ninth device
+            (
+                b"device alaw 8000 0 silent\ndevice alaw 8000 0 silent\ndevice alaw 8000 0 silent\ndevice alaw 8000 0 silent\ndevice alaw 8000 0 silent\ndevice alaw 8000 0 silent\ndevice alaw 8000 0 silent\ndevice alaw 8000 0 silent\n\ndevice alaw 8000 0 silent",
+                10,
+            ),
+        ],
+    )
+}
+
+#[test]
+fn frames_are_due_by_the_clock(rt: HostRuntime) {
+    assert_due(
+        &rt,
+        &[
+            // a second has 8000 frames, of which 4096 are due at once
+            (
+                8000,
+                &[
+                    (5, 0),
+                    (1000000005, 4096),
+                    (1000000005, 3904),
+                    (2000000005, 4096),
+                ],
+            ),
+            // a clock that goes back makes no frame due twice
+            (48000, &[(u64::MAX, 0), (0, 0)]),
+            (
+                u32::MAX,
+                &[(0, 0), (1000, 4096), (u64::MAX, 4096), (1000, 0)],
+            ),
+        ],
+    );
+}

@@ -1,0 +1,205 @@
+// A tape as a world that gives its own wakes: what its calls answer, and what it tells of listens, attaches and waits.
+use crate::tests::checks::{holds, same_text};
+use af_outside::{
+    Bytes, Config, DeviceSpec, Kind, LinkGot, LinkTook, Live, Outer, OuterFaults, Put, Ready, Step,
+    Tape, Waited, Wake, Why, World,
+};
+use af_phone::LineChange;
+use af_sample::SampleType;
+use std::alloc::{AllocError, Global};
+use std::fmt::Write as _;
+use std::process::Abort;
+use std::test::Fail;
+
+// A call of the outside, with what it is to answer.
+#[derive(Clone, Copy)]
+enum Call {
+    Listen(Ready),
+    Attach(u8, u32, Ready),
+    // asked with whether there is more to do
+    Wait(bool, Waited),
+    Read(LinkGot),
+    // three bytes are offered
+    Write(LinkTook),
+    Close(Why),
+    // a frame of device 0
+    Capture(Put),
+    Emit(Put),
+    // the hook of device 2 is to be off
+    Hook(Put),
+}
+
+fn call_live<W: Live>(rt: &impl Abort, alloc: Global, world: &mut W, calls: &[Call]) {
+    for call in calls {
+        match *call {
+            Call::Listen(ready) => holds(rt, "a listen", world.listen(alloc, "h") == ready),
+            Call::Attach(device, start, ready) => {
+                let found = world.attach(alloc, device, &device_from(start), Kind::Silent);
+                holds(rt, "an attach", found == ready);
+            }
+            Call::Wait(more, waited) => holds(rt, "a wait", world.wait(more) == waited),
+            _ => call_world(rt, world, *call),
+        }
+    }
+}
+
+fn call_world<W: World>(rt: &impl Abort, world: &mut W, call: Call) {
+    match call {
+        Call::Read(got) => {
+            let mut into = [0u8; 16384];
+            holds(rt, "a read", world.read(3, &mut into) == got);
+        }
+        Call::Write(took) => holds(rt, "a write", world.write(3, &[7, 8, 9]) == took),
+        Call::Close(why) => world.close(3, why),
+        Call::Capture(put) => holds(rt, "a capture", world.capture(0, 1, &mut [0, 0]) == put),
+        Call::Emit(put) => holds(rt, "an emit", world.emit(0, &[1, 2]) == put),
+        Call::Hook(put) => holds(rt, "a hook call", world.hook(2, true) == put),
+        Call::Listen(_) | Call::Attach(..) | Call::Wait(..) => {}
+    }
+}
+
+fn device_from(start: u32) -> DeviceSpec {
+    DeviceSpec {
+        ty: SampleType::Lin16,
+        rate: 8000,
+        start,
+        line: false,
+    }
+}
+
+// A line of text for each listen, attach and wait that is told.
+fn lines_of(alloc: Global, outer: &[Outer]) -> Result<String, AllocError> {
+    let mut text = String::new(alloc);
+    for entry in outer {
+        match entry {
+            Outer::Listened(address) => writeln!(text, "listened {:?}", address.as_slice())?,
+            Outer::Attached {
+                device,
+                spec,
+                backing: _,
+            } => writeln!(text, "attached {device} {}", spec.start)?,
+            Outer::Waited { more, wake } => writeln!(text, "waited {more} {wake:?}")?,
+        }
+    }
+    Ok(text)
+}
+
+// One of each kind.
+fn all_steps(alloc: Global) -> Result<Vec<Step>, Fail> {
+    let sent = Bytes::copied(alloc, &[1, 2])?;
+    let captured = Bytes::copied(alloc, &[5, 6])?;
+    let steps = vec![in alloc;
+        Step::Open(3),
+        Step::Send(3, sent),
+        Step::End(3),
+        Step::Room(3, Some(2)),
+        Step::Tick(0, 1, Some(captured)),
+        Step::Line(2, LineChange::Ring(true)),
+        Step::FailRead(3),
+        Step::FailWrite(3),
+        Step::FailCapture(0),
+        Step::FailEmit(0),
+        Step::FailHook(2),
+        Step::Idle,
+    ]?;
+    Ok(steps)
+}
+
+const CALLS: [Call; 33] = [
+    Call::Listen(Ready::Done),
+    // the attaches of device 1 are to fail, device 3 is not there, and device 2 has another start
+    Call::Attach(0, 7, Ready::Done),
+    Call::Attach(1, 8, Ready::Failed),
+    Call::Attach(2, 9, Ready::Done),
+    Call::Attach(3, 9, Ready::Failed),
+    Call::Attach(2, 7, Ready::Failed),
+    // wait 1 is to fail, and takes no step
+    Call::Wait(false, Waited::Woke(Wake::Opened(3))),
+    Call::Wait(true, Waited::Failed),
+    Call::Wait(true, Waited::Woke(Wake::Readable(3))),
+    Call::Wait(false, Waited::Woke(Wake::Readable(3))),
+    Call::Wait(false, Waited::Woke(Wake::Writable(3))),
+    Call::Wait(false, Waited::Woke(Wake::Ticked(0, 1))),
+    Call::Wait(false, Waited::Woke(Wake::Line(2, LineChange::Ring(true)))),
+    Call::Wait(false, Waited::Woke(Wake::Idle)),
+    Call::Wait(false, Waited::Woke(Wake::Idle)),
+    Call::Wait(false, Waited::Woke(Wake::Idle)),
+    Call::Wait(false, Waited::Woke(Wake::Idle)),
+    Call::Wait(false, Waited::Woke(Wake::Idle)),
+    // each call that is to fail does so once
+    Call::Read(LinkGot::Failed),
+    Call::Read(LinkGot::Bytes(2)),
+    Call::Read(LinkGot::Ended),
+    Call::Write(LinkTook::Failed),
+    Call::Write(LinkTook::Took(2)),
+    Call::Capture(Put::Failed),
+    Call::Capture(Put::Done),
+    Call::Emit(Put::Failed),
+    Call::Emit(Put::Done),
+    Call::Hook(Put::Failed),
+    Call::Hook(Put::Done),
+    Call::Close(Why::Ended),
+    Call::Wait(false, Waited::Woke(Wake::Idle)),
+    // behind the last step each wait gives Stop
+    Call::Wait(true, Waited::Woke(Wake::Stop)),
+    Call::Wait(false, Waited::Woke(Wake::Stop)),
+];
+
+const TOLD: &str = "listened [104]\n\
+                    attached 0 7\n\
+                    attached 2 9\n\
+                    waited false Opened(3)\n\
+                    waited true Readable(3)\n\
+                    waited false Readable(3)\n\
+                    waited false Writable(3)\n\
+                    waited false Ticked(0, 1)\n\
+                    waited false Line(2, Ring(true))\n\
+                    waited false Idle\n\
+                    waited false Idle\n\
+                    waited false Idle\n\
+                    waited false Idle\n\
+                    waited false Idle\n\
+                    waited false Idle\n\
+                    waited true Stop\n\
+                    waited false Stop\n";
+
+// Makes these calls of a tape that plays all steps with these faults. It tells its log, and these lines of its outer list.
+fn plays(
+    rt: &impl Abort,
+    alloc: Global,
+    faults: OuterFaults,
+    calls: &[Call],
+    told: &str,
+) -> Result<(), Fail> {
+    let mut config = Config::new();
+    config.push(device_from(7));
+    config.push(device_from(8));
+    config.push(device_from(9));
+    let steps = all_steps(alloc)?;
+    let mut tape = Tape::new(alloc, &config, steps.as_slice(), faults)?;
+    call_live(rt, alloc, &mut tape, calls);
+    assert!(rt; tape.tells());
+    same_text(
+        rt,
+        "the outer list",
+        lines_of(alloc, tape.outer())?.as_str(),
+        told,
+    );
+    Ok(())
+}
+
+#[test]
+fn a_tape_is_listened_in_and_attached_to_and_gives_its_wakes(rt: HostRuntime) -> Result<(), Fail> {
+    let faults = OuterFaults {
+        listen: false,
+        attach: Some(1),
+        wait: Some(1),
+    };
+    plays(&rt, rt.alloc(), faults, &CALLS, TOLD)?;
+    let faults = OuterFaults {
+        listen: true,
+        attach: None,
+        wait: None,
+    };
+    plays(&rt, rt.alloc(), faults, &[Call::Listen(Ready::Failed)], "")
+}

@@ -1,0 +1,3 @@
+// One file for each subject.
+mod adapters;
+mod world;

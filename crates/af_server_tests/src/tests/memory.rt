@@ -159,6 +159,24 @@ fn links_are_dialled_in_order_and_given_back(rt: HostRuntime) -> Result<(), Fail
     Ok(())
 }
 
+fn give_back(alloc: Global, dial: &mut MemDial) -> Result<(), Fail> {
+    let link = MemLink::new(alloc, &[], 1, 1, &[])?;
+    dial.hang_up(link);
+    Ok(())
+}
+
+#[test]
+fn a_third_link_is_not_kept(rt: HostRuntime) -> Result<(), Fail> {
+    let mut dial = MemDial::new(None, None);
+    for _ in 0..3u32 {
+        give_back(rt.alloc(), &mut dial)?;
+    }
+    kept(&rt, &dial, 0, &[], 0);
+    kept(&rt, &dial, 1, &[], 0);
+    holds(&rt, "no third link", dial.kept(2).is_none());
+    Ok(())
+}
+
 #[test]
 fn words_of_a_command_line(rt: HostRuntime) -> Result<(), Fail> {
     let mut args = Args::new(rt.alloc());

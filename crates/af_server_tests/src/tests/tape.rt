@@ -19,11 +19,11 @@ enum Call {
     // asked with whether there is more to do
     Wait(bool, Waited),
     Read(LinkGot),
-    // three bytes are offered
-    Write(LinkTook),
+    // three bytes are offered to a link
+    Write(u8, LinkTook),
     Close(Why),
-    // a frame of device 0
-    Capture(Put),
+    // what is captured of a device, where that is done
+    Capture(u8, &'static [u8], Put),
     Emit(Put),
     // the hook of device 2 is to be off
     Hook(Put),
@@ -49,13 +49,30 @@ fn call_world<W: World>(rt: &impl Abort, world: &mut W, call: Call) {
             let mut into = [0u8; 16384];
             holds(rt, "a read", world.read(3, &mut into) == got);
         }
-        Call::Write(took) => holds(rt, "a write", world.write(3, &[7, 8, 9]) == took),
+        Call::Write(link, took) => {
+            holds(rt, "a write", world.write(link, &[7, 8, 9]) == took);
+        }
         Call::Close(why) => world.close(3, why),
-        Call::Capture(put) => holds(rt, "a capture", world.capture(0, 1, &mut [0, 0]) == put),
+        Call::Capture(device, bytes, put) => capture(rt, world, device, bytes, put),
         Call::Emit(put) => holds(rt, "an emit", world.emit(0, &[1, 2]) == put),
         Call::Hook(put) => holds(rt, "a hook call", world.hook(2, true) == put),
         Call::Listen(_) | Call::Attach(..) | Call::Wait(..) => {}
     }
+}
+
+// A capture of as many bytes as are wanted, of up to four.
+fn capture<W: World>(rt: &impl Abort, world: &mut W, device: u8, wanted: &[u8], put: Put) {
+    let mut room = [7u8; 4];
+    let into = &mut room[..wanted.len().min(4)];
+    if into.is_empty() {
+        return;
+    }
+    holds(rt, "a capture", world.capture(device, 1, into) == put);
+    holds(
+        rt,
+        "what is captured",
+        put == Put::Failed || *into == *wanted,
+    );
 }
 
 fn device_from(start: u32) -> DeviceSpec {
@@ -105,7 +122,7 @@ fn all_steps(alloc: Global) -> Result<Vec<Step>, Fail> {
     Ok(steps)
 }
 
-const CALLS: [Call; 33] = [
+const CALLS: [Call; 38] = [
     Call::Listen(Ready::Done),
     // the attaches of device 1 are to fail, device 3 is not there, and device 2 has another start
     Call::Attach(0, 7, Ready::Done),
@@ -130,10 +147,18 @@ const CALLS: [Call; 33] = [
     Call::Read(LinkGot::Failed),
     Call::Read(LinkGot::Bytes(2)),
     Call::Read(LinkGot::Ended),
-    Call::Write(LinkTook::Failed),
-    Call::Write(LinkTook::Took(2)),
-    Call::Capture(Put::Failed),
-    Call::Capture(Put::Done),
+    Call::Write(3, LinkTook::Failed),
+    Call::Write(3, LinkTook::Took(2)),
+    // a link that is not there takes all
+    Call::Write(40, LinkTook::Took(3)),
+    Call::Capture(0, &[5, 6], Put::Failed),
+    // what a tick states is captured, also again, where it is as many bytes as are asked for, and else silence
+    Call::Capture(0, &[5, 6], Put::Done),
+    Call::Capture(0, &[0], Put::Done),
+    Call::Capture(0, &[5, 6], Put::Done),
+    Call::Capture(1, &[0, 0], Put::Done),
+    // so it is of a device that is not there
+    Call::Capture(5, &[0, 0], Put::Done),
     Call::Emit(Put::Failed),
     Call::Emit(Put::Done),
     Call::Hook(Put::Failed),

@@ -230,7 +230,7 @@ const BEFORE: [Act; 2] = [
     Act::World(Call::Listen("no address", Ready::Failed)),
 ];
 
-const LINK: [Act; 24] = [
+const LINK: [Act; 31] = [
     Act::World(Call::Listen("127.0.0.1:0", Ready::Failed)),
     Act::Connect,
     Act::Send(b"hello"),
@@ -256,6 +256,14 @@ const LINK: [Act; 24] = [
     Act::Leave,
     Act::World(Call::Wait(Waited::Woke(Wake::Readable(0)))),
     Act::World(Call::Read(0, LinkGot::Ended, b"------")),
+    Act::World(Call::Wait(Waited::Woke(Wake::Writable(0)))),
+    // its link is open still: the next client has the next number, and the one behind a close the least that is free
+    Act::Connect,
+    Act::World(Call::Wait(Waited::Woke(Wake::Opened(1)))),
+    Act::World(Call::Wait(Waited::Woke(Wake::Writable(1)))),
+    Act::World(Call::Close(0)),
+    Act::Connect,
+    Act::World(Call::Wait(Waited::Woke(Wake::Opened(0)))),
 ];
 
 // A world listens, and talks with a client.

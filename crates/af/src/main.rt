@@ -2,16 +2,16 @@
 #![tactic(auto)]
 
 ghost use Rattle.std.specs.Prelude.{◌≡◌};
-ghost use Rattle.af.specs.Statuses.{status};
+ghost use Rattle.af.specs.Statuses.{tool_status};
 
-use af_outside::{StdSink, StdSource, TcpDial, WordsFault, program_words};
+use af_io::{StdSink, StdSource, TcpDial, WordsFault, program_words};
 use af_tools::{ToolEnd, af_run};
 use std::io;
 use std::process::ExitCode;
 
 // The exit status of an end.
 fn status_of(end: ToolEnd) -> u8
-    ensures { result ≡ status end }
+    ensures { result ≡ tool_status end }
 {
     match end {
         ToolEnd::Done => 0,

@@ -1,6 +1,6 @@
-pub mod Rooms
-pub mod Entries
-pub mod Playing
-pub mod Hearing
-pub mod Recording
-pub mod Windows
+pub mod HorizonLemmas
+pub mod AcceptedPlayLemmas
+pub mod PlayRingLemmas
+pub mod PlayBufferLemmas
+pub mod RecordRingLemmas
+pub mod RecordBufferLemmas

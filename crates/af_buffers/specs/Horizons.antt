@@ -8,7 +8,7 @@ use Rattle.af_ring.specs.Cells.{IsSize}
 abbrev pub IsHorizon : ℕ → Type 0
 IsHorizon frames = IsTrue (list_any (λ listed. frames == listed * 4) listed_rates)
 
--- the size of the ring that holds so many frames: the least power of two that is not below them
+-- the size of the ring that holds n frames: the least power of two that is not below them
 pub record IsRoomFor (frames size : ℕ) : Type 0 where
   pub power : IsSize size
   pub enough : frames ≤ size

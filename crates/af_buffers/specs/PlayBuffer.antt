@@ -2,7 +2,7 @@
 use Rattle.std.specs.Prelude.{◌≡◌, ℕ, ◌+◌, ◌-◌, ◌%◌, ◌^◌, ◌<◌, ◌≤◌, Bool, false, List, ◌++◌, length, map, take, drop, replicate, ℤ, pos, slice_index_or}
 use Rattle.std.specs.List.{range_with_len, All}
 use Rattle.af_time.specs.DeviceTime.{unwrap}
-use Rattle.af_sample.specs.Heard.{Entry, covers, with_entry, heard, blended}
+use Rattle.af_sample.specs.Heard.{AcceptedPlay, covers, with_entry, heard, blended}
 use Rattle.af_ring.specs.Cells.{cell, ChangesRun}
 use Rattle.af_buffers.specs.Horizons.{IsHorizon, IsRoomFor, whole_time}
 
@@ -13,35 +13,35 @@ pub record Next : Type 0 where
   pub ring : List ℤ
 
 -- a play that is accepted at a whole time: it starts at the whole time that its word means then
-abbrev pub accepted_at : ℕ → ℕ → List ℤ → Bool → Entry
+abbrev pub accepted_at : ℕ → ℕ → List ℤ → Bool → AcceptedPlay
 accepted_at now start samples preempt =
     record { start = unwrap now start; samples = samples; preempt = preempt; at = now }
 
 -- the same at a buffer's time
-abbrev pub accepted_by : Next → ℕ → List ℤ → Bool → Entry
+abbrev pub accepted_by : Next → ℕ → List ℤ → Bool → AcceptedPlay
 accepted_by b start samples preempt = accepted_at (whole_time b.time) start samples preempt
 
 -- how many frames from a word on end at most a horizon after a buffer's time
 abbrev pub frames_within : Next → ℕ → ℕ
 frames_within b start = whole_time b.time + length b.next - unwrap (whole_time b.time) start
 
--- how long it takes until so many frames from a word on end at most a horizon after a buffer's time
+-- how long it takes until n frames from a word on end at most a horizon after a buffer's time
 abbrev pub frames_beyond : Next → ℕ → ℕ → ℕ
 frames_beyond b start n = unwrap (whole_time b.time) start + n - (whole_time b.time + length b.next)
 
--- so many samples from a word on end at most a horizon after a buffer's time
+-- n samples from a word on end at most a horizon after a buffer's time
 abbrev pub EndsWithin : Next → ℕ → ℕ → Type 0
 EndsWithin b start n = unwrap (whole_time b.time) start + n ≤ whole_time b.time + length b.next
 
 -- a play is laid over the next samples: each is what one accepted play more makes of it
-pub record Plays (old new : Next) (play : Entry) : Type 0 where
+pub record Plays (old new : Next) (play : AcceptedPlay) : Type 0 where
   pub time : new.time ≡ old.time
   pub size : length new.next ≡ length old.next
   pub each : (j : ℕ) → j < length old.next → slice_index_or new.next j (pos 0)
       ≡ with_entry (whole_time old.time + j) (slice_index_or old.next j (pos 0)) play
 
 -- only cells of times that a play covers are changed, and it covers none before its acceptance
-pub record ChangesCovered (old new : Next) (play : Entry) : Type 0 where
+pub record ChangesCovered (old new : Next) (play : AcceptedPlay) : Type 0 where
   pub size : length new.ring ≡ length old.ring
   pub kept : (j : ℕ) → j < length old.ring → covers play (whole_time old.time + j) ≡ false →
       cell new.ring (old.time + j) ≡ cell old.ring (old.time + j)
@@ -61,15 +61,15 @@ pub record HoldsNext (b : Next) : Type 0 where
 
 -- a buffer stands for what is heard from a whole time on: its samples are those that the accepted
 -- plays make, none of which goes past its horizon
-pub record Hears (b : Next) (accepted : List Entry) (now : ℕ) : Type 0 where
+pub record Hears (b : Next) (accepted : List AcceptedPlay) (now : ℕ) : Type 0 where
   pub late : 2 ^ 32 ≤ now
   pub time : b.time ≡ now % 2 ^ 32
   pub each : (j : ℕ) → slice_index_or b.next j (pos 0) ≡ heard accepted (now + j)
   pub within : All (λ e. e.start + length e.samples ≤ now + length b.next) accepted
 
 -- samples are laid over the cells from a time on: mixed in, or put there
-abbrev pub LaysRun : List ℤ → List ℤ → ℕ → List ℤ → Bool → Type 0
-LaysRun old new t samples preempt =
+abbrev pub OverlaysRun : List ℤ → List ℤ → ℕ → List ℤ → Bool → Type 0
+OverlaysRun old new t samples preempt =
     ChangesRun old new t (length samples) (λ k x. blended preempt x (slice_index_or samples k (pos 0)))
 
 -- the cells of a ring as a buffer: the n cells from its time on are its next samples

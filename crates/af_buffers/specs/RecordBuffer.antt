@@ -22,9 +22,9 @@ pub record Captures (old new : Last) (samples : List ℤ) : Type 0 where
 abbrev pub frames_before : Last → ℕ → ℕ
 frames_before b start = whole_time b.time - unwrap (whole_time b.time) start
 
--- how long it takes until so many frames from a word on are before a buffer's time
-abbrev pub frames_beyond : Last → ℕ → ℕ → ℕ
-frames_beyond b start n = unwrap (whole_time b.time) start + n - whole_time b.time
+-- how long it takes until n frames from a word on are before a buffer's time
+abbrev pub frames_until_past : Last → ℕ → ℕ → ℕ
+frames_until_past b start n = unwrap (whole_time b.time) start + n - whole_time b.time
 
 -- the sample of a whole time: one of the last, and silence further back and from now on
 abbrev pub sample_at : Last → ℕ → ℤ

@@ -2,7 +2,7 @@
 ghost use Rattle.std.specs.Prelude.{◌≡◌, ◌≤◌, length, IfOk, pos, replicate};
 ghost use Rattle.af_ring.specs.Cells.{ClearsRun};
 ghost use Rattle.af_buffers.specs.Horizons.{IsHorizon};
-ghost use Rattle.af_buffers.specs.PlayBuffer.{accepted_by, frames_beyond, frames_within, ChangesCovered, EndsWithin, HandsOut, HoldsNext, LaysRun, Plays};
+ghost use Rattle.af_buffers.specs.PlayBuffer.{accepted_by, frames_beyond, frames_within, ChangesCovered, EndsWithin, HandsOut, HoldsNext, OverlaysRun, Plays};
 
 use crate::room::bits_for;
 use af_ring::TimeRing;
@@ -66,7 +66,7 @@ impl PlayBuffer {
         }
     }
 
-    /// How many sample periods go by until so many frames from a time on, at most 16368, end within
+    /// How many sample periods go by until n frames from a time on, at most 16368, end within
     /// the horizon: none where they do.
     pub fn frames_beyond(&self, start: DevTime, frames: u32) -> u32
         requires { frames ≤ 16368 }
@@ -99,10 +99,10 @@ impl PlayBuffer {
         if start.is_before(self.time) {
             let late = self.time.0.wrapping_sub(start.0) as usize;
             if late < samples.len() {
-                lay(&mut self.ring, self.time, &samples[late..], preempt);
+                overlay(&mut self.ring, self.time, &samples[late..], preempt);
             }
         } else {
-            lay(&mut self.ring, start, samples, preempt);
+            overlay(&mut self.ring, start, samples, preempt);
         }
     }
 
@@ -120,9 +120,9 @@ impl PlayBuffer {
 }
 
 // Mixes samples into the cells from a time on, or puts them there.
-fn lay(ring: &mut TimeRing, t: DevTime, samples: &[i16], preempt: bool)
+fn overlay(ring: &mut TimeRing, t: DevTime, samples: &[i16], preempt: bool)
     requires { length samples.now ≤ length ring.old }
-    ensures { LaysRun ring.old ring.new t.0 samples.now preempt }
+    ensures { OverlaysRun ring.old ring.new t.0 samples.now preempt }
 {
     if preempt {
         ring.put_run(t, samples);

@@ -2,7 +2,7 @@
 ghost use Rattle.std.specs.Prelude.{◌≡◌, ℕ, ◌+◌, ◌%◌, ◌^◌, ◌<◌, ◌≤◌, length, IfOk, pos, replicate, slice_index_or};
 ghost use Rattle.af_ring.specs.Cells.{PutsRun};
 ghost use Rattle.af_buffers.specs.Horizons.{IsHorizon};
-ghost use Rattle.af_buffers.specs.RecordBuffer.{frames_before, frames_beyond, Captures, HoldsLast, samples_from, within_run};
+ghost use Rattle.af_buffers.specs.RecordBuffer.{frames_before, frames_until_past, Captures, HoldsLast, samples_from, within_run};
 
 use crate::room::bits_for;
 use af_ring::TimeRing;
@@ -64,11 +64,11 @@ impl RecordBuffer {
         }
     }
 
-    /// How many sample periods go by until so many frames from a time on, at most 16000, are before
+    /// How many sample periods go by until n frames from a time on, at most 16000, are before
     /// the buffer's time: none where they are.
     pub fn frames_beyond(&self, start: DevTime, frames: u32) -> u32
         requires { frames ≤ 16000 }
-        ensures { result ≡ frames_beyond self.now start.0 frames }
+        ensures { result ≡ frames_until_past self.now start.0 frames }
     {
         if start.is_before(self.time) {
             frames.saturating_sub(self.time.0.wrapping_sub(start.0))

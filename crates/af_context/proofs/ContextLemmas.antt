@@ -28,7 +28,7 @@ find-none p (x ∷ xs) e =
     elim (p x) as (λ b. (b || list_any p xs) ≡ false → cond b (Some x) (find p xs) ≡ None)
     [ true ↦ λ f. absurd cc | false ↦ λ f. find-none p xs f ] e
 
--- the first place whose context has the number is that of the number's context, and where there is none the number
+-- the first place whose context has the number is that of the number's context, and if there is none the number
 -- is not in use
 pub IsPlaceOf-position : (xs : List Context) (ac : ℕ) → IsPlaceOf xs ac (ok_or (position (λ c. c.ac == ac) xs) BadAc)
 IsPlaceOf-position xs ac =

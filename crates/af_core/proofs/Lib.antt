@@ -1,7 +1,8 @@
-pub mod Taking
-pub mod Wanting
-pub mod Doing
-pub mod Serving
-pub mod Telling
-pub mod Completing
-pub mod Turning
+pub mod AdvanceStepLemmas
+pub mod WantsTurnLemmas
+pub mod SimulationLemmas
+pub mod EnvironmentLemmas
+pub mod LinkPhaseLemmas
+pub mod EventLemmas
+pub mod CompletionLemmas
+pub mod TurnLemmas

@@ -1,3 +1,3 @@
 pub mod Stands
-pub mod Does
+pub mod Simulates
 pub mod Live

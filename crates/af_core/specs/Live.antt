@@ -2,30 +2,31 @@
 use Rattle.std.specs.Prelude.{◌≡◌, ℕ, ℤ, Bool, List, ◌++◌, length, true, false}
 use Rattle.std.specs.declared.option.Option.{Option}
 use Rattle.std.specs.declared.option.Option.TheVariants.{None}
-use Rattle.af_outside.specs.Told.{Log, Grew}
+use Rattle.af_io.specs.Observed.{Appended}
+use Rattle.af_outside.specs.Log.{Log}
 use Rattle.af_model.specs.State.{State, DeviceState}
-use Rattle.af_model.specs.Tick.{capture_of, later, sound, tick}
-use Rattle.af_model.specs.Turn.{behind, and_then, take_one, capture_by, after_capture}
+use Rattle.af_model.specs.Tick.{captured_samples, later, sound, tick}
+use Rattle.af_model.specs.Turn.{parsed, parse_then, parse_one, capture_by, after_capture}
 use Rattle.af_model.specs.Run.{wakes}
-use Rattle.af_kept.specs.Kept.{KeptDevice, StandsForDevice}
+use Rattle.af_state.specs.Kept.{KeptDevice, StandsForDevice}
 
 -- n sample periods of a device went by in which these bytes came, or none, and this sound is handed out
 pub record Passes (old new : KeptDevice) (n : ℕ) (came : Option (List ℕ)) (given : List ℕ) : Type 0 where
-  pub stands : (device : DeviceState) → StandsForDevice old device → StandsForDevice new (later (capture_of old.ty n came) device.is_dead device)
+  pub stands : (device : DeviceState) → StandsForDevice old device → StandsForDevice new (later (captured_samples old.ty n came) device.is_dead device)
   pub gives : (device : DeviceState) → StandsForDevice old device → given ≡ sound device n
 
--- One part was added to the log: a capture of device d in n sample periods and, where that was done, an emit of its sound.
+-- One part was added to the log: a capture of device d in n sample periods and, if that was done, an emit of its sound.
 -- The device has passed over these, and is dead behind them or not.
 pub record TicksLive (d n : ℕ) (old new : KeptDevice) (before after : Option Log) : Type 0 where
   pub part : Log
-  pub told : Grew before part after
+  pub told : Appended before part after
   pub quiet : wakes part ≡ 0
   pub captured : List ℤ
   pub size : length captured ≡ n
   pub is_dead : Bool
   pub stands : (device : DeviceState) → StandsForDevice old device → StandsForDevice new (later captured is_dead device)
   pub goes : (device : DeviceState) → StandsForDevice old device → (s : State) (more : Log) →
-      and_then (take_one (capture_by d n device) (part ++ more)) (after_capture d n device s) ≡ behind (tick d captured is_dead s) more
+      parse_then (parse_one (capture_by d n device) (part ++ more)) (after_capture d n device s) ≡ parsed (tick d captured is_dead s) more
 
 -- A dead device has passed over silence and nothing was added to the log, and a live one has made its calls.
 abbrev pub Ticks : Bool → ℕ → ℕ → KeptDevice → KeptDevice → Option Log → Option Log → Type 0

@@ -1,32 +1,43 @@
 -- What the core keeps, and the states of the abstract server that it stands for.
-use Rattle.std.specs.Prelude.{◌≡◌, ◌⊎◌, ℕ, ◌+◌, ◌<◌, ◌≤◌, Bool, true, false, IsTrue, List, [], ◌∷◌, length, map, is_some, slice_get, option_and_then, IsSomeAnd, if◌then◌else◌}
+use Rattle.std.specs.Prelude.{◌≡◌, ◌⊎◌, ℕ, ◌+◌, ◌<◌, ◌≤◌, Bool, true, false, IsTrue, List, [], ◌∷◌, find, length, map, is_some, slice_get, option_and_then, IsSomeAnd, if◌then◌else◌}
 use Rattle.std.specs.declared.option.Option.{Option}
 use Rattle.std.specs.declared.option.Option.TheVariants.{None, Some}
 use Rattle.af_wait.specs.declared.Wait.{Wait}
 use Rattle.af_outside.specs.declared.happening.Happening.TheVariants.{Woke}
 use Rattle.af_outside.specs.declared.happening.Wake.{Wake}
-use Rattle.af_outside.specs.Told.{Log, Grew}
-use Rattle.af_model.specs.State.{State, DeviceState, LinkState, Waiter, Place, Door, Outline, links_of, outline_with}
+use Rattle.af_io.specs.Observed.{Appended}
+use Rattle.af_outside.specs.Log.{Log}
+use Rattle.af_wait.specs.Waits.{without_first}
+use Rattle.af_model.specs.State.{State, EnvironmentState, DeviceState, LinkState, Deferral, OpenLink, open_link, SlotLink, Outline, links_of, outline_with}
 use Rattle.af_model.specs.Reply.{horizon_of}
-use Rattle.af_model.specs.Waiting.{due, AreDueLater}
+use Rattle.af_model.specs.Waiting.{due, falls_due, AreDueLater}
 use Rattle.af_model.specs.Advance.{takes_more}
 use Rattle.af_model.specs.Turn.{IsTurn, wants_write}
 use Rattle.af_model.specs.Run.{wakes}
 use Rattle.af_model.specs.NoLoss.{StateLosesNone}
-use Rattle.af_kept.specs.Kept.{KeptDevice, StandForDevices, IsBounded}
-use Rattle.af_perform.specs.Waits.{KeptWait, has_waiting, kept_without, StandForWaits}
-use Rattle.af_perform.specs.Places.{StandAround, At}
+use Rattle.af_state.specs.Kept.{KeptDevice, StandForDevices, IsBounded}
+use Rattle.af_state.specs.Deferrals.{KeptDeferral, has_waiting, kept_without, AreLater, AreLaterBut, StandForDeferrals, LeavesOthers}
+use Rattle.af_state.specs.Environment.{StandsForLink, KeptEnvironment, StandsForEnvironment}
 
--- a link's number, open or not, with what is around it
-abbrev pub AtDoor : List KeptDevice → List KeptWait → Option LinkState → Door → Type 0
-AtDoor ds ks link d = StandAround ds ks d.around × (d.link ≡ link)
+-- a slot, open or not, with its environment
+abbrev pub StandsForSlot : KeptEnvironment → Option LinkState → SlotLink → Type 0
+StandsForSlot e link d = StandsForEnvironment e d.environment × (d.link ≡ link)
 
--- where something was taken off, what is kept now is what that leads to, and else there was nothing to take
-abbrev pub StepsTo : Bool → Option Place → List KeptDevice → List KeptWait → LinkState → Type 0
-StepsTo true (Some p) ds ks l = At ds ks l p
-StepsTo true None ds ks l = ⊥
-StepsTo false None ds ks l = Unit {0}
-StepsTo false (Some p) ds ks l = ⊥
+-- what holds, of each state that is stood for, of the first that is due of a device and of its link's environment without it
+abbrev pub OfFirstDue : ℕ → KeptEnvironment → (Deferral → EnvironmentState → Type 0) → Type 0
+OfFirstDue device e Holds =
+    (a : EnvironmentState) (s : DeviceState) (w : Deferral) → StandsForEnvironment e a → slice_get a.devices device ≡ Some s → find (falls_due device s) a.waiting ≡ Some w → Holds w (record a { waiting = without_first (falls_due device s) a.waiting })
+
+-- if something was taken off, what is kept now is what that leads to, and else there was nothing to take
+abbrev pub AdvancesTo : Bool → Option OpenLink → KeptEnvironment → LinkState → Type 0
+AdvancesTo true (Some p) e l = StandsForLink e l p
+AdvancesTo true None e l = ⊥
+AdvancesTo false None e l = Unit {0}
+AdvancesTo false (Some p) e l = ⊥
+
+-- the same, in whatever environment, of a step from it
+abbrev pub Advances : Bool → (OpenLink → Option OpenLink) → KeptEnvironment → LinkState → KeptEnvironment → LinkState → Type 0
+Advances taken f e l e' l' = (a : EnvironmentState) → StandsForEnvironment e a → AdvancesTo taken (f (open_link a l)) e' l'
 
 -- A link is within its bounds. One that takes more has less than a whole frame unread, and one that waits has room for the reply
 -- that it waits for.
@@ -35,8 +46,12 @@ pub record IsSettled (waits : Bool) (l : LinkState) : Type 0 where
   pub short : IsTrue (takes_more waits l) → length l.rest < 16384
   pub room : IsTrue waits → length l.pending ≤ 49152
 
+-- the link that is open at a number is so, if one is
+abbrev pub IsSettledSlot : Bool → Option LinkState → Type 0
+IsSettledSlot waits link = (l : LinkState) → link ≡ Some l → IsSettled waits l
+
 -- each open link is so
-abbrev pub AreSettled : List KeptWait → List (Option LinkState) → Type 0
+abbrev pub AreSettled : List KeptDeferral → List (Option LinkState) → Type 0
 AreSettled ks links = (k : ℕ) (l : LinkState) → slice_get links k ≡ Some (Some l) → IsSettled (has_waiting ks k) l
 
 -- a bound on the writes to come
@@ -44,13 +59,23 @@ abbrev pub writes_left : LinkState → ℕ
 writes_left l = length l.rest + (if wants_write l then 1 else 0)
 
 -- only one link may have ended to wait
-abbrev pub Sheds : ℕ → List KeptWait → List KeptWait → Type 0
-Sheds link old new = (new ≡ old) ⊎ (new ≡ kept_without link old)
+abbrev pub OnlyDrops : ℕ → KeptEnvironment → KeptEnvironment → Type 0
+OnlyDrops link old new = (new ≡ old) ⊎ (new ≡ record old { waits = kept_without link old.waits })
+
+-- A link is in turn: it has a number, and is settled.
+pub record IsInTurn (k : ℕ) (waits : List KeptDeferral) (l : LinkState) : Type 0 where
+  pub number : k < 32
+  pub settled : IsSettled (has_waiting waits k) l
+
+-- A link had some of its part of a turn: it is settled, and of those that wait it changed no other.
+pub record LinkServed (k : ℕ) (old new : List KeptDeferral) (l : LinkState) : Type 0 where
+  pub settled : IsSettled (has_waiting new k) l
+  pub leaves_others : LeavesOthers k old new
 
 -- all that a core keeps
 pub record Kept : Type 0 where
   pub devices : List KeptDevice
-  pub waits : List KeptWait
+  pub waits : List KeptDeferral
   pub links : List (Option LinkState)
 
 -- the link that is open at a number
@@ -64,26 +89,56 @@ kept_lines ds = map (λ d. is_some d.line) ds
 abbrev pub outline_of : Kept → Outline
 outline_of kept = outline_with (kept_lines kept.devices) kept.links
 
+-- what all links share, and the links
+abbrev pub kept_of : KeptEnvironment → List (Option LinkState) → Kept
+kept_of e links = record { devices = e.devices; waits = e.waits; links = links }
+
 -- What a core keeps of its devices, its links and those that wait stands for each state that has them; it keeps no history, so
 -- there are many.
-pub record StandsFor (ds : List KeptDevice) (ks : List KeptWait) (kept : List (Option LinkState)) (s : State) : Type 0 where
-  pub devices : StandForDevices ds s.devices
-  pub waiting : StandForWaits s.devices ks s.waiting
-  pub links : links_of s.slots ≡ kept
+pub record StandsFor (kept : Kept) (s : State) : Type 0 where
+  pub devices : StandForDevices kept.devices s.devices
+  pub waiting : StandForDeferrals s.devices kept.waits s.waiting
+  pub links : links_of s.slots ≡ kept.links
 
 -- a core stands for such a state between turns, where each request that waits is due later
 pub record Stands (core : Kept) (s : State) : Type 0 where
-  pub kept : StandsFor core.devices core.waits core.links s
+  pub kept : StandsFor core s
   pub later : AreDueLater s.devices s.waiting
+
+-- what is kept leads to where each state leads that it stands for
+abbrev pub StepsAll : (State → State) → Kept → Kept → Type 0
+StepsAll f kept kept' = (s : State) → StandsFor kept s → StandsFor kept' (f s)
+
+-- what holds, of each state that is stood for, of a device of it
+abbrev pub OfDevice : ℕ → Kept → (DeviceState → State → Type 0) → Type 0
+OfDevice number kept Holds = (s : State) (device : DeviceState) → StandsFor kept s → slice_get s.devices number ≡ Some device → Holds device s
+
+-- There are numbers for 32 links. Each link that is open is settled, and each request that waits does so for a frame or more.
+pub record AreOrderly (ks : List KeptDeferral) (ls : List (Option LinkState)) : Type 0 where
+  pub links : length ls ≡ 32
+  pub settled : AreSettled ks ls
+  pub later : AreLater ks
+
+-- What a core keeps between the phases of a turn: its links are in order, and there is a state that it stands for.
+pub record IsBetweenPhases (kept : Kept) : Type 0 where
+  pub orderly : AreOrderly kept.waits kept.links
+  pub stands : (s : State) × StandsFor kept s
+
+-- what it keeps while the requests that are due of a device complete: some wait no more frame, but none of another device
+pub record IsCompleting (device : ℕ) (kept : Kept) : Type 0 where
+  pub links : length kept.links ≡ 32
+  pub settled : AreSettled kept.waits kept.links
+  pub later : AreLaterBut device kept.waits
+  pub stands : (s : State) × StandsFor kept s
 
 -- what is shown of the links that wait stands for them one by one: each is that link, waits for that device, and has the frames
 -- left that its due time is later than now
-abbrev pub StandForWaiting : List DeviceState → List Wait → List Waiter → Type 0
+abbrev pub StandForWaiting : List DeviceState → List Wait → List Deferral → Type 0
 StandForWaiting devices [] [] = Unit {0}
 StandForWaiting devices [] (w ∷ waiting) = ⊥
 StandForWaiting devices (k ∷ shown) [] = ⊥
 StandForWaiting devices (k ∷ shown) (w ∷ waiting) =
-    (k.link ≡ w.link) × (k.device ≡ w.device) × IsSomeAnd (slice_get devices w.device) (λ s. s.now + k.left ≡ due (horizon_of s) w.held) × StandForWaiting devices shown waiting
+    (k.link ≡ w.link) × (k.device ≡ w.device) × IsSomeAnd (slice_get devices w.device) (λ s. s.now + k.left ≡ due (horizon_of s) w.deferred) × StandForWaiting devices shown waiting
 
 -- from a state, the part is one turn, to a state that the core stands for then, in which no request that had waited has lost a
 -- sample
@@ -93,21 +148,21 @@ pub record TurnsFrom (part : Log) (s : State) (kept : Kept) : Type 0 where
   pub stands : Stands kept next
   pub lossless : StateLosesNone next
 
--- where one more request was completed, what is kept now stands for what that leads to, and else none was due
-abbrev pub CompletesTo : Bool → Option State → List KeptDevice → List KeptWait → List (Option LinkState) → Type 0
-CompletesTo true (Some s) ds ks links = StandsFor ds ks links s
-CompletesTo true None ds ks links = ⊥
-CompletesTo false None ds ks links = Unit {0}
-CompletesTo false (Some s) ds ks links = ⊥
+-- if one more request was completed, what is kept now stands for what that leads to, and else none was due
+abbrev pub CompletesTo : Bool → Option State → Kept → Type 0
+CompletesTo true (Some s) kept = StandsFor kept s
+CompletesTo true None kept = ⊥
+CompletesTo false None kept = Unit {0}
+CompletesTo false (Some s) kept = ⊥
 
--- What was added to the log, where it is told, is one part that begins with this wake and has no other; and from each state
+-- What was added to the log, if it is observed, is one part that begins with this wake and has no other; and from each state
 -- that the core stood for, the part is one turn, to a state that the core stands for then. There are as many devices and
 -- numbers for links as before.
 pub record Turns (before after : Option Log) (wake : Wake) (old new : Kept) : Type 0 where
   pub devices : length new.devices ≡ length old.devices
   pub links : length new.links ≡ length old.links
   pub part : Log
-  pub told : Grew before part after
+  pub told : Appended before part after
   pub rest : Log
   pub begins : part ≡ Woke wake ∷ rest
   pub only : wakes rest ≡ 0

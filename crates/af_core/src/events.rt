@@ -1,93 +1,86 @@
 // Events of telephone lines are told to the links that select them.
-ghost use Rattle.std.specs.Prelude.{◌≡◌, ◌≤◌, ◌<◌, List, length, option_map, slice_get};
+ghost use Rattle.std.specs.Prelude.{◌≡◌, ◌<◌, length, option_map, slice_get};
 ghost use Rattle.std.specs.declared.option.Option.TheVariants.{Some};
 ghost use Rattle.af_request.specs.declared.reply.Phone.{Phone};
-ghost use Rattle.af_model.specs.State.{Around, DeviceState, State, place};
+ghost use Rattle.af_model.specs.State.{State};
 ghost use Rattle.af_model.specs.Events.{dropped, line_becomes, tell, tell_link, tell_selected};
-ghost use Rattle.af_kept.specs.Kept.{KeptDevice};
-ghost use Rattle.af_perform.specs.Waits.{has_waiting, kept_without, AreLater};
-ghost use Rattle.af_perform.specs.Places.{At, StandAround};
-ghost use Rattle.af_core.specs.Stands.{AreSettled, IsSettled, Sheds, StandsFor, writes_left};
+ghost use Rattle.af_state.specs.Deferrals.{has_waiting, kept_without};
+ghost use Rattle.af_state.specs.Environment.{StepsLink};
+ghost use Rattle.af_core.specs.Stands.{AreOrderly, IsSettled, StepsAll, OfDevice, OnlyDrops, StandsFor, kept_of, writes_left};
 
 use crate::slot::Slot;
-use af_kept::{Device, Link};
 use af_outside::Why;
-use af_perform::Waits;
 use af_phone::Line;
+use af_state::{Environment, ServedLink};
 use af_wire::{Event, EventKind};
 
 /// A link is dropped for a cause: it is to be closed, nothing of it is read or sent any more, and it waits no more.
-pub fn drop_link(number: u8, cause: Why, waits: &mut Waits, link: &mut Link)
-    ensures step { (ds : List KeptDevice) (a : Around) → StandAround ds waits.old a → At ds waits.new link.new (dropped number cause (place a link.old)) }
-    ensures settled { IsSettled (has_waiting waits.new number) link.new }
-    ensures without { waits.new ≡ kept_without number waits.old }
+pub fn drop_link(number: u8, cause: Why, environment: &mut Environment, link: &mut ServedLink)
+    ensures step { StepsLink (dropped number cause) environment.old link.old environment.new link.new }
+    ensures settled { IsSettled (has_waiting environment.new.waits number) link.new }
+    ensures without { environment.new ≡ record environment.old { waits = kept_without number environment.old.waits } }
     ensures silent { writes_left link.new ≡ 0 }
 {
-    link.let_go(cause);
-    waits.drop_link(number);
+    link.abort(cause);
+    environment.waits.drop_link(number);
 }
 
 // A link is told an event that it selects, or is dropped where too much would wait to be sent to it then.
-fn tell_selected(number: u8, event: Event, waits: &mut Waits, link: &mut Link)
-    requires settled { IsSettled (has_waiting waits.old number) link.old }
-    ensures step { (ds : List KeptDevice) (a : Around) → StandAround ds waits.old a → At ds waits.new link.new (tell_selected number event (place a link.old)) }
-    ensures settled { IsSettled (has_waiting waits.new number) link.new }
-    ensures sheds { Sheds number waits.old waits.new }
+fn tell_selected(number: u8, event: Event, environment: &mut Environment, link: &mut ServedLink)
+    requires settled { IsSettled (has_waiting environment.old.waits number) link.old }
+    ensures step { StepsLink (tell_selected number event) environment.old link.old environment.new link.new }
+    ensures settled { IsSettled (has_waiting environment.new.waits number) link.new }
+    ensures only_drops { OnlyDrops number environment.old environment.new }
 {
     if link.has_room() {
         link.tell(event);
     } else {
-        drop_link(number, Why::Overrun, waits, link);
+        drop_link(number, Why::Overrun, environment, link);
     }
 }
 
-/// A link is told an event, where it selects it.
-pub fn tell_link(number: u8, event: Event, waits: &mut Waits, link: &mut Link)
-    requires settled { IsSettled (has_waiting waits.old number) link.old }
-    ensures step { (ds : List KeptDevice) (a : Around) → StandAround ds waits.old a → At ds waits.new link.new (tell_link number event (place a link.old)) }
-    ensures settled { IsSettled (has_waiting waits.new number) link.new }
-    ensures sheds { Sheds number waits.old waits.new }
+/// A link is told an event, if it selects it.
+pub fn tell_link(number: u8, event: Event, environment: &mut Environment, link: &mut ServedLink)
+    requires settled { IsSettled (has_waiting environment.old.waits number) link.old }
+    ensures step { StepsLink (tell_link number event) environment.old link.old environment.new link.new }
+    ensures settled { IsSettled (has_waiting environment.new.waits number) link.new }
+    ensures only_drops { OnlyDrops number environment.old environment.new }
 {
     if link.selects(event.device, event.kind) {
-        tell_selected(number, event, waits, link);
+        tell_selected(number, event, environment, link);
     }
 }
 
 /// An event is told to all links that select it, by rising number.
-pub fn tell(event: Event, waits: &mut Waits, slots: &mut [Slot])
-    requires links { length slots.old ≤ 32 }
-    requires settled { AreSettled waits.old slots.old }
-    requires later { AreLater waits.old }
-    ensures step { (ds : List KeptDevice) (s : State) → StandsFor ds waits.old slots.old s → StandsFor ds waits.new slots.new (tell event s) }
-    ensures settled { AreSettled waits.new slots.new }
-    ensures later { AreLater waits.new }
+pub fn tell(event: Event, environment: &mut Environment, slots: &mut [Slot])
+    requires kept { AreOrderly environment.old.waits slots.old }
+    ensures step { StepsAll (tell event) (kept_of environment.old slots.old) (kept_of environment.new slots.new) }
+    ensures kept { AreOrderly environment.new.waits slots.new }
+    ensures devices { environment.new.devices ≡ environment.old.devices }
 {
     for number in 0..slots.len() {
         let slot = &mut slots[number];
-        slot.tell(number as u8, event, waits);
+        slot.tell(number as u8, event, environment);
     }
 }
 
-/// The line of device `number` becomes another, and an event of this kind and value tells it.
+/// The line of device `number` becomes another, and an event of the kind and value of this change tells it.
 pub fn become_line(
     number: u8,
     line: Option<Line>,
-    kind: EventKind,
-    value: u32,
-    devices: &mut [Device],
-    waits: &mut Waits,
+    change: (EventKind, u32),
+    environment: &mut Environment,
     slots: &mut [Slot],
 )
-    requires there { number < length devices.old }
-    requires links { length slots.old ≤ 32 }
-    requires settled { AreSettled waits.old slots.old }
-    requires later { AreLater waits.old }
-    ensures step { (f : Phone → Phone) (s : State) (device : DeviceState) → StandsFor devices.old waits.old slots.old s → slice_get s.devices number ≡ Some device → line ≡ option_map f device.line →
-        StandsFor devices.new waits.new slots.new (line_becomes f kind value number device s) }
-    ensures settled { AreSettled waits.new slots.new }
-    ensures later { AreLater waits.new }
+    requires there { number < length environment.old.devices }
+    requires kept { AreOrderly environment.old.waits slots.old }
+    ensures step { OfDevice number (kept_of environment.old slots.old) (λ d s. (f : Phone → Phone) → line ≡ option_map f d.line →
+        StandsFor (kept_of environment.new slots.new) (line_becomes f change.0 change.1 number d s)) }
+    ensures kept { AreOrderly environment.new.waits slots.new }
+    ensures count { length environment.new.devices ≡ length environment.old.devices }
 {
-    let device = &mut devices[number as usize];
+    let (kind, value) = change;
+    let device = &mut environment.devices[number as usize];
     device.set_line(line);
     let event = Event {
         kind,
@@ -95,5 +88,5 @@ pub fn become_line(
         time: device.time(),
         value,
     };
-    tell(event, waits, slots);
+    tell(event, environment, slots);
 }

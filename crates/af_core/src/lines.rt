@@ -1,23 +1,23 @@
 // Telephone lines: they change, and their hooks are given.
-ghost use Rattle.std.specs.Prelude.{◌≡◌, ◌≤◌, ◌<◌, [], ◌∷◌, length, option_and_then, option_map, slice_get, IsTrue};
+ghost use Rattle.std.specs.Prelude.{◌≡◌, ◌<◌, [], ◌∷◌, length, option_and_then, option_map, slice_get, IsTrue};
 ghost use Rattle.std.specs.declared.option.Option.{Option};
 ghost use Rattle.std.specs.declared.option.Option.TheVariants.{Some};
 ghost use Rattle.af_outside.specs.declared.happening.Happening.TheVariants.{Hooked};
 ghost use Rattle.af_outside.specs.declared.happening.Wake.TheVariants as wake;
-ghost use Rattle.af_outside.specs.Told.{Grew, Log};
+ghost use Rattle.af_io.specs.Observed.{Appended};
+ghost use Rattle.af_outside.specs.Log.{Log};
 ghost use Rattle.af_phone.specs.Lines.{changed, flag_value, hook_due, hooked, is_change};
-ghost use Rattle.af_model.specs.Turn.{behind, hook_all, hook_at, wake_phase};
-ghost use Rattle.af_kept.specs.Kept.{KeptDevice};
-ghost use Rattle.af_perform.specs.Waits.{AreLater};
-ghost use Rattle.af_core.specs.Does.{Does};
-ghost use Rattle.af_core.specs.Stands.{AreSettled, StandsFor};
+ghost use Rattle.af_model.specs.Turn.{parsed, hook_all, hook_at, wake_phase};
+ghost use Rattle.af_state.specs.Kept.{KeptDevice};
+ghost use Rattle.af_core.specs.Simulates.{Simulates};
+ghost use Rattle.af_core.specs.Stands.{IsBetweenPhases, StandsFor, kept_of};
 
 use crate::events::become_line;
 use crate::slot::Slot;
-use af_kept::Device;
-use af_outside::{Put, World};
-use af_perform::Waits;
+use af_io::Put;
+use af_outside::World;
 use af_phone::{Line, LineChange};
+use af_state::{Device, Environment};
 use af_wire::EventKind;
 
 // A line that changes.
@@ -34,22 +34,18 @@ fn changed(change: LineChange, line: Option<Line>) -> Option<Line>
 pub fn change_line(
     number: u8,
     change: LineChange,
-    devices: &mut [Device],
-    waits: &mut Waits,
+    environment: &mut Environment,
     slots: &mut [Slot],
 )
-    requires there { number < length devices.old }
+    requires there { number < length environment.old.devices }
     requires change { IsTrue (is_change change) }
-    requires links { length slots.old ≤ 32 }
-    requires settled { AreSettled waits.old slots.old }
-    requires later { AreLater waits.old }
-    ensures does { (t : Option Log) → Does t t (StandsFor devices.old waits.old slots.old) (StandsFor devices.new waits.new slots.new) (wake_phase (wake.Line number change)) behind }
-    ensures settled { AreSettled waits.new slots.new }
-    ensures later { AreLater waits.new }
+    requires kept { IsBetweenPhases (kept_of environment.old slots.old) }
+    ensures simulates { (t : Option Log) → Simulates t t (StandsFor (kept_of environment.old slots.old))
+        (StandsFor (kept_of environment.new slots.new)) (wake_phase (wake.Line number change)) parsed }
+    ensures kept { IsBetweenPhases (kept_of environment.new slots.new) }
 {
-    let (kind, value) = change.event();
-    let line = changed(change, devices[number as usize].line());
-    become_line(number, line, kind, value, devices, waits, slots);
+    let line = changed(change, environment.devices[number as usize].line());
+    become_line(number, line, change.event(), environment, slots);
 }
 
 // A line behind a try to give it the wanted hook.
@@ -77,7 +73,7 @@ fn flag_value(off: bool) -> u32
 
 // One hook call. The answer is whether it was done.
 fn hook<W: World>(number: u8, off: bool, world: &mut W) -> bool
-    ensures log { Grew (W.log world.old) (Hooked number off result ∷ []) (W.log world.new) }
+    ensures log { Appended (W.log world.old) (Hooked number off result ∷ []) (W.log world.new) }
     ensures leads { W.leads_to world.old world.new }
 {
     match world.hook(number, off) {
@@ -90,77 +86,54 @@ fn hook<W: World>(number: u8, off: bool, world: &mut W) -> bool
 fn give_wanted<W: World>(
     number: u8,
     off: bool,
-    devices: &mut [Device],
-    waits: &mut Waits,
+    environment: &mut Environment,
     slots: &mut [Slot],
     world: &mut W,
 )
-    requires there { number < length devices.old }
-    requires wanted { (d : KeptDevice) → slice_get devices.old number ≡ Some d → option_and_then hook_due d.line ≡ Some off }
-    requires links { length slots.old ≤ 32 }
-    requires settled { AreSettled waits.old slots.old }
-    requires later { AreLater waits.old }
-    ensures does { Does (W.log world.old) (W.log world.new) (StandsFor devices.old waits.old slots.old) (StandsFor devices.new waits.new slots.new) (λ s log. hook_at number (slice_get s.devices number) s log) behind }
-    ensures settled { AreSettled waits.new slots.new }
-    ensures later { AreLater waits.new }
+    requires there { number < length environment.old.devices }
+    requires wanted { (d : KeptDevice) → slice_get environment.old.devices number ≡ Some d →
+        option_and_then hook_due d.line ≡ Some off }
+    requires kept { IsBetweenPhases (kept_of environment.old slots.old) }
+    ensures simulates { Simulates (W.log world.old) (W.log world.new) (StandsFor (kept_of environment.old slots.old))
+        (StandsFor (kept_of environment.new slots.new)) (λ s log. hook_at number (slice_get s.devices number) s log) parsed }
+    ensures kept { IsBetweenPhases (kept_of environment.new slots.new) }
+    ensures count { length environment.new.devices ≡ length environment.old.devices }
     ensures leads { W.leads_to world.old world.new }
 {
     let done = hook(number, off, world);
-    let line = hooked(done, devices[number as usize].line());
+    let line = hooked(done, environment.devices[number as usize].line());
     if done {
-        become_line(
-            number,
-            line,
-            EventKind::Hook,
-            flag_value(off),
-            devices,
-            waits,
-            slots,
-        );
+        let change = (EventKind::Hook, flag_value(off));
+        become_line(number, line, change, environment, slots);
     } else {
-        devices[number as usize].set_line(line);
+        environment.devices[number as usize].set_line(line);
     }
 }
 
-// The hook of a device's line is given, where it is live and wanted to have another than it was given.
-fn give_hook<W: World>(
-    number: u8,
-    devices: &mut [Device],
-    waits: &mut Waits,
-    slots: &mut [Slot],
-    world: &mut W,
-)
-    requires there { number < length devices.old }
-    requires links { length slots.old ≤ 32 }
-    requires settled { AreSettled waits.old slots.old }
-    requires later { AreLater waits.old }
-    ensures does { Does (W.log world.old) (W.log world.new) (StandsFor devices.old waits.old slots.old) (StandsFor devices.new waits.new slots.new) (λ s log. hook_at number (slice_get s.devices number) s log) behind }
-    ensures settled { AreSettled waits.new slots.new }
-    ensures later { AreLater waits.new }
+// The hook of a device's line is given, if it is live and wanted to have another than it was given.
+fn give_hook<W: World>(number: u8, environment: &mut Environment, slots: &mut [Slot], world: &mut W)
+    requires there { number < length environment.old.devices }
+    requires kept { IsBetweenPhases (kept_of environment.old slots.old) }
+    ensures simulates { Simulates (W.log world.old) (W.log world.new) (StandsFor (kept_of environment.old slots.old))
+        (StandsFor (kept_of environment.new slots.new)) (λ s log. hook_at number (slice_get s.devices number) s log) parsed }
+    ensures kept { IsBetweenPhases (kept_of environment.new slots.new) }
+    ensures count { length environment.new.devices ≡ length environment.old.devices }
     ensures leads { W.leads_to world.old world.new }
 {
-    if let Some(off) = hook_wanted(&devices[number as usize]) {
-        give_wanted(number, off, devices, waits, slots, world);
+    if let Some(off) = hook_wanted(&environment.devices[number as usize]) {
+        give_wanted(number, off, environment, slots, world);
     }
 }
 
 /// The hooks of all devices, by rising number.
-pub fn give_hooks<W: World>(
-    devices: &mut [Device],
-    waits: &mut Waits,
-    slots: &mut [Slot],
-    world: &mut W,
-)
-    requires count { length devices.old ≤ 8 }
-    requires links { length slots.old ≤ 32 }
-    requires settled { AreSettled waits.old slots.old }
-    requires later { AreLater waits.old }
-    ensures does { Does (W.log world.old) (W.log world.new) (StandsFor devices.old waits.old slots.old) (StandsFor devices.new waits.new slots.new) hook_all behind }
-    ensures settled { AreSettled waits.new slots.new }
-    ensures later { AreLater waits.new }
+pub fn give_hooks<W: World>(environment: &mut Environment, slots: &mut [Slot], world: &mut W)
+    requires kept { IsBetweenPhases (kept_of environment.old slots.old) }
+    ensures simulates { Simulates (W.log world.old) (W.log world.new) (StandsFor (kept_of environment.old slots.old))
+        (StandsFor (kept_of environment.new slots.new)) hook_all parsed }
+    ensures kept { IsBetweenPhases (kept_of environment.new slots.new) }
     ensures leads { W.leads_to world.old world.new }
 {
-    for number in 0..devices.len() {
-        give_hook(number as u8, devices, waits, slots, world);
+    for number in 0..environment.devices.len() {
+        give_hook(number as u8, environment, slots, world);
     }
 }

@@ -6,22 +6,21 @@ ghost use Rattle.af_buffers.specs.PlayBuffer.{Next, Hears};
 ghost use Rattle.af_buffers.specs.RecordBuffer.{Last, Keeps};
 ghost use Rattle.af_model.specs.State.{State, LinkState, opening, slot_at};
 ghost use Rattle.af_model.specs.More.{any_wants, has_more};
-ghost use Rattle.af_model.specs.Turn.{behind, fits, wake_phase};
-ghost use Rattle.af_core.specs.Does.{Does};
-ghost use Rattle.af_perform.specs.Waits.{has_waiting, waits_of, AreLater};
-ghost use Rattle.af_kept.specs.Kept.{IsBounded, StandForDevices};
-ghost use Rattle.af_core.specs.Stands.{AreSettled, Stands, StandsFor, StandForWaiting, Turns, link_kept, outline_of};
+ghost use Rattle.af_model.specs.Turn.{parsed, fits, wake_phase};
+ghost use Rattle.af_core.specs.Simulates.{Simulates};
+ghost use Rattle.af_state.specs.Deferrals.{has_waiting, waits_of};
+ghost use Rattle.af_state.specs.Kept.{IsBounded, StandForDevices};
+ghost use Rattle.af_core.specs.Stands.{IsBetweenPhases, Stands, StandsFor, StandForWaiting, Turns, kept_of, link_kept, outline_of};
 
 use crate::lines::{change_line, give_hooks};
 use crate::slot::{Slot, any_wants, serve_slots};
 use crate::tick::{TICK, tick};
 use af_buffers::{PlayBuffer, RecordBuffer};
 use af_context::Contexts;
-use af_kept::Device;
 use af_outside::{Config, DeviceSpec, Wake, World};
-use af_perform::{Scratch, Waits};
 use af_phone::Line;
 use af_session::Session;
+use af_state::{DeferredRequests, Device, Environment, Scratch};
 use af_time::OutOfMemory;
 use af_wait::Waiting;
 use std::alloc::Global;
@@ -30,25 +29,19 @@ use std::marker::Model;
 /// What the server keeps of its devices and links. It takes all its memory when it is made, and no turn takes any.
 #[derive(Drop)]
 pub struct Core {
-    devices: Vec<Device>,
-    waits: Waits,
+    environment: Environment,
     slots: Vec<Slot>,
     scratch: Scratch,
 }
 
 impl Model for Core {
-    ghost use Rattle.std.specs.Prelude.{◌≡◌, ◌≤◌, ◌<◌, length};
-    ghost use Rattle.af_model.specs.State.{State};
-    ghost use Rattle.af_perform.specs.Waits.{AreLater};
-    ghost use Rattle.af_core.specs.Stands.{AreSettled, Kept, StandsFor};
+    ghost use Rattle.af_core.specs.Stands.{IsBetweenPhases, Kept, kept_of};
 
     ghost Value = { Kept };
 
-    ghost view = { λ a. record { devices = a.devices.items; waits = a.waits; links = a.slots.items } };
+    ghost view = { λ a. kept_of a.environment a.slots.items };
 
-    // There is a state that it stands for.
-    ghost invariant = { λ a. (length a.devices.items ≤ 8) × (length a.slots.items ≡ 32) × AreSettled a.waits a.slots.items × AreLater a.waits
-        × ((s : State) × StandsFor a.devices.items a.waits a.slots.items s) };
+    ghost invariant = { λ a. IsBetweenPhases (kept_of a.environment a.slots.items) };
 }
 
 // The devices at their starts.
@@ -80,31 +73,24 @@ fn make_slots(alloc: Global) -> Result<Vec<Slot>, OutOfMemory>
 // What a wake does.
 fn wake_up<W: World>(
     wake: Wake,
-    devices: &mut [Device],
-    waits: &mut Waits,
+    environment: &mut Environment,
     slots: &mut [Slot],
     scratch: &mut Scratch,
     world: &mut W,
 )
-    requires count { length devices.old ≤ 8 }
-    requires links { length slots.old ≡ 32 }
-    requires fits { IsTrue (fits (outline_of (record { devices = devices.old; waits = waits.old; links = slots.old })) wake) }
-    requires settled { AreSettled waits.old slots.old }
-    requires later { AreLater waits.old }
-    requires stands { (s : State) × StandsFor devices.old waits.old slots.old s }
-    ensures does { Does (W.log world.old) (W.log world.new) (StandsFor devices.old waits.old slots.old) (StandsFor devices.new waits.new slots.new) (wake_phase wake) behind }
-    ensures settled { AreSettled waits.new slots.new }
-    ensures later { AreLater waits.new }
+    requires fits { IsTrue (fits (outline_of (kept_of environment.old slots.old)) wake) }
+    requires kept { IsBetweenPhases (kept_of environment.old slots.old) }
+    ensures simulates { Simulates (W.log world.old) (W.log world.new) (StandsFor (kept_of environment.old slots.old))
+        (StandsFor (kept_of environment.new slots.new)) (wake_phase wake) parsed }
+    ensures kept { IsBetweenPhases (kept_of environment.new slots.new) }
     ensures leads { W.leads_to world.old world.new }
 {
     match wake {
         Wake::Opened(number) => slots[number as usize].open(),
         Wake::Readable(number) => slots[number as usize].set_ready(),
         Wake::Writable(number) => slots[number as usize].set_writable(),
-        Wake::Ticked(number, frames) => {
-            tick(number, frames, devices, waits, slots, scratch, world)
-        }
-        Wake::Line(number, change) => change_line(number, change, devices, waits, slots),
+        Wake::Ticked(number, frames) => { tick(number, frames, environment, slots, scratch, world) }
+        Wake::Line(number, change) => change_line(number, change, environment, slots),
         Wake::Idle | Wake::Stop => {}
     }
 }
@@ -112,28 +98,22 @@ fn wake_up<W: World>(
 // A turn, over the parts of a core.
 fn turn_parts<W: World>(
     wake: Wake,
-    devices: &mut [Device],
-    waits: &mut Waits,
+    environment: &mut Environment,
     slots: &mut [Slot],
     scratch: &mut Scratch,
     world: &mut W,
 )
-    requires count { length devices.old ≤ 8 }
-    requires links { length slots.old ≡ 32 }
-    requires fits { IsTrue (fits (outline_of (record { devices = devices.old; waits = waits.old; links = slots.old })) wake) }
-    requires settled { AreSettled waits.old slots.old }
-    requires later { AreLater waits.old }
-    requires stands { (s : State) × StandsFor devices.old waits.old slots.old s }
-    ensures turns { Turns (W.log world.old) (W.log world.new) wake (record { devices = devices.old; waits = waits.old; links = slots.old }) (record { devices = devices.new; waits = waits.new; links = slots.new }) }
-    ensures settled { AreSettled waits.new slots.new }
-    ensures later { AreLater waits.new }
-    ensures stands { (s : State) × StandsFor devices.new waits.new slots.new s }
+    requires fits { IsTrue (fits (outline_of (kept_of environment.old slots.old)) wake) }
+    requires kept { IsBetweenPhases (kept_of environment.old slots.old) }
+    ensures turns { Turns (W.log world.old) (W.log world.new) wake
+        (kept_of environment.old slots.old) (kept_of environment.new slots.new) }
+    ensures kept { IsBetweenPhases (kept_of environment.new slots.new) }
     ensures leads { W.leads_to world.old world.new }
 {
     world.woke(wake);
-    wake_up(wake, devices, waits, slots, scratch, world);
-    serve_slots(devices, waits, slots, scratch, world);
-    give_hooks(devices, waits, slots, world);
+    wake_up(wake, environment, slots, scratch, world);
+    serve_slots(environment, slots, scratch, world);
+    give_hooks(environment, slots, world);
 }
 
 impl Core {
@@ -144,12 +124,11 @@ impl Core {
         ensures { IfOk result (λ core. Stands core (opening config.now.items)) }
     {
         let devices = start_devices(alloc, config.as_slice())?;
-        let waits = Waits::new(alloc)?;
+        let waits = DeferredRequests::new(alloc)?;
         let slots = make_slots(alloc)?;
         let scratch = Scratch::new(alloc)?;
         Ok(Core {
-            devices,
-            waits,
+            environment: Environment { devices, waits },
             slots,
             scratch,
         })
@@ -172,9 +151,9 @@ impl Core {
                 None => false,
             },
             Wake::Ticked(number, frames) => {
-                (number as usize) < self.devices.len() && frames >= 1 && frames <= TICK
+                (number as usize) < self.environment.devices.len() && frames >= 1 && frames <= TICK
             }
-            Wake::Line(number, change) => match self.devices.get(number as usize) {
+            Wake::Line(number, change) => match self.environment.devices.get(number as usize) {
                 Some(device) => device.line().is_some() && change.is_possible(),
                 None => false,
             },
@@ -199,41 +178,45 @@ impl Core {
         ensures kept { result ≡ any_wants 0 (has_waiting self.now.waits) self.now.links }
         ensures shows { (s : State) → Stands self.now s → result ≡ has_more s }
     {
-        any_wants(&self.waits, &self.slots)
+        any_wants(&self.environment.waits, &self.slots)
     }
 
     /// The samples next of a device, which is there: what is heard of all accepted plays from its time on.
     pub fn play_buffer(&self, device: u8) -> &PlayBuffer
         requires { device < length self.now.devices }
         ensures kept { slice_get (map {B = Next} (λ d. d.next) self.now.devices) device ≡ Some result.now }
-        ensures hears { (s : State) → Stands self.now s → IsSomeAnd (slice_get s.devices device) (λ d. Hears result.now d.accepted d.now) }
+        ensures hears { (s : State) → Stands self.now s →
+            IsSomeAnd (slice_get s.devices device) (λ d. Hears result.now d.accepted d.now) }
     {
-        self.devices[usize::from(device)].next()
+        self.environment.devices[usize::from(device)].next()
     }
 
     /// The last samples of a device, which is there: what was captured up to its time.
     pub fn record_buffer(&self, device: u8) -> &RecordBuffer
         requires { device < length self.now.devices }
         ensures kept { slice_get (map {B = Last} (λ d. d.last) self.now.devices) device ≡ Some result.now }
-        ensures keeps { (s : State) → Stands self.now s → IsSomeAnd (slice_get s.devices device) (λ d. Keeps result.now d.captured d.begin d.now) }
+        ensures keeps { (s : State) → Stands self.now s →
+            IsSomeAnd (slice_get s.devices device) (λ d. Keeps result.now d.captured d.begin d.now) }
     {
-        self.devices[usize::from(device)].last()
+        self.environment.devices[usize::from(device)].last()
     }
 
     /// The telephone line of a device, which is there. None where it has none.
     pub fn line(&self, device: u8) -> Option<&Line>
         requires { device < length self.now.devices }
-        ensures kept { IsSomeAnd (slice_get self.now.devices device) (λ d. MatchOption result (d.line ≡ None) (λ line. d.line ≡ Some line.now)) }
-        ensures shows { (s : State) → Stands self.now s → IsSomeAnd (slice_get s.devices device) (λ d. MatchOption result (d.line ≡ None) (λ line. d.line ≡ Some line.now)) }
+        ensures kept { IsSomeAnd (slice_get self.now.devices device)
+            (λ d. MatchOption result (d.line ≡ None) (λ line. d.line ≡ Some line.now)) }
+        ensures shows { (s : State) → Stands self.now s → IsSomeAnd (slice_get s.devices device)
+            (λ d. MatchOption result (d.line ≡ None) (λ line. d.line ≡ Some line.now)) }
     {
-        self.devices[usize::from(device)].kept_line()
+        self.environment.devices[usize::from(device)].kept_line()
     }
 
     /// The session of a link: what came in and was not read yet, and what was not sent yet. None where the link is not open.
     pub fn session(&self, link: u8) -> Option<&Session>
         ensures none { IsNone result ↔ (link_kept self.now link ≡ None) }
-        ensures shows { (s : State) → Stands self.now s →
-            MatchOption result ((slot_at link s).link ≡ None) (λ session. IsSomeAnd (slot_at link s).link (λ l. (session.now.rest ≡ l.rest) × (session.now.pending ≡ l.pending))) }
+        ensures shows { (s : State) → Stands self.now s → MatchOption result ((slot_at link s).link ≡ None)
+            (λ session. IsSomeAnd (slot_at link s).link (λ l. (session.now.rest ≡ l.rest) × (session.now.pending ≡ l.pending))) }
     {
         self.slots.get(usize::from(link))?.session()
     }
@@ -241,8 +224,8 @@ impl Core {
     /// The contexts of a link. None where the link is not open.
     pub fn contexts(&self, link: u8) -> Option<&Contexts>
         ensures none { IsNone result ↔ (link_kept self.now link ≡ None) }
-        ensures shows { (s : State) → Stands self.now s →
-            MatchOption result ((slot_at link s).link ≡ None) (λ contexts. IsSomeAnd (slot_at link s).link (λ l. contexts.now ≡ l.contexts)) }
+        ensures shows { (s : State) → Stands self.now s → MatchOption result ((slot_at link s).link ≡ None)
+            (λ contexts. IsSomeAnd (slot_at link s).link (λ l. contexts.now ≡ l.contexts)) }
     {
         self.slots.get(usize::from(link))?.contexts()
     }
@@ -253,11 +236,11 @@ impl Core {
         ensures waits { (s : State) → Stands self.now s → StandForWaiting s.devices result.now s.waiting }
         ensures later { All (λ w. 0 < w.left) result.now }
     {
-        self.waits.order()
+        self.environment.waits.order()
     }
 
-    /// One turn: the wake with its effect, then each open link by rising number, and then the hooks of the devices' lines by rising
-    /// number. It answers nothing and takes no memory. No link ever has more than 32768 bytes unread or 65168 to be sent.
+    /// One turn: the wake with its effect, then each open link by rising number, and then the hooks of the devices' lines by
+    /// rising number. It answers nothing and takes no memory. No link ever has more than 32768 bytes unread or 65168 to be sent.
     pub fn turn<W: World>(&mut self, wake: Wake, world: &mut W)
         requires { IsTrue (fits (outline_of self.old) wake) }
         ensures turns { Turns (W.log world.old) (W.log world.new) wake self.old self.new }
@@ -266,8 +249,7 @@ impl Core {
     {
         turn_parts(
             wake,
-            &mut self.devices,
-            &mut self.waits,
+            &mut self.environment,
             &mut self.slots,
             &mut self.scratch,
             world,

@@ -1,27 +1,24 @@
 // A number for a link, which keeps its memory while no link is open there.
-ghost use Rattle.std.specs.Prelude.{◌≡◌, ◌≤◌, ◌<◌, List, find, length, option_map, slice_get, IfOk, IsSomeAnd, MatchOption, is_some};
+ghost use Rattle.std.specs.Prelude.{◌≡◌, ◌≤◌, ◌<◌, find, length, option_map, slice_get, IfOk, IsSomeAnd, MatchOption, is_some};
 ghost use Rattle.std.specs.declared.option.Option.TheVariants.{None, Some};
 ghost use Rattle.af_wait.specs.Waits.{without_first};
-ghost use Rattle.af_model.specs.State.{Around, DeviceState, LinkState, Waiter, opened};
-ghost use Rattle.af_model.specs.Waiting.{is_due};
+ghost use Rattle.af_model.specs.State.{EnvironmentState, LinkState, opened};
 ghost use Rattle.af_model.specs.Tick.{complete_at};
 ghost use Rattle.af_model.specs.Events.{tell_open};
 ghost use Rattle.af_model.specs.More.{any_wants, open_wants};
-ghost use Rattle.af_model.specs.Turn.{behind, serve_door, serve_all, ready, writable, in_open};
-ghost use Rattle.af_kept.specs.Kept.{KeptDevice};
-ghost use Rattle.af_perform.specs.Waits.{has_waiting, kept_due, AreLater, Grows, Touches};
-ghost use Rattle.af_perform.specs.Places.{StandAround};
-ghost use Rattle.af_core.specs.Does.{Does};
-ghost use Rattle.af_core.specs.Stands.{AreSettled, AtDoor, IsSettled, Sheds, StandsFor};
+ghost use Rattle.af_model.specs.Turn.{parsed, serve_slot_link, serve_all, ready, writable, in_open};
+ghost use Rattle.af_state.specs.Deferrals.{has_waiting, kept_due, OnlyQueues, LeavesOthers};
+ghost use Rattle.af_state.specs.Environment.{StandsForEnvironment};
+ghost use Rattle.af_core.specs.Simulates.{Simulates};
+ghost use Rattle.af_core.specs.Stands.{StandsForSlot, IsBetweenPhases, IsSettledSlot, OfFirstDue, OnlyDrops, StandsFor, kept_of};
 
 use crate::complete::complete_link;
 use crate::events::tell_link;
 use crate::serve::serve_link;
 use af_context::Contexts;
-use af_kept::{Device, Link};
 use af_outside::World;
-use af_perform::{Scratch, Waits};
 use af_session::Session;
+use af_state::{DeferredRequests, Environment, Scratch, ServedLink};
 use af_time::OutOfMemory;
 use af_wire::Event;
 use std::alloc::Global;
@@ -30,7 +27,7 @@ use std::marker::Model;
 #[derive(Drop)]
 pub struct Slot {
     is_open: bool,
-    link: Link,
+    link: ServedLink,
 }
 
 impl Model for Slot {
@@ -48,7 +45,7 @@ impl Slot {
     pub fn new(alloc: Global) -> Result<Slot, OutOfMemory>
         ensures { IfOk result (λ s. s ≡ None) }
     {
-        let link = Link::new(alloc)?;
+        let link = ServedLink::new(alloc)?;
         Ok(Slot {
             is_open: false,
             link,
@@ -70,7 +67,8 @@ impl Slot {
 
     /// The session of the link that is open here.
     pub fn session(&self) -> Option<&Session>
-        ensures { MatchOption result (self.now ≡ None) (λ session. IsSomeAnd self.now (λ l. (session.now.rest ≡ l.rest) × (session.now.pending ≡ l.pending))) }
+        ensures { MatchOption result (self.now ≡ None)
+            (λ session. IsSomeAnd self.now (λ l. (session.now.rest ≡ l.rest) × (session.now.pending ≡ l.pending))) }
     {
         self.is_open.then_some(self.link.session())
     }
@@ -113,45 +111,34 @@ impl Slot {
         &mut self,
         number: u8,
         device: u8,
-        devices: &mut [Device],
-        waits: &mut Waits,
+        environment: &mut Environment,
         scratch: &mut Scratch,
     )
         requires number { number < 32 }
-        requires due { option_map (λ k. k.wait.link) (find (kept_due device) waits.old) ≡ Some number }
-        requires there { device < length devices.old }
-        requires count { length devices.old ≤ 8 }
-        requires settled { (l : LinkState) → self.old ≡ Some l → IsSettled (has_waiting waits.old number) l }
-        requires stands { (a : Around) × StandAround devices.old waits.old a }
-        ensures step { (a : Around) (s : DeviceState) (w : Waiter) → StandAround devices.old waits.old a → slice_get a.devices device ≡ Some s → find (is_due device s) a.waiting ≡ Some w →
-            AtDoor devices.new waits.new self.new (complete_at w (record a { waiting = without_first (is_due device s) a.waiting }) self.old) }
-        ensures settled { (l : LinkState) → self.new ≡ Some l → IsSettled (has_waiting waits.new number) l }
-        ensures grows { Grows number (without_first (kept_due device) waits.old) waits.new }
+        requires due { option_map (λ k. k.wait.link) (find (kept_due device) environment.old.waits) ≡ Some number }
+        requires settled { IsSettledSlot (has_waiting environment.old.waits number) self.old }
+        requires stands { (a : EnvironmentState) × StandsForEnvironment environment.old a }
+        ensures step { OfFirstDue device environment.old (λ w a. StandsForSlot environment.new self.new (complete_at w a self.old)) }
+        ensures settled { IsSettledSlot (has_waiting environment.new.waits number) self.new }
+        ensures only_queues { OnlyQueues number (without_first (kept_due device) environment.old.waits) environment.new.waits }
     {
         if self.is_open {
-            complete_link(
-                number,
-                device,
-                devices,
-                waits,
-                &mut self.link,
-                &mut scratch.input,
-                &mut scratch.work,
-            );
+            complete_link(number, device, environment, &mut self.link, scratch);
         } else {
-            waits.take_due(device);
+            environment.waits.take_due(device);
         }
     }
 
-    /// The link that is open here is told an event, where it selects it.
-    pub fn tell(&mut self, number: u8, event: Event, waits: &mut Waits)
-        requires { (l : LinkState) → self.old ≡ Some l → IsSettled (has_waiting waits.old number) l }
-        ensures step { (ds : List KeptDevice) (a : Around) → StandAround ds waits.old a → AtDoor ds waits.new self.new (tell_open number event a self.old) }
-        ensures settled { (l : LinkState) → self.new ≡ Some l → IsSettled (has_waiting waits.new number) l }
-        ensures sheds { Sheds number waits.old waits.new }
+    /// The link that is open here is told an event, if it selects it.
+    pub fn tell(&mut self, number: u8, event: Event, environment: &mut Environment)
+        requires { IsSettledSlot (has_waiting environment.old.waits number) self.old }
+        ensures step { (a : EnvironmentState) → StandsForEnvironment environment.old a →
+            StandsForSlot environment.new self.new (tell_open number event a self.old) }
+        ensures settled { IsSettledSlot (has_waiting environment.new.waits number) self.new }
+        ensures only_drops { OnlyDrops number environment.old environment.new }
     {
         if self.is_open {
-            tell_link(number, event, waits, &mut self.link);
+            tell_link(number, event, environment, &mut self.link);
         }
     }
 
@@ -159,36 +146,27 @@ impl Slot {
     pub fn serve<W: World>(
         &mut self,
         number: u8,
-        devices: &mut [Device],
-        waits: &mut Waits,
+        environment: &mut Environment,
         scratch: &mut Scratch,
         world: &mut W,
     )
         requires number { number < 32 }
-        requires count { length devices.old ≤ 8 }
-        requires settled { (l : LinkState) → self.old ≡ Some l → IsSettled (has_waiting waits.old number) l }
-        ensures does { Does (W.log world.old) (W.log world.new) (AtDoor devices.old waits.old self.old) (AtDoor devices.new waits.new self.new) (serve_door number) behind }
-        ensures settled { (l : LinkState) → self.new ≡ Some l → IsSettled (has_waiting waits.new number) l }
-        ensures touches { Touches number waits.old waits.new }
+        requires settled { IsSettledSlot (has_waiting environment.old.waits number) self.old }
+        ensures simulates { Simulates (W.log world.old) (W.log world.new) (StandsForSlot environment.old self.old)
+            (StandsForSlot environment.new self.new) (serve_slot_link number) parsed }
+        ensures settled { IsSettledSlot (has_waiting environment.new.waits number) self.new }
+        ensures leaves_others { LeavesOthers number environment.old.waits environment.new.waits }
         ensures leads { W.leads_to world.old world.new }
     {
         if self.is_open {
-            let is_closed = serve_link(
-                number,
-                devices,
-                waits,
-                &mut self.link,
-                &mut scratch.input,
-                &mut scratch.work,
-                world,
-            );
+            let is_closed = serve_link(number, environment, &mut self.link, scratch, world);
             self.is_open = !is_closed;
         }
     }
 }
 
 /// Whether any link is to be read, written or closed.
-pub fn any_wants(waits: &Waits, slots: &[Slot]) -> bool
+pub fn any_wants(waits: &DeferredRequests, slots: &[Slot]) -> bool
     requires { length slots.now ≤ 32 }
     ensures { result ≡ any_wants 0 (has_waiting waits.now) slots.now }
 {
@@ -203,23 +181,19 @@ pub fn any_wants(waits: &Waits, slots: &[Slot]) -> bool
 
 /// The part of a turn of all links, by rising number.
 pub fn serve_slots<W: World>(
-    devices: &mut [Device],
-    waits: &mut Waits,
+    environment: &mut Environment,
     slots: &mut [Slot],
     scratch: &mut Scratch,
     world: &mut W,
 )
-    requires count { length devices.old ≤ 8 }
-    requires links { length slots.old ≤ 32 }
-    requires settled { AreSettled waits.old slots.old }
-    requires later { AreLater waits.old }
-    ensures does { Does (W.log world.old) (W.log world.new) (StandsFor devices.old waits.old slots.old) (StandsFor devices.new waits.new slots.new) serve_all behind }
-    ensures settled { AreSettled waits.new slots.new }
-    ensures later { AreLater waits.new }
+    requires kept { IsBetweenPhases (kept_of environment.old slots.old) }
+    ensures simulates { Simulates (W.log world.old) (W.log world.new) (StandsFor (kept_of environment.old slots.old))
+        (StandsFor (kept_of environment.new slots.new)) serve_all parsed }
+    ensures kept { IsBetweenPhases (kept_of environment.new slots.new) }
     ensures leads { W.leads_to world.old world.new }
 {
     for number in 0..slots.len() {
         let slot = &mut slots[number];
-        slot.serve(number as u8, devices, waits, scratch, world);
+        slot.serve(number as u8, environment, scratch, world);
     }
 }

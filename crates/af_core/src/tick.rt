@@ -4,21 +4,19 @@ ghost use Rattle.std.specs.declared.option.Option.TheVariants.{None, Some};
 ghost use Rattle.af_sample.specs.SampleTypes.{width_of};
 ghost use Rattle.af_outside.specs.declared.happening.Happening.TheVariants.{Captured, Emitted};
 ghost use Rattle.af_outside.specs.declared.happening.Wake.TheVariants.{Ticked};
-ghost use Rattle.af_outside.specs.Told.{Grew};
-ghost use Rattle.af_model.specs.State.{State};
-ghost use Rattle.af_model.specs.Tick.{capture_of};
-ghost use Rattle.af_model.specs.Turn.{behind, wake_phase};
-ghost use Rattle.af_perform.specs.Waits.{AreLater};
-ghost use Rattle.af_core.specs.Does.{Does};
+ghost use Rattle.af_io.specs.Observed.{Appended};
+ghost use Rattle.af_model.specs.Tick.{captured_samples};
+ghost use Rattle.af_model.specs.Turn.{parsed, wake_phase};
+ghost use Rattle.af_core.specs.Simulates.{Simulates};
 ghost use Rattle.af_core.specs.Live.{Passes, Ticks, TicksLive};
-ghost use Rattle.af_core.specs.Stands.{AreSettled, StandsFor};
+ghost use Rattle.af_core.specs.Stands.{IsBetweenPhases, StandsFor, kept_of};
 
 use crate::complete::complete_due;
 use crate::slot::Slot;
-use af_kept::{Device, silence};
-use af_outside::{Put, World};
-use af_perform::{Scratch, Waits, Work};
+use af_io::Put;
+use af_outside::World;
 use af_sample::{SampleType, convert_in, convert_out};
+use af_state::{Device, Environment, Scratch, Work, silence};
 
 /// How many frames a tick may have.
 pub const TICK: u32 = 4096;
@@ -26,7 +24,8 @@ pub const TICK: u32 = 4096;
 // One capture. The answer is whether it was done.
 fn capture<W: World>(number: u8, frames: u32, bytes: &mut [u8], world: &mut W) -> bool
     requires { 0 < length bytes.old }
-    ensures log { Grew (W.log world.old) (Captured number frames (if result then Some bytes.new else None) ∷ []) (W.log world.new) }
+    ensures log { Appended (W.log world.old)
+        (Captured number frames (if result then Some bytes.new else None) ∷ []) (W.log world.new) }
     ensures leads { W.leads_to world.old world.new }
 {
     match world.capture(number, frames, bytes) {
@@ -38,7 +37,7 @@ fn capture<W: World>(number: u8, frames: u32, bytes: &mut [u8], world: &mut W) -
 // What comes to a device: the samples of the bytes that came, or silence where none did.
 fn captured(came: bool, ty: SampleType, bytes: &[u8], samples: &mut [i16])
     requires { length bytes.now ≡ length samples.old * width_of ty }
-    ensures { samples.new ≡ capture_of ty (length samples.old) (if came then Some bytes.now else None) }
+    ensures { samples.new ≡ captured_samples ty (length samples.old) (if came then Some bytes.now else None) }
 {
     if came {
         convert_in(ty, bytes, samples);
@@ -50,7 +49,7 @@ fn captured(came: bool, ty: SampleType, bytes: &[u8], samples: &mut [i16])
 // One emit. The answer is whether it was done.
 fn emit<W: World>(number: u8, sound: &[u8], world: &mut W) -> bool
     requires { 0 < length sound.now }
-    ensures log { Grew (W.log world.old) (Emitted number sound.now result ∷ []) (W.log world.new) }
+    ensures log { Appended (W.log world.old) (Emitted number sound.now result ∷ []) (W.log world.new) }
     ensures leads { W.leads_to world.old world.new }
 {
     match world.emit(number, sound) {
@@ -74,7 +73,7 @@ fn pass(came: bool, frames: u32, device: &mut Device, bytes: &mut [u8], work: &m
     convert_out(ty, sound, bytes);
 }
 
-// A live device makes one capture and, where that was done, one emit of its sound. It is dead behind one that failed.
+// A live device makes one capture and, if that was done, one emit of its sound. It is dead behind one that failed.
 fn tick_live<W: World>(
     number: u8,
     frames: u32,
@@ -117,37 +116,33 @@ fn tick_device<W: World>(
     ensures leads { W.leads_to world.old world.new }
 {
     let size = frames as usize * device.ty().width();
+    let bytes = &mut input[..size];
     if device.is_dead() {
-        pass(false, frames, device, &mut input[..size], work);
+        pass(false, frames, device, bytes, work);
     } else {
-        tick_live(number, frames, device, &mut input[..size], work, world);
+        tick_live(number, frames, device, bytes, work, world);
     }
 }
 
-/// The sample periods of device `number` go by, so many frames, and the requests that are due then complete.
+/// The sample periods of device `number` go by, n frames, and the requests that are due then complete.
 pub fn tick<W: World>(
     number: u8,
     frames: u32,
-    devices: &mut [Device],
-    waits: &mut Waits,
+    environment: &mut Environment,
     slots: &mut [Slot],
     scratch: &mut Scratch,
     world: &mut W,
 )
-    requires there { number < length devices.old }
+    requires there { number < length environment.old.devices }
     requires some { 1 ≤ frames }
     requires bound { frames ≤ 4096 }
-    requires count { length devices.old ≤ 8 }
-    requires links { length slots.old ≡ 32 }
-    requires settled { AreSettled waits.old slots.old }
-    requires later { AreLater waits.old }
-    requires stands { (s : State) × StandsFor devices.old waits.old slots.old s }
-    ensures does { Does (W.log world.old) (W.log world.new) (StandsFor devices.old waits.old slots.old) (StandsFor devices.new waits.new slots.new) (wake_phase (Ticked number frames)) behind }
-    ensures settled { AreSettled waits.new slots.new }
-    ensures later { AreLater waits.new }
+    requires kept { IsBetweenPhases (kept_of environment.old slots.old) }
+    ensures simulates { Simulates (W.log world.old) (W.log world.new) (StandsFor (kept_of environment.old slots.old))
+        (StandsFor (kept_of environment.new slots.new)) (wake_phase (Ticked number frames)) parsed }
+    ensures kept { IsBetweenPhases (kept_of environment.new slots.new) }
     ensures leads { W.leads_to world.old world.new }
 {
-    let device = &mut devices[number as usize];
+    let device = &mut environment.devices[number as usize];
     tick_device(
         number,
         frames,
@@ -156,6 +151,6 @@ pub fn tick<W: World>(
         &mut scratch.work,
         world,
     );
-    waits.pass(number, frames);
-    complete_due(number, devices, waits, slots, scratch);
+    environment.waits.pass(number, frames);
+    complete_due(number, environment, slots, scratch);
 }

@@ -1,1 +1,1 @@
-pub mod Exercising
+pub mod GeneratedScriptLemmas

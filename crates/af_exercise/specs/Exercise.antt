@@ -13,7 +13,7 @@ use Rattle.af_phone.specs.declared.line.LineChange.TheVariants as change
 use Rattle.af_outside.specs.declared.script.DeviceSpec.{DeviceSpec}
 use Rattle.af_outside.specs.declared.script.Step.{Step}
 use Rattle.af_outside.specs.declared.script.Step.TheVariants as step
-use Rattle.af_script.specs.Script.{Stated}
+use Rattle.af_script.specs.Script.{StatedScript}
 
 -- the device time at which the device starts: it passes 2^32 after 7296 frames
 abbrev pub start_time : ℕ
@@ -41,12 +41,12 @@ greeting link =
 unfoldable pub first_steps : List Step
 first_steps = map step.Open links ++ map (λ link. step.Send link (greeting link)) links
 
--- the same bytes so many times
+-- the same bytes n times
 abbrev pub repeated : ℕ → List ℕ → List ℕ
 repeated zero bytes = []
 repeated (suc n) bytes = bytes ++ repeated n bytes
 
--- a device time so many frames before another, and then so many on
+-- a device time n frames before another, and then so many on
 abbrev pub time_about : ℕ → ℕ → ℕ → ℕ
 time_about time before on = ((time + (2 ^ 32 - before)) % 2 ^ 32 + on) % 2 ^ 32
 
@@ -98,9 +98,9 @@ unfoldable pub turn_step : ℕ → ℕ → ℕ → Step
 turn_step x y time = step_chosen (x / 4 % 8) (x % 4) y time
 
 -- how many frames go by in a step
-abbrev pub frames_in : Step → ℕ
-frames_in (step.Tick device frames captured) = frames
-frames_in _ = 0
+abbrev pub frames_ticked : Step → ℕ
+frames_ticked (step.Tick device frames captured) = frames
+frames_ticked _ = 0
 
 -- the word that a generator draws
 unfoldable pub drawn : Lcg → ℕ
@@ -118,12 +118,12 @@ seeded seed = pcg32_of_seed (pcg32_seed 16 seed)
 abbrev pub step_drawn : Lcg → ℕ → Step
 step_drawn g time = turn_step (drawn g) (drawn (moved_on g)) time
 
--- so many steps that a generator draws, from a device time on
+-- n steps that a generator draws, from a device time on
 abbrev pub steps_drawn : ℕ → Lcg → ℕ → List Step
 steps_drawn zero g time = []
 steps_drawn (suc turns) g time =
-    step_drawn g time ∷ steps_drawn turns (moved_on (moved_on g)) ((time + frames_in (step_drawn g time)) % 2 ^ 32)
+    step_drawn g time ∷ steps_drawn turns (moved_on (moved_on g)) ((time + frames_ticked (step_drawn g time)) % 2 ^ 32)
 
--- the script of a seed and so many turns
-unfoldable pub generated : ℕ → ℕ → Stated
+-- the script of a seed and n turns
+unfoldable pub generated : ℕ → ℕ → StatedScript
 generated seed turns = record { config = exercised; steps = first_steps ++ steps_drawn turns (seeded seed) start_time }

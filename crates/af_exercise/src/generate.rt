@@ -1,13 +1,14 @@
 // The script of an exercise is made of the words that a generator draws.
 ghost use Rattle.std.specs.Prelude.{◌≡◌, ◌≤◌, ◌<◌, ◌*◌, ◌++◌, ℕ, length, All, IfOk, OnOk};
 ghost use Rattle.af_sample.specs.Rates.{IsListedRate};
-ghost use Rattle.af_request.specs.Asked.{meaning};
-ghost use Rattle.af_request.specs.Requests.{request_bytes, HasRoom};
+ghost use Rattle.af_request.specs.Asked.{request_meaning};
+ghost use Rattle.af_request.specs.Requests.{request_bytes, FitsFrame};
 ghost use Rattle.af_outside.specs.declared.script.Step.TheVariants as step;
 ghost use Rattle.af_outside.specs.Outside.{IsStep};
-ghost use Rattle.af_exercise.specs.Exercise.{generated, exercised, first_steps, greeting, repeated, preempts, seeded, steps_drawn, start_time, sample_bytes, drawn, moved_on, turn_step, tick_drawn, play_drawn, record_drawn, time_asked, digit_drawn, room_drawn, frames_in};
+ghost use Rattle.af_exercise.specs.Exercise.{generated, exercised, first_steps, greeting, repeated, preempts, seeded, steps_drawn, start_time, sample_bytes, drawn, moved_on, turn_step, tick_drawn, play_drawn, record_drawn, time_asked, digit_drawn, room_drawn, frames_ticked};
 
-use af_outside::{Bytes, Config, DeviceSpec, Step};
+use af_io::Bytes;
+use af_outside::{Config, DeviceSpec, Step};
 use af_phone::LineChange;
 use af_request::{Request, write_request};
 use af_sample::SampleType;
@@ -29,7 +30,7 @@ const LINKS: [u8; 4] = [0, 1, 2, 3];
 /// How many bytes the longest request has.
 const LONGEST_REQUEST: usize = 16384;
 
-/// Makes the script of an exercise: four links that greet, and then a step for each of so many turns, 1 to 10000, each of
+/// Makes the script of an exercise: four links that greet, and then a step for each of n turns, 1 to 10000, each of
 /// which is drawn by a generator of this seed.
 pub fn make_script(alloc: Global, seed: u64, turns: u32) -> Result<Script, OutOfMemory>
     requires { (1 ≤ turns) × (turns ≤ 10000) }
@@ -64,7 +65,7 @@ fn all_steps(
         let x = draw(&mut generator);
         let y = draw(&mut generator);
         let step = step_of_turn(alloc, x, y, time, room)?;
-        time = time.after(frames_in(&step));
+        time = time.after(frames_ticked(&step));
         steps.push(step)?;
     }
     Ok(steps)
@@ -156,9 +157,9 @@ fn add_request(
     request: &Request<'_>,
     room: &mut [u8],
 ) -> Result<(), OutOfMemory>
-    requires samples { HasRoom (meaning request.now) }
+    requires samples { FitsFrame (request_meaning request.now) }
     requires room { 16384 ≤ length room.old }
-    ensures { OnOk result (bytes.new.items ≡ bytes.old.items ++ request_bytes (meaning request.now)) }
+    ensures { OnOk result (bytes.new.items ≡ bytes.old.items ++ request_bytes (request_meaning request.now)) }
 {
     let length = write_request(request, room);
     bytes.extend_from_slice(&room[..length])?;
@@ -297,17 +298,17 @@ fn send(
     request: &Request<'_>,
     room: &mut [u8],
 ) -> Result<Step, OutOfMemory>
-    requires samples { HasRoom (meaning request.now) }
+    requires samples { FitsFrame (request_meaning request.now) }
     requires room { 16384 ≤ length room.old }
     requires link { link < 4 }
-    ensures value { IfOk result (λ s. s ≡ step.Send link (request_bytes (meaning request.now))) }
+    ensures value { IfOk result (λ s. s ≡ step.Send link (request_bytes (request_meaning request.now))) }
     ensures fits { IfOk result (λ s. IsStep exercised s) }
 {
     let length = write_request(request, room);
     Ok(Step::Send(link, Bytes::copied(alloc, &room[..length])?))
 }
 
-/// The same two bytes so many times.
+/// The same two bytes n times.
 fn repeated(alloc: Global, count: u32, pattern: [u8; 2]) -> Result<Vec<u8>, OutOfMemory>
     ensures value { IfOk result (λ bytes. bytes.items ≡ repeated count pattern) }
     ensures size { IfOk result (λ bytes. length bytes.items ≡ count * 2) }
@@ -320,8 +321,8 @@ fn repeated(alloc: Global, count: u32, pattern: [u8; 2]) -> Result<Vec<u8>, OutO
 }
 
 /// How many frames go by in a step.
-fn frames_in(step: &Step) -> u32
-    ensures { result ≡ frames_in step.now }
+fn frames_ticked(step: &Step) -> u32
+    ensures { result ≡ frames_ticked step.now }
 {
     match step {
         Step::Tick(_, frames, _) => *frames,

@@ -1,8 +1,9 @@
-pub mod Bytes
-pub mod Fronts
-pub mod Frames
-pub mod Taking
-pub mod Exchanges
-pub mod Success
-pub mod Replies
-pub mod Rings
+pub mod LinkByteLemmas
+pub mod MessageFrontLemmas
+pub mod FrameLemmas
+pub mod AwaitedMessageLemmas
+pub mod ExchangeLemmas
+pub mod SuccessLemmas
+pub mod ReplyLemmas
+pub mod EventRingLemmas
+pub mod OnlyReading

@@ -14,16 +14,16 @@ refused_in opcode (a ∷ b ∷ c ∷ d ∷ asked ∷ x ∷ y ∷ z ∷ []) =
 refused_in opcode _ = None
 
 -- the fault that an error of a code is, if its body refuses a value of the request
-abbrev pub refusal : List ℕ → ℕ → Option ℕ → ConnFault
-refusal bytes code (Some value) = fault.ServerError code value
-refusal bytes code None = bad_reply bytes
+abbrev pub refusal_fault : List ℕ → ℕ → Option ℕ → ConnFault
+refusal_fault bytes code (Some value) = fault.ServerError code value
+refusal_fault bytes code None = bad_reply bytes
 
 -- a message that is no event, as the answer to a request of an opcode with a number: the message itself where it is a
 -- reply to that request, the error where it is one to that request, and else it is bad
 abbrev pub answer_to : ℕ → ℕ → List ℕ → Result (List ℕ) ConnFault
 answer_to opcode sequence bytes =
     if u16_at 2 bytes == sequence && u8_at 0 bytes == 1 && u8_at 1 bytes == opcode then Ok bytes
-    else if u16_at 2 bytes == sequence && u8_at 0 bytes == 0 then Err (refusal bytes (u8_at 1 bytes) (refused_in opcode (drop 8 bytes)))
+    else if u16_at 2 bytes == sequence && u8_at 0 bytes == 0 then Err (refusal_fault bytes (u8_at 1 bytes) (refused_in opcode (drop 8 bytes)))
     else Err (bad_reply bytes)
 
 -- the value that the body of a reply states, or a bad reply

@@ -3,8 +3,8 @@ use Rattle.std.specs.Prelude.{◌≡◌, ◌≢◌, ◌≤◌, ◌+◌, ◌%◌,
 use Rattle.std.specs.declared.option.Option.{Option}
 use Rattle.std.specs.declared.option.Option.TheVariants.{None, Some}
 use Rattle.af_time.specs.declared.DevTime.{DevTime}
-use Rattle.af_outside.specs.Told.{Grew, Rose}
-use Rattle.af_outside.specs.Flow.{GrewByPrefix}
+use Rattle.af_io.specs.Observed.{Appended, FaultCounted}
+use Rattle.af_io.specs.Flow.{AppendedPrefix}
 use Rattle.af_request.specs.declared.reply.Controls.{Controls}
 use Rattle.af_request.specs.declared.reply.DeviceInfo.{DeviceInfo}
 use Rattle.af_request.specs.declared.reply.Phone.{Phone}
@@ -23,7 +23,7 @@ use Rattle.af_lib.specs.declared.fault.ConnFault.TheVariants as fault
 use Rattle.af_lib.specs.Ring.{Gained, RingState}
 use Rattle.af_lib.specs.Incoming.{Incoming, event, other, awaited, bad_reply, incoming, rest_of}
 use Rattle.af_lib.specs.Answers.{and_then, answer_to, value_or_bad}
-use Rattle.af_lib.specs.Told.{BothTold}
+use Rattle.af_lib.specs.Observed.{BothTold}
 
 -- a connection: its link, the devices of the reply to its setup, the number of the last request that it sent, its ring of
 -- events, and the first fault behind which it can be used no more
@@ -120,10 +120,10 @@ IsFresh _ = ⊤
 
 -- all bytes were sent, or a part of them where the link failed
 pub record Sends {X : Type 0} (result : Result X ConnFault) (before : Option (List ℕ)) (bytes : List ℕ) (after : Option (List ℕ)) : Type 0 where
-  pub whole : result ≢ Err fault.LinkFault → Grew before bytes after
-  pub part : GrewByPrefix before bytes after
+  pub whole : result ≢ Err fault.LinkFault → Appended before bytes after
+  pub part : AppendedPrefix before bytes after
 
--- where the link did not fail and tells its bytes, exactly the messages up to the first that is no event were taken, the
+-- if the link did not fail and tells its bytes, exactly the messages up to the first that is no event were taken, the
 -- events went into the ring, and the answer is what that message says
 abbrev pub Answers : {X : Type 0} → (Answer → Option X) → ℕ → ℕ → Result X ConnFault → RingState → RingState → Option (List ℕ) → Option (List ℕ) → Type 0
 Answers value_of opcode sequence result ring ring' before after = result ≢ Err fault.LinkFault →
@@ -141,9 +141,9 @@ recorded_in (Ok r) into = Ok (record { time = r.0; samples = take r.1 into })
 recorded_in (Err fault) into = Err fault
 
 -- a buffer behind what was recorded stays, and all of it where nothing was
-abbrev pub IsKeptBehind : Result (DevTime × ℕ) ConnFault → List ℕ → List ℕ → Type 0
-IsKeptBehind (Ok r) old new = drop r.1 new ≡ drop r.1 old
-IsKeptBehind (Err fault) old new = new ≡ old
+abbrev pub KeepsTail : Result (DevTime × ℕ) ConnFault → List ℕ → List ℕ → Type 0
+KeepsTail (Ok r) old new = drop r.1 new ≡ drop r.1 old
+KeepsTail (Err fault) old new = new ≡ old
 
 -- the same before the message is looked at
 abbrev pub stored_in : Option (DevTime × ℕ) → List ℕ → Option Recorded
@@ -193,7 +193,7 @@ abbrev pub event_of : List ℕ → Result Event ConnFault
 event_of input = and_then event_only (incoming input)
 
 -- A call of a connection that sends a request and takes its answer, by the bytes that the link is left to give and was
--- sent, where it tells them, and by its count of faults.
+-- sent, if it tells them, and by its count of faults.
 pub record Called {L X : Type 0} (left sent : L → Option (List ℕ)) (faults : L → ℕ) (asked : Asked) (value_of : Answer → Option X)
     (old new : ConnState L) (result : Result X ConnFault) : Type 0 where
   -- Spent exactly where an earlier call answered a fault behind which the connection can be used no more: the first one
@@ -208,16 +208,16 @@ pub record Called {L X : Type 0} (left sent : L → Option (List ℕ)) (faults :
   pub gained : old.cause ≡ None → Gained old.ring new.ring
   -- the answer is one of a connection that can still be used
   pub fresh : old.cause ≡ None → IsFresh result
-  -- bytes that are told stay told
+  -- bytes that are observed stay observed
   pub tells : IsSome (left old.link) → IsSome (left new.link)
   -- the devices stay, and a fault is kept
   pub keeps : old.cause ≡ None → new ≡ record { link = new.link; devices = old.devices; sequence = following old.sequence; ring = new.ring; cause = cause_of result }
   -- LinkFault only where the link's count of faults rose
-  pub failed : result ≡ Err fault.LinkFault → Rose (faults old.link) (faults new.link)
+  pub failed : result ≡ Err fault.LinkFault → FaultCounted (faults old.link) (faults new.link)
   pub count : faults old.link ≤ faults new.link
 
 -- A call that waits for an event: the oldest of the ring, or where that is empty the next message.
-pub record Waited {L : Type 0} (left sent : L → Option (List ℕ)) (faults : L → ℕ) (old new : ConnState L) (result : Result Event ConnFault) : Type 0 where
+pub record EventAwaited {L : Type 0} (left sent : L → Option (List ℕ)) (faults : L → ℕ) (old new : ConnState L) (result : Result Event ConnFault) : Type 0 where
   -- Spent exactly where an earlier call answered a fault behind which the connection can be used no more: the first one
   pub spent : (first : Cause) → (result ≡ Err (fault.Spent first)) ↔ (old.cause ≡ Some first)
   -- and then nothing is read
@@ -230,7 +230,7 @@ pub record Waited {L : Type 0} (left sent : L → Option (List ℕ)) (faults : L
       BothTold (left old.link) (left new.link) (λ b a. (result ≡ event_of b) × (a ≡ rest_of b))
   -- the answer is one of a connection that can still be used
   pub fresh : old.cause ≡ None → IsFresh result
-  -- bytes that are told stay told
+  -- bytes that are observed stay observed
   pub tells : IsSome (left old.link) → IsSome (left new.link)
   -- the ring stays empty, and a fault is kept
   pub keeps : old.cause ≡ None → slice_get old.ring.events 0 ≡ None →
@@ -238,7 +238,7 @@ pub record Waited {L : Type 0} (left sent : L → Option (List ℕ)) (faults : L
   -- nothing is sent
   pub sends : sent new.link ≡ sent old.link
   -- LinkFault only where the link's count of faults rose
-  pub failed : result ≡ Err fault.LinkFault → Rose (faults old.link) (faults new.link)
+  pub failed : result ≡ Err fault.LinkFault → FaultCounted (faults old.link) (faults new.link)
   pub count : faults old.link ≤ faults new.link
 
 -- A setup that was sent, and its answer.
@@ -249,10 +249,10 @@ pub record IsSetUp {L : Type 0} (left sent : L → Option (List ℕ)) (faults : 
   pub answers : Answers as_devices 0 0 result (record { events = []; lost = 0 }) ring (left old) (left new)
   -- it is neither Spent nor want of memory
   pub fresh : IsFresh result
-  -- bytes that are told stay told
+  -- bytes that are observed stay observed
   pub tells : IsSome (left old) → IsSome (left new)
   -- LinkFault only where the link's count of faults rose
-  pub failed : result ≡ Err fault.LinkFault → Rose (faults old) (faults new)
+  pub failed : result ≡ Err fault.LinkFault → FaultCounted (faults old) (faults new)
   pub count : faults old ≤ faults new
 
 -- a connection that was set up; or a fault, with the link, which is as it was where memory ran out
@@ -264,5 +264,10 @@ Connects left sent faults link (Err e) =
 -- a call whose link tells its bytes is Ok where these hold the awaited reply and the link's count of faults did not rise
 abbrev pub Succeeds : {L X : Type 0} → (L → Option (List ℕ)) → (L → ℕ) → Asked → (Answer → Option X) → ConnState L → ConnState L → Result X ConnFault → Type 0
 Succeeds left faults asked value_of old new result =
-    old.cause ≡ None → ¬ (Rose (faults old.link) (faults new.link)) → BothTold (left old.link) (left new.link) (λ b a.
+    old.cause ≡ None → ¬ (FaultCounted (faults old.link) (faults new.link)) → BothTold (left old.link) (left new.link) (λ b a.
     IsOk (answered value_of (opcode_of asked) (following old.sequence) (awaited 4096 old.ring b).found) → IsOk result)
+
+-- each call of a connection whose reply states such a value is one of these
+abbrev pub IsOkWhereAwaited : {L X : Type 0} → (left sent : L → Option (List ℕ)) → (faults : L → ℕ) → (Answer → Option X) → Type 0
+IsOkWhereAwaited {L} {X} left sent faults value_of = (asked : Asked) (old new : ConnState L) (answer : Result X ConnFault) →
+    Called left sent faults asked value_of old new answer → Succeeds left faults asked value_of old new answer

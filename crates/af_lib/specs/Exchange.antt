@@ -1,4 +1,4 @@
--- What the steps of an exchange do, where the link tells its bytes.
+-- What the steps of an exchange do, if the link tells its bytes.
 use Rattle.std.specs.Prelude.{◌≡◌, ℕ, List, Result}
 use Rattle.std.specs.declared.option.Option.{Option}
 use Rattle.af_lib.specs.declared.fault.ConnFault.{ConnFault}
@@ -6,7 +6,7 @@ use Rattle.af_lib.specs.Ring.{RingState}
 use Rattle.af_lib.specs.Incoming.{awaited}
 use Rattle.af_lib.specs.Receive.{found_as}
 use Rattle.af_lib.specs.Answers.{and_then, answer_to}
-use Rattle.af_lib.specs.Told.{BothTold}
+use Rattle.af_lib.specs.Observed.{BothTold}
 
 -- a reply to the request was found, which stands in a buffer, or what is there in its place
 abbrev pub Finds : ℕ → ℕ → Result ℕ ConnFault → List ℕ → RingState → RingState → Option (List ℕ) → Option (List ℕ) → Type 0

@@ -33,7 +33,7 @@ abbrev pub message_in : List ℕ → Result Incoming ConnFault
 message_in bytes =
     if u8_at 0 bytes == 2 then event_or_bad bytes (event_in (u8_at 1 bytes) (drop 8 bytes)) else Ok (other bytes)
 
--- the message at such a front of the input; where the input is too short for it, the link has ended
+-- the message at such a front of the input; if the input is too short for it, the link has ended
 abbrev pub incoming_at : MessageFront → List ℕ → Result Incoming ConnFault
 incoming_at (NeedMore n) input = Err fault.LinkEnded
 incoming_at (Message kind detail sequence n) input = message_in (take n input)
@@ -65,7 +65,7 @@ awaited_by (Ok (event e)) ring rest more = more (noted e ring)
 awaited_by (Ok (other bytes)) ring rest more = record { found = Ok bytes; ring = ring; rest = rest }
 awaited_by (Err fault) ring rest more = record { found = Err fault; ring = ring; rest = rest }
 
--- the first message of an input that is no event, where fewer than so many events come before it
+-- the first message of an input that is no event, where fewer than n events come before it
 unfoldable pub awaited : ℕ → RingState → List ℕ → Awaited
 awaited zero ring input = record { found = Err fault.EventFlood; ring = ring; rest = input }
 awaited (suc n) ring input = awaited_by (incoming input) ring (rest_of input) (λ r. awaited n r (rest_of input))

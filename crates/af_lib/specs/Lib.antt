@@ -1,7 +1,7 @@
 pub mod Ring
 pub mod Incoming
 pub mod Answers
-pub mod Told
+pub mod Observed
 pub mod Receive
 pub mod Calls
 pub mod Exchange

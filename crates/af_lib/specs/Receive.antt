@@ -1,7 +1,7 @@
--- What the steps of receiving a message do to the bytes of a link, where it tells them.
+-- What the steps of receiving a message do to the bytes of a link, if it tells them.
 use Rattle.std.specs.Prelude.{◌≡◌, ◌<◌, ◌≤◌, ⊤, ℕ, List, [], ◌++◌, length, take, Result, Ok, Err}
 use Rattle.std.specs.declared.option.Option.{Option}
-use Rattle.af_outside.specs.Told.{Gave}
+use Rattle.af_io.specs.Observed.{Consumed}
 use Rattle.af_wire.specs.declared.message_front.MessageFront.TheVariants.{NeedMore, Message, BadMessage}
 use Rattle.af_wire.specs.MessageFront.{message_front}
 use Rattle.af_lib.specs.declared.fault.ConnFault.{ConnFault}
@@ -13,15 +13,15 @@ use Rattle.af_lib.specs.declared.receive.Taken.{Taken}
 use Rattle.af_lib.specs.declared.receive.Taken.TheVariants as taken
 use Rattle.af_lib.specs.Ring.{RingState}
 use Rattle.af_lib.specs.Incoming.{Incoming, event, other, incoming, rest_of, awaited}
-use Rattle.af_lib.specs.Told.{BothTold}
+use Rattle.af_lib.specs.Observed.{BothTold}
 
 -- a slice was filled; or fewer bytes than it has room for were left, and were all given
 abbrev pub Fills : Filled → List ℕ → Option (List ℕ) → Option (List ℕ) → Type 0
-Fills filled.Whole into before after = Gave before into after
+Fills filled.Whole into before after = Consumed before into after
 Fills filled.Ended into before after = BothTold before after (λ b a. (length b < length into) × (a ≡ []))
 Fills filled.Failed into before after = ⊤
 
--- the front of an input states a whole message of so many bytes
+-- the front of an input states a whole message of n bytes
 pub record IsWhole (input : List ℕ) (n : ℕ) : Type 0 where
   pub kind : ℕ
   pub detail : ℕ
@@ -56,7 +56,7 @@ taken_as (Ok (taken.Event e)) into = Ok (event e)
 taken_as (Ok (taken.Other n)) into = Ok (other (take n into))
 taken_as (Err fault) into = Err fault
 
--- another message than an event has a head, and stands in so many bytes
+-- another message than an event has a head, and stands in n bytes
 abbrev pub IsTakenWithin : Result Taken ConnFault → ℕ → Type 0
 IsTakenWithin (Ok (taken.Other n)) most = (8 ≤ n) × (n ≤ most)
 IsTakenWithin _ most = ⊤

@@ -1,21 +1,21 @@
 // Replies as the values that they state, for each kind of request.
 ghost use Rattle.std.specs.Prelude.{◌≡◌, ◌≢◌, ◌≤◌, length, option_map, Err, IfOk, IfSome, IsTrue, IsSome};
 ghost use Rattle.std.specs.declared.option.Option.{Option};
-ghost use Rattle.af_outside.specs.Told.{Rose};
+ghost use Rattle.af_io.specs.Observed.{CountsFault};
 ghost use Rattle.af_wire.specs.Front.{setup_bytes};
-ghost use Rattle.af_request.specs.Answer.{Answer, meaning as answered_by, recorded, setup, items_of};
-ghost use Rattle.af_request.specs.Asked.{meaning};
+ghost use Rattle.af_request.specs.Answer.{Answer, reply_meaning as answered_by, recorded, setup, items_of};
+ghost use Rattle.af_request.specs.Asked.{request_meaning};
 ghost use Rattle.af_request.specs.Replies.{IsReplyTo};
-ghost use Rattle.af_request.specs.Requests.{request_bytes, HasRoom};
+ghost use Rattle.af_request.specs.Requests.{request_bytes, FitsFrame};
 ghost use Rattle.af_lib.specs.Answers.{value_or_bad};
 ghost use Rattle.af_lib.specs.Ring.{Gained};
-ghost use Rattle.af_lib.specs.Calls.{as_controls, as_devices, as_done, as_phone, as_recorded, as_time, listed, opcode_of, recorded_in, stored_in, value_in, Answers, IsFresh, IsKeptBehind, IsStoredIn, Sends};
+ghost use Rattle.af_lib.specs.Calls.{as_controls, as_devices, as_done, as_phone, as_recorded, as_time, listed, opcode_of, recorded_in, stored_in, value_in, Answers, IsFresh, KeepsTail, IsStoredIn, Sends};
 
 use crate::exchange::{ask, await_setup, opcode_of};
 use crate::fault::ConnFault;
 use crate::receive::bad_reply;
 use crate::ring::Ring;
-use af_outside::Link;
+use af_io::Link;
 use af_request::{Controls, Devices, Phone, Reply, Request, read_reply};
 use af_time::DevTime;
 
@@ -36,7 +36,7 @@ fn or_bad<T>(value: Option<T>, bytes: &[u8]) -> Result<T, ConnFault>
 pub trait Stated: Sized {
     ghost value_of: { Answer → Option Self };
 
-    /// The value, where the reply is of its kind.
+    /// The value, if the reply is of its kind.
     fn stated_in(reply: &Reply<'_>) -> Option<Self>
         ensures { result ≡ value_of (answered_by reply.now) };
 }
@@ -48,12 +48,7 @@ impl Stated for () {
     fn stated_in(reply: &Reply<'_>) -> Option<()> {
         match reply {
             Reply::Plain => Some(()),
-            Reply::Setup { .. }
-            | Reply::Time { .. }
-            | Reply::Played { .. }
-            | Reply::Recorded { .. }
-            | Reply::Controls { .. }
-            | Reply::Phone { .. } => None,
+            _ => None,
         }
     }
 }
@@ -65,11 +60,7 @@ impl Stated for DevTime {
     fn stated_in(reply: &Reply<'_>) -> Option<DevTime> {
         match reply {
             Reply::Time { time } | Reply::Played { time } => Some(*time),
-            Reply::Setup { .. }
-            | Reply::Plain
-            | Reply::Recorded { .. }
-            | Reply::Controls { .. }
-            | Reply::Phone { .. } => None,
+            _ => None,
         }
     }
 }
@@ -80,12 +71,7 @@ impl Stated for Controls {
     fn stated_in(reply: &Reply<'_>) -> Option<Controls> {
         match reply {
             Reply::Controls { controls } => Some(*controls),
-            Reply::Setup { .. }
-            | Reply::Plain
-            | Reply::Time { .. }
-            | Reply::Played { .. }
-            | Reply::Recorded { .. }
-            | Reply::Phone { .. } => None,
+            _ => None,
         }
     }
 }
@@ -96,12 +82,7 @@ impl Stated for Phone {
     fn stated_in(reply: &Reply<'_>) -> Option<Phone> {
         match reply {
             Reply::Phone { phone } => Some(*phone),
-            Reply::Setup { .. }
-            | Reply::Plain
-            | Reply::Time { .. }
-            | Reply::Played { .. }
-            | Reply::Recorded { .. }
-            | Reply::Controls { .. } => None,
+            _ => None,
         }
     }
 }
@@ -128,15 +109,15 @@ pub fn ask_value<T: Stated, L: Link>(
     request: &Request<'_>,
     sequence: u16,
 ) -> Result<T, ConnFault>
-    requires samples { HasRoom (meaning request.now) }
+    requires samples { FitsFrame (request_meaning request.now) }
     requires room { (16016 ≤ length input.old) × (16384 ≤ length output.old) }
-    ensures answers { Answers T.value_of (opcode_of (meaning request.now)) sequence result ring.old ring.new (L.left link.old) (L.left link.new) }
+    ensures answers { Answers T.value_of (opcode_of (request_meaning request.now)) sequence result
+        ring.old ring.new (L.left link.old) (L.left link.new) }
     ensures gained { Gained ring.old ring.new }
     ensures fresh { IsFresh result }
-    ensures sends { Sends result (L.sent link.old) (request_bytes (meaning request.now)) (L.sent link.new) }
+    ensures sends { Sends result (L.sent link.old) (request_bytes (request_meaning request.now)) (L.sent link.new) }
     ensures tells { IsSome (L.left link.old) → IsSome (L.left link.new) }
-    ensures count { L.faults link.old ≤ L.faults link.new }
-    ensures cause { result ≡ Err ConnFault.LinkFault → Rose (L.faults link.old) (L.faults link.new) }
+    ensures faults { CountsFault (result ≡ Err ConnFault.LinkFault) (L.faults link.old) (L.faults link.new) }
 {
     match ask(link, ring, input, output, request, sequence) {
         Ok(length) => value_in(opcode_of(request), &input[..length]),
@@ -144,7 +125,7 @@ pub fn ask_value<T: Stated, L: Link>(
     }
 }
 
-// Takes recorded samples, where they are as many as were asked for, or fewer where the request does not wait for all.
+// Takes recorded samples, if they are as many as were asked for, or fewer where the request does not wait for all.
 fn stored(
     time: DevTime,
     samples: &[u8],
@@ -172,12 +153,7 @@ fn recorded_of(reply: &Reply<'_>, blocking: bool, into: &mut [u8]) -> Option<(De
 {
     match reply {
         Reply::Recorded { time, samples } => stored(*time, samples, blocking, into),
-        Reply::Setup { .. }
-        | Reply::Plain
-        | Reply::Time { .. }
-        | Reply::Played { .. }
-        | Reply::Controls { .. }
-        | Reply::Phone { .. } => None,
+        _ => None,
     }
 }
 
@@ -189,7 +165,7 @@ fn recorded_in(
 ) -> Result<(DevTime, usize), ConnFault>
     requires { 8 ≤ length bytes.now }
     ensures value { recorded_in result into.new ≡ value_in (as_recorded blocking (length into.old)) opcode bytes.now }
-    ensures kept { IsKeptBehind result into.old into.new }
+    ensures kept { KeepsTail result into.old into.new }
     ensures within { IfOk result (λ r. r.1 ≤ length into.old) }
     ensures all { IfOk result (λ r. IsTrue blocking → r.1 ≡ length into.old) }
     ensures fresh { IsFresh result }
@@ -212,18 +188,19 @@ pub fn ask_recorded<L: Link>(
     blocking: bool,
     into: &mut [u8],
 ) -> Result<(DevTime, usize), ConnFault>
-    requires samples { HasRoom (meaning request.now) }
+    requires samples { FitsFrame (request_meaning request.now) }
     requires room { (16016 ≤ length input.old) × (16384 ≤ length output.old) }
-    ensures answers { Answers (as_recorded blocking (length into.old)) (opcode_of (meaning request.now)) sequence (recorded_in result into.new) ring.old ring.new (L.left link.old) (L.left link.new) }
+    ensures answers { Answers (as_recorded blocking (length into.old)) (opcode_of (request_meaning request.now)) sequence
+        (recorded_in result into.new) ring.old ring.new (L.left link.old) (L.left link.new) }
     ensures gained { Gained ring.old ring.new }
-    ensures kept { IsKeptBehind result into.old into.new }
+    ensures kept { KeepsTail result into.old into.new }
     ensures within { IfOk result (λ r. r.1 ≤ length into.old) }
     ensures all { IfOk result (λ r. IsTrue blocking → r.1 ≡ length into.old) }
     ensures fresh { IsFresh result }
-    ensures sends { Sends (recorded_in result into.new) (L.sent link.old) (request_bytes (meaning request.now)) (L.sent link.new) }
+    ensures sends { Sends (recorded_in result into.new)
+        (L.sent link.old) (request_bytes (request_meaning request.now)) (L.sent link.new) }
     ensures tells { IsSome (L.left link.old) → IsSome (L.left link.new) }
-    ensures count { L.faults link.old ≤ L.faults link.new }
-    ensures cause { result ≡ Err ConnFault.LinkFault → Rose (L.faults link.old) (L.faults link.new) }
+    ensures faults { CountsFault (result ≡ Err ConnFault.LinkFault) (L.faults link.old) (L.faults link.new) }
 {
     match ask(link, ring, input, output, request, sequence) {
         Ok(length) => recorded_in(opcode_of(request), &input[..length], blocking, into),
@@ -236,12 +213,7 @@ fn devices_of(reply: Reply<'_>) -> Option<Devices>
 {
     match reply {
         Reply::Setup { devices } => Some(devices),
-        Reply::Plain
-        | Reply::Time { .. }
-        | Reply::Played { .. }
-        | Reply::Recorded { .. }
-        | Reply::Controls { .. }
-        | Reply::Phone { .. } => None,
+        _ => None,
     }
 }
 
@@ -270,8 +242,7 @@ pub fn set_up<L: Link>(
     ensures fresh { IsFresh result }
     ensures sends { Sends (listed result) (L.sent link.old) setup_bytes (L.sent link.new) }
     ensures tells { IsSome (L.left link.old) → IsSome (L.left link.new) }
-    ensures count { L.faults link.old ≤ L.faults link.new }
-    ensures cause { result ≡ Err ConnFault.LinkFault → Rose (L.faults link.old) (L.faults link.new) }
+    ensures faults { CountsFault (result ≡ Err ConnFault.LinkFault) (L.faults link.old) (L.faults link.new) }
 {
     match await_setup(link, ring, input) {
         Ok(length) => devices_in(&input[..length]),

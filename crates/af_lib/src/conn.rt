@@ -2,17 +2,17 @@
 ghost use Rattle.std.specs.Prelude.{◌≡◌, ◌≤◌, false, [], drop, length, slice_get, All, IfOk, IsTrue};
 ghost use Rattle.af_sample.specs.SampleTypes.{code_of};
 ghost use Rattle.af_request.specs.Fields.{flag_byte};
-ghost use Rattle.af_request.specs.Asked.{meaning, create_ac, free_ac, get_time, hook_switch, play_run, query_controls, query_phone, record_run, select_events};
-ghost use Rattle.af_request.specs.Requests.{HasRoom};
-ghost use Rattle.af_request.specs.Replies.{IsStated};
-ghost use Rattle.af_lib.specs.Calls.{as_controls, as_done, as_phone, as_recorded, as_time, bit_if, controls_changed, flag_or_zero, gain_or_zero, recorded_in, settings_changed, Called, Connects, IsKeptBehind, Waited};
+ghost use Rattle.af_request.specs.Asked.{request_meaning, create_ac, free_ac, get_time, hook_switch, play_run, query_controls, query_phone, record_run, select_events};
+ghost use Rattle.af_request.specs.Requests.{FitsFrame};
+ghost use Rattle.af_request.specs.Replies.{IsDeviceInfo};
+ghost use Rattle.af_lib.specs.Calls.{as_controls, as_done, as_phone, as_recorded, as_time, bit_if, controls_changed, flag_or_zero, gain_or_zero, recorded_in, settings_changed, Called, Connects, KeepsTail, EventAwaited};
 
 use crate::asks::{Stated, ask_recorded, ask_value, set_up};
 use crate::exchange::cause_of;
 use crate::fault::{Cause, ConnFault};
 use crate::receive::take_event;
 use crate::ring::Ring;
-use af_outside::Link;
+use af_io::Link;
 use af_request::{Controls, DeviceInfo, Devices, Phone, Request};
 use af_sample::{Gain, SampleType};
 use af_time::{DevTime, OutOfMemory};
@@ -77,7 +77,7 @@ impl<L: Link + Drop> Conn<L> {
         ensures value { result.now ≡ self.now.devices }
         ensures some { 1 ≤ length result.now }
         ensures few { length result.now ≤ 8 }
-        ensures stated { All IsStated result.now }
+        ensures stated { All IsDeviceInfo result.now }
     {
         self.devices.as_slice()
     }
@@ -109,7 +109,7 @@ impl<L: Link + Drop> Conn<L> {
     /// Waits for an event: the oldest of the ring, or else the next message, which is to be one. Behind a fault of the
     /// connection it answers Spent even where the ring holds events.
     pub fn wait_event(&mut self) -> Result<Event, ConnFault>
-        ensures { Waited L.left L.sent L.faults self.old self.new result }
+        ensures { EventAwaited L.left L.sent L.faults self.old self.new result }
     {
         if let Some(first) = self.cause {
             return Err(ConnFault::Spent { first });
@@ -132,7 +132,8 @@ impl<L: Link + Drop> Conn<L> {
         record_by: Gain,
         preempt: bool,
     ) -> Result<(), ConnFault>
-        ensures { Called L.left L.sent L.faults (create_ac device ac (code_of ty) 1 (flag_byte preempt) play record_by) as_done self.old self.new result }
+        ensures { Called L.left L.sent L.faults (create_ac device ac (code_of ty) 1 (flag_byte preempt) play record_by)
+            as_done self.old self.new result }
     {
         self.ask(&Request::CreateAc {
             device,
@@ -203,8 +204,9 @@ impl<L: Link + Drop> Conn<L> {
         into: &mut [u8],
     ) -> Result<(DevTime, usize), ConnFault>
         requires { length into.old ≤ 16000 }
-        ensures called { Called L.left L.sent L.faults (record_run blocking ac time.0 (length into.old)) (as_recorded blocking (length into.old)) self.old self.new (recorded_in result into.new) }
-        ensures kept { IsKeptBehind result into.old into.new }
+        ensures called { Called L.left L.sent L.faults (record_run blocking ac time.0 (length into.old))
+            (as_recorded blocking (length into.old)) self.old self.new (recorded_in result into.new) }
+        ensures kept { KeepsTail result into.old into.new }
         ensures within { IfOk result (λ r. r.1 ≤ length into.old) }
         ensures all { IfOk result (λ r. IsTrue blocking → r.1 ≡ length into.old) }
     {
@@ -248,7 +250,8 @@ impl<L: Link + Drop> Conn<L> {
         input_on: Option<bool>,
         output_on: Option<bool>,
     ) -> Result<(), ConnFault>
-        ensures { Called L.left L.sent L.faults (controls_changed device input_gain output_gain input_on output_on) as_done self.old self.new result }
+        ensures { Called L.left L.sent L.faults (controls_changed device input_gain output_gain input_on output_on)
+            as_done self.old self.new result }
     {
         self.ask(&Request::SetControls {
             device,
@@ -289,8 +292,8 @@ impl<L: Link + Drop> Conn<L> {
 
     // Sends a request, and takes its answer: a value that the reply states.
     fn ask<T: Stated>(&mut self, request: &Request<'_>) -> Result<T, ConnFault>
-        requires { HasRoom (meaning request.now) }
-        ensures { Called L.left L.sent L.faults (meaning request.now) T.value_of self.old self.new result }
+        requires { FitsFrame (request_meaning request.now) }
+        ensures { Called L.left L.sent L.faults (request_meaning request.now) T.value_of self.old self.new result }
     {
         if let Some(first) = self.cause {
             return Err(ConnFault::Spent { first });
@@ -342,12 +345,19 @@ fn bit_if(bit: u8, there: bool) -> u8
     if there { bit } else { 0 }
 }
 
+/// The longest message of a server, in bytes.
+const LONGEST_MESSAGE: usize = 16016;
+
+/// The longest frame of a request, in bytes.
+const LONGEST_FRAME: usize = 16384;
+
 // A ring for events, and a buffer for one message each way.
 fn room(alloc: Global) -> Result<(Ring, Vec<u8>, Vec<u8>), OutOfMemory>
-    ensures { IfOk result (λ r. (r.0 ≡ record { events = []; lost = 0 }) × (length r.1.items ≡ 16016) × (length r.2.items ≡ 16384)) }
+    ensures { IfOk result (λ r. (r.0 ≡ record { events = []; lost = 0 })
+        × (length r.1.items ≡ 16016) × (length r.2.items ≡ 16384)) }
 {
     let ring = Ring::new(alloc)?;
-    let input = vec![in alloc; 0u8; 16016]?;
-    let output = vec![in alloc; 0u8; 16384]?;
+    let input = vec![in alloc; 0u8; LONGEST_MESSAGE]?;
+    let output = vec![in alloc; 0u8; LONGEST_FRAME]?;
     Ok((ring, input, output))
 }

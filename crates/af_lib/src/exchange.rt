@@ -1,19 +1,20 @@
 // Sending a request, and taking its answer.
 ghost use Rattle.std.specs.Prelude.{◌≡◌, ◌≢◌, ◌≤◌, length, IfOk, Ok, Err, IsSome};
-ghost use Rattle.af_outside.specs.Told.{Rose};
-ghost use Rattle.af_outside.specs.Flow.{Written};
+ghost use Rattle.af_io.specs.Observed.{CountsFault};
+ghost use Rattle.af_io.specs.Flow.{Written};
 ghost use Rattle.af_wire.specs.Front.{setup_bytes};
-ghost use Rattle.af_request.specs.Asked.{meaning};
-ghost use Rattle.af_request.specs.Requests.{request_bytes, HasRoom};
+ghost use Rattle.af_request.specs.Asked.{request_meaning};
+ghost use Rattle.af_request.specs.Requests.{request_bytes, FitsFrame};
 ghost use Rattle.af_lib.specs.Answers.{answer_to, refused_in};
 ghost use Rattle.af_lib.specs.Calls.{cause_of, held_in, opcode_of, IsFresh, Sends};
 ghost use Rattle.af_lib.specs.Exchange.{Finds};
 ghost use Rattle.af_lib.specs.Ring.{Gained};
+ghost use Rattle.af_lib.specs.Observed.{OnlyRead};
 
 use crate::fault::{Cause, ConnFault};
 use crate::receive::{await_message, bad_reply};
 use crate::ring::Ring;
-use af_outside::{Link, Put};
+use af_io::{Link, Put};
 use af_request::{Request, write_request};
 use af_wire::SETUP;
 
@@ -32,7 +33,7 @@ pub fn cause_of<T>(answer: &Result<T, ConnFault>) -> Option<Cause>
 
 /// The opcode of a request.
 pub fn opcode_of(request: &Request<'_>) -> u8
-    ensures { result ≡ opcode_of (meaning request.now) }
+    ensures { result ≡ opcode_of (request_meaning request.now) }
 {
     match request {
         Request::NoOp => 1,
@@ -97,14 +98,12 @@ pub fn await_answer<L: Link>(
     sequence: u16,
 ) -> Result<usize, ConnFault>
     requires { 16016 ≤ length input.old }
-    ensures finds { result ≢ Err ConnFault.LinkFault → Finds opcode sequence result input.new ring.old ring.new (L.left link.old) (L.left link.new) }
+    ensures finds { result ≢ Err ConnFault.LinkFault →
+        Finds opcode sequence result input.new ring.old ring.new (L.left link.old) (L.left link.new) }
     ensures gained { Gained ring.old ring.new }
     ensures within { IfOk result (λ n. (8 ≤ n) × (n ≤ 16016)) }
     ensures fresh { IsFresh result }
-    ensures sends { L.sent link.new ≡ L.sent link.old }
-    ensures tells { IsSome (L.left link.old) → IsSome (L.left link.new) }
-    ensures count { L.faults link.old ≤ L.faults link.new }
-    ensures cause { result ≡ Err ConnFault.LinkFault → Rose (L.faults link.old) (L.faults link.new) }
+    ensures reads { OnlyRead L.left L.sent L.faults (result ≡ Err ConnFault.LinkFault) link.old link.new }
 {
     let length = await_message(link, input, ring)?;
     match answer_to(opcode, sequence, &input[..length]) {
@@ -115,13 +114,12 @@ pub fn await_answer<L: Link>(
 
 // Sends a request.
 fn send<L: Link>(link: &mut L, output: &mut [u8], request: &Request<'_>) -> Put
-    requires samples { HasRoom (meaning request.now) }
+    requires samples { FitsFrame (request_meaning request.now) }
     requires room { 16384 ≤ length output.old }
-    ensures written { Written result (L.sent link.old) (request_bytes (meaning request.now)) (L.sent link.new) }
+    ensures written { Written result (L.sent link.old) (request_bytes (request_meaning request.now)) (L.sent link.new) }
     ensures gives { L.left link.new ≡ L.left link.old }
     ensures tells { IsSome (L.left link.old) → IsSome (L.left link.new) }
-    ensures count { L.faults link.old ≤ L.faults link.new }
-    ensures cause { result ≡ Put.Failed → Rose (L.faults link.old) (L.faults link.new) }
+    ensures faults { CountsFault (result ≡ Put.Failed) (L.faults link.old) (L.faults link.new) }
 {
     let length = write_request(request, output);
     link.write(&output[..length])
@@ -137,16 +135,16 @@ pub fn ask<L: Link>(
     request: &Request<'_>,
     sequence: u16,
 ) -> Result<usize, ConnFault>
-    requires samples { HasRoom (meaning request.now) }
+    requires samples { FitsFrame (request_meaning request.now) }
     requires room { (16016 ≤ length input.old) × (16384 ≤ length output.old) }
-    ensures finds { result ≢ Err ConnFault.LinkFault → Finds (opcode_of (meaning request.now)) sequence result input.new ring.old ring.new (L.left link.old) (L.left link.new) }
+    ensures finds { result ≢ Err ConnFault.LinkFault →
+        Finds (opcode_of (request_meaning request.now)) sequence result input.new ring.old ring.new (L.left link.old) (L.left link.new) }
     ensures gained { Gained ring.old ring.new }
     ensures within { IfOk result (λ n. (8 ≤ n) × (n ≤ 16016)) }
     ensures fresh { IsFresh result }
-    ensures sends { Sends result (L.sent link.old) (request_bytes (meaning request.now)) (L.sent link.new) }
+    ensures sends { Sends result (L.sent link.old) (request_bytes (request_meaning request.now)) (L.sent link.new) }
     ensures tells { IsSome (L.left link.old) → IsSome (L.left link.new) }
-    ensures count { L.faults link.old ≤ L.faults link.new }
-    ensures cause { result ≡ Err ConnFault.LinkFault → Rose (L.faults link.old) (L.faults link.new) }
+    ensures faults { CountsFault (result ≡ Err ConnFault.LinkFault) (L.faults link.old) (L.faults link.new) }
 {
     match send(link, output, request) {
         Put::Done => await_answer(link, ring, input, opcode_of(request), sequence),
@@ -161,13 +159,13 @@ pub fn await_setup<L: Link>(
     input: &mut [u8],
 ) -> Result<usize, ConnFault>
     requires { 16016 ≤ length input.old }
-    ensures finds { result ≢ Err ConnFault.LinkFault → Finds 0 0 result input.new ring.old ring.new (L.left link.old) (L.left link.new) }
+    ensures finds { result ≢ Err ConnFault.LinkFault →
+        Finds 0 0 result input.new ring.old ring.new (L.left link.old) (L.left link.new) }
     ensures within { IfOk result (λ n. (8 ≤ n) × (n ≤ 16016)) }
     ensures fresh { IsFresh result }
     ensures sends { Sends result (L.sent link.old) setup_bytes (L.sent link.new) }
     ensures tells { IsSome (L.left link.old) → IsSome (L.left link.new) }
-    ensures count { L.faults link.old ≤ L.faults link.new }
-    ensures cause { result ≡ Err ConnFault.LinkFault → Rose (L.faults link.old) (L.faults link.new) }
+    ensures faults { CountsFault (result ≡ Err ConnFault.LinkFault) (L.faults link.old) (L.faults link.new) }
 {
     match link.write(&SETUP) {
         Put::Done => await_answer(link, ring, input, 0, 0),

@@ -1,5 +1,4 @@
 // Why a call of a client gives no answer.
-ghost use Rattle.std.specs.Prelude.{◌≡◌};
 
 use thiserror::Error;
 

@@ -9,22 +9,17 @@ ghost use Rattle.af_time.specs.declared.DevTime.{DevTime};
 ghost use Rattle.af_request.specs.declared.reply.Controls.{Controls};
 ghost use Rattle.af_request.specs.declared.reply.Phone.{Phone};
 ghost use Rattle.af_lib.specs.declared.fault.ConnFault.{ConnFault};
-ghost use Rattle.af_lib.specs.Calls.{as_controls, as_done, as_phone, as_recorded, as_time, Called, ConnState, Recorded, Succeeds};
+ghost use Rattle.af_lib.specs.Calls.{as_controls, as_done, as_phone, as_recorded, as_time, IsOkWhereAwaited};
 
-use af_outside::Link;
+use af_io::Link;
 
 /// With the awaited reply, and where the link's count of faults does not rise, each call of a connection is Ok.
 pub fn awaited_replies_are_ok<L: Link>()
-    ensures done { (asked : Asked) (old new : ConnState L) (answer : Result Unit ConnFault)
-        → Called L.left L.sent L.faults asked as_done old new answer → Succeeds L.left L.faults asked as_done old new answer }
-    ensures times { (asked : Asked) (old new : ConnState L) (answer : Result DevTime ConnFault)
-        → Called L.left L.sent L.faults asked as_time old new answer → Succeeds L.left L.faults asked as_time old new answer }
-    ensures controls { (asked : Asked) (old new : ConnState L) (answer : Result Controls ConnFault)
-        → Called L.left L.sent L.faults asked as_controls old new answer → Succeeds L.left L.faults asked as_controls old new answer }
-    ensures phones { (asked : Asked) (old new : ConnState L) (answer : Result Phone ConnFault)
-        → Called L.left L.sent L.faults asked as_phone old new answer → Succeeds L.left L.faults asked as_phone old new answer }
-    ensures records { (asked : Asked) (old new : ConnState L) (blocking : Bool) (room : ℕ) (answer : Result Recorded ConnFault)
-        → Called L.left L.sent L.faults asked (as_recorded blocking room) old new answer → Succeeds L.left L.faults asked (as_recorded blocking room) old new answer }
+    ensures done { IsOkWhereAwaited L.left L.sent L.faults as_done }
+    ensures times { IsOkWhereAwaited L.left L.sent L.faults as_time }
+    ensures controls { IsOkWhereAwaited L.left L.sent L.faults as_controls }
+    ensures phones { IsOkWhereAwaited L.left L.sent L.faults as_phone }
+    ensures records { (blocking : Bool) (room : ℕ) → IsOkWhereAwaited L.left L.sent L.faults (as_recorded blocking room) }
 {}
 
 /// A reply that is written is one message to a client, whatever follows it.

@@ -1,16 +1,14 @@
 // Receiving messages: bytes, one message, and the first message that is no event.
-ghost use Rattle.std.specs.Prelude.{◌≡◌, ◌≢◌, ◌≤◌, ◌<◌, ◌++◌, length, take, drop, IfOk, Ok, Err, IsSome};
-ghost use Rattle.af_outside.specs.Told.{Rose};
-ghost use Rattle.af_request.specs.Fields.{u8_at};
+ghost use Rattle.std.specs.Prelude.{◌≡◌, ◌≢◌, ◌≤◌, ◌<◌, length, IfOk, Ok, Err};
 ghost use Rattle.af_lib.specs.Incoming.{bad_reply, first_bytes, message_in, rest_of};
 ghost use Rattle.af_lib.specs.Calls.{event_of, event_only, IsFresh};
-ghost use Rattle.af_lib.specs.Told.{BothTold};
+ghost use Rattle.af_lib.specs.Observed.{BothTold, OnlyRead};
 ghost use Rattle.af_lib.specs.Ring.{Gained};
 ghost use Rattle.af_lib.specs.Receive.{Fills, Frames, Takes, Awaits, taken_as, taken_of, IsFramedWithin, IsTakenWithin};
 
 use crate::fault::ConnFault;
 use crate::ring::Ring;
-use af_outside::{Got, Link};
+use af_io::{Got, Link};
 use af_wire::{Event, MessageFront, message_at, read_event};
 
 // The most events that a client lets by while it awaits a message.
@@ -24,7 +22,7 @@ pub enum Filled {
     Failed,
 }
 
-/// How reading one message went: it has so many bytes, or its head is none.
+/// How reading one message went: it has n bytes, or its head is none.
 #[derive(Clone, Copy, Debug, PartialEq, Eq)]
 pub enum Framed {
     Message(usize),
@@ -33,7 +31,7 @@ pub enum Framed {
     Failed,
 }
 
-/// A message: an event, or another one of so many bytes.
+/// A message: an event, or another one of n bytes.
 #[derive(Clone, Copy, Debug, PartialEq, Eq)]
 pub enum Taken {
     Event(Event),
@@ -43,10 +41,7 @@ pub enum Taken {
 /// Reads until the slice is full.
 pub fn fill<L: Link>(link: &mut L, into: &mut [u8]) -> Filled
     ensures fills { Fills result into.new (L.left link.old) (L.left link.new) }
-    ensures sends { L.sent link.new ≡ L.sent link.old }
-    ensures tells { IsSome (L.left link.old) → IsSome (L.left link.new) }
-    ensures count { L.faults link.old ≤ L.faults link.new }
-    ensures cause { result ≡ Filled.Failed → Rose (L.faults link.old) (L.faults link.new) }
+    ensures reads { OnlyRead L.left L.sent L.faults (result ≡ Filled.Failed) link.old link.new }
 {
     let mut filled = 0;
     while filled < into.len() {
@@ -59,15 +54,12 @@ pub fn fill<L: Link>(link: &mut L, into: &mut [u8]) -> Filled
     Filled::Whole
 }
 
-/// Reads one message: a head, and where that is good the rest of its message.
+/// Reads one message: a head, and if that is good the rest of its message.
 pub fn frame<L: Link>(link: &mut L, input: &mut [u8]) -> Framed
     requires { 16016 ≤ length input.old }
     ensures frames { Frames result input.new (L.left link.old) (L.left link.new) }
     ensures within { IsFramedWithin result }
-    ensures sends { L.sent link.new ≡ L.sent link.old }
-    ensures tells { IsSome (L.left link.old) → IsSome (L.left link.new) }
-    ensures count { L.faults link.old ≤ L.faults link.new }
-    ensures cause { result ≡ Framed.Failed → Rose (L.faults link.old) (L.faults link.new) }
+    ensures reads { OnlyRead L.left L.sent L.faults (result ≡ Framed.Failed) link.old link.new }
 {
     match fill(link, &mut input[..8]) {
         Filled::Whole => {}
@@ -128,10 +120,7 @@ pub fn take_message<L: Link>(link: &mut L, input: &mut [u8]) -> Result<Taken, Co
     ensures takes { result ≢ Err ConnFault.LinkFault → Takes result input.new (L.left link.old) (L.left link.new) }
     ensures within { IsTakenWithin result 16016 }
     ensures fresh { IsFresh result }
-    ensures sends { L.sent link.new ≡ L.sent link.old }
-    ensures tells { IsSome (L.left link.old) → IsSome (L.left link.new) }
-    ensures count { L.faults link.old ≤ L.faults link.new }
-    ensures cause { result ≡ Err ConnFault.LinkFault → Rose (L.faults link.old) (L.faults link.new) }
+    ensures reads { OnlyRead L.left L.sent L.faults (result ≡ Err ConnFault.LinkFault) link.old link.new }
 {
     match frame(link, input) {
         Framed::Message(length) => message_in(&input[..length]),
@@ -149,14 +138,12 @@ pub fn await_message<L: Link>(
     ring: &mut Ring,
 ) -> Result<usize, ConnFault>
     requires { 16016 ≤ length input.old }
-    ensures awaits { result ≢ Err ConnFault.LinkFault → Awaits result input.new ring.old ring.new (L.left link.old) (L.left link.new) }
+    ensures awaits { result ≢ Err ConnFault.LinkFault →
+        Awaits result input.new ring.old ring.new (L.left link.old) (L.left link.new) }
     ensures gained { Gained ring.old ring.new }
     ensures within { IfOk result (λ n. (8 ≤ n) × (n ≤ 16016)) }
     ensures fresh { IsFresh result }
-    ensures sends { L.sent link.new ≡ L.sent link.old }
-    ensures tells { IsSome (L.left link.old) → IsSome (L.left link.new) }
-    ensures count { L.faults link.old ≤ L.faults link.new }
-    ensures cause { result ≡ Err ConnFault.LinkFault → Rose (L.faults link.old) (L.faults link.new) }
+    ensures reads { OnlyRead L.left L.sent L.faults (result ≡ Err ConnFault.LinkFault) link.old link.new }
 {
     let mut allowed = MOST_EVENTS;
     while allowed > 0 {
@@ -172,12 +159,10 @@ pub fn await_message<L: Link>(
 /// Takes one message, which is to be an event.
 pub fn take_event<L: Link>(link: &mut L, input: &mut [u8]) -> Result<Event, ConnFault>
     requires { 16016 ≤ length input.old }
-    ensures takes { result ≢ Err ConnFault.LinkFault → BothTold (L.left link.old) (L.left link.new) (λ b a. (result ≡ event_of b) × (a ≡ rest_of b)) }
+    ensures takes { result ≢ Err ConnFault.LinkFault →
+        BothTold (L.left link.old) (L.left link.new) (λ b a. (result ≡ event_of b) × (a ≡ rest_of b)) }
     ensures fresh { IsFresh result }
-    ensures sends { L.sent link.new ≡ L.sent link.old }
-    ensures tells { IsSome (L.left link.old) → IsSome (L.left link.new) }
-    ensures count { L.faults link.old ≤ L.faults link.new }
-    ensures cause { result ≡ Err ConnFault.LinkFault → Rose (L.faults link.old) (L.faults link.new) }
+    ensures reads { OnlyRead L.left L.sent L.faults (result ≡ Err ConnFault.LinkFault) link.old link.new }
 {
     match take_message(link, input) {
         Ok(taken) => event_in(taken, input),

@@ -39,7 +39,7 @@ impl Ring {
         Ok(Ring { events, lost: 0 })
     }
 
-    /// An event more. Where there is no room, the oldest is lost.
+    /// An event more. If there is no room, the oldest is lost.
     pub fn note(&mut self, event: Event)
         ensures { self.new ≡ noted event self.old }
     {
@@ -50,7 +50,7 @@ impl Ring {
     }
 
     /// Takes the oldest event.
-    #[tactic(auto, using(crate::proofs::Rings::none_taken))]
+    #[tactic(auto, using(crate::proofs::EventRingLemmas::none_taken))]
     pub fn take(&mut self) -> Option<Event>
         ensures value { result ≡ slice_get self.old.events 0 }
         ensures rest { self.new ≡ record self.old { events = drop 1 self.old.events } }

@@ -1,3 +1,3 @@
 pub mod LineByLine
-pub mod Texts
-pub mod Rates
+pub mod Utf8Lemmas
+pub mod ListedRateLemmas

@@ -3,7 +3,8 @@ pub mod Configuration
 pub mod Kept
 pub mod Reading
 pub mod Pacing
-pub mod Holding
+pub mod LinkTable
 pub mod Rounds
 pub mod Silence
 pub mod RealWorld
+pub mod Counting

@@ -11,9 +11,9 @@ use Rattle.af_outside.specs.declared.live.Ready.{Ready}
 use Rattle.af_outside.specs.declared.live.Ready.TheVariants as ready
 use Rattle.af_outside.specs.declared.live.Waited.{Waited}
 use Rattle.af_outside.specs.declared.live.Waited.TheVariants as answer
-use Rattle.af_live.specs.declared.held.Held.{Held}
+use Rattle.af_live.specs.declared.link_table.LinkEntry.{LinkEntry}
 use Rattle.af_live.specs.declared.round.Round.{Round}
-use Rattle.af_live.specs.Holding.{free, LinkWakeFits, GivesFirst}
+use Rattle.af_live.specs.LinkTable.{free_entry, LinkWakeFits, GivesFirst}
 use Rattle.af_live.specs.Silence.{none_silent}
 use Rattle.af_live.specs.Rounds.{new_round, is_paced, round_begun, GoesOn}
 
@@ -21,7 +21,7 @@ use Rattle.af_live.specs.Rounds.{new_round, is_paced, round_begun, GoesOn}
 -- call has failed.
 pub record RealState : Type 0 where
   pub listens : Bool
-  pub links : List (Option Held)
+  pub links : List (Option LinkEntry)
   pub silent : List (Option SampleType)
   pub round : Round
   pub link_faults : ℕ
@@ -31,7 +31,7 @@ pub record RealState : Type 0 where
 
 -- it was just made
 abbrev pub begun_world : RealState
-begun_world = record { listens = false; links = replicate 32 free; silent = none_silent; round = new_round; link_faults = 0; device_faults = 0; listen_faults = 0; wait_faults = 0 }
+begun_world = record { listens = false; links = replicate 32 free_entry; silent = none_silent; round = new_round; link_faults = 0; device_faults = 0; listen_faults = 0; wait_faults = 0 }
 
 -- what the server's calls leave alone, and the counts that they may raise
 pub record RealLeadsTo (old new : RealState) : Type 0 where
@@ -58,12 +58,12 @@ RealLeadsTo-trans a b c p q = record {
 }
 
 -- A wake opens a link that is not open, names one that is, or ticks a device that is attached by 1 to 4096 frames.
-abbrev pub WakeFits : List (Option Held) → Round → Wake → Type 0
+abbrev pub WakeFits : List (Option LinkEntry) → Round → Wake → Type 0
 WakeFits links round (wake.Ticked d n) = (is_paced round d ≡ true) × (1 ≤ n) × (n ≤ 4096)
 WakeFits links round w = LinkWakeFits links w
 
 -- What is ready first is given, and the round stays where it is.
-abbrev pub GivesKept : Option Wake → List (Option Held) → Round → List (Option Held) → Round → Type 0
+abbrev pub GivesKept : Option Wake → List (Option LinkEntry) → Round → List (Option LinkEntry) → Round → Type 0
 GivesKept None links round links' round' = ⊥
 GivesKept (Some w) links round links' round' = GivesFirst links (Some w) links' × (round' ≡ round)
 

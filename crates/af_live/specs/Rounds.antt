@@ -9,7 +9,7 @@ use Rattle.af_live.specs.declared.round.Round.{Round}
 abbrev pub new_round : Round
 new_round = record { paces = replicate 8 None; next = 0; ticked = false }
 
--- the pace of a device, where it is attached
+-- the pace of a device, if it is attached
 abbrev pub pace_at : Round → ℕ → Option PaceState
 pace_at r d = slice_index_or r.paces d None
 
@@ -22,9 +22,9 @@ abbrev pub round_with : Round → ℕ → PaceState → Round
 round_with r d pace = record r { paces = slice_set r.paces d (Some pace) }
 
 -- the round behind an attach: where that was done, the device goes on at this rate
-abbrev pub round_behind : Ready → Round → ℕ → ℕ → Round
-round_behind ready.Done r d rate = round_with r d (begun rate)
-round_behind _ r d rate = r
+abbrev pub round_after : Ready → Round → ℕ → ℕ → Round
+round_after ready.Done r d rate = round_with r d (begun rate)
+round_after _ r d rate = r
 
 -- a new round begins
 abbrev pub round_begun : Round → Round
@@ -40,7 +40,7 @@ abbrev pub read_at : ℕ → Option PaceState → Option PaceState
 read_at nanos = option_map (λ pace. after_due pace nanos)
 
 -- of the devices between two each was asked, and no other
-pub record Asked (nanos from to : ℕ) (old new : List (Option PaceState)) : Type 0 where
+pub record PacesAsked (nanos from to : ℕ) (old new : List (Option PaceState)) : Type 0 where
   pub inside : (d : ℕ) → d < to → from ≤ d → slice_index_or new d None ≡ read_at nanos (slice_index_or old d None)
   pub below : (d : ℕ) → d < from → slice_index_or new d None ≡ slice_index_or old d None
   pub above : (d : ℕ) → to ≤ d → slice_index_or new d None ≡ slice_index_or old d None
@@ -54,22 +54,22 @@ pub record PassesOver (nanos to : ℕ) (old new : Round) : Type 0 where
   pub next : new.next ≡ to
   pub on : old.next ≤ to
   pub none : NoneDue nanos old.next to old.paces
-  pub asked : Asked nanos old.next to old.paces new.paces
+  pub asked : PacesAsked nanos old.next to old.paces new.paces
   pub same : new.ticked ≡ old.ticked
 
 -- the round passes over those before a device of which frames are due, at most 4096 of them, and this one ticks
-pub record Ticks (nanos d n : ℕ) (old new : Round) : Type 0 where
+pub record RoundTicks (nanos d n : ℕ) (old new : Round) : Type 0 where
   pub device : d < 8
   pub on : old.next ≤ d
   pub none : NoneDue nanos old.next d old.paces
   pub frames : n ≡ due_of nanos (pace_at old d)
   pub some : 1 ≤ n
   pub most : n ≤ 4096
-  pub asked : Asked nanos old.next (d + 1) old.paces new.paces
+  pub asked : PacesAsked nanos old.next (d + 1) old.paces new.paces
   pub next : new.next ≡ d + 1
   pub ticked : new.ticked ≡ true
 
 -- The round goes on by rising number to the next device of which a frame is due, or past the last.
 abbrev pub GoesOn : ℕ → Round → Option (ℕ × ℕ) → Round → Type 0
 GoesOn nanos old None new = PassesOver nanos new.next old new × (8 ≤ new.next)
-GoesOn nanos old (Some (d, n)) new = Ticks nanos d n old new
+GoesOn nanos old (Some (d, n)) new = RoundTicks nanos d n old new

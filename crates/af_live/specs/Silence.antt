@@ -3,8 +3,8 @@ use Rattle.std.specs.Prelude.{◌≡◌, ℕ, Bool, true, false, List, length, r
 use Rattle.std.specs.declared.option.Option.{Option}
 use Rattle.std.specs.declared.option.Option.TheVariants.{None, Some}
 use Rattle.af_sample.specs.declared.sample_type.SampleType.{SampleType}
-use Rattle.af_outside.specs.declared.flow.Put.{Put}
-use Rattle.af_outside.specs.declared.flow.Put.TheVariants as put
+use Rattle.af_io.specs.declared.flow.Put.{Put}
+use Rattle.af_io.specs.declared.flow.Put.TheVariants as put
 use Rattle.af_outside.specs.declared.live.Ready.{Ready}
 use Rattle.af_outside.specs.declared.live.Ready.TheVariants as ready
 use Rattle.af_outside.specs.declared.live.Kind.{Kind}

@@ -13,12 +13,12 @@ pub record Settings : Type 0 where
   pub kinds : List Backing
 
 -- a device, and what stands behind it
-pub record Placed : Type 0 where
+pub record Configured : Type 0 where
   pub spec : DeviceSpec
   pub kind : Backing
 
 -- how a device line ends: whether it states a telephone line, and what stands behind the device
-pub record Ending : Type 0 where
+pub record EndingState : Type 0 where
   pub line : Bool
   pub kind : Backing
 
@@ -33,39 +33,39 @@ files_of (input ∷ output ∷ []) = Some (two_files input output)
 files_of _ = None
 
 -- `silent`, or `files INPUT OUTPUT`
-abbrev pub kind_of : List (List ℕ) → Option Backing
-kind_of [] = None
-kind_of (word ∷ names) =
+abbrev pub backing_stated : List (List ℕ) → Option Backing
+backing_stated [] = None
+backing_stated (word ∷ names) =
     if bytes_eq word (codes "silent") then silent_of names
     else if bytes_eq word (codes "files") then files_of names
     else None
 
 -- with a telephone line, or with none
-abbrev pub ending_with : Bool → Backing → Ending
+abbrev pub ending_with : Bool → Backing → EndingState
 ending_with line kind = record { line = line; kind = kind }
 
 -- `KIND`, or `line KIND`
-abbrev pub ending_of : List (List ℕ) → Option Ending
+abbrev pub ending_of : List (List ℕ) → Option EndingState
 ending_of [] = None
 ending_of (word ∷ rest) =
-    if bytes_eq word (codes "line") then option_map (ending_with true) (kind_of rest)
-    else option_map (ending_with false) (kind_of (word ∷ rest))
+    if bytes_eq word (codes "line") then option_map (ending_with true) (backing_stated rest)
+    else option_map (ending_with false) (backing_stated (word ∷ rest))
 
 -- a device of this type and rate, whose time begins here
-abbrev pub device_at : SampleType → ℕ → ℕ → DeviceSpec
-device_at ty rate start = record { ty = ty; rate = rate; start = start; line = false }
+abbrev pub configured_at : SampleType → ℕ → ℕ → DeviceSpec
+configured_at ty rate start = record { ty = ty; rate = rate; start = start; line = false }
 
 -- a device that ends so
-abbrev pub placed_at : DeviceSpec → Ending → Placed
+abbrev pub placed_at : DeviceSpec → EndingState → Configured
 placed_at device ending = record { spec = record device { line = ending.line }; kind = ending.kind }
 
 -- the device of `device TYPE RATE START KIND`, or of `device TYPE RATE START line KIND`, by the words behind `device`
-abbrev pub device_with : List (List ℕ) → Option Placed
-device_with (ty ∷ rate ∷ start ∷ ending) =
-    option_and_then (λ t. option_and_then (λ r. option_and_then (λ s. option_map (placed_at (device_at t r s)) (ending_of ending)) (number_within 0 (2 ^ 32 - 1) start)) (rate_of rate)) (type_of ty)
-device_with _ = None
+abbrev pub configured_with : List (List ℕ) → Option Configured
+configured_with (ty ∷ rate ∷ start ∷ ending) =
+    option_and_then (λ t. option_and_then (λ r. option_and_then (λ s. option_map (placed_at (configured_at t r s)) (ending_of ending)) (number_within 0 (2 ^ 32 - 1) start)) (rate_of rate)) (type_of ty)
+configured_with _ = None
 
 -- the device that the words of a line state
-abbrev pub device_of : List (List ℕ) → Option Placed
-device_of [] = None
-device_of (name ∷ arguments) = if bytes_eq name (codes "device") then device_with arguments else None
+abbrev pub configured_of : List (List ℕ) → Option Configured
+configured_of [] = None
+configured_of (name ∷ arguments) = if bytes_eq name (codes "device") then configured_with arguments else None

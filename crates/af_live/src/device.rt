@@ -3,8 +3,8 @@ ghost use Rattle.std.specs.Prelude.{◌≡◌, IfOk, IfSome, MatchOption, None, 
 ghost use Rattle.std.specs.Str.{IsUtf8, is_utf8};
 ghost use Rattle.af_sample.specs.Rates.{IsListedRate};
 ghost use Rattle.af_text.specs.Lines.{words};
-ghost use Rattle.af_live.specs.Stating.{device_of, device_with, placed_at, ending_of, kind_of, silent_of, files_of};
-ghost use Rattle.af_live.specs.Kept.{placed, backing, ending};
+ghost use Rattle.af_live.specs.Stating.{configured_of, configured_with, placed_at, ending_of, backing_stated, silent_of, files_of};
+ghost use Rattle.af_live.specs.Kept.{placed, backing, stated_ending};
 
 use af_outside::DeviceSpec;
 use af_text::{is_word, listed_rate, next_word, number_between, sample_type, two_words};
@@ -14,29 +14,29 @@ use std::str;
 
 /// What stands behind a device.
 #[derive(Drop)]
-pub enum HeldKind {
+pub enum OwnedKind {
     Silent,
     Files { input: String, output: String },
 }
 
 /// A device of a configuration.
 #[derive(Drop)]
-pub struct Device {
+pub struct ConfiguredDevice {
     pub spec: DeviceSpec,
-    pub kind: HeldKind,
+    pub kind: OwnedKind,
 }
 
 /// How a device line ends: whether it states a telephone line, and what stands behind the device.
 #[derive(Drop)]
 struct Ending {
     line: bool,
-    kind: HeldKind,
+    kind: OwnedKind,
 }
 
 /// The device that a line of text states.
-pub fn device_stated(alloc: Global, line: &[u8]) -> Result<Option<Device>, OutOfMemory>
+pub fn device_stated(alloc: Global, line: &[u8]) -> Result<Option<ConfiguredDevice>, OutOfMemory>
     requires { IsUtf8 line.now }
-    ensures value { IfOk result (λ device. option_map placed device ≡ device_of (words line.now)) }
+    ensures value { IfOk result (λ device. option_map placed device ≡ configured_of (words line.now)) }
     ensures listed { IfOk result (λ device. IfSome device (λ d. IsListedRate d.spec.rate)) }
 {
     let Some((name, arguments)) = next_word(line) else {
@@ -48,7 +48,7 @@ pub fn device_stated(alloc: Global, line: &[u8]) -> Result<Option<Device>, OutOf
     let Some((spec, rest)) = front_stated(arguments) else {
         return Ok(None);
     };
-    Ok(ending_stated(alloc, rest)?.map(|ending| Device {
+    Ok(ending_stated(alloc, rest)?.map(|ending| ConfiguredDevice {
         spec: DeviceSpec {
             line: ending.line,
             ..spec
@@ -59,7 +59,8 @@ pub fn device_stated(alloc: Global, line: &[u8]) -> Result<Option<Device>, OutOf
 
 /// The device of `TYPE RATE START`, with no telephone line, and what comes behind these words.
 fn front_stated(arguments: &[u8]) -> Option<(DeviceSpec, &[u8])>
-    ensures value { MatchOption result (device_with (words arguments.now) ≡ None) (λ found. device_with (words arguments.now) ≡ option_map (placed_at found.0) (ending_of (words found.1.now))) }
+    ensures value { MatchOption result (configured_with (words arguments.now) ≡ None)
+        (λ found. configured_with (words arguments.now) ≡ option_map (placed_at found.0) (ending_of (words found.1.now))) }
     ensures listed { IfSome result (λ found. IsListedRate found.0.rate) }
     ensures text { IsUtf8 arguments.now → IfSome result (λ found. IsUtf8 found.1.now) }
 {
@@ -78,7 +79,7 @@ fn front_stated(arguments: &[u8]) -> Option<(DeviceSpec, &[u8])>
 /// `KIND`, or `line KIND`
 fn ending_stated(alloc: Global, arguments: &[u8]) -> Result<Option<Ending>, OutOfMemory>
     requires { IsUtf8 arguments.now }
-    ensures { IfOk result (λ stated. option_map ending stated ≡ ending_of (words arguments.now)) }
+    ensures { IfOk result (λ stated. option_map stated_ending stated ≡ ending_of (words arguments.now)) }
 {
     let Some((word, rest)) = next_word(arguments) else {
         return Ok(None);
@@ -91,9 +92,9 @@ fn ending_stated(alloc: Global, arguments: &[u8]) -> Result<Option<Ending>, OutO
 }
 
 /// `silent`, or `files INPUT OUTPUT`
-fn kind_stated(alloc: Global, arguments: &[u8]) -> Result<Option<HeldKind>, OutOfMemory>
+fn kind_stated(alloc: Global, arguments: &[u8]) -> Result<Option<OwnedKind>, OutOfMemory>
     requires { IsUtf8 arguments.now }
-    ensures { IfOk result (λ kind. option_map backing kind ≡ kind_of (words arguments.now)) }
+    ensures { IfOk result (λ kind. option_map backing kind ≡ backing_stated (words arguments.now)) }
 {
     let Some((word, names)) = next_word(arguments) else {
         return Ok(None);
@@ -108,22 +109,22 @@ fn kind_stated(alloc: Global, arguments: &[u8]) -> Result<Option<HeldKind>, OutO
 }
 
 /// No words, behind `silent`.
-fn silent_stated(names: &[u8]) -> Option<HeldKind>
+fn silent_stated(names: &[u8]) -> Option<OwnedKind>
     ensures { option_map backing result ≡ silent_of (words names.now) }
 {
     match next_word(names) {
-        None => Some(HeldKind::Silent),
+        None => Some(OwnedKind::Silent),
         Some(_) => None,
     }
 }
 
 /// `INPUT OUTPUT`, behind `files`.
-fn files_stated(alloc: Global, names: &[u8]) -> Result<Option<HeldKind>, OutOfMemory>
+fn files_stated(alloc: Global, names: &[u8]) -> Result<Option<OwnedKind>, OutOfMemory>
     requires { IsUtf8 names.now }
     ensures { IfOk result (λ kind. option_map backing kind ≡ files_of (words names.now)) }
 {
     match two_words(names) {
-        Some((input, output)) => Ok(Some(HeldKind::Files {
+        Some((input, output)) => Ok(Some(OwnedKind::Files {
             input: name(alloc, input)?,
             output: name(alloc, output)?,
         })),

@@ -4,7 +4,8 @@
 
 mod device;
 mod fault;
-mod held;
+mod file_device;
+mod link_table;
 mod links;
 mod mio_world;
 mod pace;
@@ -13,7 +14,6 @@ mod round;
 mod setting;
 mod silence;
 mod sockets;
-mod station;
 
 pub use fault::ConfigFault;
 pub use mio_world::MioWorld;

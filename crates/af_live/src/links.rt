@@ -1,9 +1,9 @@
 // The calls of a world on its links.
 ghost use Rattle.std.specs.Prelude.{◌≡◌, length, is_some, true};
-ghost use Rattle.af_outside.specs.World.{GotFits, TookFits};
-ghost use Rattle.af_live.specs.Holding.{is_free, link_at, BehindRead, BehindWrite, KeepsOpen, ClosesOne};
+ghost use Rattle.af_outside.specs.World.{LinkGotFits, TookFits};
+ghost use Rattle.af_live.specs.LinkTable.{is_free, link_at, AfterRead, AfterWrite, KeepsOpen, ClosesOne};
 
-use crate::held::{Held, held_at, let_go};
+use crate::link_table::{LinkEntry, free_number, held_at};
 use crate::sockets::Sockets;
 use af_outside::{LinkGot, LinkTook};
 use std::io::ErrorKind;
@@ -12,14 +12,14 @@ use std::io::ErrorKind;
 /// ready.
 pub(crate) fn read_link(
     sockets: &mut Option<Sockets>,
-    links: &mut [Option<Held>],
+    links: &mut [Option<LinkEntry>],
     link: u8,
     into: &mut [u8],
 ) -> LinkGot
-    ensures bound { GotFits result (length into.new) }
+    ensures bound { LinkGotFits result (length into.new) }
     ensures open { KeepsOpen links.old links.new }
     ensures unheld { is_free (link_at links.old link) ≡ true → result ≡ LinkGot.Failed }
-    ensures behind { BehindRead link result links.old links.new }
+    ensures behind { AfterRead link result links.old links.new }
     ensures listens { is_some sockets.new ≡ is_some sockets.old }
 {
     let (Some(sockets), Some(held)) = (sockets, held_at(links, link)) else {
@@ -31,7 +31,7 @@ pub(crate) fn read_link(
         Err(e) => match e.kind() {
             ErrorKind::WouldBlock => LinkGot::NotYet,
             ErrorKind::Interrupted => {
-                links[link as usize] = Some(Held {
+                links[link as usize] = Some(LinkEntry {
                     readable: true,
                     ..held
                 });
@@ -45,14 +45,14 @@ pub(crate) fn read_link(
 /// Offers a piece to a link. A write that was interrupted took nothing, and is to be made again: the link stays ready.
 pub(crate) fn write_link(
     sockets: &mut Option<Sockets>,
-    links: &mut [Option<Held>],
+    links: &mut [Option<LinkEntry>],
     link: u8,
     piece: &[u8],
 ) -> LinkTook
     ensures bound { TookFits result (length piece.now) }
     ensures open { KeepsOpen links.old links.new }
     ensures unheld { is_free (link_at links.old link) ≡ true → result ≡ LinkTook.Failed }
-    ensures behind { BehindWrite link result links.old links.new }
+    ensures behind { AfterWrite link result links.old links.new }
     ensures listens { is_some sockets.new ≡ is_some sockets.old }
 {
     let (Some(sockets), Some(held)) = (sockets, held_at(links, link)) else {
@@ -64,7 +64,7 @@ pub(crate) fn write_link(
         Err(e) => match e.kind() {
             ErrorKind::WouldBlock => LinkTook::Took(0),
             ErrorKind::Interrupted => {
-                links[link as usize] = Some(Held {
+                links[link as usize] = Some(LinkEntry {
                     writable: true,
                     ..held
                 });
@@ -76,12 +76,12 @@ pub(crate) fn write_link(
 }
 
 /// Closes a link, whose number is free then. One that is not held stays so.
-pub(crate) fn close_link(sockets: &mut Option<Sockets>, links: &mut [Option<Held>], link: u8)
+pub(crate) fn close_link(sockets: &mut Option<Sockets>, links: &mut [Option<LinkEntry>], link: u8)
     ensures closes { ClosesOne link links.old links.new }
     ensures listens { is_some sockets.new ≡ is_some sockets.old }
 {
     if let (Some(sockets), Some(held)) = (sockets, held_at(links, link)) {
         sockets.close(held.key);
     }
-    let_go(links, link);
+    free_number(links, link);
 }

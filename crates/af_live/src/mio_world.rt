@@ -1,23 +1,26 @@
 // The real outside of a server: sockets, the clock of the system, and devices that are silent or stand over files.
+// How it lies: `links` has a place for each of 32 numbers: the key of the link's stream, and what is ready of it and was not
+// given yet. The streams lie under these keys in the slab of `sockets`, beside the poll and the listener. Of each of 8 devices
+// `round` has the pace, and either `silent` its sample type or `file_devices` its two files. Faults of links, devices, listens and
+// waits are counted apart. Contracts see these tables and counts; of the sockets only whether there are any.
 ghost use Rattle.std.specs.Prelude.{◌≡◌, ◌≢◌, ◌≤◌, ◌<◌, ℕ, length, not, true, false, is_some, IfSome, MatchOption};
 ghost use Rattle.std.specs.declared.option.Option.TheVariants.{None};
-ghost use Rattle.af_outside.specs.Told.{Rose};
-ghost use Rattle.af_outside.specs.Memory.{counted};
-ghost use Rattle.af_outside.specs.World.{GotFits, TookFits};
-ghost use Rattle.af_live.specs.Holding.{is_free, link_at, something_ready, BehindRead, BehindWrite, KeepsOpen, ClosesOne, LinkWakeFits, Opens};
-ghost use Rattle.af_outside.specs.Outer.{refused};
-ghost use Rattle.af_outside.specs.Tape.{faults_after};
+ghost use Rattle.af_io.specs.Observed.{FaultCounted};
+ghost use Rattle.af_outside.specs.World.{LinkGotFits, TookFits};
+ghost use Rattle.af_live.specs.LinkTable.{is_free, link_at, something_ready, AfterRead, AfterWrite, KeepsOpen, ClosesOne, LinkWakeFits, Opens};
+ghost use Rattle.af_live.specs.Counting.{CountsOne, CountsStand};
 ghost use Rattle.af_live.specs.Silence.{silent_at, silent_behind, CapturesAs, EmitsAs};
-ghost use Rattle.af_live.specs.Rounds.{is_paced, round_begun, round_behind};
+ghost use Rattle.af_live.specs.Rounds.{is_paced, round_begun, round_after};
 ghost use Rattle.af_live.specs.RealWorld.{RealLeadsTo, begun_world, given, listens_behind, GivesKept, LeadsRound, WakeFits};
 
-use crate::held::{Held, take_ready};
+use crate::file_device::{FileDevice, FileDevices};
+use crate::link_table::{LinkEntry, take_ready};
 use crate::links::{close_link, read_link, write_link};
 use crate::round::Round;
 use crate::silence::{capture_silence, silence, silent_at};
 use crate::sockets::Sockets;
-use crate::station::{Station, Stations};
-use af_outside::{DeviceSpec, Kind, LinkGot, LinkTook, Live, Put, Ready, Waited, Wake, Why, World};
+use af_io::Put;
+use af_outside::{DeviceSpec, Kind, LinkGot, LinkTook, Live, Ready, Waited, Wake, Why, World};
 use af_sample::SampleType;
 use std::alloc::Global;
 use std::io::{self, ErrorKind};
@@ -40,9 +43,9 @@ const LONGEST_PAUSE_MILLIS: u64 = 10;
 pub struct MioWorld<R: Net + Clock + Files + Drop> {
     rt: R,
     sockets: Option<Sockets>,
-    links: [Option<Held>; 32],
+    links: [Option<LinkEntry>; 32],
     silent: [Option<SampleType>; 8],
-    stations: Option<Stations<R::File>>,
+    file_devices: Option<FileDevices<R::File>>,
     round: Round,
     link_faults: u64,
     device_faults: u64,
@@ -78,7 +81,7 @@ impl<R: Net + Clock + Files + Drop> MioWorld<R> {
             sockets: None,
             links: [None; 32],
             silent: [None; 8],
-            stations: None,
+            file_devices: None,
             round: Round::new(),
             link_faults: 0,
             device_faults: 0,
@@ -111,14 +114,12 @@ impl<R: Net + Clock + Files + Drop> World for MioWorld<R> {
 
     fn read(&mut self, link: u8, into: &mut [u8]) -> LinkGot
         requires { length into.old ≡ 16384 }
-        ensures bound { GotFits result (length into.new) }
-        ensures cause { result ≡ LinkGot.Failed → Rose self.old.link_faults self.new.link_faults }
+        ensures bound { LinkGotFits result (length into.new) }
+        ensures faults { CountsOne (result ≡ LinkGot.Failed) self.old.link_faults self.new.link_faults }
         ensures leads { RealLeadsTo self.old self.new }
-        ensures fault { result ≡ LinkGot.Failed → self.new.link_faults ≡ counted self.old.link_faults }
-        ensures no_fault { result ≢ LinkGot.Failed → self.new.link_faults ≡ self.old.link_faults }
         ensures open { KeepsOpen self.old.links self.new.links }
         ensures unheld { is_free (link_at self.old.links link) ≡ true → result ≡ LinkGot.Failed }
-        ensures behind { BehindRead link result self.old.links self.new.links }
+        ensures behind { AfterRead link result self.old.links self.new.links }
         ensures rest { self.new ≡ record self.old { links = self.new.links; link_faults = self.new.link_faults } }
     {
         let got = read_link(&mut self.sockets, &mut self.links, link, into);
@@ -132,13 +133,11 @@ impl<R: Net + Clock + Files + Drop> World for MioWorld<R> {
         requires some { 0 < length piece.now }
         requires bound { length piece.now ≤ 65536 }
         ensures bound { TookFits result (length piece.now) }
-        ensures cause { result ≡ LinkTook.Failed → Rose self.old.link_faults self.new.link_faults }
+        ensures faults { CountsOne (result ≡ LinkTook.Failed) self.old.link_faults self.new.link_faults }
         ensures leads { RealLeadsTo self.old self.new }
-        ensures fault { result ≡ LinkTook.Failed → self.new.link_faults ≡ counted self.old.link_faults }
-        ensures no_fault { result ≢ LinkTook.Failed → self.new.link_faults ≡ self.old.link_faults }
         ensures open { KeepsOpen self.old.links self.new.links }
         ensures unheld { is_free (link_at self.old.links link) ≡ true → result ≡ LinkTook.Failed }
-        ensures behind { BehindWrite link result self.old.links self.new.links }
+        ensures behind { AfterWrite link result self.old.links self.new.links }
         ensures rest { self.new ≡ record self.old { links = self.new.links; link_faults = self.new.link_faults } }
     {
         let took = write_link(&mut self.sockets, &mut self.links, link, piece);
@@ -158,18 +157,16 @@ impl<R: Net + Clock + Files + Drop> World for MioWorld<R> {
 
     fn capture(&mut self, device: u8, _frames: u32, into: &mut [u8]) -> Put
         requires { 0 < length into.old }
-        ensures cause { result ≡ Put.Failed → Rose self.old.device_faults self.new.device_faults }
+        ensures faults { CountsOne (result ≡ Put.Failed) self.old.device_faults self.new.device_faults }
         ensures leads { RealLeadsTo self.old self.new }
-        ensures fault { result ≡ Put.Failed → self.new.device_faults ≡ counted self.old.device_faults }
         ensures silence { CapturesAs (silent_at self.old.silent device) result into.new }
         ensures rest { self.new ≡ record self.old { device_faults = self.new.device_faults } }
-        ensures no_fault { result ≡ Put.Done → self.new.device_faults ≡ self.old.device_faults }
     {
         if capture_silence(&self.silent, device, into) {
             return Put::Done;
         }
-        let put = match &mut self.stations {
-            Some(stations) => stations.capture(device, into),
+        let put = match &mut self.file_devices {
+            Some(file_devices) => file_devices.capture(device, into),
             None => Put::Failed,
         };
         if put == Put::Failed {
@@ -180,18 +177,16 @@ impl<R: Net + Clock + Files + Drop> World for MioWorld<R> {
 
     fn emit(&mut self, device: u8, sound: &[u8]) -> Put
         requires { 0 < length sound.now }
-        ensures cause { result ≡ Put.Failed → Rose self.old.device_faults self.new.device_faults }
+        ensures faults { CountsOne (result ≡ Put.Failed) self.old.device_faults self.new.device_faults }
         ensures leads { RealLeadsTo self.old self.new }
-        ensures fault { result ≡ Put.Failed → self.new.device_faults ≡ counted self.old.device_faults }
         ensures silence { EmitsAs (silent_at self.old.silent device) result }
         ensures rest { self.new ≡ record self.old { device_faults = self.new.device_faults } }
-        ensures no_fault { result ≡ Put.Done → self.new.device_faults ≡ self.old.device_faults }
     {
         if silent_at(&self.silent, device).is_some() {
             return Put::Done;
         }
-        let put = match &mut self.stations {
-            Some(stations) => stations.emit(device, sound),
+        let put = match &mut self.file_devices {
+            Some(file_devices) => file_devices.emit(device, sound),
             None => Put::Failed,
         };
         if put == Put::Failed {
@@ -201,7 +196,7 @@ impl<R: Net + Clock + Files + Drop> World for MioWorld<R> {
     }
 
     fn hook(&mut self, _device: u8, _off: bool) -> Put
-        ensures cause { result ≡ Put.Failed → Rose self.old.device_faults self.new.device_faults }
+        ensures cause { result ≡ Put.Failed → FaultCounted self.old.device_faults self.new.device_faults }
         ensures leads { RealLeadsTo self.old self.new }
         ensures done { result ≡ Put.Done }
         ensures same { self.new ≡ self.old }
@@ -226,15 +221,11 @@ impl<R: Net + Clock + Files + Drop> Live for MioWorld<R> {
     ghost tells_both = { λ _ told. told };
 
     fn listen(&mut self, alloc: Global, address: &str) -> Ready
-        ensures cause { result ≡ Ready.Failed → Rose self.old.listen_faults self.new.listen_faults }
-        ensures listen_count { self.old.listen_faults ≤ self.new.listen_faults }
+        ensures faults { CountsOne (result ≡ Ready.Failed) self.old.listen_faults self.new.listen_faults }
         ensures listens { self.new.listens ≡ listens_behind result self.old.listens }
         ensures again { self.old.listens ≡ true → result ≡ Ready.Failed }
-        ensures fault { self.new.listen_faults ≡ faults_after self.old.listen_faults (refused result) }
         ensures rest { self.new ≡ record self.old { listens = self.new.listens; listen_faults = self.new.listen_faults } }
-        ensures link_count { self.old.link_faults ≤ self.new.link_faults }
-        ensures device_count { self.old.device_faults ≤ self.new.device_faults }
-        ensures wait_count { self.old.wait_faults ≤ self.new.wait_faults }
+        ensures counts { CountsStand self.old self.new }
     {
         let listened = begin_to_listen(&self.rt, alloc, address, &mut self.sockets);
         if listened == Ready::Failed {
@@ -244,16 +235,13 @@ impl<R: Net + Clock + Files + Drop> Live for MioWorld<R> {
     }
 
     fn attach(&mut self, alloc: Global, device: u8, spec: &DeviceSpec, kind: Kind<'_>) -> Ready
-        ensures cause { result ≡ Ready.Failed → Rose self.old.device_faults self.new.device_faults }
-        ensures device_count { self.old.device_faults ≤ self.new.device_faults }
+        ensures faults { CountsOne (result ≡ Ready.Failed) self.old.device_faults self.new.device_faults }
         ensures attaches { result ≡ Ready.Done → (device < 8) × (is_paced self.old.round device ≡ false) }
-        ensures round { self.new.round ≡ round_behind result self.old.round device spec.now.rate }
+        ensures round { self.new.round ≡ round_after result self.old.round device spec.now.rate }
         ensures silent { self.new.silent ≡ silent_behind result kind.entry self.old.silent device spec.now.ty }
-        ensures fault { self.new.device_faults ≡ faults_after self.old.device_faults (refused result) }
-        ensures rest { self.new ≡ record self.old { silent = self.new.silent; round = self.new.round; device_faults = self.new.device_faults } }
-        ensures link_count { self.old.link_faults ≤ self.new.link_faults }
-        ensures listen_count { self.old.listen_faults ≤ self.new.listen_faults }
-        ensures wait_count { self.old.wait_faults ≤ self.new.wait_faults }
+        ensures rest { self.new
+            ≡ record self.old { silent = self.new.silent; round = self.new.round; device_faults = self.new.device_faults } }
+        ensures counts { CountsStand self.old self.new }
     {
         let attached = put_there(
             &self.rt,
@@ -262,7 +250,7 @@ impl<R: Net + Clock + Files + Drop> Live for MioWorld<R> {
             spec,
             kind,
             &mut self.silent,
-            &mut self.stations,
+            &mut self.file_devices,
             &mut self.round,
         );
         if attached == Ready::Failed {
@@ -272,19 +260,17 @@ impl<R: Net + Clock + Files + Drop> Live for MioWorld<R> {
     }
 
     fn wait(&mut self, more: bool) -> Waited
-        ensures cause { result ≡ Waited.Failed → Rose self.old.wait_faults self.new.wait_faults }
-        ensures wait_count { self.old.wait_faults ≤ self.new.wait_faults }
+        ensures faults { CountsOne (result ≡ Waited.Failed) self.old.wait_faults self.new.wait_faults }
         ensures unlistened { self.old.listens ≡ false → result ≡ Waited.Failed }
         ensures kept { (k : ℕ) → self.old.listens ≡ true → k < 32 → something_ready (link_at self.old.links k) ≡ true →
             GivesKept (given result) self.old.links self.old.round self.new.links self.new.round }
         ensures fits { IfSome (given result) (λ wake. WakeFits self.old.links self.old.round wake) }
-        ensures opens { MatchOption (given result) (KeepsOpen self.old.links self.new.links) (λ wake. Opens wake self.old.links self.new.links) }
+        ensures opens { MatchOption (given result) (KeepsOpen self.old.links self.new.links)
+            (λ wake. Opens wake self.old.links self.new.links) }
         ensures round { IfSome (given result) (λ wake. LeadsRound wake self.old.round self.new.round) }
-        ensures fault { self.new.wait_faults ≡ faults_after self.old.wait_faults (not (is_some (given result))) }
-        ensures rest { self.new ≡ record self.old { links = self.new.links; round = self.new.round; wait_faults = self.new.wait_faults } }
-        ensures link_count { self.old.link_faults ≤ self.new.link_faults }
-        ensures device_count { self.old.device_faults ≤ self.new.device_faults }
-        ensures listen_count { self.old.listen_faults ≤ self.new.listen_faults }
+        ensures rest { self.new
+            ≡ record self.old { links = self.new.links; round = self.new.round; wait_faults = self.new.wait_faults } }
+        ensures counts { CountsStand self.old self.new }
     {
         let next = next_wake(
             &self.rt,
@@ -314,7 +300,7 @@ fn refusal(error: &io::Error) -> Ready
     }
 }
 
-/// Listens, where it does not yet.
+/// Listens, if it does not yet.
 fn begin_to_listen<R: Net>(
     rt: &R,
     alloc: Global,
@@ -336,7 +322,7 @@ fn begin_to_listen<R: Net>(
     }
 }
 
-/// Attaches a device, where it is not yet.
+/// Attaches a device, if it is not yet.
 fn put_there<R: Files>(
     rt: &R,
     alloc: Global,
@@ -344,11 +330,11 @@ fn put_there<R: Files>(
     spec: &DeviceSpec,
     kind: Kind<'_>,
     silent: &mut [Option<SampleType>],
-    stations: &mut Option<Stations<R::File>>,
+    file_devices: &mut Option<FileDevices<R::File>>,
     round: &mut Round,
 ) -> Ready
     ensures attaches { result ≡ Ready.Done → (device < 8) × (is_paced round.old device ≡ false) }
-    ensures round { round.new ≡ round_behind result round.old device spec.now.rate }
+    ensures round { round.new ≡ round_after result round.old device spec.now.rate }
     ensures silent { silent.new ≡ silent_behind result kind.entry silent.old device spec.now.ty }
 {
     if device >= 8 || round.is_paced(device) {
@@ -361,7 +347,13 @@ fn put_there<R: Files>(
             Ready::Done
         }
         Kind::Files { input, output } => match open_files(
-            rt, alloc, device, spec.ty, input, output, stations,
+            rt,
+            alloc,
+            device,
+            spec.ty,
+            input,
+            output,
+            file_devices,
         ) {
             Ok(()) => {
                 round.add(device, spec.rate);
@@ -380,14 +372,14 @@ fn open_files<R: Files>(
     ty: SampleType,
     input: &str,
     output: &str,
-    stations: &mut Option<Stations<R::File>>,
+    file_devices: &mut Option<FileDevices<R::File>>,
 ) -> io::Result<()> {
-    if stations.is_none() {
-        *stations = Some(Stations::new(alloc)?);
+    if file_devices.is_none() {
+        *file_devices = Some(FileDevices::new(alloc)?);
     }
-    let station = Station::open(rt, ty, input, output)?;
-    if let Some(stations) = stations {
-        stations.put(device, station);
+    let file_device = FileDevice::open(rt, ty, input, output)?;
+    if let Some(file_devices) = file_devices {
+        file_devices.put(device, file_device);
     }
     Ok(())
 }
@@ -402,7 +394,7 @@ fn reading<R: Clock>(rt: &R) -> Option<u64> {
 fn poll_once(
     sockets: &mut Sockets,
     pause: Duration,
-    links: &mut [Option<Held>],
+    links: &mut [Option<LinkEntry>],
     round: &mut Round,
 ) -> Option<Wake>
     requires { length links.old ≡ 32 }
@@ -421,18 +413,19 @@ fn poll_once(
 }
 
 /// The next wake: what is kept ready, or the next device of the round of which frames are due, or what the next poll finds. None
-/// where the system was not to be asked.
+/// if the system was not to be asked.
 fn next_wake<R: Clock>(
     rt: &R,
     more: bool,
     sockets: &mut Option<Sockets>,
-    links: &mut [Option<Held>],
+    links: &mut [Option<LinkEntry>],
     round: &mut Round,
 ) -> Option<Wake>
     requires { length links.old ≡ 32 }
     ensures listens { is_some sockets.new ≡ is_some sockets.old }
     ensures unlistened { is_some sockets.old ≡ false → result ≡ None }
-    ensures kept { (k : ℕ) → is_some sockets.old ≡ true → k < 32 → something_ready (link_at links.old k) ≡ true → GivesKept result links.old round.old links.new round.new }
+    ensures kept { (k : ℕ) → is_some sockets.old ≡ true → k < 32 → something_ready (link_at links.old k) ≡ true →
+        GivesKept result links.old round.old links.new round.new }
     ensures fits { IfSome result (λ wake. WakeFits links.old round.old wake) }
     ensures opens { MatchOption result (KeepsOpen links.old links.new) (λ wake. Opens wake links.old links.new) }
     ensures round { IfSome result (λ wake. LeadsRound wake round.old round.new) }

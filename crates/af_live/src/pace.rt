@@ -29,7 +29,7 @@ impl Model for Pace {
 }
 
 impl Pace {
-    /// The pace of so many frames a second, of which none was due yet.
+    /// The pace of n frames a second, of which none was due yet.
     pub fn new(rate: u32) -> Pace
         ensures { result ≡ begun rate }
     {

@@ -38,7 +38,7 @@ impl Round {
         }
     }
 
-    /// A device goes on at so many frames a second.
+    /// A device goes on at n frames a second.
     pub fn add(&mut self, device: u8, rate: u32)
         requires { device < 8 }
         ensures { self.new ≡ round_with self.old device (begun rate) }

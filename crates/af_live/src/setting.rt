@@ -2,9 +2,9 @@
 ghost use Rattle.std.specs.Prelude.{◌≡◌, ◌<◌, [], length, slice_get, Some, IsTrue, nat_eq, OnOk};
 ghost use Rattle.af_outside.specs.Kinds.{backing_of};
 ghost use Rattle.af_live.specs.Kept.{placed};
-ghost use Rattle.af_live.specs.Reading.{with_device};
+ghost use Rattle.af_live.specs.Reading.{with_configured};
 
-use crate::device::{Device, HeldKind};
+use crate::device::{ConfiguredDevice, OwnedKind};
 use af_outside::{Config, Kind};
 use af_time::OutOfMemory;
 use arrayvec::ArrayVec;
@@ -15,7 +15,7 @@ use std::marker::Model;
 #[derive(Drop)]
 pub struct Setting {
     config: Config,
-    kinds: Vec<HeldKind>,
+    kinds: Vec<OwnedKind>,
 }
 
 impl Model for Setting {
@@ -43,9 +43,9 @@ impl Setting {
     }
 
     /// Adds a device at the end, of which there may be 8. Where memory runs out nothing is promised of the setting.
-    pub(crate) fn add(&mut self, device: Device) -> Result<(), OutOfMemory>
+    pub(crate) fn add(&mut self, device: ConfiguredDevice) -> Result<(), OutOfMemory>
         requires { length self.old.config < 8 }
-        ensures { OnOk result (self.new ≡ with_device self.old (placed device)) }
+        ensures { OnOk result (self.new ≡ with_configured self.old (placed device)) }
     {
         self.kinds.push(device.kind)?;
         self.config.push(device.spec);
@@ -66,8 +66,8 @@ impl Setting {
         ensures { slice_get self.now.kinds device ≡ Some (backing_of result) }
     {
         match &self.kinds[device as usize] {
-            HeldKind::Silent => Kind::Silent,
-            HeldKind::Files { input, output } => Kind::Files {
+            OwnedKind::Silent => Kind::Silent,
+            OwnedKind::Files { input, output } => Kind::Files {
                 input: input.as_str(),
                 output: output.as_str(),
             },

@@ -16,7 +16,7 @@ pub(crate) fn silent_at(silent: &[Option<SampleType>], device: u8) -> Option<Sam
     }
 }
 
-/// Captures silence, where the device is silent. The answer is whether it is.
+/// Captures silence, if the device is silent. The answer is whether it is.
 pub(crate) fn capture_silence(silent: &[Option<SampleType>], device: u8, into: &mut [u8]) -> bool
     ensures { CapturesSilence (silent_at silent.now device) result into.old into.new }
 {

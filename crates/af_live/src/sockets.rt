@@ -1,9 +1,9 @@
 // A listener and the links that came in by it, none of which makes a call wait.
 ghost use Rattle.std.specs.Prelude.{◌≡◌, ◌≤◌, length};
 ghost use Rattle.std.specs.Io.{ReadsAtMost, WritesAtMost};
-ghost use Rattle.af_live.specs.Holding.{is_open, TakesIn, KeepsOpen};
+ghost use Rattle.af_live.specs.LinkTable.{is_open, TakesIn, KeepsOpen};
 
-use crate::held::{Held, least_free};
+use crate::link_table::{LinkEntry, least_free};
 use mio::net::{TcpListener, TcpStream};
 use mio::{Events, Interest, Poll, Token};
 use slab::Slab;
@@ -55,7 +55,7 @@ impl Sockets {
 
     /// Waits for at most so long until something is ready, and notes it. New links are accepted. The answer is whether the
     /// system could be asked; a signal is no refusal.
-    pub fn poll(&mut self, pause: Duration, links: &mut [Option<Held>]) -> bool
+    pub fn poll(&mut self, pause: Duration, links: &mut [Option<LinkEntry>]) -> bool
         ensures { KeepsOpen links.old links.new }
     {
         match self.poll.poll(&mut self.events, Some(pause)) {
@@ -74,7 +74,7 @@ impl Sockets {
 
     /// Accepts the connections that wait. Where the system refuses one for the time being, as with no descriptor left, those that
     /// wait are tried again behind the next poll.
-    fn accept_all(&mut self, links: &mut [Option<Held>])
+    fn accept_all(&mut self, links: &mut [Option<LinkEntry>])
         ensures { KeepsOpen links.old links.new }
     {
         for _ in 0..MOST_ACCEPTS {
@@ -91,8 +91,8 @@ impl Sockets {
         }
     }
 
-    /// Holds a new link under the least number that is free. Where none is, or the system does not watch it, it is closed.
-    fn take_in(&mut self, mut stream: TcpStream, links: &mut [Option<Held>])
+    /// Holds a new link under the least number that is free. If none is, or the system does not watch it, it is closed.
+    fn take_in(&mut self, mut stream: TcpStream, links: &mut [Option<LinkEntry>])
         ensures takes_in { TakesIn links.old links.new }
         ensures open { KeepsOpen links.old links.new }
     {
@@ -115,7 +115,7 @@ impl Sockets {
             return;
         }
         let key = self.streams.insert_reserved(stream);
-        links[number] = Some(Held::new(key));
+        links[number] = Some(LinkEntry::new(key));
     }
 
     /// Reads what has come by a link, at least one byte, or none at its end.
@@ -160,7 +160,7 @@ fn bind<R: Net>(rt: &R, address: &str) -> io::Result<TcpListener> {
 }
 
 /// Notes what is ready of the links. The answer is whether connections wait.
-fn note_events(events: &Events<Global>, links: &mut [Option<Held>]) -> bool
+fn note_events(events: &Events<Global>, links: &mut [Option<LinkEntry>]) -> bool
     ensures { KeepsOpen links.old links.new }
 {
     let mut waiting = false;
@@ -178,7 +178,7 @@ fn note_events(events: &Events<Global>, links: &mut [Option<Held>]) -> bool
 }
 
 /// Notes of a link that is held that it may have something to read, or may take something.
-fn note(link: &mut Option<Held>, may_read: bool, may_write: bool)
+fn note(link: &mut Option<LinkEntry>, may_read: bool, may_write: bool)
     ensures { is_open link.new ≡ is_open link.old }
 {
     if let Some(held) = link {

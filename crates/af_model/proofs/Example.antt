@@ -3,15 +3,15 @@ use Rattle.std.proofs.Common.{◌≡◌, ℕ, true, false, List, [], ◌∷◌, 
 use Rattle.std.specs.declared.option.Option.{Option}
 use Rattle.std.specs.declared.option.Option.TheVariants.{None, Some}
 use Rattle.af_sample.specs.declared.sample_type.SampleType.TheVariants.{Lin16}
-use Rattle.af_sample.specs.Heard.{Entry, heard}
+use Rattle.af_sample.specs.Heard.{AcceptedPlay, heard}
 use Rattle.af_wire.specs.Message.{head}
 use Rattle.af_outside.specs.declared.happening.Happening.TheVariants.{Woke, Read, Wrote, Closed, Captured, Emitted}
 use Rattle.af_outside.specs.declared.happening.ReadGot.TheVariants.{Given, NotYet}
 use Rattle.af_outside.specs.declared.happening.Wake.TheVariants.{Opened, Readable, Writable, Ticked, Idle}
 use Rattle.af_outside.specs.declared.happening.Why.TheVariants as why
 use Rattle.af_outside.specs.declared.script.DeviceSpec.{DeviceSpec}
-use Rattle.af_outside.specs.Told.{Log}
-use Rattle.af_model.specs.State.{Place, State, opened, place, slot_at}
+use Rattle.af_outside.specs.Log.{Log}
+use Rattle.af_model.specs.State.{OpenLink, State, opened, open_link, slot_at}
 use Rattle.af_model.specs.Reply.{reply_message}
 use Rattle.af_model.specs.DeviceRequests.{controls_refusal}
 use Rattle.af_model.specs.Advance.{absorb, advance}
@@ -66,7 +66,7 @@ was_said : said_in (end_state config begin) ≡ setup_reply ++ reply
 unfolding end_state turn wake_phase serve_from serve_link read_phase close_phase hook_from advance complete_due reply_message head controls_refusal
 was_said = refl
 
--- a link that is opened again begins anew
+-- a link that is opened again begins again
 begun_anew : taken 0 (begin ++ Woke (Opened 0) ∷ []) ≡ []
 begun_anew = refl
 
@@ -92,11 +92,11 @@ unfolding end_state turn wake_phase serve_from serve_link read_phase close_phase
 slow_other = refl
 
 -- Without the case of a closing link, cutting would change what is unread: a malformed front closes, and a byte comes behind it.
-abbrev comes : List ℕ → Place → Place
-comes bytes p = advance 0 (place p.around (record p.link { rest = p.link.rest ++ bytes }))
+abbrev comes : List ℕ → OpenLink → OpenLink
+comes bytes p = advance 0 (open_link p.environment (record p.link { rest = p.link.rest ++ bytes }))
 
-abbrev set_up : Place
-set_up = place (record { devices = []; waiting = []; said = [] }) (record opened { is_set_up = true })
+abbrev set_up : OpenLink
+set_up = open_link (record { devices = []; waiting = []; said = [] }) (record opened { is_set_up = true })
 
 cut_leaves : (comes (5 ∷ []) (comes (9 ∷ 0 ∷ 0 ∷ 0 ∷ []) set_up)).link.rest ≡ 5 ∷ []
 unfolding advance
@@ -111,7 +111,7 @@ unfolding advance
 cut_absorbs = refl
 
 -- a play that is accepted behind a time changes nothing of it, and one that is accepted by then is mixed in
-abbrev plays : ℕ → Entry
+abbrev plays : ℕ → AcceptedPlay
 plays at = record { start = 0; samples = pos 7 ∷ pos 7 ∷ []; preempt = false; at = at }
 
 later_unheard : heard (plays 0 ∷ plays 2 ∷ []) 1 ≡ pos 7

@@ -12,8 +12,8 @@ use Rattle.af_wire.specs.Message.{error}
 use Rattle.af_request.specs.Asked.{Asked}
 use Rattle.af_request.specs.Requests.{asked_in}
 use Rattle.af_request.specs.Answer.{setup}
-use Rattle.af_model.specs.State.{LinkState, Place, place, say, stopped}
-use Rattle.af_model.specs.Waiting.{is_waiting}
+use Rattle.af_model.specs.State.{LinkState, OpenLink, open_link, say, stopped}
+use Rattle.af_model.specs.Waiting.{has_deferral}
 use Rattle.af_model.specs.Reply.{reply_message, infos_of}
 use Rattle.af_model.specs.Perform.{perform}
 
@@ -22,50 +22,50 @@ abbrev pub without_front : ℕ → LinkState → LinkState
 without_front n l = record l { rest = drop n l.rest }
 
 -- link k makes a request, or a frame that is none closes it
-abbrev pub requested : ℕ → Option Asked → Place → Place
-requested k None p = place p.around (stopped why.Malformed p.link)
+abbrev pub requested : ℕ → Option Asked → OpenLink → OpenLink
+requested k None p = open_link p.environment (stopped why.Malformed p.link)
 requested k (Some request) p = perform k request p
 
 -- what becomes of link k with a frame at the front of its input; None where there is none yet
-abbrev pub after_frame : ℕ → Front → Place → Option Place
+abbrev pub after_frame : ℕ → Front → OpenLink → Option OpenLink
 after_frame k NeedMore p = None
-after_frame k Malformed p = Some (place p.around (stopped why.Malformed p.link))
-after_frame k (Frame n) p = Some (requested k (asked_in (take n p.link.rest)) (place p.around (without_front n p.link)))
+after_frame k Malformed p = Some (open_link p.environment (stopped why.Malformed p.link))
+after_frame k (Frame n) p = Some (requested k (asked_in (take n p.link.rest)) (open_link p.environment (without_front n p.link)))
 
 -- what becomes of a link with a setup at the front of its input; a bad one is refused and closes the link. Setups have the
 -- opcode 0 and the number 0.
-abbrev pub after_setup : SetupFront → Place → Option Place
+abbrev pub after_setup : SetupFront → OpenLink → Option OpenLink
 after_setup front.NeedMore p = None
 after_setup front.Setup p =
-    Some (say (place p.around (record (without_front 8 p.link) { is_set_up = true })) (reply_message 0 (setup (infos_of p.around.devices)) 0))
-after_setup (front.BadSetup value) p = Some (say (place p.around (stopped why.BadSetup p.link)) (error 1 value 0 0))
+    Some (say (open_link p.environment (record (without_front 8 p.link) { is_set_up = true })) (reply_message 0 (setup (infos_of p.environment.devices)) 0))
+after_setup (front.BadSetup value) p = Some (say (open_link p.environment (stopped why.BadSetup p.link)) (error 1 value 0 0))
 
 -- nothing is taken off while a link waits or is closing, or while more than 16384 bytes wait to be sent to it
 abbrev pub takes_more : Bool → LinkState → Bool
 takes_more waits l = not waits && (is_none l.closing && nat_le (length l.pending) 16384)
 
-abbrev pub after_front : ℕ → Place → Option Place
+abbrev pub after_front : ℕ → OpenLink → Option OpenLink
 after_front k p =
     if p.link.is_set_up then after_frame k (frame_front p.link.rest) p else after_setup (setup_front p.link.rest) p
 
 -- one setup or frame is taken off; None where there is none to take
-abbrev pub advance_step : ℕ → Place → Option Place
-advance_step k p = if takes_more (is_waiting p.around.waiting k) p.link then after_front k p else None
+abbrev pub advance_step : ℕ → OpenLink → Option OpenLink
+advance_step k p = if takes_more (has_deferral p.environment.waiting k) p.link then after_front k p else None
 
 abbrev pub or_else : {A : Type 0} → A → (A → A) → Option A → A
 or_else x f None = x
 or_else x f (Some y) = f y
 
 -- as long as there is one to take, at most n of them
-abbrev pub advance_by : ℕ → ℕ → Place → Place
+abbrev pub advance_by : ℕ → ℕ → OpenLink → OpenLink
 advance_by zero k p = p
 advance_by (suc n) k p = or_else p (advance_by n k) (advance_step k p)
 
 -- as long as there is one to take: each takes at least one byte off
-unfoldable pub advance : ℕ → Place → Place
+unfoldable pub advance : ℕ → OpenLink → OpenLink
 advance k p = advance_by (length p.link.rest) k p
 
 -- link k gets these bytes, which a closing link never does
-abbrev pub absorb : ℕ → List ℕ → Place → Place
+abbrev pub absorb : ℕ → List ℕ → OpenLink → OpenLink
 absorb k bytes p =
-    if is_none p.link.closing then advance k (place p.around (record p.link { rest = p.link.rest ++ bytes })) else p
+    if is_none p.link.closing then advance k (open_link p.environment (record p.link { rest = p.link.rest ++ bytes })) else p

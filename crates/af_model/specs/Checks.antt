@@ -6,14 +6,14 @@ use Rattle.std.specs.declared.option.Option.TheVariants.{None, Some}
 use Rattle.af_sample.specs.Gains.{gain_of}
 use Rattle.af_context.specs.declared.ContextFault.{ContextFault}
 use Rattle.af_context.specs.declared.ContextFault.TheVariants as fault
-use Rattle.af_model.specs.declared.refusal.Cause.{Cause}
-use Rattle.af_model.specs.declared.refusal.Cause.TheVariants.{BadValue, BadDevice, BadAc, BadIdChoice, TooManyAcs}
+use Rattle.af_model.specs.declared.refusal.RefusalCause.{RefusalCause}
+use Rattle.af_model.specs.declared.refusal.RefusalCause.TheVariants.{BadValue, BadDevice, BadAc, BadIdChoice, TooManyAcs}
 use Rattle.af_model.specs.declared.refusal.Refusal.{Refusal}
-use Rattle.af_model.specs.State.{DeviceState, Place}
+use Rattle.af_model.specs.State.{DeviceState, OpenLink}
 use Rattle.af_model.specs.Reply.{refusal, refused}
 
 -- a check: what it refuses with, where it fails
-abbrev pub check : Bool → Cause → ℕ → Option Refusal
+abbrev pub check : Bool → RefusalCause → ℕ → Option Refusal
 check fails cause value = if fails then Some (refusal cause value) else None
 
 abbrev pub first_refusal : List (Option Refusal) → Option Refusal
@@ -22,7 +22,7 @@ first_refusal (None ∷ checks) = first_refusal checks
 first_refusal (Some r ∷ checks) = Some r
 
 -- a request with this opcode is refused, or is done where all checks pass
-abbrev pub refused_or : ℕ → Option Refusal → (Place → Place) → Place → Place
+abbrev pub refused_or : ℕ → Option Refusal → (OpenLink → OpenLink) → OpenLink → OpenLink
 refused_or opcode None f p = f p
 refused_or opcode (Some r) f p = refused opcode r p
 
@@ -39,7 +39,7 @@ abbrev pub where_named : ℕ → ℕ → Option Refusal → Option Refusal
 where_named mask bit r = if names mask bit then r else None
 
 -- why contexts stay as they are, as errors tell it
-abbrev pub context_cause : ContextFault → Cause
+abbrev pub context_cause : ContextFault → RefusalCause
 context_cause fault.BadAc = BadAc
 context_cause fault.BadIdChoice = BadIdChoice
 context_cause fault.TooMany = TooManyAcs
@@ -50,6 +50,6 @@ context_refusal ac (Ok done) = None
 context_refusal ac (Err f) = Some (refusal (context_cause f) ac)
 
 -- a request that names a device is done with it, or refused where it is not there
-abbrev pub in_device : ℕ → ℕ → (DeviceState → Place → Place) → Option DeviceState → Place → Place
+abbrev pub in_device : ℕ → ℕ → (DeviceState → OpenLink → OpenLink) → Option DeviceState → OpenLink → OpenLink
 in_device opcode d f None p = refused opcode (refusal BadDevice d) p
 in_device opcode d f (Some device) p = f device p

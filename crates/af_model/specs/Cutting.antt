@@ -1,8 +1,8 @@
 -- That bytes which come to a link in two pieces, one right after the other, are as good as both at once.
 use Rattle.std.specs.Prelude.{◌≡◌, ℕ, List, ◌++◌}
-use Rattle.af_model.specs.State.{Place}
+use Rattle.af_model.specs.State.{OpenLink}
 use Rattle.af_model.specs.Advance.{absorb}
 
--- Two pieces that come to link k, one right after the other, make of it and of all around it what both make that come at once.
-abbrev pub CutsAlike : ℕ → Place → Type 0
+-- Two pieces that come to link k, one right after the other, make of it and its environment what both make that come at once.
+abbrev pub CutsAlike : ℕ → OpenLink → Type 0
 CutsAlike k p = (a b : List ℕ) → absorb k b (absorb k a p) ≡ absorb k (a ++ b) p

@@ -6,22 +6,22 @@ use Rattle.af_request.specs.declared.reply.Controls.{Controls}
 use Rattle.af_request.specs.declared.reply.Phone.{Phone}
 use Rattle.af_request.specs.Answer.{plain, controls, phone}
 use Rattle.af_phone.specs.Lines.{wanting}
-use Rattle.af_model.specs.declared.refusal.Cause.TheVariants.{BadLine, BadValue}
+use Rattle.af_model.specs.declared.refusal.RefusalCause.TheVariants.{BadLine, BadValue}
 use Rattle.af_model.specs.declared.refusal.Refusal.{Refusal}
-use Rattle.af_model.specs.State.{DeviceState, Place, place}
+use Rattle.af_model.specs.State.{DeviceState, OpenLink, open_link}
 use Rattle.af_model.specs.Reply.{refusal, refused, replied}
 use Rattle.af_model.specs.Checks.{check, check_gain, first_refusal, names, refused_or, where_named}
 use Rattle.af_model.specs.ContextRequests.{named_gain}
 use Rattle.af_model.specs.Play.{in_devices}
 
 -- a request that names the line of a device is done with it, or refused where the device has none
-abbrev pub on_line : ℕ → ℕ → (Phone → Place → Place) → Option Phone → Place → Place
+abbrev pub on_line : ℕ → ℕ → (Phone → OpenLink → OpenLink) → Option Phone → OpenLink → OpenLink
 on_line opcode d f None p = refused opcode (refusal BadLine d) p
 on_line opcode d f (Some line) p = f line p
 
 -- SelectEvents: the mask of events of a device is replaced
-abbrev pub select : ℕ → ℕ → Place → Place
-select d mask p = replied 8 plain (place p.around (record p.link { selections = slice_set p.link.selections d mask }))
+abbrev pub select : ℕ → ℕ → OpenLink → OpenLink
+select d mask p = replied 8 plain (open_link p.environment (record p.link { selections = slice_set p.link.selections d mask }))
 
 -- SetControls: the fields that the mask names are looked at: 1 input gain, 2 output gain, 4 input on, 8 output on
 unfoldable pub controls_refusal : ℕ → ℕ → ℕ → ℤ → ℤ → Option Refusal
@@ -44,13 +44,13 @@ abbrev pub controlling : ℕ → ℕ → ℕ → ℤ → ℤ → DeviceState →
 controlling mask input_on output_on input_gain output_gain device =
     record device { controls = with_named mask input_on output_on input_gain output_gain device.controls }
 
-abbrev pub set_device_controls : ℕ → ℕ → ℕ → ℕ → ℤ → ℤ → DeviceState → Place → Place
+abbrev pub set_device_controls : ℕ → ℕ → ℕ → ℕ → ℤ → ℤ → DeviceState → OpenLink → OpenLink
 set_device_controls d mask input_on output_on input_gain output_gain device p =
     refused_or 9 (controls_refusal mask input_on output_on input_gain output_gain)
     (λ q. replied 9 plain (in_devices d (controlling mask input_on output_on input_gain output_gain) q)) p
 
 -- QueryControls
-abbrev pub tell_controls : DeviceState → Place → Place
+abbrev pub tell_controls : DeviceState → OpenLink → OpenLink
 tell_controls device p = replied 10 (controls device.controls) p
 
 -- HookSwitch: a line that is dead is as one that is not there; the hook is wanted off or on
@@ -60,9 +60,9 @@ switch_refusal d off line = first_refusal (check line.dead BadLine d ∷ check (
 abbrev pub wanting_hook : Bool → DeviceState → DeviceState
 wanting_hook off device = record device { line = option_map (wanting off) device.line }
 
-abbrev pub switch_hook : ℕ → ℕ → Phone → Place → Place
+abbrev pub switch_hook : ℕ → ℕ → Phone → OpenLink → OpenLink
 switch_hook d off line p = refused_or 11 (switch_refusal d off line) (λ q. replied 11 plain (in_devices d (wanting_hook (off == 1)) q)) p
 
 -- QueryPhone
-abbrev pub tell_phone : Phone → Place → Place
+abbrev pub tell_phone : Phone → OpenLink → OpenLink
 tell_phone line p = replied 12 (phone line) p

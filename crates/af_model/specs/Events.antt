@@ -8,20 +8,20 @@ use Rattle.af_wire.specs.declared.event.EventKind.TheVariants as kind
 use Rattle.af_wire.specs.Event.{event_bytes}
 use Rattle.af_request.specs.declared.reply.Phone.{Phone}
 use Rattle.af_phone.specs.declared.line.LineChange.{LineChange}
-use Rattle.af_phone.specs.Lines.{changed, flag_value, hooked, kind_of, selects, value_of}
+use Rattle.af_phone.specs.Lines.{changed, flag_value, hooked, event_kind_of, selects, value_of}
 use Rattle.af_outside.specs.declared.happening.Why.{Why}
 use Rattle.af_outside.specs.declared.happening.Why.TheVariants as why
-use Rattle.af_model.specs.State.{DeviceState, LinkState, State, Waiter, Around, Place, Door, place, door, door_at, with_door, with_device, none_selected, say}
+use Rattle.af_model.specs.State.{DeviceState, LinkState, State, Deferral, EnvironmentState, OpenLink, SlotLink, open_link, link_in_slot, slot_link_at, with_slot_link, with_device, none_selected, say}
 use Rattle.af_model.specs.Tick.{enter}
 
 -- the links that wait, without one of them
-abbrev pub without_waiter : ℕ → List Waiter → List Waiter
+abbrev pub without_waiter : ℕ → List Deferral → List Deferral
 without_waiter k waiting = filter (λ w. not (w.link == k)) waiting
 
 -- Link k is dropped: it is to be closed, nothing of it is read or sent any more, no event is told it, and it waits no more. What
 -- it had accepted stays.
-abbrev pub dropped : ℕ → Why → Place → Place
-dropped k cause p = place (record p.around { waiting = without_waiter k p.around.waiting })
+abbrev pub dropped : ℕ → Why → OpenLink → OpenLink
+dropped k cause p = open_link (record p.environment { waiting = without_waiter k p.environment.waiting })
     (record p.link { rest = []; pending = []; closing = Some cause; selections = none_selected })
 
 -- the mask of the events of a device that a link selects
@@ -33,19 +33,19 @@ abbrev pub mask_of : LinkState → ℕ → ℕ
 mask_of l d = some_mask (slice_get l.selections d)
 
 -- link k is told an event that it selects; where more than 49152 bytes would wait to be sent to it then, it is dropped
-abbrev pub tell_selected : ℕ → Event → Place → Place
+abbrev pub tell_selected : ℕ → Event → OpenLink → OpenLink
 tell_selected k e p =
     if nat_le (length p.link.pending + 20) 49152 then say p (event_bytes e p.link.sequence) else dropped k why.Overrun p
 
-abbrev pub tell_link : ℕ → Event → Place → Place
+abbrev pub tell_link : ℕ → Event → OpenLink → OpenLink
 tell_link k e p = if selects (mask_of p.link e.device) e.kind then tell_selected k e p else p
 
-abbrev pub tell_open : ℕ → Event → Around → Option LinkState → Door
-tell_open k e a None = door a None
-tell_open k e a (Some l) = enter (tell_link k e (place a l))
+abbrev pub tell_open : ℕ → Event → EnvironmentState → Option LinkState → SlotLink
+tell_open k e a None = link_in_slot a None
+tell_open k e a (Some l) = enter (tell_link k e (open_link a l))
 
 abbrev pub tell_at : ℕ → Event → State → State
-tell_at k e s = with_door k s (tell_open k e (door_at k s).around (door_at k s).link)
+tell_at k e s = with_slot_link k s (tell_open k e (slot_link_at k s).environment (slot_link_at k s).link)
 
 -- n links from number k on
 abbrev pub tell_from : ℕ → ℕ → Event → State → State
@@ -67,7 +67,7 @@ line_becomes f kind value d device s =
 
 -- the line of a device changes
 abbrev pub line_changes : LineChange → ℕ → DeviceState → State → State
-line_changes change d device s = line_becomes (changed change) (kind_of change) (value_of change) d device s
+line_changes change d device s = line_becomes (changed change) (event_kind_of change) (value_of change) d device s
 
 -- a device's line was to be given the hook that is wanted, off or on: where that was done an event tells it, and else the line
 -- is dead

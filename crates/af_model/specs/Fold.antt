@@ -7,9 +7,9 @@ use Rattle.af_sample.specs.Samples.{bytes_of}
 use Rattle.af_outside.specs.declared.happening.Happening.TheVariants.{Woke, Captured, Emitted}
 use Rattle.af_outside.specs.declared.happening.Wake.TheVariants.{Ticked}
 use Rattle.af_outside.specs.declared.script.DeviceSpec.{DeviceSpec}
-use Rattle.af_outside.specs.Told.{Log}
+use Rattle.af_outside.specs.Log.{Log}
 use Rattle.af_model.specs.State.{DeviceState, State}
-use Rattle.af_model.specs.Controls.{let_out}
+use Rattle.af_model.specs.Controls.{through_output_control}
 use Rattle.af_model.specs.Run.{end_state}
 
 -- An emit stands behind a capture, and that behind the tick of its turn. Its sound is, of each time from the device's time before
@@ -24,7 +24,7 @@ pub record IsMixOfAll (config : List DeviceSpec) (front : Log) (d : ℕ) (sent :
   pub stood : IsSomeAnd (end_state config before) (λ s. slice_get s.devices d ≡ Some device)
   pub last : DeviceState
   pub stands : slice_get end.devices d ≡ Some last
-  pub mixes : sent ≡ bytes_of device.ty (let_out device.controls (map (heard last.accepted) (range_with_len device.now frames)))
+  pub mixes : sent ≡ bytes_of device.ty (through_output_control device.controls (map (heard last.accepted) (range_with_len device.now frames)))
 
 -- so it is of each emit in a run
 abbrev pub MixesAll : List DeviceSpec → Log → Type 0

@@ -18,4 +18,5 @@ pub mod NoLoss
 pub mod Cutting
 pub mod Prefix
 pub mod Fold
+pub mod Laws
 pub mod Script

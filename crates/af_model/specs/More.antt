@@ -3,7 +3,7 @@ use Rattle.std.specs.Prelude.{ℕ, ◌+◌, Bool, false, ◌||◌, List, [], ◌
 use Rattle.std.specs.declared.option.Option.{Option}
 use Rattle.std.specs.declared.option.Option.TheVariants.{None, Some}
 use Rattle.af_model.specs.State.{LinkState, State, links_of}
-use Rattle.af_model.specs.Waiting.{is_waiting}
+use Rattle.af_model.specs.Waiting.{has_deferral}
 use Rattle.af_model.specs.Turn.{close_due, wants_read, wants_write}
 
 -- a link is to be read, or to be written, or to be closed
@@ -22,4 +22,4 @@ any_wants k waits (link ∷ links) = open_wants (waits k) link || any_wants (k +
 
 -- some open link would go on in a turn that nothing wakes
 abbrev pub has_more : State → Bool
-has_more s = any_wants 0 (is_waiting s.waiting) (links_of s.slots)
+has_more s = any_wants 0 (has_deferral s.waiting) (links_of s.slots)

@@ -2,20 +2,20 @@
 use Rattle.std.specs.Prelude.{ℕ, ◌+◌, ◌≤◌, List, IfSome}
 use Rattle.std.specs.List.{All}
 use Rattle.af_outside.specs.declared.script.DeviceSpec.{DeviceSpec}
-use Rattle.af_outside.specs.Told.{Log}
-use Rattle.af_model.specs.State.{DeviceState, Held, held_play, held_record, State}
+use Rattle.af_outside.specs.Log.{Log}
+use Rattle.af_model.specs.State.{DeviceState, Deferred, deferred_play, deferred_record, State}
 use Rattle.af_model.specs.Reply.{horizon_of}
 use Rattle.af_model.specs.Run.{end_state}
 
 -- of a request that is completed at a time nothing is lost: a play is accepted no later than its start, and no time of a record
 -- has gone further back than the horizon
-abbrev pub IsWholeAt : ℕ → ℕ → Held → Type 0
-IsWholeAt horizon now (held_play quiet start sound preempt) = now ≤ start
-IsWholeAt horizon now (held_record c start frames) = now ≤ start + horizon
+abbrev pub IsWholeAt : ℕ → ℕ → Deferred → Type 0
+IsWholeAt horizon now (deferred_play quiet start sound preempt) = now ≤ start
+IsWholeAt horizon now (deferred_record c start frames) = now ≤ start + horizon
 
 -- nor of any that a device completed
 abbrev pub LosesNone : DeviceState → Type 0
-LosesNone device = All (λ c. IsWholeAt (horizon_of device) c.at c.held) device.completed
+LosesNone device = All (λ c. IsWholeAt (horizon_of device) c.at c.deferred) device.completed
 
 -- nor of any in a state
 abbrev pub StateLosesNone : State → Type 0

@@ -6,8 +6,8 @@ use Rattle.af_context.specs.declared.Context.{Context}
 use Rattle.af_context.specs.Contexts.{context_of}
 use Rattle.af_request.specs.Asked.{Asked, no_op, get_time, create_ac, change_ac, free_ac, play_run, record_run, select_events, set_controls, query_controls, hook_switch, query_phone}
 use Rattle.af_request.specs.Answer.{time}
-use Rattle.af_model.specs.declared.refusal.Cause.TheVariants.{BadAc}
-use Rattle.af_model.specs.State.{DeviceState, LinkState, Place, place}
+use Rattle.af_model.specs.declared.refusal.RefusalCause.TheVariants.{BadAc}
+use Rattle.af_model.specs.State.{DeviceState, LinkState, OpenLink, open_link}
 use Rattle.af_model.specs.Reply.{refusal, refused, replied}
 use Rattle.af_model.specs.Checks.{refused_or, in_device}
 use Rattle.af_model.specs.ContextRequests.{creation_refusal, described, create, change_refusal, change, free}
@@ -16,37 +16,37 @@ use Rattle.af_model.specs.Play.{play}
 use Rattle.af_model.specs.Record.{record_sound}
 
 -- one more request of a link, modulo 2^16
-abbrev pub counted : LinkState → LinkState
-counted l = record l { sequence = (l.sequence + 1) % 2 ^ 16 }
+abbrev pub request_counted : LinkState → LinkState
+request_counted l = record l { sequence = (l.sequence + 1) % 2 ^ 16 }
 
 -- the time of a device is replied, modulo 2^32
-abbrev pub tell_time : DeviceState → Place → Place
+abbrev pub tell_time : DeviceState → OpenLink → OpenLink
 tell_time device p = replied 2 (time (device.now % 2 ^ 32)) p
 
 -- a request that names a context is done with it and its device, or refused where it is not in use
-abbrev pub in_context : ℕ → ℕ → (Context → DeviceState → Place → Place) → Option Context → Place → Place
+abbrev pub in_context : ℕ → ℕ → (Context → DeviceState → OpenLink → OpenLink) → Option Context → OpenLink → OpenLink
 in_context opcode ac f None p = refused opcode (refusal BadAc ac) p
-in_context opcode ac f (Some c) p = in_device opcode c.device (f c) (slice_get p.around.devices c.device) p
+in_context opcode ac f (Some c) p = in_device opcode c.device (f c) (slice_get p.environment.devices c.device) p
 
 -- what a request of link k does
-abbrev pub done : ℕ → Asked → Place → Place
+abbrev pub done : ℕ → Asked → OpenLink → OpenLink
 done k no_op p = p
-done k (get_time d) p = in_device 2 d tell_time (slice_get p.around.devices d) p
+done k (get_time d) p = in_device 2 d tell_time (slice_get p.environment.devices d) p
 done k (create_ac d ac ty channels preempt play_gain record_gain) p =
-    refused_or 3 (creation_refusal (length p.around.devices) d ty channels preempt play_gain record_gain)
+    refused_or 3 (creation_refusal (length p.environment.devices) d ty channels preempt play_gain record_gain)
     (create (described d ac ty preempt play_gain record_gain)) p
 done k (change_ac mask ac preempt play_gain record_gain) p =
     refused_or 4 (change_refusal p.link.contexts mask ac preempt play_gain record_gain) (change mask ac preempt play_gain record_gain) p
 done k (free_ac ac) p = free ac p
 done k (play_run quiet ac start bytes) p = in_context 6 ac (λ c. play k quiet c start bytes) (context_of p.link.contexts ac) p
 done k (record_run blocking ac start bytes) p = in_context 7 ac (λ c. record_sound k blocking c start bytes) (context_of p.link.contexts ac) p
-done k (select_events d mask) p = in_device 8 d (λ device. on_line 8 d (λ line. select d mask) device.line) (slice_get p.around.devices d) p
+done k (select_events d mask) p = in_device 8 d (λ device. on_line 8 d (λ line. select d mask) device.line) (slice_get p.environment.devices d) p
 done k (set_controls d mask input_on output_on input_gain output_gain) p =
-    in_device 9 d (set_device_controls d mask input_on output_on input_gain output_gain) (slice_get p.around.devices d) p
-done k (query_controls d) p = in_device 10 d tell_controls (slice_get p.around.devices d) p
-done k (hook_switch d off) p = in_device 11 d (λ device. on_line 11 d (switch_hook d off) device.line) (slice_get p.around.devices d) p
-done k (query_phone d) p = in_device 12 d (λ device. on_line 12 d tell_phone device.line) (slice_get p.around.devices d) p
+    in_device 9 d (set_device_controls d mask input_on output_on input_gain output_gain) (slice_get p.environment.devices d) p
+done k (query_controls d) p = in_device 10 d tell_controls (slice_get p.environment.devices d) p
+done k (hook_switch d off) p = in_device 11 d (λ device. on_line 11 d (switch_hook d off) device.line) (slice_get p.environment.devices d) p
+done k (query_phone d) p = in_device 12 d (λ device. on_line 12 d tell_phone device.line) (slice_get p.environment.devices d) p
 
 -- link k makes a request
-abbrev pub perform : ℕ → Asked → Place → Place
-perform k request p = done k request (place p.around (counted p.link))
+abbrev pub perform : ℕ → Asked → OpenLink → OpenLink
+perform k request p = done k request (open_link p.environment (request_counted p.link))

@@ -5,17 +5,17 @@ use Rattle.af_time.specs.DeviceTime.{unwrap}
 use Rattle.af_sample.specs.Gains.{gained}
 use Rattle.af_sample.specs.Samples.{samples}
 use Rattle.af_sample.specs.SampleTypes.{width_of}
-use Rattle.af_sample.specs.Heard.{Entry}
+use Rattle.af_sample.specs.Heard.{AcceptedPlay}
 use Rattle.af_context.specs.declared.Context.{Context}
 use Rattle.af_request.specs.Answer.{played}
-use Rattle.af_model.specs.declared.refusal.Cause.TheVariants.{BadValue}
+use Rattle.af_model.specs.declared.refusal.RefusalCause.TheVariants.{BadValue}
 use Rattle.af_model.specs.declared.refusal.Refusal.{Refusal}
-use Rattle.af_model.specs.State.{DeviceState, Place, place, with_device, held_play}
+use Rattle.af_model.specs.State.{DeviceState, OpenLink, open_link, with_device, deferred_play}
 use Rattle.af_model.specs.Reply.{replied, horizon_of}
 use Rattle.af_model.specs.Checks.{check, refused_or}
 use Rattle.af_model.specs.Waiting.{wait}
 
--- how many frames so many bytes of a context are
+-- how many frames n bytes of a context are
 abbrev pub frames_of : Context → ℕ → ℕ
 frames_of c bytes = bytes / width_of c.ty
 
@@ -28,40 +28,40 @@ abbrev pub sent_sound : Context → List ℕ → List ℤ
 sent_sound c bytes = map (λ x. gained x c.play_gain) (samples c.ty bytes)
 
 -- how many frames from a time on end within the horizon
-abbrev pub frames_within : DeviceState → ℕ → ℕ
-frames_within device time = device.now + horizon_of device - unwrap device.now time
+abbrev pub frames_within_horizon : DeviceState → ℕ → ℕ
+frames_within_horizon device time = device.now + horizon_of device - unwrap device.now time
 
 -- a play has whole frames
 abbrev pub play_refusal : Context → ℕ → Option Refusal
 play_refusal c bytes = check (not (are_frames c bytes)) BadValue bytes
 
 -- a play that is accepted now
-abbrev pub entry_now : Context → DeviceState → ℕ → List ℕ → Entry
+abbrev pub entry_now : Context → DeviceState → ℕ → List ℕ → AcceptedPlay
 entry_now c device time bytes =
     record { start = unwrap device.now time; samples = sent_sound c bytes; preempt = c.preempt; at = device.now }
 
 -- a play is accepted behind all others; one without a frame says nothing
-abbrev pub with_play : Entry → List Entry → List Entry
+abbrev pub with_play : AcceptedPlay → List AcceptedPlay → List AcceptedPlay
 with_play e accepted = if length e.samples == 0 then accepted else accepted ++ e ∷ []
 
 -- a device accepts a play
-abbrev pub accepting : Entry → DeviceState → DeviceState
+abbrev pub accepting : AcceptedPlay → DeviceState → DeviceState
 accepting e device = record device { accepted = with_play e device.accepted }
 
--- something becomes of a device around a link
-abbrev pub in_devices : ℕ → (DeviceState → DeviceState) → Place → Place
-in_devices d f p = place (record p.around { devices = with_device d f p.around.devices }) p.link
+-- something becomes of a device in a link's environment
+abbrev pub in_devices : ℕ → (DeviceState → DeviceState) → OpenLink → OpenLink
+in_devices d f p = open_link (record p.environment { devices = with_device d f p.environment.devices }) p.link
 
 -- it is replied to with the device's time, unless it is quiet
-abbrev pub tell_played : Bool → DeviceState → Place → Place
+abbrev pub tell_played : Bool → DeviceState → OpenLink → OpenLink
 tell_played quiet device p = if quiet then p else replied 6 (played (device.now % 2 ^ 32)) p
 
 -- A play that ends within the horizon is accepted now, and so is one without a frame; any other waits, whole.
-abbrev pub start_play : ℕ → Bool → Context → ℕ → List ℕ → DeviceState → Place → Place
+abbrev pub start_play : ℕ → Bool → Context → ℕ → List ℕ → DeviceState → OpenLink → OpenLink
 start_play k quiet c time bytes device p =
-    if nat_le (frames_of c (length bytes)) (frames_within device time)
+    if nat_le (frames_of c (length bytes)) (frames_within_horizon device time)
     then tell_played quiet device (in_devices c.device (accepting (entry_now c device time bytes)) p)
-    else wait k c.device (held_play quiet (unwrap device.now time) (sent_sound c bytes) c.preempt) p
+    else wait k c.device (deferred_play quiet (unwrap device.now time) (sent_sound c bytes) c.preempt) p
 
-abbrev pub play : ℕ → Bool → Context → ℕ → List ℕ → DeviceState → Place → Place
+abbrev pub play : ℕ → Bool → Context → ℕ → List ℕ → DeviceState → OpenLink → OpenLink
 play k quiet c time bytes device p = refused_or 6 (play_refusal c (length bytes)) (start_play k quiet c time bytes device) p

@@ -9,7 +9,7 @@ use Rattle.af_outside.specs.declared.happening.Wake.TheVariants.{Opened}
 use Rattle.af_outside.specs.declared.happening.Why.{Why}
 use Rattle.af_outside.specs.declared.happening.Why.TheVariants as why
 use Rattle.af_outside.specs.declared.script.DeviceSpec.{DeviceSpec}
-use Rattle.af_outside.specs.Told.{Log}
+use Rattle.af_outside.specs.Log.{Log}
 use Rattle.af_model.specs.State.{LinkState, slot_at}
 use Rattle.af_model.specs.Run.{end_state}
 
@@ -34,16 +34,16 @@ is_dropped (Some why.LinkFault) = true
 is_dropped (Some why.Overrun) = true
 is_dropped _ = false
 
--- what is owed to an open link that was not dropped is what waits to be sent to it
-abbrev pub Owes : Option LinkState → List ℕ → Type 0
-Owes None rest = Unit {0}
-Owes (Some l) rest = is_dropped l.closing ≡ false → rest ≡ l.pending
+-- what is queued for an open link that was not dropped is what waits to be sent to it
+abbrev pub IsQueued : Option LinkState → List ℕ → Type 0
+IsQueued None rest = Unit {0}
+IsQueued (Some l) rest = is_dropped l.closing ≡ false → rest ≡ l.pending
 
 -- what was said is what was taken and a rest
 pub record IsFrontOf (took said : List ℕ) (link : Option LinkState) : Type 0 where
   pub rest : List ℕ
   pub whole : said ≡ took ++ rest
-  pub owes : Owes link rest
+  pub queued : IsQueued link rest
 
 -- so it is of each link behind a run
 abbrev pub TakesInOrder : List DeviceSpec → Log → Type 0

@@ -7,17 +7,17 @@ use Rattle.af_sample.specs.Samples.{bytes_of}
 use Rattle.af_sample.specs.Window.{window}
 use Rattle.af_context.specs.declared.Context.{Context}
 use Rattle.af_request.specs.Answer.{recorded}
-use Rattle.af_model.specs.declared.refusal.Cause.TheVariants.{BadValue}
+use Rattle.af_model.specs.declared.refusal.RefusalCause.TheVariants.{BadValue}
 use Rattle.af_model.specs.declared.refusal.Refusal.{Refusal}
-use Rattle.af_model.specs.State.{DeviceState, Place, held_record}
+use Rattle.af_model.specs.State.{DeviceState, OpenLink, deferred_record}
 use Rattle.af_model.specs.Reply.{replied, horizon_of}
 use Rattle.af_model.specs.Checks.{check, first_refusal, refused_or}
 use Rattle.af_model.specs.Waiting.{wait}
 use Rattle.af_model.specs.Play.{frames_of, are_frames}
 
 -- how many frames from a time on are before now
-abbrev pub frames_before : DeviceState → ℕ → ℕ
-frames_before device time = device.now - unwrap device.now time
+abbrev pub frames_before_now : DeviceState → ℕ → ℕ
+frames_before_now device time = device.now - unwrap device.now time
 
 -- a record has at most 16000 bytes, in whole frames
 unfoldable pub record_refusal : Context → ℕ → Option Refusal
@@ -25,7 +25,7 @@ record_refusal c bytes = first_refusal (check (nat_lt 16000 bytes) BadValue byte
 
 -- how many of the frames from a time on are given: all, or, of a record that does not block, those before now
 abbrev pub given_frames : Bool → DeviceState → ℕ → ℕ → ℕ
-given_frames blocking device time frames = if blocking then frames else min (frames_before device time) frames
+given_frames blocking device time frames = if blocking then frames else min (frames_before_now device time) frames
 
 -- n frames that a device recorded from a whole time on, as a context takes them
 unfoldable pub recorded_bytes : Context → DeviceState → ℕ → ℕ → List ℕ
@@ -33,18 +33,18 @@ recorded_bytes c device start n = bytes_of c.ty (map (λ x. gained x c.record_ga
     (window device.captured device.begin device.now (horizon_of device) start n))
 
 -- a record is answered with n frames
-abbrev pub give_record : Context → ℕ → ℕ → DeviceState → Place → Place
+abbrev pub give_record : Context → ℕ → ℕ → DeviceState → OpenLink → OpenLink
 give_record c start n device p = replied 7 (recorded (device.now % 2 ^ 32) (recorded_bytes c device start n)) p
 
 -- a record waits where it blocks and has a frame that is not before now
 abbrev pub is_to_wait : Bool → DeviceState → ℕ → ℕ → Bool
-is_to_wait blocking device time frames = blocking && nat_lt (frames_before device time) frames
+is_to_wait blocking device time frames = blocking && nat_lt (frames_before_now device time) frames
 
-abbrev pub start_record : ℕ → Bool → Context → ℕ → ℕ → DeviceState → Place → Place
+abbrev pub start_record : ℕ → Bool → Context → ℕ → ℕ → DeviceState → OpenLink → OpenLink
 start_record k blocking c time bytes device p =
     if is_to_wait blocking device time (frames_of c bytes)
-    then wait k c.device (held_record c (unwrap device.now time) (frames_of c bytes)) p
+    then wait k c.device (deferred_record c (unwrap device.now time) (frames_of c bytes)) p
     else give_record c (unwrap device.now time) (given_frames blocking device time (frames_of c bytes)) device p
 
-abbrev pub record_sound : ℕ → Bool → Context → ℕ → ℕ → DeviceState → Place → Place
+abbrev pub record_sound : ℕ → Bool → Context → ℕ → ℕ → DeviceState → OpenLink → OpenLink
 record_sound k blocking c time bytes device p = refused_or 7 (record_refusal c bytes) (start_record k blocking c time bytes device) p

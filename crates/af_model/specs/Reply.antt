@@ -4,10 +4,10 @@ use Rattle.af_wire.specs.Message.{error}
 use Rattle.af_request.specs.declared.reply.DeviceInfo.{DeviceInfo}
 use Rattle.af_request.specs.Answer.{Answer}
 use Rattle.af_request.specs.Replies.{reply_bytes}
-use Rattle.af_model.specs.declared.refusal.Cause.{Cause}
-use Rattle.af_model.specs.declared.refusal.Cause.TheVariants.{BadSetup, BadValue, BadDevice, BadAc, BadIdChoice, BadMatch, TooManyAcs, BadLine}
+use Rattle.af_model.specs.declared.refusal.RefusalCause.{RefusalCause}
+use Rattle.af_model.specs.declared.refusal.RefusalCause.TheVariants.{BadSetup, BadValue, BadDevice, BadAc, BadIdChoice, BadMatch, TooManyAcs, BadLine}
 use Rattle.af_model.specs.declared.refusal.Refusal.{Refusal}
-use Rattle.af_model.specs.State.{DeviceState, Place, say}
+use Rattle.af_model.specs.State.{DeviceState, OpenLink, say}
 
 -- how far ahead of its time, and how far back, a device keeps sound: four seconds
 abbrev pub horizon_of : DeviceState → ℕ
@@ -21,7 +21,7 @@ abbrev pub infos_of : List DeviceState → List DeviceInfo
 infos_of devices = map info_of devices
 
 -- the code of a cause in error messages
-abbrev pub code_of_cause : Cause → ℕ
+abbrev pub code_of_cause : RefusalCause → ℕ
 code_of_cause BadSetup = 1
 code_of_cause BadValue = 2
 code_of_cause BadDevice = 3
@@ -31,7 +31,7 @@ code_of_cause BadMatch = 6
 code_of_cause TooManyAcs = 7
 code_of_cause BadLine = 8
 
-abbrev pub refusal : Cause → ℕ → Refusal
+abbrev pub refusal : RefusalCause → ℕ → Refusal
 refusal cause value = record { cause = cause; value = value }
 
 -- the bytes of a reply to the request with this opcode and number
@@ -39,9 +39,9 @@ unfoldable pub reply_message : ℕ → Answer → ℕ → List ℕ
 reply_message opcode answer sequence = reply_bytes opcode answer sequence
 
 -- the request with this opcode is replied to, with the number that it has
-abbrev pub replied : ℕ → Answer → Place → Place
+abbrev pub replied : ℕ → Answer → OpenLink → OpenLink
 replied opcode answer p = say p (reply_message opcode answer p.link.sequence)
 
 -- it is refused: an error says why, and nothing else changes
-abbrev pub refused : ℕ → Refusal → Place → Place
+abbrev pub refused : ℕ → Refusal → OpenLink → OpenLink
 refused opcode r p = say p (error (code_of_cause r.cause) r.value opcode p.link.sequence)

@@ -3,7 +3,7 @@ use Rattle.std.specs.Prelude.{ℕ, ◌+◌, ◌^◌, ℤ, pos, Bool, true, false
 use Rattle.std.specs.declared.option.Option.{Option}
 use Rattle.std.specs.declared.option.Option.TheVariants.{None, Some}
 use Rattle.af_sample.specs.declared.sample_type.SampleType.{SampleType}
-use Rattle.af_sample.specs.Heard.{Entry}
+use Rattle.af_sample.specs.Heard.{AcceptedPlay}
 use Rattle.af_context.specs.declared.Context.{Context}
 use Rattle.af_request.specs.declared.reply.Controls.{Controls}
 use Rattle.af_request.specs.declared.reply.Phone.{Phone}
@@ -13,33 +13,33 @@ use Rattle.af_outside.specs.declared.script.DeviceSpec.{DeviceSpec}
 
 -- A request that waits: a play, whose sound has the gain that its context had, and which is replied to unless it is quiet; or
 -- a record, with its context as it was. Starts are whole times.
-pub data Held : Type 0 where
-  held_play : (quiet : Bool) (start : ℕ) (sound : List ℤ) (preempt : Bool) → Held
-  held_record : (context : Context) (start frames : ℕ) → Held
+pub data Deferred : Type 0 where
+  deferred_play : (quiet : Bool) (start : ℕ) (sound : List ℤ) (preempt : Bool) → Deferred
+  deferred_record : (context : Context) (start frames : ℕ) → Deferred
 
 -- a link that waits for a device's time, with its request
-pub record Waiter : Type 0 where
+pub record Deferral : Type 0 where
   pub link : ℕ
   pub device : ℕ
-  pub held : Held
+  pub deferred : Deferred
 
 -- a request that had waited, and the device's time when it was completed
 pub record Completion : Type 0 where
-  pub held : Held
+  pub deferred : Deferred
   pub at : ℕ
 
 -- A device. Its time is unbounded, and begins 2^32 above the stated start, so that times before the start are natural
 -- numbers too: only differences of times, and times modulo 2^32, are ever seen.
 -- What was accepted, captured and completed is history: all plays in the order of their acceptance, all samples since the
 -- begin, and all requests that had waited.
--- Its controls act on what it captures and hands out. Its line, where it has one, has flags of its own.
+-- Its controls act on what it captures and hands out. Its line, if it has one, has flags of its own.
 -- A device is dead once a capture or an emit of it has failed.
 pub record DeviceState : Type 0 where
   pub ty : SampleType
   pub rate : ℕ
   pub begin : ℕ
   pub now : ℕ
-  pub accepted : List Entry
+  pub accepted : List AcceptedPlay
   pub captured : List ℤ
   pub completed : List Completion
   pub controls : Controls
@@ -62,34 +62,34 @@ pub record LinkState : Type 0 where
 
 -- A number for a link, open or not. What was said is history: all that was appended to the link's output since it was
 -- opened last, which stays behind a close.
-pub record Slot : Type 0 where
+pub record SlotState : Type 0 where
   pub link : Option LinkState
   pub said : List ℕ
 
 -- The requests that wait are in the order in which they began to. A link has one at most.
 pub record State : Type 0 where
   pub devices : List DeviceState
-  pub slots : List Slot
-  pub waiting : List Waiter
+  pub slots : List SlotState
+  pub waiting : List Deferral
 
--- What is around a link: what all links share, and the link's own history.
-pub record Around : Type 0 where
+-- The environment of a link: what all links share, and the link's own history.
+pub record EnvironmentState : Type 0 where
   pub devices : List DeviceState
-  pub waiting : List Waiter
+  pub waiting : List Deferral
   pub said : List ℕ
 
--- an open link with what is around it
-pub record Place : Type 0 where
-  pub around : Around
+-- an open link with its environment
+pub record OpenLink : Type 0 where
+  pub environment : EnvironmentState
   pub link : LinkState
 
-abbrev pub place : Around → LinkState → Place
-place a l = record { around = a; link = l }
+abbrev pub open_link : EnvironmentState → LinkState → OpenLink
+open_link a l = record { environment = a; link = l }
 
 -- Bytes are appended to a link's output, and so were said. Nothing else writes either.
-abbrev pub say : Place → List ℕ → Place
+abbrev pub say : OpenLink → List ℕ → OpenLink
 say p bytes =
-    place (record p.around { said = p.around.said ++ bytes }) (record p.link { pending = p.link.pending ++ bytes })
+    open_link (record p.environment { said = p.environment.said ++ bytes }) (record p.link { pending = p.link.pending ++ bytes })
 
 -- the devices, the one at a number changed
 abbrev pub device_set : ℕ → (DeviceState → DeviceState) → List DeviceState → Option DeviceState → List DeviceState
@@ -134,7 +134,7 @@ opening_device d = record {
   is_dead = false;
 }
 
-abbrev pub closed_slot : Slot
+abbrev pub closed_slot : SlotState
 closed_slot = record { link = None; said = [] }
 
 -- no link is open, and each device stands at its start
@@ -142,32 +142,32 @@ abbrev pub opening : List DeviceSpec → State
 opening config = record { devices = map opening_device config; slots = replicate 32 closed_slot; waiting = [] }
 
 -- the slot of a link's number
-abbrev pub some_slot : Option Slot → Slot
+abbrev pub some_slot : Option SlotState → SlotState
 some_slot None = closed_slot
 some_slot (Some slot) = slot
 
-abbrev pub slot_at : ℕ → State → Slot
+abbrev pub slot_at : ℕ → State → SlotState
 slot_at k s = some_slot (slice_get s.slots k)
 
-abbrev pub with_slot : ℕ → Slot → State → State
+abbrev pub with_slot : ℕ → SlotState → State → State
 with_slot k slot s = record s { slots = slice_set s.slots k slot }
 
--- what is around a link's number, and the link that is open there
-pub record Door : Type 0 where
-  pub around : Around
+-- the environment of a slot, and the link that is open there
+pub record SlotLink : Type 0 where
+  pub environment : EnvironmentState
   pub link : Option LinkState
 
-abbrev pub door : Around → Option LinkState → Door
-door a link = record { around = a; link = link }
+abbrev pub link_in_slot : EnvironmentState → Option LinkState → SlotLink
+link_in_slot a link = record { environment = a; link = link }
 
-abbrev pub door_at : ℕ → State → Door
-door_at k s = door (record { devices = s.devices; waiting = s.waiting; said = (slot_at k s).said }) (slot_at k s).link
+abbrev pub slot_link_at : ℕ → State → SlotLink
+slot_link_at k s = link_in_slot (record { devices = s.devices; waiting = s.waiting; said = (slot_at k s).said }) (slot_at k s).link
 
-abbrev pub with_door : ℕ → State → Door → State
-with_door k s d = with_slot k (record { link = d.link; said = d.around.said }) (record s { devices = d.around.devices; waiting = d.around.waiting })
+abbrev pub with_slot_link : ℕ → State → SlotLink → State
+with_slot_link k s d = with_slot k (record { link = d.link; said = d.environment.said }) (record s { devices = d.environment.devices; waiting = d.environment.waiting })
 
 -- the links at their numbers
-abbrev pub links_of : List Slot → List (Option LinkState)
+abbrev pub links_of : List SlotState → List (Option LinkState)
 links_of slots = map (λ slot. slot.link) slots
 
 -- whether each device has a line

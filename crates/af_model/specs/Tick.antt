@@ -4,12 +4,12 @@ use Rattle.std.specs.List.{range_with_len}
 use Rattle.std.specs.declared.option.Option.{Option}
 use Rattle.std.specs.declared.option.Option.TheVariants.{None, Some}
 use Rattle.af_sample.specs.declared.sample_type.SampleType.{SampleType}
-use Rattle.af_sample.specs.Heard.{Entry, heard}
+use Rattle.af_sample.specs.Heard.{AcceptedPlay, heard}
 use Rattle.af_sample.specs.Samples.{bytes_of, samples}
 use Rattle.af_wait.specs.Waits.{without_first}
-use Rattle.af_model.specs.State.{DeviceState, Held, held_play, held_record, LinkState, State, Waiter, Around, Place, place, Door, door, door_at, with_door, with_device}
-use Rattle.af_model.specs.Controls.{let_out, taken_in}
-use Rattle.af_model.specs.Waiting.{is_due}
+use Rattle.af_model.specs.State.{DeviceState, Deferred, deferred_play, deferred_record, LinkState, State, Deferral, EnvironmentState, OpenLink, open_link, SlotLink, link_in_slot, slot_link_at, with_slot_link, with_device}
+use Rattle.af_model.specs.Controls.{through_output_control, through_input_control}
+use Rattle.af_model.specs.Waiting.{falls_due}
 use Rattle.af_model.specs.Play.{in_devices, tell_played, with_play}
 use Rattle.af_model.specs.Record.{give_record}
 use Rattle.af_model.specs.Advance.{advance, or_else}
@@ -20,53 +20,53 @@ next_sound device n = map (heard device.accepted) (range_with_len device.now n)
 
 -- the sound that a device hands out in n sample periods, behind its output control and in its sample type
 abbrev pub sound : DeviceState → ℕ → List ℕ
-sound device n = bytes_of device.ty (let_out device.controls (next_sound device n))
+sound device n = bytes_of device.ty (through_output_control device.controls (next_sound device n))
 
 -- what a device captures in n sample periods: the samples of the bytes that came, or silence where none did
-abbrev pub capture_of : SampleType → ℕ → Option (List ℕ) → List ℤ
-capture_of ty n None = replicate n (pos 0)
-capture_of ty n (Some bytes) = samples ty bytes
+abbrev pub captured_samples : SampleType → ℕ → Option (List ℕ) → List ℤ
+captured_samples ty n None = replicate n (pos 0)
+captured_samples ty n (Some bytes) = samples ty bytes
 
 -- a device behind the sample periods in which these samples came before its input control, dead or not
 abbrev pub later : List ℤ → Bool → DeviceState → DeviceState
 later captured is_dead device =
-    record device { now = device.now + length captured; captured = device.captured ++ taken_in device.controls captured; is_dead = is_dead }
+    record device { now = device.now + length captured; captured = device.captured ++ through_input_control device.controls captured; is_dead = is_dead }
 
 -- what a device has accepted when it has completed a request that had waited: a play is accepted now
-abbrev pub with_held : Held → ℕ → List Entry → List Entry
-with_held (held_play quiet start sound preempt) now accepted = with_play (record { start = start; samples = sound; preempt = preempt; at = now }) accepted
-with_held (held_record c start frames) now accepted = accepted
+abbrev pub with_deferred : Deferred → ℕ → List AcceptedPlay → List AcceptedPlay
+with_deferred (deferred_play quiet start sound preempt) now accepted = with_play (record { start = start; samples = sound; preempt = preempt; at = now }) accepted
+with_deferred (deferred_record c start frames) now accepted = accepted
 
-abbrev pub completing : Held → DeviceState → DeviceState
-completing held device = record device {
-  accepted = with_held held device.now device.accepted;
-  completed = device.completed ++ record { held = held; at = device.now } ∷ [];
+abbrev pub completing : Deferred → DeviceState → DeviceState
+completing deferred device = record device {
+  accepted = with_deferred deferred device.now device.accepted;
+  completed = device.completed ++ record { deferred = deferred; at = device.now } ∷ [];
 }
 
 -- what a link is answered then
-abbrev pub answer_held : Held → DeviceState → Place → Place
-answer_held (held_play quiet start sound preempt) device p = tell_played quiet device p
-answer_held (held_record c start frames) device p = give_record c start frames device p
+abbrev pub answer_deferred : Deferred → DeviceState → OpenLink → OpenLink
+answer_deferred (deferred_play quiet start sound preempt) device p = tell_played quiet device p
+answer_deferred (deferred_record c start frames) device p = give_record c start frames device p
 
 -- a link's request completes, and then those that the link may then make
-abbrev pub complete_for : Waiter → Option DeviceState → Place → Place
+abbrev pub complete_for : Deferral → Option DeviceState → OpenLink → OpenLink
 complete_for w None p = p
-complete_for w (Some device) p = advance w.link (answer_held w.held device (in_devices w.device (completing w.held) p))
+complete_for w (Some device) p = advance w.link (answer_deferred w.deferred device (in_devices w.device (completing w.deferred) p))
 
-abbrev pub enter : Place → Door
-enter p = door p.around (Some p.link)
+abbrev pub enter : OpenLink → SlotLink
+enter p = link_in_slot p.environment (Some p.link)
 
-abbrev pub complete_at : Waiter → Around → Option LinkState → Door
-complete_at w a None = door a None
-complete_at w a (Some l) = enter (complete_for w (slice_get a.devices w.device) (place a l))
+abbrev pub complete_at : Deferral → EnvironmentState → Option LinkState → SlotLink
+complete_at w a None = link_in_slot a None
+complete_at w a (Some l) = enter (complete_for w (slice_get a.devices w.device) (open_link a l))
 
-abbrev pub complete : Waiter → State → State
-complete w s = with_door w.link s (complete_at w (door_at w.link s).around (door_at w.link s).link)
+abbrev pub complete : Deferral → State → State
+complete w s = with_slot_link w.link s (complete_at w (slot_link_at w.link s).environment (slot_link_at w.link s).link)
 
 -- the first request that waits for device d and is due leaves the list and completes; None where none is due
 abbrev pub complete_first : ℕ → State → DeviceState → Option State
 complete_first d s device =
-    option_map (λ w. complete w (record s { waiting = without_first (is_due d device) s.waiting })) (find (is_due d device) s.waiting)
+    option_map (λ w. complete w (record s { waiting = without_first (falls_due d device) s.waiting })) (find (falls_due d device) s.waiting)
 
 abbrev pub complete_step : ℕ → State → Option State
 complete_step d s = option_and_then (complete_first d s) (slice_get s.devices d)

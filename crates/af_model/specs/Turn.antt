@@ -15,37 +15,37 @@ use Rattle.af_outside.specs.declared.happening.Why.TheVariants as why
 use Rattle.af_phone.specs.declared.line.LineChange.{LineChange}
 use Rattle.af_phone.specs.Lines.{hook_due, is_change}
 use Rattle.af_sample.specs.SampleTypes.{width_of}
-use Rattle.af_outside.specs.Told.{Log}
+use Rattle.af_outside.specs.Log.{Log}
 use Rattle.af_outside.specs.Outside.{same_bytes}
-use Rattle.af_model.specs.State.{State, DeviceState, Slot, LinkState, Around, Place, Door, door, door_at, with_door, Outline, place, opened, stopped, slot_at, with_slot, outline}
-use Rattle.af_model.specs.Waiting.{is_waiting}
+use Rattle.af_model.specs.State.{State, DeviceState, SlotState, LinkState, EnvironmentState, OpenLink, SlotLink, link_in_slot, slot_link_at, with_slot_link, Outline, open_link, opened, stopped, slot_at, with_slot, outline}
+use Rattle.af_model.specs.Waiting.{has_deferral}
 use Rattle.af_model.specs.Advance.{advance, absorb, takes_more}
-use Rattle.af_model.specs.Tick.{sound, capture_of, tick}
+use Rattle.af_model.specs.Tick.{sound, captured_samples, tick}
 use Rattle.af_model.specs.Events.{dropped, hook_given, hook_refused, line_changes}
 
 -- a state, and the log that is left behind it
-pub record Behind (S : Type 0) : Type 0 where
+pub record Parsed (S : Type 0) : Type 0 where
   pub state : S
   pub log : Log
 
-abbrev pub behind : {S : Type 0} → S → Log → Option (Behind S)
-behind s log = Some (record { state = s; log = log })
+abbrev pub parsed : {S : Type 0} → S → Log → Option (Parsed S)
+parsed s log = Some (record { state = s; log = log })
 
 -- one phase after another
-abbrev pub and_then : {S T : Type 0} → Option (Behind S) → (S → Log → Option (Behind T)) → Option (Behind T)
-and_then None f = None
-and_then (Some b) f = f b.state b.log
+abbrev pub parse_then : {S T : Type 0} → Option (Parsed S) → (S → Log → Option (Parsed T)) → Option (Parsed T)
+parse_then None f = None
+parse_then (Some b) f = f b.state b.log
 
 abbrev pub then_go : {S T : Type 0} → Option S → (S → Option T) → Option T
 then_go None f = None
 then_go (Some s) f = f s
 
 -- one happening, which leads to a state where it is the one that must come
-abbrev pub take_one : {S : Type 0} → (Happening → Option S) → Log → Option (Behind S)
-take_one f [] = None
-take_one f (h ∷ log) = then_go (f h) (λ s. behind s log)
+abbrev pub parse_one : {S : Type 0} → (Happening → Option S) → Log → Option (Parsed S)
+parse_one f [] = None
+parse_one f (h ∷ log) = then_go (f h) (λ s. parsed s log)
 
--- Reads: one, where the link may have something to read, does not wait, is not closing, and at most 16384 bytes wait to be sent
+-- Reads: one, if the link may have something to read, does not wait, is not closing, and at most 16384 bytes wait to be sent
 -- to it
 
 abbrev pub wants_read : Bool → LinkState → Bool
@@ -58,101 +58,101 @@ is_read NotYet = true
 is_read Ended = true
 is_read Failed = true
 
--- bytes are absorbed; a link that has ended is to be closed once it was sent what it is owed, and one that failed is dropped
-abbrev pub after_read : ℕ → ReadGot → Place → Place
+-- bytes are absorbed; a link that has ended is to be closed once all that is queued for it was sent, and one that failed is dropped
+abbrev pub after_read : ℕ → ReadGot → OpenLink → OpenLink
 after_read k (Given bytes) p = absorb k bytes p
-after_read k NotYet p = place p.around (record p.link { is_ready = false })
-after_read k Ended p = place p.around (stopped why.Ended (record p.link { is_ready = false }))
+after_read k NotYet p = open_link p.environment (record p.link { is_ready = false })
+after_read k Ended p = open_link p.environment (stopped why.Ended (record p.link { is_ready = false }))
 after_read k Failed p = dropped k why.LinkFault p
 
-abbrev pub read_by : ℕ → Place → Happening → Option Place
+abbrev pub read_by : ℕ → OpenLink → Happening → Option OpenLink
 read_by k p (Read link got) = if link == k && is_read got then Some (after_read k got p) else None
 read_by k p _ = None
 
-unfoldable pub read_phase : ℕ → Place → Log → Option (Behind Place)
-read_phase k p log = if wants_read (is_waiting p.around.waiting k) p.link then take_one (read_by k p) log else behind p log
+unfoldable pub read_phase : ℕ → OpenLink → Log → Option (Parsed OpenLink)
+read_phase k p log = if wants_read (has_deferral p.environment.waiting k) p.link then parse_one (read_by k p) log else parsed p log
 
 -- Writes: of all that waits to be sent, as long as anything does and the link is not stuck
 
 abbrev pub wants_write : LinkState → Bool
 wants_write l = not (length l.pending == 0) && not l.is_stuck
 
--- so many bytes are sent; where they were fewer than wait to be, the link is stuck
+-- n bytes are sent; if they were fewer than wait to be, the link is stuck
 abbrev pub sent : ℕ → LinkState → LinkState
 sent n l = record l { pending = drop n l.pending; is_stuck = nat_lt n (length l.pending) }
 
 -- the bytes that were taken are sent, and requests are performed again
-abbrev pub after_write : ℕ → List ℕ → Place → Place
-after_write k bytes p = advance k (place p.around (sent (length bytes) p.link))
+abbrev pub after_write : ℕ → List ℕ → OpenLink → OpenLink
+after_write k bytes p = advance k (open_link p.environment (sent (length bytes) p.link))
 
 -- the first bytes that wait to be sent are taken; a link to which a write failed is dropped
-abbrev pub write_taken : ℕ → Option (List ℕ) → Place → Option Place
+abbrev pub write_taken : ℕ → Option (List ℕ) → OpenLink → Option OpenLink
 write_taken k None p = Some (dropped k why.LinkFault p)
 write_taken k (Some bytes) p =
     if same_bytes bytes (take (length bytes) p.link.pending) then Some (after_write k bytes p) else None
 
 -- all that waits to be sent is offered
-abbrev pub write_offered : ℕ → ℕ → Option (List ℕ) → Place → Option Place
+abbrev pub write_offered : ℕ → ℕ → Option (List ℕ) → OpenLink → Option OpenLink
 write_offered k offered took p = if offered == length p.link.pending then write_taken k took p else None
 
-abbrev pub write_by : ℕ → Place → Happening → Option Place
+abbrev pub write_by : ℕ → OpenLink → Happening → Option OpenLink
 write_by k p (Wrote link offered took) = if link == k then write_offered k offered took p else None
 write_by k p _ = None
 
-abbrev pub write_phase : ℕ → Place → Log → Option (Behind Place)
-write_phase k p [] = if wants_write p.link then None else behind p []
+abbrev pub write_phase : ℕ → OpenLink → Log → Option (Parsed OpenLink)
+write_phase k p [] = if wants_write p.link then None else parsed p []
 write_phase k p (h ∷ log) =
-    if wants_write p.link then then_go (write_by k p h) (λ q. write_phase k q log) else behind p (h ∷ log)
+    if wants_write p.link then then_go (write_by k p h) (λ q. write_phase k q log) else parsed p (h ∷ log)
 
--- Closes: one, where the link is closing and nothing waits to be sent to it
+-- Closes: one, if the link is closing and nothing waits to be sent to it
 
 -- causes by number, so that they can be compared
-abbrev pub number_of : Why → ℕ
-number_of why.BadSetup = 0
-number_of why.Malformed = 1
-number_of why.Ended = 2
-number_of why.LinkFault = 3
-number_of why.Overrun = 4
+abbrev pub number_of_why : Why → ℕ
+number_of_why why.BadSetup = 0
+number_of_why why.Malformed = 1
+number_of_why why.Ended = 2
+number_of_why why.LinkFault = 3
+number_of_why why.Overrun = 4
 
 abbrev pub same_why : Why → Why → Bool
-same_why a b = number_of a == number_of b
+same_why a b = number_of_why a == number_of_why b
 
 -- the cause of a link that is to be closed now
 abbrev pub close_due : LinkState → Option Why
 close_due l = if length l.pending == 0 then l.closing else None
 
-abbrev pub close_by : ℕ → Around → Why → Happening → Option Door
-close_by k a cause (Closed link why) = if link == k && same_why why cause then Some (door a None) else None
+abbrev pub close_by : ℕ → EnvironmentState → Why → Happening → Option SlotLink
+close_by k a cause (Closed link why) = if link == k && same_why why cause then Some (link_in_slot a None) else None
 close_by k a cause _ = None
 
-abbrev pub close_for : ℕ → Place → Option Why → Log → Option (Behind Door)
-close_for k p None log = behind (door p.around (Some p.link)) log
-close_for k p (Some cause) log = take_one (close_by k p.around cause) log
+abbrev pub close_for : ℕ → OpenLink → Option Why → Log → Option (Parsed SlotLink)
+close_for k p None log = parsed (link_in_slot p.environment (Some p.link)) log
+close_for k p (Some cause) log = parse_one (close_by k p.environment cause) log
 
-unfoldable pub close_phase : ℕ → Place → Log → Option (Behind Door)
+unfoldable pub close_phase : ℕ → OpenLink → Log → Option (Parsed SlotLink)
 close_phase k p log = close_for k p (close_due p.link) log
 
 -- A link is served by a read, writes and a close; all links are by rising number
 
-unfoldable pub serve_link : ℕ → Place → Log → Option (Behind Door)
-serve_link k p log = and_then (read_phase k p log) (λ p log. and_then (write_phase k p log) (close_phase k))
+unfoldable pub serve_link : ℕ → OpenLink → Log → Option (Parsed SlotLink)
+serve_link k p log = parse_then (read_phase k p log) (λ p log. parse_then (write_phase k p log) (close_phase k))
 
-abbrev pub serve_open : ℕ → Around → Option LinkState → Log → Option (Behind Door)
-serve_open k a None log = behind (door a None) log
-serve_open k a (Some l) log = serve_link k (place a l) log
+abbrev pub serve_open : ℕ → EnvironmentState → Option LinkState → Log → Option (Parsed SlotLink)
+serve_open k a None log = parsed (link_in_slot a None) log
+serve_open k a (Some l) log = serve_link k (open_link a l) log
 
-abbrev pub serve_door : ℕ → Door → Log → Option (Behind Door)
-serve_door k d log = serve_open k d.around d.link log
+abbrev pub serve_slot_link : ℕ → SlotLink → Log → Option (Parsed SlotLink)
+serve_slot_link k d log = serve_open k d.environment d.link log
 
-abbrev pub serve_at : ℕ → State → Log → Option (Behind State)
-serve_at k s log = and_then (serve_door k (door_at k s) log) (λ d log. behind (with_door k s d) log)
+abbrev pub serve_at : ℕ → State → Log → Option (Parsed State)
+serve_at k s log = parse_then (serve_slot_link k (slot_link_at k s) log) (λ d log. parsed (with_slot_link k s d) log)
 
 -- n links from number k on
-unfoldable pub serve_from : ℕ → ℕ → State → Log → Option (Behind State)
-serve_from zero k s log = behind s log
-serve_from (suc n) k s log = and_then (serve_at k s log) (serve_from n (k + 1))
+unfoldable pub serve_from : ℕ → ℕ → State → Log → Option (Parsed State)
+serve_from zero k s log = parsed s log
+serve_from (suc n) k s log = parse_then (serve_at k s log) (serve_from n (k + 1))
 
-abbrev pub serve_all : State → Log → Option (Behind State)
+abbrev pub serve_all : State → Log → Option (Parsed State)
 serve_all s log = serve_from (length s.slots) 0 s log
 
 -- Wakes
@@ -191,15 +191,15 @@ ready l = record l { is_ready = true }
 abbrev pub writable : LinkState → LinkState
 writable l = record l { is_stuck = false }
 
--- what becomes of a link, where it is open
+-- what becomes of a link, if it is open
 abbrev pub in_open : (LinkState → LinkState) → Option LinkState → Option LinkState
 in_open f None = None
 in_open f (Some l) = Some (f l)
 
-abbrev pub in_slot : (LinkState → LinkState) → Slot → Slot
+abbrev pub in_slot : (LinkState → LinkState) → SlotState → SlotState
 in_slot f slot = record slot { link = in_open f slot.link }
 
--- A live device that ticks: one capture of as many frames, and where that was done one emit of the sound of that stretch. It is
+-- A live device that ticks: one capture of as many frames, and if that was done one emit of the sound of that stretch. It is
 -- dead behind one that failed. A dead device makes neither call again. Its time goes on in every case, and where no bytes were
 -- captured it captures silence.
 
@@ -219,31 +219,31 @@ emit_by d n device captured s (Emitted e bytes done) =
     if e == d && same_bytes bytes (sound device n) then Some (tick d captured (not done) s) else None
 emit_by d n device captured s _ = None
 
-abbrev pub after_capture : ℕ → ℕ → DeviceState → State → Option (List ℕ) → Log → Option (Behind State)
-after_capture d n device s None log = behind (tick d (capture_of device.ty n None) true s) log
-after_capture d n device s (Some bytes) log = take_one (emit_by d n device (capture_of device.ty n (Some bytes)) s) log
+abbrev pub after_capture : ℕ → ℕ → DeviceState → State → Option (List ℕ) → Log → Option (Parsed State)
+after_capture d n device s None log = parsed (tick d (captured_samples device.ty n None) true s) log
+after_capture d n device s (Some bytes) log = parse_one (emit_by d n device (captured_samples device.ty n (Some bytes)) s) log
 
-abbrev pub tick_phase : ℕ → ℕ → Option DeviceState → State → Log → Option (Behind State)
+abbrev pub tick_phase : ℕ → ℕ → Option DeviceState → State → Log → Option (Parsed State)
 tick_phase d n None s log = None
 tick_phase d n (Some device) s log =
-    if device.is_dead then behind (tick d (capture_of device.ty n None) true s) log
-    else and_then (take_one (capture_by d n device) log) (after_capture d n device s)
+    if device.is_dead then parsed (tick d (captured_samples device.ty n None) true s) log
+    else parse_then (parse_one (capture_by d n device) log) (after_capture d n device s)
 
 -- A line changes, and the links that select it are told
 
-abbrev pub line_phase : LineChange → ℕ → Option DeviceState → State → Log → Option (Behind State)
+abbrev pub line_phase : LineChange → ℕ → Option DeviceState → State → Log → Option (Parsed State)
 line_phase change d None s log = None
-line_phase change d (Some device) s log = behind (line_changes change d device s) log
+line_phase change d (Some device) s log = parsed (line_changes change d device s) log
 
 -- what a wake does
-unfoldable pub wake_phase : Wake → State → Log → Option (Behind State)
-wake_phase (Opened k) s log = behind (with_slot k (record { link = Some opened; said = [] }) s) log
-wake_phase (Readable k) s log = behind (with_slot k (in_slot ready (slot_at k s)) s) log
-wake_phase (Writable k) s log = behind (with_slot k (in_slot writable (slot_at k s)) s) log
+unfoldable pub wake_phase : Wake → State → Log → Option (Parsed State)
+wake_phase (Opened k) s log = parsed (with_slot k (record { link = Some opened; said = [] }) s) log
+wake_phase (Readable k) s log = parsed (with_slot k (in_slot ready (slot_at k s)) s) log
+wake_phase (Writable k) s log = parsed (with_slot k (in_slot writable (slot_at k s)) s) log
 wake_phase (Ticked d n) s log = tick_phase d n (slice_get s.devices d) s log
 wake_phase (Line d change) s log = line_phase change d (slice_get s.devices d) s log
-wake_phase Idle s log = behind s log
-wake_phase Stop s log = behind s log
+wake_phase Idle s log = parsed s log
+wake_phase Stop s log = parsed s log
 
 -- whether two flags are the same
 abbrev pub same_flag : Bool → Bool → Bool
@@ -260,32 +260,32 @@ hook_by d off device s (Hooked e wanted done) =
     if e == d && same_flag wanted off then Some (if done then hook_given off d device s else hook_refused d s) else None
 hook_by d off device s _ = None
 
-abbrev pub hook_for : ℕ → DeviceState → Option Bool → State → Log → Option (Behind State)
-hook_for d device None s log = behind s log
-hook_for d device (Some off) s log = take_one (hook_by d off device s) log
+abbrev pub hook_for : ℕ → DeviceState → Option Bool → State → Log → Option (Parsed State)
+hook_for d device None s log = parsed s log
+hook_for d device (Some off) s log = parse_one (hook_by d off device s) log
 
-abbrev pub hook_at : ℕ → Option DeviceState → State → Log → Option (Behind State)
-hook_at d None s log = behind s log
+abbrev pub hook_at : ℕ → Option DeviceState → State → Log → Option (Parsed State)
+hook_at d None s log = parsed s log
 hook_at d (Some device) s log = hook_for d device (hook_wanted device) s log
 
 -- n devices from number d on
-unfoldable pub hook_from : ℕ → ℕ → State → Log → Option (Behind State)
-hook_from zero d s log = behind s log
-hook_from (suc n) d s log = and_then (hook_at d (slice_get s.devices d) s log) (hook_from n (d + 1))
+unfoldable pub hook_from : ℕ → ℕ → State → Log → Option (Parsed State)
+hook_from zero d s log = parsed s log
+hook_from (suc n) d s log = parse_then (hook_at d (slice_get s.devices d) s log) (hook_from n (d + 1))
 
-abbrev pub hook_all : State → Log → Option (Behind State)
+abbrev pub hook_all : State → Log → Option (Parsed State)
 hook_all s log = hook_from (length s.devices) 0 s log
 
 -- behind a wake
-abbrev pub serve_and_hook : State → Log → Option (Behind State)
-serve_and_hook s log = and_then (serve_all s log) hook_all
+abbrev pub serve_and_hook : State → Log → Option (Parsed State)
+serve_and_hook s log = parse_then (serve_all s log) hook_all
 
 -- A whole turn: a wake that may come, with what it does, then all links, and then all hooks
 
-unfoldable pub turn : State → Log → Option (Behind State)
-turn s (Woke wake ∷ log) = if fits (outline s) wake then and_then (wake_phase wake s log) serve_and_hook else None
+unfoldable pub turn : State → Log → Option (Parsed State)
+turn s (Woke wake ∷ log) = if fits (outline s) wake then parse_then (wake_phase wake s log) serve_and_hook else None
 turn s _ = None
 
 -- the part of a log is exactly one turn from the state, whatever follows it, and leads to the next state
 abbrev pub IsTurn : State → Log → State → Type 0
-IsTurn s part next = (more : Log) → turn s (part ++ more) ≡ behind next more
+IsTurn s part next = (more : Log) → turn s (part ++ more) ≡ parsed next more

@@ -8,16 +8,16 @@ ghost use Rattle.std.specs.declared.option.Option.TheVariants.{Some};
 ghost use Rattle.af_outside.specs.declared.happening.Why.TheVariants as why;
 ghost use Rattle.af_outside.specs.declared.script.DeviceSpec.{DeviceSpec};
 ghost use Rattle.af_outside.specs.declared.script.Step.{Step};
-ghost use Rattle.af_outside.specs.Told.{Log};
-ghost use Rattle.af_model.specs.State.{Place, State, slot_at};
+ghost use Rattle.af_outside.specs.Log.{Log};
+ghost use Rattle.af_model.specs.State.{OpenLink, State, slot_at};
 ghost use Rattle.af_model.specs.Advance.{advance_step};
-ghost use Rattle.af_model.specs.Turn.{Behind, serve_at};
+ghost use Rattle.af_model.specs.Turn.{Parsed, serve_at};
 ghost use Rattle.af_model.specs.Script.{ScriptLog};
 ghost use Rattle.af_model.specs.Cutting.{CutsAlike};
 ghost use Rattle.af_model.specs.Prefix.{TakesInOrder};
 ghost use Rattle.af_model.specs.Fold.{MixesAll};
 
-pub use refusal::{Cause, Refusal};
+pub use refusal::{Refusal, RefusalCause};
 
 /// A law of the definitions alone: a script has at most one log.
 pub fn one_log_law()
@@ -25,18 +25,18 @@ pub fn one_log_law()
 {}
 
 /// A law of the definitions alone: a malformed client closes itself alone. Where taking off what stands at the front of its
-/// input closes a link for it, nothing around the link changes, no device and no other request, all that the link is owed
+/// input closes a link for it, nothing in the link's environment changes, no device and no other request, all that is queued for the link
 /// still waits to be sent, and no more of its input is read. Serving a link, that one or any other, changes no other link.
 pub fn malformed_alone_law()
-    ensures closes { (k : ℕ) (p q : Place) → advance_step k p ≡ Some q → q.link.closing ≡ Some why.Malformed →
-        (q.around ≡ p.around) × (q.link.pending ≡ p.link.pending) × (q.link.rest ≡ []) }
-    ensures others { (k j : ℕ) (s : State) (log : Log) (b : Behind State) → serve_at k s log ≡ Some b → j ≢ k → slot_at j b.state ≡ slot_at j s }
+    ensures closes { (k : ℕ) (p q : OpenLink) → advance_step k p ≡ Some q → q.link.closing ≡ Some why.Malformed →
+        (q.environment ≡ p.environment) × (q.link.pending ≡ p.link.pending) × (q.link.rest ≡ []) }
+    ensures others { (k j : ℕ) (s : State) (log : Log) (b : Parsed State) → serve_at k s log ≡ Some b → j ≢ k → slot_at j b.state ≡ slot_at j s }
 {}
 
 /// A law of the definitions alone, of cutting: what comes to a link in two pieces, one right after the other, makes of it and of
 /// all around it what both make that come at once.
 pub fn cutting_law()
-    ensures { (k : ℕ) (p : Place) → CutsAlike k p }
+    ensures { (k : ℕ) (p : OpenLink) → CutsAlike k p }
 {}
 
 /// A law of the definitions alone, of prefixes: behind each run the bytes that a link took since it was opened last begin what was

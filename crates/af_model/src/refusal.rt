@@ -4,7 +4,7 @@ ghost use Rattle.af_model.specs.Reply.{code_of_cause};
 
 /// The cause of an error message.
 #[derive(Clone, Copy, Debug, PartialEq, Eq)]
-pub enum Cause {
+pub enum RefusalCause {
     BadSetup,
     BadValue,
     BadDevice,
@@ -15,20 +15,20 @@ pub enum Cause {
     BadLine,
 }
 
-impl Cause {
+impl RefusalCause {
     /// Its code, 1 to 8.
     pub fn code(self) -> u8
         ensures { result ≡ code_of_cause self }
     {
         match self {
-            Cause::BadSetup => 1,
-            Cause::BadValue => 2,
-            Cause::BadDevice => 3,
-            Cause::BadAc => 4,
-            Cause::BadIdChoice => 5,
-            Cause::BadMatch => 6,
-            Cause::TooManyAcs => 7,
-            Cause::BadLine => 8,
+            RefusalCause::BadSetup => 1,
+            RefusalCause::BadValue => 2,
+            RefusalCause::BadDevice => 3,
+            RefusalCause::BadAc => 4,
+            RefusalCause::BadIdChoice => 5,
+            RefusalCause::BadMatch => 6,
+            RefusalCause::TooManyAcs => 7,
+            RefusalCause::BadLine => 8,
         }
     }
 }
@@ -36,6 +36,6 @@ impl Cause {
 /// Why a request is refused, and which of its values is at fault.
 #[derive(Clone, Copy, Debug, PartialEq, Eq)]
 pub struct Refusal {
-    pub cause: Cause,
+    pub cause: RefusalCause,
     pub value: u32,
 }

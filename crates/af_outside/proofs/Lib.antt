@@ -1,9 +1,6 @@
-pub mod Outsides
-pub mod Peers
-pub mod FarEnds
-pub mod Known
-pub mod Silence
-pub mod Stations
-pub mod Tapes
-pub mod Flowing
-pub mod Growing
+pub mod EqualityTestLemmas
+pub mod ScriptedClientLemmas
+pub mod ScriptedLinkLemmas
+pub mod SilenceLemmas
+pub mod ScriptedDeviceLemmas
+pub mod TapeLemmas

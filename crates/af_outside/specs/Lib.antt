@@ -1,13 +1,7 @@
-pub mod Told
-pub mod Flow
+pub mod Log
 pub mod World
 pub mod Outside
 pub mod Tape
-pub mod Memory
-pub mod Link
-pub mod Dial
-pub mod MemDial
-pub mod Real
 pub mod Kinds
 pub mod Outer
 pub mod TapeLaws

@@ -14,7 +14,8 @@ use Rattle.af_outside.specs.declared.outer.Outer.{Outer}
 use Rattle.af_outside.specs.declared.outer.Outer.TheVariants as outer
 use Rattle.af_outside.specs.declared.outer.OuterFaults.{OuterFaults}
 use Rattle.af_outside.specs.declared.script.DeviceSpec.{DeviceSpec}
-use Rattle.af_outside.specs.Told.{Log, Grew, Stays}
+use Rattle.af_io.specs.Observed.{Appended, Unchanged}
+use Rattle.af_outside.specs.Log.{Log}
 
 -- the entry of a listen, which is there where it was done
 abbrev pub listened : Ready → List ℕ → List Outer
@@ -34,10 +35,10 @@ waited more (answer.Woke wake) = outer.Waited more wake ∷ []
 waited more answer.Failed = []
 
 -- whether a listen or an attach failed
-abbrev pub refused : Ready → Bool
-refused ready.Done = false
-refused ready.Failed = true
-refused ready.OutOfMemory = false
+abbrev pub was_refused : Ready → Bool
+was_refused ready.Done = false
+was_refused ready.Failed = true
+was_refused ready.OutOfMemory = false
 
 -- What a tape keeps of these calls: which of them are to fail, those that were done, the number of its next wait, and how often
 -- a listen and a wait have failed.
@@ -61,12 +62,12 @@ abbrev pub is_stated : Option ℕ → ℕ → Bool
 is_stated None n = false
 is_stated (Some stated) n = stated == n
 
--- a list that is told where the log is
+-- a list that is observed if the log is
 abbrev pub told_beside : Option Log → List Outer → Option (List Outer)
 told_beside None entries = None
 told_beside (Some log) entries = Some entries
 
--- an entry is added, and nothing is told any longer where memory ran out for it
+-- an entry is added, and nothing is observed any longer where memory ran out for it
 abbrev pub EntryNoted : Option Log → List Outer → Result Outer OutOfMemory → Option Log → List Outer → Type 0
-EntryNoted log before (Ok entry) log' after = Stays log log' × Grew (told_beside log before) (entry ∷ []) (told_beside log' after)
+EntryNoted log before (Ok entry) log' after = Unchanged log log' × Appended (told_beside log before) (entry ∷ []) (told_beside log' after)
 EntryNoted log before (Err e) log' after = log' ≡ None

@@ -19,119 +19,134 @@ use Rattle.af_outside.specs.declared.live.Waited.{Waited}
 use Rattle.af_outside.specs.declared.live.Waited.TheVariants as waited
 use Rattle.af_outside.specs.declared.outer.Outer.{Outer}
 use Rattle.af_outside.specs.declared.outer.OuterFaults.{OuterFaults}
-use Rattle.af_outside.specs.Told.{Log}
+use Rattle.af_outside.specs.Log.{Log}
 use Rattle.af_outside.specs.Outer.{OuterState, outer_start, no_faults, told_beside, is_stated}
 
--- The far end of an open link: the bytes that it has still to give, whether it ends after them, how many bytes it takes
+-- The scripted client of an open link: the bytes that it has still to give, whether it ends after them, how many bytes it takes
 -- still (None is every byte), and whether its next read and its next write are to fail.
-pub record Peer : Type 0 where
+pub record ScriptedClient : Type 0 where
   pub gives : List ℕ
   pub ends : Bool
   pub takes : Option ℕ
   pub fails_read : Bool
   pub fails_write : Bool
 
--- The far end of a device: its sample type, what the last tick states that it captures (silence where it states nothing),
+-- A scripted device: its sample type, what the last tick states that it captures (silence where it states nothing),
 -- and whether its next capture, its next emit and the next hook of its line are to fail.
-pub record Station : Type 0 where
+pub record ScriptedDevice : Type 0 where
   pub ty : SampleType
   pub states : Option (List ℕ)
   pub fails_capture : Bool
   pub fails_emit : Bool
   pub fails_hook : Bool
 
--- a peer for each link that is open, and a station for each device
+-- a client for each link that is open, and a scripted device for each device
 pub record Outside : Type 0 where
-  pub peers : List (Option Peer)
-  pub stations : List Station
+  pub clients : List (Option ScriptedClient)
+  pub devices : List ScriptedDevice
 
--- the peer of a link that was just opened: it has nothing to give, takes every byte, and nothing was stated of it
-abbrev pub fresh_peer : Peer
-fresh_peer = record { gives = []; ends = false; takes = None; fails_read = false; fails_write = false }
+-- the client of a link that was just opened: it has nothing to give, takes every byte, and nothing was stated of it
+abbrev pub fresh_client : ScriptedClient
+fresh_client = record { gives = []; ends = false; takes = None; fails_read = false; fails_write = false }
 
 -- a device that nothing was stated of
-abbrev pub station_of : SampleType → Station
-station_of ty = record { ty = ty; states = None; fails_capture = false; fails_emit = false; fails_hook = false }
+abbrev pub scripted_of : SampleType → ScriptedDevice
+scripted_of ty = record { ty = ty; states = None; fails_capture = false; fails_emit = false; fails_hook = false }
 
 -- no link is open, and nothing was stated of the devices
 abbrev pub outside_start : List DeviceSpec → Outside
-outside_start config = record { peers = replicate 32 None; stations = map (λ d. station_of d.ty) config }
+outside_start config = record { clients = replicate 32 None; devices = map (λ d. scripted_of d.ty) config }
 
-abbrev pub some_peer : Option (Option Peer) → Option Peer
-some_peer None = None
-some_peer (Some peer) = peer
+abbrev pub some_client : Option (Option ScriptedClient) → Option ScriptedClient
+some_client None = None
+some_client (Some client) = client
 
--- the peer of a link, where the link is open
-abbrev pub peer_at : Outside → ℕ → Option Peer
-peer_at o k = some_peer (slice_get o.peers k)
+-- the client of a link, if the link is open
+abbrev pub client_at : Outside → ℕ → Option ScriptedClient
+client_at o k = some_client (slice_get o.clients k)
 
-abbrev pub with_peer : Outside → ℕ → Option Peer → Outside
-with_peer o k peer = record o { peers = slice_set o.peers k peer }
+abbrev pub with_client : Outside → ℕ → Option ScriptedClient → Outside
+with_client o k client = record o { clients = slice_set o.clients k client }
 
--- the station of a device; of one that is not there nothing was stated
-abbrev pub some_station : Option Station → Station
-some_station None = station_of Lin16
-some_station (Some station) = station
+-- the scripted device at a number; of one that is not there nothing was stated
+abbrev pub some_scripted : Option ScriptedDevice → ScriptedDevice
+some_scripted None = scripted_of Lin16
+some_scripted (Some scripted) = scripted
 
-abbrev pub station_at : Outside → ℕ → Station
-station_at o d = some_station (slice_get o.stations d)
+abbrev pub scripted_at : Outside → ℕ → ScriptedDevice
+scripted_at o d = some_scripted (slice_get o.devices d)
 
-abbrev pub with_station : Outside → ℕ → Station → Outside
-with_station o d station = record o { stations = slice_set o.stations d station }
+abbrev pub with_scripted : Outside → ℕ → ScriptedDevice → Outside
+with_scripted o d scripted = record o { devices = slice_set o.devices d scripted }
 
 -- Steps
 
 -- a link that is open stays as it is
-abbrev pub opened_at : Outside → ℕ → Option Peer → Outside
-opened_at o k None = with_peer o k (Some fresh_peer)
-opened_at o k (Some peer) = o
+abbrev pub opened_at : Outside → ℕ → Option ScriptedClient → Outside
+opened_at o k None = with_client o k (Some fresh_client)
+opened_at o k (Some client) = o
 
 -- what is stated of a link that is not open is gone
-abbrev pub adjusted : Outside → ℕ → (Peer → Peer) → Outside
-adjusted o k change = with_peer o k (option_map change (peer_at o k))
+abbrev pub adjusted : Outside → ℕ → (ScriptedClient → ScriptedClient) → Outside
+adjusted o k change = with_client o k (option_map change (client_at o k))
 
--- these bytes are sent by a peer
-abbrev pub sent : List ℕ → Peer → Peer
-sent bytes peer = record peer { gives = peer.gives ++ bytes }
+-- these bytes are sent by a client
+abbrev pub sending_bytes : List ℕ → ScriptedClient → ScriptedClient
+sending_bytes bytes client = record client { gives = client.gives ++ bytes }
 
--- a peer ends after what it gives
-abbrev pub ending : Peer → Peer
-ending peer = record peer { ends = true }
+-- a client ends after what it gives
+abbrev pub ending : ScriptedClient → ScriptedClient
+ending client = record client { ends = true }
 
--- from now on a peer takes so many bytes in all, or every byte
-abbrev pub taking : Option ℕ → Peer → Peer
-taking room peer = record peer { takes = room }
+-- from now on a client takes n bytes in all, or every byte
+abbrev pub taking : Option ℕ → ScriptedClient → ScriptedClient
+taking room client = record client { takes = room }
 
--- the next read of a peer fails
-abbrev pub failing_read : Peer → Peer
-failing_read peer = record peer { fails_read = true }
+-- the next read of a client fails
+abbrev pub failing_read : ScriptedClient → ScriptedClient
+failing_read client = record client { fails_read = true }
 
--- the next write to a peer fails
-abbrev pub failing_write : Peer → Peer
-failing_write peer = record peer { fails_write = true }
+-- the next write to a client fails
+abbrev pub failing_write : ScriptedClient → ScriptedClient
+failing_write client = record client { fails_write = true }
+
+-- what a step states of the client of its link
+abbrev pub stated_of : Step → ScriptedClient → ScriptedClient
+stated_of (step.Open k) client = client
+stated_of (step.Send k bytes) client = sending_bytes bytes client
+stated_of (step.End k) client = ending client
+stated_of (step.Room k room) client = taking room client
+stated_of (step.Tick d n captured) client = client
+stated_of (step.Line d change) client = client
+stated_of (step.FailRead k) client = failing_read client
+stated_of (step.FailWrite k) client = failing_write client
+stated_of (step.FailCapture d) client = client
+stated_of (step.FailEmit d) client = client
+stated_of (step.FailHook d) client = client
+stated_of step.Idle client = client
 
 -- the outside after a step
 abbrev pub stepped : Outside → Step → Outside
-stepped o (step.Open k) = opened_at o k (peer_at o k)
-stepped o (step.Send k bytes) = adjusted o k (sent bytes)
+stepped o (step.Open k) = opened_at o k (client_at o k)
+stepped o (step.Send k bytes) = adjusted o k (sending_bytes bytes)
 stepped o (step.End k) = adjusted o k ending
 stepped o (step.Room k room) = adjusted o k (taking room)
-stepped o (step.Tick d n captured) = with_station o d (record (station_at o d) { states = captured })
+stepped o (step.Tick d n captured) = with_scripted o d (record (scripted_at o d) { states = captured })
 stepped o (step.Line d change) = o
 stepped o (step.FailRead k) = adjusted o k failing_read
 stepped o (step.FailWrite k) = adjusted o k failing_write
-stepped o (step.FailCapture d) = with_station o d (record (station_at o d) { fails_capture = true })
-stepped o (step.FailEmit d) = with_station o d (record (station_at o d) { fails_emit = true })
-stepped o (step.FailHook d) = with_station o d (record (station_at o d) { fails_hook = true })
+stepped o (step.FailCapture d) = with_scripted o d (record (scripted_at o d) { fails_capture = true })
+stepped o (step.FailEmit d) = with_scripted o d (record (scripted_at o d) { fails_emit = true })
+stepped o (step.FailHook d) = with_scripted o d (record (scripted_at o d) { fails_hook = true })
 stepped o step.Idle = o
 
 -- the wake of a step that is stated of a link: of one that is not open it is Idle
 abbrev pub wake_where_open : Outside → ℕ → Wake → Wake
-wake_where_open o k w = if is_some (peer_at o k) then w else wake.Idle
+wake_where_open o k w = if is_some (client_at o k) then w else wake.Idle
 
 -- the wake of a step; opening a link that is open wakes as Idle
 abbrev pub wake_of : Outside → Step → Wake
-wake_of o (step.Open k) = if is_some (peer_at o k) then wake.Idle else wake.Opened k
+wake_of o (step.Open k) = if is_some (client_at o k) then wake.Idle else wake.Opened k
 wake_of o (step.Send k bytes) = wake_where_open o k (wake.Readable k)
 wake_of o (step.End k) = wake_where_open o k (wake.Readable k)
 wake_of o (step.Room k room) = wake_where_open o k (wake.Writable k)
@@ -157,8 +172,8 @@ abbrev pub line_in : Option DeviceSpec → Bool
 line_in None = false
 line_in (Some d) = d.line
 
-abbrev pub line_at : List DeviceSpec → ℕ → Bool
-line_at config d = line_in (slice_get config d)
+abbrev pub spec_has_line : List DeviceSpec → ℕ → Bool
+spec_has_line config d = line_in (slice_get config d)
 
 -- what a tick states is captured has as many bytes as its frames
 abbrev pub IsCapture : ℕ → Option (List ℕ) → Type 0
@@ -177,12 +192,12 @@ IsStep config (step.Send k bytes) = (k < 32) × (1 ≤ length bytes) × (length 
 IsStep config (step.End k) = k < 32
 IsStep config (step.Room k room) = (k < 32) × IsRoom room
 IsStep config (step.Tick d n captured) = (d < length config) × (1 ≤ n) × (n ≤ 4096) × IsCapture (n * width_at config d) captured
-IsStep config (step.Line d change) = IsTrue (line_at config d) × IsTrue (is_change change)
+IsStep config (step.Line d change) = IsTrue (spec_has_line config d) × IsTrue (is_change change)
 IsStep config (step.FailRead k) = k < 32
 IsStep config (step.FailWrite k) = k < 32
 IsStep config (step.FailCapture d) = d < length config
 IsStep config (step.FailEmit d) = d < length config
-IsStep config (step.FailHook d) = IsTrue (line_at config d)
+IsStep config (step.FailHook d) = IsTrue (spec_has_line config d)
 IsStep config step.Idle = Unit {0}
 
 -- Answers
@@ -193,47 +208,47 @@ same_bytes [] (y ∷ ys) = false
 same_bytes (x ∷ xs) [] = false
 same_bytes (x ∷ xs) (y ∷ ys) = x == y && same_bytes xs ys
 
--- What a read gives that does not fail: the first bytes that are left, all or 16384 of them. Where none is left it is Ended
--- or NotYet, as the peer ends or not.
-abbrev pub given_from : ReadGot → List ℕ → Peer → Option Peer
-given_from (Given bytes) [] peer = None
-given_from (Given bytes) (x ∷ xs) peer =
-    if same_bytes bytes (take 16384 (x ∷ xs)) then Some (record peer { gives = drop 16384 (x ∷ xs) }) else None
-given_from NotYet [] peer = if peer.ends then None else Some peer
-given_from NotYet (x ∷ xs) peer = None
-given_from Ended [] peer = if peer.ends then Some peer else None
-given_from Ended (x ∷ xs) peer = None
-given_from Failed xs peer = None
+-- What a read gives that does not fail: the first bytes that are left, all or 16384 of them. If none is left it is Ended
+-- or NotYet, as the client ends or not.
+abbrev pub given_from : ReadGot → List ℕ → ScriptedClient → Option ScriptedClient
+given_from (Given bytes) [] client = None
+given_from (Given bytes) (x ∷ xs) client =
+    if same_bytes bytes (take 16384 (x ∷ xs)) then Some (record client { gives = drop 16384 (x ∷ xs) }) else None
+given_from NotYet [] client = if client.ends then None else Some client
+given_from NotYet (x ∷ xs) client = None
+given_from Ended [] client = if client.ends then Some client else None
+given_from Ended (x ∷ xs) client = None
+given_from Failed xs client = None
 
 -- what a read gives that fails: no bytes are moved, and the next one does not fail
-abbrev pub failed_from : ReadGot → Peer → Option Peer
-failed_from (Given bytes) peer = None
-failed_from NotYet peer = None
-failed_from Ended peer = None
-failed_from Failed peer = Some (record peer { fails_read = false })
+abbrev pub failed_from : ReadGot → ScriptedClient → Option ScriptedClient
+failed_from (Given bytes) client = None
+failed_from NotYet client = None
+failed_from Ended client = None
+failed_from Failed client = Some (record client { fails_read = false })
 
--- the peer after a read with this answer; a read fails exactly where that is stated, once
-abbrev pub read_from : ReadGot → Peer → Option Peer
-read_from got peer = if peer.fails_read then failed_from got peer else given_from got peer.gives peer
+-- the client after a read with this answer; a read fails exactly where that is stated, once
+abbrev pub read_from : ReadGot → ScriptedClient → Option ScriptedClient
+read_from got client = if client.fails_read then failed_from got client else given_from got client.gives client
 
 -- how many bytes are taken of so many that are offered: as many as there is room for
-abbrev pub taken_of : ℕ → Option ℕ → ℕ
-taken_of offered None = offered
-taken_of offered (Some room) = min offered room
+abbrev pub room_taken_of : ℕ → Option ℕ → ℕ
+room_taken_of offered None = offered
+room_taken_of offered (Some room) = min offered room
 
--- the peer after a write that offered so many bytes, of which these were taken; a write fails exactly where that is stated,
+-- the client after a write that offered n bytes, of which these were taken; a write fails exactly where that is stated,
 -- once, and moves no bytes
-abbrev pub written_to : ℕ → Option (List ℕ) → Peer → Option Peer
-written_to offered None peer = if peer.fails_write then Some (record peer { fails_write = false }) else None
-written_to offered (Some bytes) peer =
-    if not peer.fails_write && (length bytes == taken_of offered peer.takes)
-    then Some (record peer { takes = option_map (λ room. room - length bytes) peer.takes })
+abbrev pub written_to : ℕ → Option (List ℕ) → ScriptedClient → Option ScriptedClient
+written_to offered None client = if client.fails_write then Some (record client { fails_write = false }) else None
+written_to offered (Some bytes) client =
+    if not client.fails_write && (length bytes == room_taken_of offered client.takes)
+    then Some (record client { takes = option_map (λ room. room - length bytes) client.takes })
     else None
 
 -- the link after a call; one that is not open answers as if it was just opened, and stays closed
-abbrev pub answered_by : (Peer → Option Peer) → Option Peer → Option (Option Peer)
-answered_by call None = option_map (λ peer. None) (call fresh_peer)
-answered_by call (Some peer) = option_map (λ peer. Some peer) (call peer)
+abbrev pub client_answered : (ScriptedClient → Option ScriptedClient) → Option ScriptedClient → Option (Option ScriptedClient)
+client_answered call None = option_map (λ client. None) (call fresh_client)
+client_answered call (Some client) = option_map (λ client. Some client) (call client)
 
 -- in each sample type the encoding of 0 is one byte, repeated
 abbrev pub silent_byte : SampleType → ℕ
@@ -242,40 +257,40 @@ silent_byte Alaw = 0xD5
 silent_byte Lin16 = 0
 silent_byte Lin32 = 0
 
--- what a device captures in so many bytes: what the tick states, where that is as many, and else silence
-abbrev pub captured_at : Station → ℕ → Option (List ℕ) → List ℕ
-captured_at station size None = replicate size (silent_byte station.ty)
-captured_at station size (Some bytes) = if length bytes == size then bytes else replicate size (silent_byte station.ty)
+-- what a device captures in n bytes: what the tick states, if that is as many, and else silence
+abbrev pub captured_at : ScriptedDevice → ℕ → Option (List ℕ) → List ℕ
+captured_at scripted size None = replicate size (silent_byte scripted.ty)
+captured_at scripted size (Some bytes) = if length bytes == size then bytes else replicate size (silent_byte scripted.ty)
 
-abbrev pub captured : Station → ℕ → List ℕ
-captured station size = captured_at station size station.states
+abbrev pub captured : ScriptedDevice → ℕ → List ℕ
+captured scripted size = captured_at scripted size scripted.states
 
 -- a capture fails exactly where that is stated, once
-abbrev pub capture_answered : Outside → ℕ → Station → Option (List ℕ) → Option Outside
-capture_answered o d station None =
-    if station.fails_capture then Some (with_station o d (record station { fails_capture = false })) else None
-capture_answered o d station (Some bytes) =
-    if not station.fails_capture && same_bytes bytes (captured station (length bytes)) then Some o else None
+abbrev pub capture_answered : Outside → ℕ → ScriptedDevice → Option (List ℕ) → Option Outside
+capture_answered o d scripted None =
+    if scripted.fails_capture then Some (with_scripted o d (record scripted { fails_capture = false })) else None
+capture_answered o d scripted (Some bytes) =
+    if not scripted.fails_capture && same_bytes bytes (captured scripted (length bytes)) then Some o else None
 
 -- an emit fails exactly where that is stated, once
-abbrev pub emit_answered : Outside → ℕ → Station → Bool → Option Outside
-emit_answered o d station false = if station.fails_emit then Some (with_station o d (record station { fails_emit = false })) else None
-emit_answered o d station true = if station.fails_emit then None else Some o
+abbrev pub emit_answered : Outside → ℕ → ScriptedDevice → Bool → Option Outside
+emit_answered o d scripted false = if scripted.fails_emit then Some (with_scripted o d (record scripted { fails_emit = false })) else None
+emit_answered o d scripted true = if scripted.fails_emit then None else Some o
 
 -- a hook call fails exactly where that is stated, once
-abbrev pub hook_answered : Outside → ℕ → Station → Bool → Option Outside
-hook_answered o d station false = if station.fails_hook then Some (with_station o d (record station { fails_hook = false })) else None
-hook_answered o d station true = if station.fails_hook then None else Some o
+abbrev pub hook_answered : Outside → ℕ → ScriptedDevice → Bool → Option Outside
+hook_answered o d scripted false = if scripted.fails_hook then Some (with_scripted o d (record scripted { fails_hook = false })) else None
+hook_answered o d scripted true = if scripted.fails_hook then None else Some o
 
--- the outside after a happening, where its answer is the one that the script states
-abbrev pub answered : Outside → Happening → Option Outside
-answered o (Woke w) = Some o
-answered o (Read k got) = option_map (with_peer o k) (answered_by (read_from got) (peer_at o k))
-answered o (Wrote k offered took) = option_map (with_peer o k) (answered_by (written_to offered took) (peer_at o k))
-answered o (Closed k why) = Some (with_peer o k None)
-answered o (Captured d n got) = capture_answered o d (station_at o d) got
-answered o (Emitted d sound done) = emit_answered o d (station_at o d) done
-answered o (Hooked d off done) = hook_answered o d (station_at o d) done
+-- the outside after a happening, if its answer is the one that the script states
+abbrev pub answered_as_stated : Outside → Happening → Option Outside
+answered_as_stated o (Woke w) = Some o
+answered_as_stated o (Read k got) = option_map (with_client o k) (client_answered (read_from got) (client_at o k))
+answered_as_stated o (Wrote k offered took) = option_map (with_client o k) (client_answered (written_to offered took) (client_at o k))
+answered_as_stated o (Closed k why) = Some (with_client o k None)
+answered_as_stated o (Captured d n got) = capture_answered o d (scripted_at o d) got
+answered_as_stated o (Emitted d sound done) = emit_answered o d (scripted_at o d) done
+answered_as_stated o (Hooked d off done) = hook_answered o d (scripted_at o d) done
 
 abbrev pub then_outside : Option Outside → (Outside → Option Outside) → Option Outside
 then_outside None f = None
@@ -284,7 +299,7 @@ then_outside (Some o) f = f o
 -- the outside after a log between two steps, where each answer is the one that the script states
 abbrev pub replayed : Outside → Log → Option Outside
 replayed o [] = Some o
-replayed o (h ∷ log) = then_outside (answered o h) (λ o. replayed o log)
+replayed o (h ∷ log) = then_outside (answered_as_stated o h) (λ o. replayed o log)
 
 -- Tapes
 
@@ -315,7 +330,7 @@ TakesStep old (s ∷ left) None new = ⊥
 TakesStep old (s ∷ left) (Some w) new =
     (w ≡ wake_of old.outside s) × (new ≡ record old { left = left; outside = stepped old.outside s })
 
--- where the log is told afterwards, it was told before, and has grown by a part whose answers lead from one outside to the other
+-- if the log is observed afterwards, it was observed before, and was extended by a part whose answers lead from one outside to the other
 abbrev pub Answered : Option Log → Outside → Option Log → Outside → Type 0
 Answered before o None o' = Unit {0}
 Answered None o (Some after) o' = ⊥
@@ -330,7 +345,14 @@ pub record TapeLeadsTo (old new : TapeState) : Type 0 where
   pub outer : new.outer ≡ old.outer
   pub answered : Answered old.log old.outside new.log new.outside
 
--- the outer list, which is told where the log is
+-- no count of faults falls
+pub record NoCountFalls (old new : TapeState) : Type 0 where
+  pub link_count : old.link_faults ≤ new.link_faults
+  pub device_count : old.device_faults ≤ new.device_faults
+  pub listen_count : old.outer.listen_faults ≤ new.outer.listen_faults
+  pub wait_count : old.outer.wait_faults ≤ new.outer.wait_faults
+
+-- the outer list, which is observed if the log is
 abbrev pub outer_told : TapeState → Option (List Outer)
 outer_told tape = told_beside tape.log tape.outer.entries
 
@@ -344,18 +366,18 @@ next_wake o [] = wake.Stop
 next_wake o (s ∷ left) = wake_of o s
 
 -- the outside behind the first of these steps
-abbrev pub outside_behind : Outside → List Step → Outside
-outside_behind o [] = o
-outside_behind o (s ∷ left) = stepped o s
+abbrev pub outside_after : Outside → List Step → Outside
+outside_after o [] = o
+outside_after o (s ∷ left) = stepped o s
 
 -- what a wait answers
 abbrev pub wait_answer : TapeState → Waited
 wait_answer tape = if wait_fails tape then waited.Failed else waited.Woke (next_wake tape.outside tape.left)
 
 -- the steps behind a wait: one that fails takes none
-abbrev pub left_behind : TapeState → List Step
-left_behind tape = if wait_fails tape then tape.left else drop 1 tape.left
+abbrev pub left_after : TapeState → List Step
+left_after tape = if wait_fails tape then tape.left else drop 1 tape.left
 
 -- the outside behind a wait
 abbrev pub waited_outside : TapeState → Outside
-waited_outside tape = if wait_fails tape then tape.outside else outside_behind tape.outside tape.left
+waited_outside tape = if wait_fails tape then tape.outside else outside_after tape.outside tape.left

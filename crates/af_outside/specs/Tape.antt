@@ -1,5 +1,5 @@
--- What a tape keeps in memory: the far ends of its links, each with room for all that the steps have still to send, and the
--- stations of its devices, whose last ticks stay among its steps.
+-- What a tape keeps in memory: the scripted links, each with room for all that the steps have still to send, and the
+-- scripted devices, whose last ticks stay among its steps.
 use Rattle.std.specs.Prelude.{◌≡◌, ℕ, ◌≤◌, Bool, true, false, List, [], ◌∷◌, length, map, sum_by, if◌then◌else◌, ◌==◌, slice_get}
 use Rattle.std.specs.declared.option.Option.{Option}
 use Rattle.std.specs.declared.option.Option.TheVariants.{None, Some}
@@ -14,55 +14,57 @@ use Rattle.af_outside.specs.declared.world.LinkTook.{LinkTook}
 use Rattle.af_outside.specs.declared.world.LinkTook.TheVariants as took
 use Rattle.af_outside.specs.declared.script.Step.{Step}
 use Rattle.af_outside.specs.declared.script.Step.TheVariants as step
-use Rattle.af_outside.specs.declared.station.KeptStation.{KeptStation}
-use Rattle.af_outside.specs.Told.{Log, Grew}
-use Rattle.af_outside.specs.Memory.{counted}
-use Rattle.af_outside.specs.Outside.{Peer, Station, Outside}
+use Rattle.af_outside.specs.declared.scripted_device.DeviceCall.{DeviceCall}
+use Rattle.af_outside.specs.declared.scripted_device.DeviceCall.TheVariants as call
+use Rattle.af_outside.specs.declared.scripted_device.KeptScriptedDevice.{KeptScriptedDevice}
+use Rattle.af_io.specs.Observed.{Appended}
+use Rattle.af_outside.specs.Log.{Log}
+use Rattle.af_outside.specs.Outside.{ScriptedClient, ScriptedDevice, Outside}
 
--- a far end: its peer, where the link is open, and how many bytes more there is memory for
-pub record KeptPeer : Type 0 where
-  pub peer : Option Peer
+-- a scripted link: its client, if the link is open, and how many bytes more there is memory for
+pub record KeptClient : Type 0 where
+  pub client : Option ScriptedClient
   pub room : ℕ
 
--- a peer that is there where the link is open
-abbrev pub peer_where : Bool → Peer → Option Peer
-peer_where true peer = Some peer
-peer_where false peer = None
+-- a client that is there where the link is open
+abbrev pub client_where : Bool → ScriptedClient → Option ScriptedClient
+client_where true client = Some client
+client_where false client = None
 
-abbrev pub peers_of : List KeptPeer → List (Option Peer)
-peers_of far_ends = map (λ far_end. far_end.peer) far_ends
+abbrev pub clients_of : List KeptClient → List (Option ScriptedClient)
+clients_of links = map (λ scripted_link. scripted_link.client) links
 
--- the outside that far ends and stations make up
-abbrev pub outside_of : List KeptPeer → List Station → Outside
-outside_of far_ends stations = record { peers = peers_of far_ends; stations = stations }
+-- the outside that scripted links and devices make up
+abbrev pub outside_of : List KeptClient → List ScriptedDevice → Outside
+outside_of links devices = record { clients = clients_of links; devices = devices }
 
--- what a step states that a device captures, where it is a tick that states it
-abbrev pub stated_by : Option Step → Option (List ℕ)
-stated_by None = None
-stated_by (Some (step.Open k)) = None
-stated_by (Some (step.Send k bytes)) = None
-stated_by (Some (step.End k)) = None
-stated_by (Some (step.Room k room)) = None
-stated_by (Some (step.Tick d n captured)) = captured
-stated_by (Some (step.Line d change)) = None
-stated_by (Some (step.FailRead k)) = None
-stated_by (Some (step.FailWrite k)) = None
-stated_by (Some (step.FailCapture d)) = None
-stated_by (Some (step.FailEmit d)) = None
-stated_by (Some (step.FailHook d)) = None
-stated_by (Some step.Idle) = None
+-- what a step states that a device captures, if it is a tick that states it
+abbrev pub capture_stated_by : Option Step → Option (List ℕ)
+capture_stated_by None = None
+capture_stated_by (Some (step.Open k)) = None
+capture_stated_by (Some (step.Send k bytes)) = None
+capture_stated_by (Some (step.End k)) = None
+capture_stated_by (Some (step.Room k room)) = None
+capture_stated_by (Some (step.Tick d n captured)) = captured
+capture_stated_by (Some (step.Line d change)) = None
+capture_stated_by (Some (step.FailRead k)) = None
+capture_stated_by (Some (step.FailWrite k)) = None
+capture_stated_by (Some (step.FailCapture d)) = None
+capture_stated_by (Some (step.FailEmit d)) = None
+capture_stated_by (Some (step.FailHook d)) = None
+capture_stated_by (Some step.Idle) = None
 
--- what the step with a number states, where there is a number
+-- what the step with a number states, if there is a number
 abbrev pub stated_at : List Step → Option ℕ → Option (List ℕ)
 stated_at steps None = None
-stated_at steps (Some number) = stated_by (slice_get steps number)
+stated_at steps (Some number) = capture_stated_by (slice_get steps number)
 
 -- a device that nothing was stated of
-abbrev pub kept_station_of : SampleType → KeptStation
-kept_station_of ty = record { ty = ty; tick = None; fails_capture = false; fails_emit = false; fails_hook = false }
+abbrev pub kept_scripted_of : SampleType → KeptScriptedDevice
+kept_scripted_of ty = record { ty = ty; tick = None; fails_capture = false; fails_emit = false; fails_hook = false }
 
--- a station whose last tick is one of these steps
-abbrev pub kept_at : List Step → KeptStation → Station
+-- a scripted device whose last tick is one of these steps
+abbrev pub kept_at : List Step → KeptScriptedDevice → ScriptedDevice
 kept_at steps kept = record {
   ty = kept.ty;
   states = stated_at steps kept.tick;
@@ -71,8 +73,14 @@ kept_at steps kept = record {
   fails_hook = kept.fails_hook;
 }
 
-abbrev pub stations_of : List Step → List KeptStation → List Station
-stations_of steps kept = map (kept_at steps) kept
+abbrev pub devices_of : List Step → List KeptScriptedDevice → List ScriptedDevice
+devices_of steps kept = map (kept_at steps) kept
+
+-- a device whose next such call is to fail
+abbrev pub failing : DeviceCall → ScriptedDevice → ScriptedDevice
+failing call.Capture scripted = record scripted { fails_capture = true }
+failing call.Emit scripted = record scripted { fails_emit = true }
+failing call.Hook scripted = record scripted { fails_hook = true }
 
 -- whether a read failed
 abbrev pub read_failed : LinkGot → Bool
@@ -85,11 +93,6 @@ read_failed got.Failed = true
 abbrev pub write_failed : LinkTook → Bool
 write_failed (took.Took n) = false
 write_failed took.Failed = true
-
--- the count of faults after a call that failed, or did not
-abbrev pub faults_after : ℕ → Bool → ℕ
-faults_after faults false = faults
-faults_after faults true = counted faults
 
 -- how many bytes a step sends on a link
 abbrev pub sent_by : ℕ → Step → ℕ
@@ -106,16 +109,31 @@ sent_by k (step.FailEmit d) = 0
 sent_by k (step.FailHook d) = 0
 sent_by k step.Idle = 0
 
--- each far end has room for all that the steps send on its link
-pub record HasRoom (far_ends : List KeptPeer) (steps : List Step) : Type 0 where
-  pub each : (k : ℕ) (far_end : KeptPeer) → slice_get far_ends k ≡ Some far_end → sum_by (sent_by k) steps ≤ far_end.room
+-- what a step sends
+abbrev pub sent_in : Step → List ℕ
+sent_in (step.Open k) = []
+sent_in (step.Send k bytes) = bytes
+sent_in (step.End k) = []
+sent_in (step.Room k room) = []
+sent_in (step.Tick d n captured) = []
+sent_in (step.Line d change) = []
+sent_in (step.FailRead k) = []
+sent_in (step.FailWrite k) = []
+sent_in (step.FailCapture d) = []
+sent_in (step.FailEmit d) = []
+sent_in (step.FailHook d) = []
+sent_in step.Idle = []
 
--- the log where it is told
+-- each scripted link has room for all that the steps send on its link
+pub record HasRoomForSteps (links : List KeptClient) (steps : List Step) : Type 0 where
+  pub each : (k : ℕ) (scripted_link : KeptClient) → slice_get links k ≡ Some scripted_link → sum_by (sent_by k) steps ≤ scripted_link.room
+
+-- the log if it is observed
 abbrev pub log_where : Bool → Log → Option Log
 log_where true log = Some log
 log_where false log = None
 
--- a happening is added to the log, which is told no longer where memory ran out for the happening
+-- a happening is added to the log, which is observed no longer where memory ran out for the happening
 abbrev pub Noted : Option Log → Result Happening OutOfMemory → Option Log → Type 0
-Noted before (Ok happening) after = Grew before (happening ∷ []) after
+Noted before (Ok happening) after = Appended before (happening ∷ []) after
 Noted before (Err e) after = after ≡ None

@@ -5,15 +5,16 @@ use Rattle.std.proofs.lemmas.List.{append-nil}
 use Rattle.std.specs.declared.option.Option.{Option}
 use Rattle.std.specs.declared.option.Option.TheVariants.{None, Some}
 use Rattle.af_outside.specs.declared.outer.Outer.{Outer}
-use Rattle.af_outside.specs.Told.{Log, Stays}
+use Rattle.af_io.specs.Observed.{Unchanged}
+use Rattle.af_outside.specs.Log.{Log}
 use Rattle.af_outside.specs.Outer.{OuterState, told_beside}
-use Rattle.af_outside.specs.Outside.{Outside, TapeState, TapeLeadsTo, Answered, answered, outer_told, replayed, then_outside}
+use Rattle.af_outside.specs.Outside.{Outside, TapeState, TapeLeadsTo, Answered, answered_as_stated, outer_told, replayed, then_outside}
 
 -- a log of two parts is replayed part by part
 pub replayed-append : (o : Outside) (front back : Log) → replayed o (front ++ back) ≡ then_outside (replayed o front) (λ o. replayed o back)
 replayed-append o [] back = refl
 replayed-append o (h ∷ front) back =
-    elim (answered o h) as (λ x. then_outside x (λ o. replayed o (front ++ back)) ≡ then_outside (then_outside x (λ o. replayed o front)) (λ o. replayed o back))
+    elim (answered_as_stated o h) as (λ x. then_outside x (λ o. replayed o (front ++ back)) ≡ then_outside (then_outside x (λ o. replayed o front)) (λ o. replayed o back))
     [ None ↦ refl | Some o' ↦ replayed-append o' front back ]
 
 answered_refl : (log : Option Log) (o : Outside) → Answered log o log o
@@ -45,16 +46,16 @@ TapeLeadsTo-trans a b c p q = record {
   answered = answered_trans a.log b.log c.log a.outside b.outside c.outside p.answered q.answered;
 }
 
--- calls leave the outer list as it is, where it is told still
-stays_beside : (x y : Option Log) (a b : Outside) (entries : List Outer) → Answered x a y b → Stays (told_beside x entries) (told_beside y entries)
+-- calls leave the outer list as it is, if it is observed still
+stays_beside : (x y : Option Log) (a b : Outside) (entries : List Outer) → Answered x a y b → Unchanged (told_beside x entries) (told_beside y entries)
 stays_beside x None a b entries p = tt
 stays_beside None (Some y) a b entries p = absurd p
 stays_beside (Some x) (Some y) a b entries p = refl
 
-pub TapeLeadsTo-outer : (a b : TapeState) → TapeLeadsTo a b → Stays (outer_told a) (outer_told b)
+pub TapeLeadsTo-outer : (a b : TapeState) → TapeLeadsTo a b → Unchanged (outer_told a) (outer_told b)
 TapeLeadsTo-outer a b p =
     let e = ap (λ (o : OuterState). o.entries) p.outer in
-    subst (λ entries. Stays (outer_told a) (told_beside b.log entries)) (sym e) (stays_beside a.log b.log a.outside b.outside a.outer.entries p.answered)
+    subst (λ entries. Unchanged (outer_told a) (told_beside b.log entries)) (sym e) (stays_beside a.log b.log a.outside b.outside a.outer.entries p.answered)
 
 -- nor do they move the counts of listens and waits that failed
 pub TapeLeadsTo-listen_faults : (a b : TapeState) → TapeLeadsTo a b → b.outer.listen_faults ≡ a.outer.listen_faults

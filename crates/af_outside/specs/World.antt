@@ -4,8 +4,8 @@ use Rattle.std.specs.declared.option.Option.{Option}
 use Rattle.std.specs.declared.option.Option.TheVariants.{None, Some}
 use Rattle.af_outside.specs.declared.happening.ReadGot.{ReadGot}
 use Rattle.af_outside.specs.declared.happening.ReadGot.TheVariants as happened
-use Rattle.af_outside.specs.declared.flow.Put.{Put}
-use Rattle.af_outside.specs.declared.flow.Put.TheVariants as put
+use Rattle.af_io.specs.declared.flow.Put.{Put}
+use Rattle.af_io.specs.declared.flow.Put.TheVariants as put
 use Rattle.af_outside.specs.declared.world.LinkGot.{LinkGot}
 use Rattle.af_outside.specs.declared.world.LinkGot.TheVariants as got
 use Rattle.af_outside.specs.declared.world.LinkTook.{LinkTook}
@@ -33,11 +33,11 @@ is_done put.Done = true
 is_done put.Failed = false
 
 -- a read gives at least one byte and at most as many as there is room for
-abbrev pub GotFits : LinkGot → ℕ → Type 0
-GotFits (got.Bytes n) room = (1 ≤ n) × (n ≤ room)
-GotFits got.NotYet room = Unit {0}
-GotFits got.Ended room = Unit {0}
-GotFits got.Failed room = Unit {0}
+abbrev pub LinkGotFits : LinkGot → ℕ → Type 0
+LinkGotFits (got.Bytes n) room = (1 ≤ n) × (n ≤ room)
+LinkGotFits got.NotYet room = Unit {0}
+LinkGotFits got.Ended room = Unit {0}
+LinkGotFits got.Failed room = Unit {0}
 
 -- a write takes at most what was offered
 abbrev pub TookFits : LinkTook → ℕ → Type 0

@@ -61,7 +61,7 @@ pub enum Happening {
         link: u8,
         why: Why,
     },
-    /// A device was asked for so many frames, and gave these bytes. None stands for a failed capture.
+    /// A device was asked for n frames, and gave these bytes. None stands for a failed capture.
     Captured {
         device: u8,
         frames: u32,

@@ -3,11 +3,11 @@ ghost use Rattle.std.specs.Prelude.{◌≡◌, ◌∷◌, [], List, length, repl
 ghost use Rattle.std.specs.declared.option.Option.TheVariants.{None, Some};
 ghost use Rattle.af_outside.specs.declared.happening.Happening.TheVariants.{Read, Wrote, Closed};
 ghost use Rattle.af_outside.specs.declared.script.Step.{Step};
-ghost use Rattle.af_outside.specs.World.{got_of, took_of, GotFits, TookFits};
-ghost use Rattle.af_outside.specs.Outside.{answered, peer_at, stepped, wake_of, wake_where_open, Station};
-ghost use Rattle.af_outside.specs.Tape.{HasRoom, peers_of, outside_of, sent_by};
+ghost use Rattle.af_outside.specs.World.{got_of, took_of, LinkGotFits, TookFits};
+ghost use Rattle.af_outside.specs.Outside.{adjusted, answered_as_stated, client_at, stated_of, stepped, wake_of, wake_where_open, ScriptedDevice};
+ghost use Rattle.af_outside.specs.Tape.{HasRoomForSteps, clients_of, outside_of, sent_by, sent_in};
 
-use crate::far_end::FarEnd;
+use crate::scripted_link::ScriptedLink;
 use crate::{LinkGot, LinkTook, Step, Wake, Why};
 use af_time::OutOfMemory;
 use std::alloc::Global;
@@ -22,7 +22,7 @@ fn bytes_sent(step: &Step, link: u8) -> usize
     }
 }
 
-// How many bytes the steps send on a link, where memory may hold so many.
+// How many bytes the steps send on a link, if memory may hold so many.
 fn all_bytes_sent(steps: &[Step], link: u8) -> Result<usize, OutOfMemory>
     ensures { IfOk result (λ count. count ≡ sum_by (sent_by link) steps.now) }
 {
@@ -36,169 +36,111 @@ fn all_bytes_sent(steps: &[Step], link: u8) -> Result<usize, OutOfMemory>
 }
 
 /// 32 links that are not open, with memory for all that the steps send.
-pub(crate) fn closed_links(alloc: Global, steps: &[Step]) -> Result<Vec<FarEnd>, OutOfMemory>
-    ensures peers { IfOk result (λ far_ends. peers_of far_ends.items ≡ replicate 32 None) }
-    ensures room { IfOk result (λ far_ends. HasRoom far_ends.items steps.now) }
+pub(crate) fn closed_links(alloc: Global, steps: &[Step]) -> Result<Vec<ScriptedLink>, OutOfMemory>
+    ensures clients { IfOk result (λ links. clients_of links.items ≡ replicate 32 None) }
+    ensures room { IfOk result (λ links. HasRoomForSteps links.items steps.now) }
 {
-    let mut far_ends = Vec::with_capacity(alloc, 32)?;
+    let mut links = Vec::with_capacity(alloc, 32)?;
     for link in 0..32u8 {
         let room = all_bytes_sent(steps, link)?;
-        far_ends.push(FarEnd::new(alloc, room)?)?;
+        links.push(ScriptedLink::new(alloc, room)?)?;
     }
-    Ok(far_ends)
+    Ok(links)
 }
 
-/// Opens a link, where it is not open yet.
-pub(crate) fn open(far_ends: &mut [FarEnd], link: u8) -> Wake
-    ensures wake { result ≡ wake_of (outside_of far_ends.old []) (Step.Open link) }
-    ensures outside { (stations : List Station)
-        → outside_of far_ends.new stations ≡ stepped (outside_of far_ends.old stations) (Step.Open link) }
-    ensures room { (steps : List Step) → HasRoom far_ends.old (Step.Open link ∷ steps) → HasRoom far_ends.new steps }
+/// Opens a link, if it is not open yet.
+pub(crate) fn open(links: &mut [ScriptedLink], link: u8) -> Wake
+    ensures wake { result ≡ wake_of (outside_of links.old []) (Step.Open link) }
+    ensures outside { (devices : List ScriptedDevice)
+        → outside_of links.new devices ≡ stepped (outside_of links.old devices) (Step.Open link) }
+    ensures room { (steps : List Step) → HasRoomForSteps links.old (Step.Open link ∷ steps) → HasRoomForSteps links.new steps }
 {
     let place = link as usize;
-    if place < far_ends.len() {
-        if far_ends[place].is_open() {
+    if place < links.len() {
+        if links[place].is_open() {
             return Wake::Idle;
         }
-        far_ends[place].open();
+        links[place].open();
     }
     Wake::Opened(link)
 }
 
-fn is_open(far_ends: &[FarEnd], link: u8) -> bool
-    ensures { result ≡ is_some (peer_at (outside_of far_ends.now []) link) }
+fn is_open(links: &[ScriptedLink], link: u8) -> bool
+    ensures { result ≡ is_some (client_at (outside_of links.now []) link) }
 {
-    match far_ends.get(link as usize) {
-        Some(far_end) => far_end.is_open(),
+    match links.get(link as usize) {
+        Some(scripted_link) => scripted_link.is_open(),
         None => false,
     }
 }
 
 // The wake of a step that is stated of a link.
-fn wake_where_open(far_ends: &[FarEnd], link: u8, wake: Wake) -> Wake
-    ensures { result ≡ wake_where_open (outside_of far_ends.now []) link wake }
+fn wake_where_open(links: &[ScriptedLink], link: u8, wake: Wake) -> Wake
+    ensures { result ≡ wake_where_open (outside_of links.now []) link wake }
 {
-    if is_open(far_ends, link) {
+    if is_open(links, link) {
         wake
     } else {
         Wake::Idle
     }
 }
 
-/// Sends bytes on a link, where it is open.
-pub(crate) fn send(far_ends: &mut [FarEnd], link: u8, bytes: &[u8]) -> Wake
-    requires { HasRoom far_ends.old (Step.Send link bytes.now ∷ []) }
-    ensures wake { result ≡ wake_of (outside_of far_ends.old []) (Step.Send link bytes.now) }
-    ensures outside { (stations : List Station)
-        → outside_of far_ends.new stations ≡ stepped (outside_of far_ends.old stations) (Step.Send link bytes.now) }
-    ensures room { (steps : List Step)
-        → HasRoom far_ends.old (Step.Send link bytes.now ∷ steps) → HasRoom far_ends.new steps }
+/// Does what a step states of its link, and gives this wake where the link is open.
+pub(crate) fn adjust(links: &mut [ScriptedLink], link: u8, step: &Step, wake: Wake) -> Wake
+    requires link { sent_by link step.now ≡ length (sent_in step.now) }
+    requires room { HasRoomForSteps links.old (step.now ∷ []) }
+    ensures wake { result ≡ wake_where_open (outside_of links.old []) link wake }
+    ensures outside { (devices : List ScriptedDevice)
+        → outside_of links.new devices ≡ adjusted (outside_of links.old devices) link (stated_of step.now) }
+    ensures room { (steps : List Step) → HasRoomForSteps links.old (step.now ∷ steps) → HasRoomForSteps links.new steps }
 {
-    let wake = wake_where_open(far_ends, link, Wake::Readable(link));
+    let wake = wake_where_open(links, link, wake);
     let place = link as usize;
-    if place < far_ends.len() {
-        far_ends[place].send(bytes);
+    if place < links.len() {
+        links[place].adjust(step);
     }
     wake
-}
-
-/// A link ends after what it gives, where it is open.
-pub(crate) fn end(far_ends: &mut [FarEnd], link: u8) -> Wake
-    ensures wake { result ≡ wake_of (outside_of far_ends.old []) (Step.End link) }
-    ensures outside { (stations : List Station)
-        → outside_of far_ends.new stations ≡ stepped (outside_of far_ends.old stations) (Step.End link) }
-    ensures room { (steps : List Step) → HasRoom far_ends.old (Step.End link ∷ steps) → HasRoom far_ends.new steps }
-{
-    let wake = wake_where_open(far_ends, link, Wake::Readable(link));
-    let place = link as usize;
-    if place < far_ends.len() {
-        far_ends[place].end();
-    }
-    wake
-}
-
-/// From now on a link takes so many bytes in all, or every byte, where it is open.
-pub(crate) fn take(far_ends: &mut [FarEnd], link: u8, room: Option<u32>) -> Wake
-    ensures wake { result ≡ wake_of (outside_of far_ends.old []) (Step.Room link room) }
-    ensures outside { (stations : List Station)
-        → outside_of far_ends.new stations ≡ stepped (outside_of far_ends.old stations) (Step.Room link room) }
-    ensures room { (steps : List Step) → HasRoom far_ends.old (Step.Room link room ∷ steps) → HasRoom far_ends.new steps }
-{
-    let wake = wake_where_open(far_ends, link, Wake::Writable(link));
-    let place = link as usize;
-    if place < far_ends.len() {
-        far_ends[place].take(room);
-    }
-    wake
-}
-
-/// The next read of a link fails, where it is open.
-pub(crate) fn fail_read(far_ends: &mut [FarEnd], link: u8) -> Wake
-    ensures wake { result ≡ wake_of (outside_of far_ends.old []) (Step.FailRead link) }
-    ensures outside { (stations : List Station)
-        → outside_of far_ends.new stations ≡ stepped (outside_of far_ends.old stations) (Step.FailRead link) }
-    ensures room { (steps : List Step) → HasRoom far_ends.old (Step.FailRead link ∷ steps) → HasRoom far_ends.new steps }
-{
-    let place = link as usize;
-    if place < far_ends.len() {
-        far_ends[place].fail_read();
-    }
-    Wake::Idle
-}
-
-/// The next write to a link fails, where it is open.
-pub(crate) fn fail_write(far_ends: &mut [FarEnd], link: u8) -> Wake
-    ensures wake { result ≡ wake_of (outside_of far_ends.old []) (Step.FailWrite link) }
-    ensures outside { (stations : List Station)
-        → outside_of far_ends.new stations ≡ stepped (outside_of far_ends.old stations) (Step.FailWrite link) }
-    ensures room { (steps : List Step) → HasRoom far_ends.old (Step.FailWrite link ∷ steps) → HasRoom far_ends.new steps }
-{
-    let place = link as usize;
-    if place < far_ends.len() {
-        far_ends[place].fail_write();
-    }
-    Wake::Idle
 }
 
 /// Answers a read of a link; of one that is not open there is nothing to read yet.
-pub(crate) fn read(far_ends: &mut [FarEnd], link: u8, into: &mut [u8]) -> LinkGot
+pub(crate) fn read(links: &mut [ScriptedLink], link: u8, into: &mut [u8]) -> LinkGot
     requires { length into.old ≡ 16384 }
-    ensures answered { (stations : List Station)
-        → answered (outside_of far_ends.old stations) (Read link (got_of result into.new))
-        ≡ Some (outside_of far_ends.new stations) }
-    ensures bound { GotFits result (length into.new) }
-    ensures room { (steps : List Step) → HasRoom far_ends.old steps → HasRoom far_ends.new steps }
+    ensures answered { (devices : List ScriptedDevice)
+        → answered_as_stated (outside_of links.old devices) (Read link (got_of result into.new))
+        ≡ Some (outside_of links.new devices) }
+    ensures bound { LinkGotFits result (length into.new) }
+    ensures room { (steps : List Step) → HasRoomForSteps links.old steps → HasRoomForSteps links.new steps }
 {
     let place = link as usize;
-    if place >= far_ends.len() {
+    if place >= links.len() {
         return LinkGot::NotYet;
     }
-    far_ends[place].read(into)
+    links[place].read(into)
 }
 
 /// Answers a write to a link; one that is not open takes all.
-pub(crate) fn write(far_ends: &mut [FarEnd], link: u8, piece: &[u8]) -> LinkTook
-    ensures answered { (stations : List Station)
-        → answered (outside_of far_ends.old stations) (Wrote link (length piece.now) (took_of result piece.now))
-        ≡ Some (outside_of far_ends.new stations) }
+pub(crate) fn write(links: &mut [ScriptedLink], link: u8, piece: &[u8]) -> LinkTook
+    ensures answered { (devices : List ScriptedDevice)
+        → answered_as_stated (outside_of links.old devices) (Wrote link (length piece.now) (took_of result piece.now))
+        ≡ Some (outside_of links.new devices) }
     ensures bound { TookFits result (length piece.now) }
-    ensures room { (steps : List Step) → HasRoom far_ends.old steps → HasRoom far_ends.new steps }
+    ensures room { (steps : List Step) → HasRoomForSteps links.old steps → HasRoomForSteps links.new steps }
 {
     let place = link as usize;
-    if place >= far_ends.len() {
+    if place >= links.len() {
         return LinkTook::Took(piece.len());
     }
-    far_ends[place].write(piece)
+    links[place].write(piece)
 }
 
 /// The link is not open from now on.
-pub(crate) fn close(far_ends: &mut [FarEnd], link: u8, why: Why)
-    ensures answered { (stations : List Station)
-        → answered (outside_of far_ends.old stations) (Closed link why) ≡ Some (outside_of far_ends.new stations) }
-    ensures room { (steps : List Step) → HasRoom far_ends.old steps → HasRoom far_ends.new steps }
+pub(crate) fn close(links: &mut [ScriptedLink], link: u8, why: Why)
+    ensures answered { (devices : List ScriptedDevice)
+        → answered_as_stated (outside_of links.old devices) (Closed link why) ≡ Some (outside_of links.new devices) }
+    ensures room { (steps : List Step) → HasRoomForSteps links.old steps → HasRoomForSteps links.new steps }
 {
     let place = link as usize;
-    if place < far_ends.len() {
-        far_ends[place].close();
+    if place < links.len() {
+        links[place].close();
     }
 }

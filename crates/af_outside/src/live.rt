@@ -2,7 +2,7 @@
 ghost use Rattle.std.specs.Prelude.{◌≡◌, ◌≤◌, ℕ, List, [], IsSome};
 ghost use Rattle.std.specs.declared.option.Option.{Option};
 ghost use Rattle.af_outside.specs.declared.outer.Outer.{Outer};
-ghost use Rattle.af_outside.specs.Told.{Grew, Rose, Stays};
+ghost use Rattle.af_io.specs.Observed.{Appended, FaultCounted, Unchanged};
 ghost use Rattle.af_outside.specs.Kinds.{backing_of};
 ghost use Rattle.af_outside.specs.Outer.{listened, attached, waited};
 
@@ -33,7 +33,7 @@ pub enum Waited {
     Failed,
 }
 
-/// A world that gives its own wakes. Each call that is done adds exactly its one entry to the outer list, where that is told,
+/// A world that gives its own wakes. Each call that is done adds exactly its one entry to the outer list, if that is observed,
 /// and adds nothing to the log. No call moves a count of faults down.
 pub trait Live: World {
     /// How often a listen has failed.
@@ -42,14 +42,14 @@ pub trait Live: World {
     /// How often a wait has failed.
     ghost wait_faults: { Self → ℕ };
 
-    /// The listens, attaches and waits that were done so far, in order, where they are told.
+    /// The listens, attaches and waits that were done so far, in order, if they are observed.
     ghost outer: { Self → Option (List Outer) };
 
     /// Begins to take links at an address.
     fn listen(&mut self, alloc: Global, address: &str) -> Ready
-        ensures log { Stays (Self.World.log self.old) (Self.World.log self.new) }
-        ensures outer { Grew (outer self.old) (listened result address.now) (outer self.new) }
-        ensures cause { result ≡ Ready.Failed → Rose (listen_faults self.old) (listen_faults self.new) }
+        ensures log { Unchanged (Self.World.log self.old) (Self.World.log self.new) }
+        ensures outer { Appended (outer self.old) (listened result address.now) (outer self.new) }
+        ensures cause { result ≡ Ready.Failed → FaultCounted (listen_faults self.old) (listen_faults self.new) }
         ensures link_count { Self.World.link_faults self.old ≤ Self.World.link_faults self.new }
         ensures device_count { Self.World.device_faults self.old ≤ Self.World.device_faults self.new }
         ensures listen_count { listen_faults self.old ≤ listen_faults self.new }
@@ -57,9 +57,9 @@ pub trait Live: World {
 
     /// Puts what stands behind a device there.
     fn attach(&mut self, alloc: Global, device: u8, spec: &DeviceSpec, kind: Kind<'_>) -> Ready
-        ensures log { Stays (Self.World.log self.old) (Self.World.log self.new) }
-        ensures outer { Grew (outer self.old) (attached result device spec.now (backing_of kind.entry)) (outer self.new) }
-        ensures cause { result ≡ Ready.Failed → Rose (Self.World.device_faults self.old) (Self.World.device_faults self.new) }
+        ensures log { Unchanged (Self.World.log self.old) (Self.World.log self.new) }
+        ensures outer { Appended (outer self.old) (attached result device spec.now (backing_of kind.entry)) (outer self.new) }
+        ensures cause { result ≡ Ready.Failed → FaultCounted (Self.World.device_faults self.old) (Self.World.device_faults self.new) }
         ensures link_count { Self.World.link_faults self.old ≤ Self.World.link_faults self.new }
         ensures device_count { Self.World.device_faults self.old ≤ Self.World.device_faults self.new }
         ensures listen_count { listen_faults self.old ≤ listen_faults self.new }
@@ -69,9 +69,9 @@ pub trait Live: World {
     /// does not hold it up. A wake is to be taken as what may be, and not as what is: it should open a link that is not
     /// open, name one that is, or name an attached device, but no clause says so, and who takes it tests it.
     fn wait(&mut self, more: bool) -> Waited
-        ensures log { Stays (Self.World.log self.old) (Self.World.log self.new) }
-        ensures outer { Grew (outer self.old) (waited more result) (outer self.new) }
-        ensures cause { result ≡ Waited.Failed → Rose (wait_faults self.old) (wait_faults self.new) }
+        ensures log { Unchanged (Self.World.log self.old) (Self.World.log self.new) }
+        ensures outer { Appended (outer self.old) (waited more result) (outer self.new) }
+        ensures cause { result ≡ Waited.Failed → FaultCounted (wait_faults self.old) (wait_faults self.new) }
         ensures link_count { Self.World.link_faults self.old ≤ Self.World.link_faults self.new }
         ensures device_count { Self.World.device_faults self.old ≤ Self.World.device_faults self.new }
         ensures listen_count { listen_faults self.old ≤ listen_faults self.new }
@@ -82,7 +82,7 @@ pub trait Live: World {
 
     ghost wait_faults_apart: { (a b : Self) → Self.World.leads_to a b → wait_faults b ≡ wait_faults a };
 
-    ghost outer_apart: { (a b : Self) → Self.World.leads_to a b → Stays (outer a) (outer b) };
+    ghost outer_apart: { (a b : Self) → Self.World.leads_to a b → Unchanged (outer a) (outer b) };
 
     /// Who tells the log tells the outer list too.
     ghost tells_both: { (a : Self) → IsSome (Self.World.log a) → IsSome (outer a) };

@@ -1,4 +1,4 @@
-// A log of happenings, which is told as long as memory was there for each of them.
+// A log of happenings, which is observed as long as memory was there for each of them.
 ghost use Rattle.std.specs.Prelude.{◌≡◌, [], is_some, IfSome};
 ghost use Rattle.std.specs.declared.option.Option.TheVariants.{None, Some};
 ghost use Rattle.af_outside.specs.Tape.{Noted};
@@ -8,7 +8,7 @@ use af_time::OutOfMemory;
 use std::alloc::Global;
 use std::marker::Model;
 
-/// All that happened, where it is told.
+/// All that happened, if it is observed.
 #[derive(Drop)]
 pub(crate) struct Logbook {
     happenings: Vec<Happening>,
@@ -17,7 +17,7 @@ pub(crate) struct Logbook {
 
 impl Model for Logbook {
     ghost use Rattle.std.specs.declared.option.Option.{Option};
-    ghost use Rattle.af_outside.specs.Told.{Log};
+    ghost use Rattle.af_outside.specs.Log.{Log};
     ghost use Rattle.af_outside.specs.Tape.{log_where};
 
     ghost Value = { Option Log };
@@ -48,7 +48,7 @@ impl Logbook {
         self.happenings.as_slice()
     }
 
-    /// Nothing is told from now on.
+    /// Nothing is observed from now on.
     pub(crate) fn fall_silent(&mut self)
         ensures { self.new ≡ None }
     {

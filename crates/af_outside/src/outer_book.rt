@@ -3,14 +3,13 @@ ghost use Rattle.std.specs.Prelude.{◌≡◌, ◌≤◌, ◌∷◌, ◌++◌, [
 ghost use Rattle.std.specs.declared.option.Option.TheVariants.{None, Some};
 ghost use Rattle.af_outside.specs.declared.outer.Outer.TheVariants.{Listened, Attached, Waited};
 ghost use Rattle.af_outside.specs.Kinds.{backing_of};
-ghost use Rattle.af_outside.specs.Memory.{counted};
+ghost use Rattle.af_io.specs.Observed.{counted, faults_after};
 ghost use Rattle.af_outside.specs.Outer.{EntryNoted, is_stated, outer_start};
-ghost use Rattle.af_outside.specs.Tape.{faults_after};
 
 use crate::logbook::Logbook;
 use crate::outer::{Backing, Outer, OuterFaults};
-use crate::tape::faults_after;
 use crate::{Bytes, DeviceSpec, Kind, Wake};
+use af_io::faults_after;
 use af_time::OutOfMemory;
 use std::alloc::Global;
 use std::marker::Model;
@@ -95,7 +94,7 @@ impl OuterBook {
         fails
     }
 
-    /// Adds a call that was done, for which memory may have run out; then nothing is told any longer.
+    /// Adds a call that was done, for which memory may have run out; then nothing is observed any longer.
     pub(crate) fn note(&mut self, entry: Result<Outer, OutOfMemory>, logbook: &mut Logbook)
         ensures noted { EntryNoted logbook.old self.old.entries entry logbook.new self.new.entries }
         ensures rest { self.new ≡ record self.old { entries = self.new.entries } }

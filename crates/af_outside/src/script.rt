@@ -37,7 +37,7 @@ pub enum Step {
     Send(u8, Bytes),
     /// A link ends after the bytes that it gives.
     End(u8),
-    /// From now on a link takes so many bytes in all, or every byte.
+    /// From now on a link takes n bytes in all, or every byte.
     Room(u8, Option<u32>),
     /// So many sample periods of a device go by. These bytes are what it captures, or else silence.
     Tick(u8, u32, Option<Bytes>),

@@ -3,22 +3,22 @@ ghost use Rattle.std.specs.Prelude.{◌≡◌, ◌≢◌, ◌↔◌, ◌≤◌, 
 ghost use Rattle.std.specs.declared.option.Option.TheVariants.{Some};
 ghost use Rattle.af_outside.specs.declared.happening.Happening.TheVariants.{Read, Wrote, Captured, Emitted, Hooked, Woke, Closed};
 ghost use Rattle.af_outside.specs.declared.script.Step.{Step};
-ghost use Rattle.af_outside.specs.Told.{Grew, Rose, Stays};
-ghost use Rattle.af_outside.specs.World.{got_of, took_of, captured_of, is_done, GotFits, TookFits};
-ghost use Rattle.af_outside.specs.Outside.{answered, stepped, wake_of, made, Station, TakesStep, TapeLeadsTo, left_behind, outer_told, wait_answer, wait_fails, waited_outside};
+ghost use Rattle.af_io.specs.Observed.{counted, faults_after, Appended, FaultCounted, Unchanged};
+ghost use Rattle.af_outside.specs.World.{got_of, took_of, captured_of, is_done, LinkGotFits, TookFits};
+ghost use Rattle.af_outside.specs.Outside.{answered_as_stated, stepped, wake_of, made, ScriptedDevice, TakesStep, TapeLeadsTo, left_after, outer_told, NoCountFalls, wait_answer, wait_fails, waited_outside};
 ghost use Rattle.af_outside.specs.Kinds.{backing_of};
-ghost use Rattle.af_outside.specs.Memory.{counted};
-ghost use Rattle.af_outside.specs.Outer.{attached, is_stated, listened, refused, waited};
-ghost use Rattle.af_outside.specs.Tape.{HasRoom, outside_of, stations_of, faults_after, read_failed, write_failed};
+ghost use Rattle.af_outside.specs.Outer.{attached, is_stated, listened, was_refused, waited};
+ghost use Rattle.af_outside.specs.Tape.{HasRoomForSteps, outside_of, devices_of, read_failed, write_failed};
 
-use crate::far_end::FarEnd;
 use crate::logbook::Logbook;
 use crate::outer_book::{OuterBook, attach_of, listen_of, wait_of};
-use crate::station::{self, KeptStation, new_stations};
+use crate::scripted_device::{self, DeviceCall, KeptScriptedDevice, new_devices};
+use crate::scripted_link::ScriptedLink;
 use crate::{
     Bytes, Config, DeviceSpec, Happening, Kind, LinkGot, LinkTook, Live, Outer, OuterFaults, Put,
     ReadGot, Ready, Step, Waited, Wake, Why, World, links,
 };
+use af_io::faults_after;
 use af_time::OutOfMemory;
 use std::alloc::Global;
 use std::marker::Model;
@@ -33,8 +33,8 @@ pub struct Tape {
     steps: Vec<Step>,
     taken: usize,
     logbook: Logbook,
-    far_ends: Vec<FarEnd>,
-    stations: Vec<KeptStation>,
+    links: Vec<ScriptedLink>,
+    devices: Vec<KeptScriptedDevice>,
     link_faults: u64,
     device_faults: u64,
     outer: OuterBook,
@@ -44,9 +44,9 @@ impl Model for Tape {
     ghost use Rattle.std.specs.Prelude.{◌≡◌, ◌≤◌, length, drop};
     ghost use Rattle.af_outside.specs.Outside.{TapeState};
     ghost use Rattle.af_outside.specs.Kinds.{backing_of};
-    ghost use Rattle.af_outside.specs.Memory.{counted};
-    ghost use Rattle.af_outside.specs.Outer.{attached, is_stated, listened, refused, waited};
-    ghost use Rattle.af_outside.specs.Tape.{HasRoom, outside_of, stations_of};
+    ghost use Rattle.af_io.specs.Observed.{counted};
+    ghost use Rattle.af_outside.specs.Outer.{attached, is_stated, listened, was_refused, waited};
+    ghost use Rattle.af_outside.specs.Tape.{HasRoomForSteps, outside_of, devices_of};
 
     ghost Value = { TapeState };
 
@@ -54,13 +54,13 @@ impl Model for Tape {
       config = a.config.items;
       left = drop a.taken a.steps.items;
       log = a.logbook;
-      outside = outside_of a.far_ends.items (stations_of a.steps.items a.stations.items);
+      outside = outside_of a.links.items (devices_of a.steps.items a.devices.items);
       link_faults = a.link_faults;
       device_faults = a.device_faults;
       outer = a.outer;
     } };
 
-    ghost invariant = { λ a. (a.taken ≤ length a.steps.items) × HasRoom a.far_ends.items (drop a.taken a.steps.items) };
+    ghost invariant = { λ a. (a.taken ≤ length a.steps.items) × HasRoomForSteps a.links.items (drop a.taken a.steps.items) };
 }
 
 impl Tape {
@@ -74,16 +74,16 @@ impl Tape {
     ) -> Result<Tape, OutOfMemory>
         ensures { IfOk result (λ tape. tape ≡ made config.now.items steps.now outer) }
     {
-        let far_ends = links::closed_links(alloc, steps)?;
-        let stations = new_stations(alloc, config)?;
+        let links = links::closed_links(alloc, steps)?;
+        let devices = new_devices(alloc, config)?;
         Ok(Tape {
             alloc,
             config: config.clone()?,
             steps: copied_steps(alloc, steps)?,
             taken: 0,
             logbook: Logbook::new(alloc),
-            far_ends,
-            stations,
+            links,
+            devices,
             link_faults: 0,
             device_faults: 0,
             outer: OuterBook::new(alloc, outer),
@@ -95,26 +95,26 @@ impl Tape {
         ensures { TakesStep self.old self.old.left result self.new }
     {
         let step = self.steps.get(self.taken)?;
-        let wake = take_step(&mut self.far_ends, &mut self.stations, step, self.taken);
+        let wake = take_step(&mut self.links, &mut self.devices, step, self.taken);
         self.taken += 1;
         Some(wake)
     }
 
-    /// All that happened so far, where it is told.
+    /// All that happened so far, if it is observed.
     pub fn log(&self) -> &[Happening]
         ensures { IfSome self.now.log (λ log. log ≡ result.now) }
     {
         self.logbook.happenings()
     }
 
-    /// All listens, attaches and waits that were done so far, in order, where the log is told.
+    /// All listens, attaches and waits that were done so far, in order, if the log is observed.
     pub fn outer(&self) -> &[Outer]
         ensures { result.now ≡ self.now.outer.entries }
     {
         self.outer.entries()
     }
 
-    /// Whether the log is told, and the list of listens, attaches and waits with it: always, but after memory ran out for
+    /// Whether the log is observed, and the list of listens, attaches and waits with it: always, but after memory ran out for
     /// either.
     pub fn tells(&self) -> bool
         ensures { result ≡ is_some self.now.log }
@@ -159,40 +159,42 @@ fn copied_steps(alloc: Global, steps: &[Step]) -> Result<Vec<Step>, OutOfMemory>
 
 // What a step with a number does to the links and devices, and its wake.
 fn take_step(
-    far_ends: &mut [FarEnd],
-    stations: &mut [KeptStation],
+    links: &mut [ScriptedLink],
+    devices: &mut [KeptScriptedDevice],
     step: &Step,
     number: usize,
 ) -> Wake
-    requires { HasRoom far_ends.old (step.now ∷ []) }
-    ensures wake { (stations : List Station) → result ≡ wake_of (outside_of far_ends.old stations) step.now }
+    requires { HasRoomForSteps links.old (step.now ∷ []) }
+    ensures wake { (devices : List ScriptedDevice) → result ≡ wake_of (outside_of links.old devices) step.now }
     ensures outside { (steps : List Step) → slice_get steps number ≡ Some step.now
-        → outside_of far_ends.new (stations_of steps stations.new)
-        ≡ stepped (outside_of far_ends.old (stations_of steps stations.old)) step.now }
-    ensures room { (steps : List Step) → HasRoom far_ends.old (step.now ∷ steps) → HasRoom far_ends.new steps }
+        → outside_of links.new (devices_of steps devices.new)
+        ≡ stepped (outside_of links.old (devices_of steps devices.old)) step.now }
+    ensures room { (steps : List Step) → HasRoomForSteps links.old (step.now ∷ steps) → HasRoomForSteps links.new steps }
 {
     match step {
-        Step::Open(link) => links::open(far_ends, *link),
-        Step::Send(link, bytes) => links::send(far_ends, *link, bytes.as_slice()),
-        Step::End(link) => links::end(far_ends, *link),
-        Step::Room(link, room) => links::take(far_ends, *link, *room),
+        Step::Open(link) => links::open(links, *link),
+        Step::Send(link, _) | Step::End(link) => {
+            links::adjust(links, *link, step, Wake::Readable(*link))
+        }
+        Step::Room(link, _) => links::adjust(links, *link, step, Wake::Writable(*link)),
         Step::Tick(device, frames, _) => {
-            station::tick(stations, *device, number);
+            scripted_device::tick(devices, *device, number);
             Wake::Ticked(*device, *frames)
         }
         Step::Line(device, change) => Wake::Line(*device, *change),
-        Step::FailRead(link) => links::fail_read(far_ends, *link),
-        Step::FailWrite(link) => links::fail_write(far_ends, *link),
+        Step::FailRead(link) | Step::FailWrite(link) => {
+            links::adjust(links, *link, step, Wake::Idle)
+        }
         Step::FailCapture(device) => {
-            station::fail_capture(stations, *device);
+            scripted_device::fail(devices, *device, DeviceCall::Capture);
             Wake::Idle
         }
         Step::FailEmit(device) => {
-            station::fail_emit(stations, *device);
+            scripted_device::fail(devices, *device, DeviceCall::Emit);
             Wake::Idle
         }
         Step::FailHook(device) => {
-            station::fail_hook(stations, *device);
+            scripted_device::fail(devices, *device, DeviceCall::Hook);
             Wake::Idle
         }
         Step::Idle => Wake::Idle,
@@ -201,7 +203,7 @@ fn take_step(
 
 // What a read of a link did, of the slice that was read into.
 fn read_of(alloc: Global, link: u8, got: LinkGot, into: &[u8]) -> Result<Happening, OutOfMemory>
-    requires { GotFits got (length into.now) }
+    requires { LinkGotFits got (length into.now) }
     ensures { IfOk result (λ happening. happening ≡ Read link (got_of got into.now)) }
 {
     let got = match got {
@@ -273,17 +275,6 @@ fn hook_of(device: u8, off: bool, put: Put) -> Happening
     }
 }
 
-// The count of faults after a call, which stands still at the end of its type.
-pub(crate) fn faults_after(faults: u64, failed: bool) -> u64
-    ensures { result ≡ faults_after faults failed }
-{
-    if failed {
-        faults.saturating_add(1)
-    } else {
-        faults
-    }
-}
-
 impl World for Tape {
     ghost use Rattle.af_outside.specs.TapeLaws.{TapeLeadsTo-refl, TapeLeadsTo-trans};
 
@@ -304,7 +295,7 @@ impl World for Tape {
     ghost device_faults_stay = { λ _ _ leads. leads.device_faults };
 
     fn woke(&mut self, wake: Wake)
-        ensures log { Grew self.old.log (Woke wake ∷ []) self.new.log }
+        ensures log { Appended self.old.log (Woke wake ∷ []) self.new.log }
         ensures leads { TapeLeadsTo self.old self.new }
         ensures rest { self.new ≡ record self.old { log = self.new.log } }
     {
@@ -313,11 +304,11 @@ impl World for Tape {
 
     fn read(&mut self, link: u8, into: &mut [u8]) -> LinkGot
         requires { length into.old ≡ 16384 }
-        ensures log { Grew self.old.log (Read link (got_of result into.new) ∷ []) self.new.log }
-        ensures bound { GotFits result (length into.new) }
-        ensures cause { result ≡ LinkGot.Failed → Rose self.old.link_faults self.new.link_faults }
+        ensures log { Appended self.old.log (Read link (got_of result into.new) ∷ []) self.new.log }
+        ensures bound { LinkGotFits result (length into.new) }
+        ensures cause { result ≡ LinkGot.Failed → FaultCounted self.old.link_faults self.new.link_faults }
         ensures leads { TapeLeadsTo self.old self.new }
-        ensures answered { answered self.old.outside (Read link (got_of result into.new)) ≡ Some self.new.outside }
+        ensures answered { answered_as_stated self.old.outside (Read link (got_of result into.new)) ≡ Some self.new.outside }
         ensures faults { self.new.link_faults ≡ faults_after self.old.link_faults (read_failed result) }
         ensures rest { self.new ≡ record self.old {
           log = self.new.log;
@@ -325,7 +316,7 @@ impl World for Tape {
           link_faults = self.new.link_faults;
         } }
     {
-        let got = links::read(&mut self.far_ends, link, into);
+        let got = links::read(&mut self.links, link, into);
         self.link_faults = faults_after(self.link_faults, got == LinkGot::Failed);
         self.logbook.note(read_of(self.alloc, link, got, into));
         got
@@ -334,11 +325,11 @@ impl World for Tape {
     fn write(&mut self, link: u8, piece: &[u8]) -> LinkTook
         requires some { 0 < length piece.now }
         requires bound { length piece.now ≤ 65536 }
-        ensures log { Grew self.old.log (Wrote link (length piece.now) (took_of result piece.now) ∷ []) self.new.log }
+        ensures log { Appended self.old.log (Wrote link (length piece.now) (took_of result piece.now) ∷ []) self.new.log }
         ensures bound { TookFits result (length piece.now) }
-        ensures cause { result ≡ LinkTook.Failed → Rose self.old.link_faults self.new.link_faults }
+        ensures cause { result ≡ LinkTook.Failed → FaultCounted self.old.link_faults self.new.link_faults }
         ensures leads { TapeLeadsTo self.old self.new }
-        ensures answered { answered self.old.outside (Wrote link (length piece.now) (took_of result piece.now)) ≡ Some self.new.outside }
+        ensures answered { answered_as_stated self.old.outside (Wrote link (length piece.now) (took_of result piece.now)) ≡ Some self.new.outside }
         ensures faults { self.new.link_faults ≡ faults_after self.old.link_faults (write_failed result) }
         ensures rest { self.new ≡ record self.old {
           log = self.new.log;
@@ -346,31 +337,31 @@ impl World for Tape {
           link_faults = self.new.link_faults;
         } }
     {
-        let took = links::write(&mut self.far_ends, link, piece);
+        let took = links::write(&mut self.links, link, piece);
         self.link_faults = faults_after(self.link_faults, took == LinkTook::Failed);
         self.logbook.note(write_of(self.alloc, link, took, piece));
         took
     }
 
     fn close(&mut self, link: u8, why: Why)
-        ensures log { Grew self.old.log (Closed link why ∷ []) self.new.log }
+        ensures log { Appended self.old.log (Closed link why ∷ []) self.new.log }
         ensures leads { TapeLeadsTo self.old self.new }
-        ensures answered { answered self.old.outside (Closed link why) ≡ Some self.new.outside }
+        ensures answered { answered_as_stated self.old.outside (Closed link why) ≡ Some self.new.outside }
         ensures rest { self.new ≡ record self.old {
           log = self.new.log;
           outside = self.new.outside;
         } }
     {
-        links::close(&mut self.far_ends, link, why);
+        links::close(&mut self.links, link, why);
         self.logbook.note(Ok(Happening::Closed { link, why }));
     }
 
     fn capture(&mut self, device: u8, frames: u32, into: &mut [u8]) -> Put
         requires { 0 < length into.old }
-        ensures log { Grew self.old.log (Captured device frames (captured_of result into.new) ∷ []) self.new.log }
-        ensures cause { result ≡ Put.Failed → Rose self.old.device_faults self.new.device_faults }
+        ensures log { Appended self.old.log (Captured device frames (captured_of result into.new) ∷ []) self.new.log }
+        ensures cause { result ≡ Put.Failed → FaultCounted self.old.device_faults self.new.device_faults }
         ensures leads { TapeLeadsTo self.old self.new }
-        ensures answered { answered self.old.outside (Captured device frames (captured_of result into.new)) ≡ Some self.new.outside }
+        ensures answered { answered_as_stated self.old.outside (Captured device frames (captured_of result into.new)) ≡ Some self.new.outside }
         ensures faults { self.new.device_faults ≡ faults_after self.old.device_faults (not (is_done result)) }
         ensures rest { self.new ≡ record self.old {
           log = self.new.log;
@@ -378,7 +369,7 @@ impl World for Tape {
           device_faults = self.new.device_faults;
         } }
     {
-        let put = station::capture(&mut self.stations, &self.steps, device, into);
+        let put = scripted_device::capture(&mut self.devices, &self.steps, device, into);
         self.device_faults = faults_after(self.device_faults, put == Put::Failed);
         self.logbook
             .note(capture_of(self.alloc, device, frames, put, into));
@@ -387,10 +378,10 @@ impl World for Tape {
 
     fn emit(&mut self, device: u8, sound: &[u8]) -> Put
         requires { 0 < length sound.now }
-        ensures log { Grew self.old.log (Emitted device sound.now (is_done result) ∷ []) self.new.log }
-        ensures cause { result ≡ Put.Failed → Rose self.old.device_faults self.new.device_faults }
+        ensures log { Appended self.old.log (Emitted device sound.now (is_done result) ∷ []) self.new.log }
+        ensures cause { result ≡ Put.Failed → FaultCounted self.old.device_faults self.new.device_faults }
         ensures leads { TapeLeadsTo self.old self.new }
-        ensures answered { answered self.old.outside (Emitted device sound.now (is_done result)) ≡ Some self.new.outside }
+        ensures answered { answered_as_stated self.old.outside (Emitted device sound.now (is_done result)) ≡ Some self.new.outside }
         ensures faults { self.new.device_faults ≡ faults_after self.old.device_faults (not (is_done result)) }
         ensures rest { self.new ≡ record self.old {
           log = self.new.log;
@@ -398,17 +389,17 @@ impl World for Tape {
           device_faults = self.new.device_faults;
         } }
     {
-        let put = station::emit(&mut self.stations, device);
+        let put = scripted_device::emit(&mut self.devices, device);
         self.device_faults = faults_after(self.device_faults, put == Put::Failed);
         self.logbook.note(emit_of(self.alloc, device, sound, put));
         put
     }
 
     fn hook(&mut self, device: u8, off: bool) -> Put
-        ensures log { Grew self.old.log (Hooked device off (is_done result) ∷ []) self.new.log }
-        ensures cause { result ≡ Put.Failed → Rose self.old.device_faults self.new.device_faults }
+        ensures log { Appended self.old.log (Hooked device off (is_done result) ∷ []) self.new.log }
+        ensures cause { result ≡ Put.Failed → FaultCounted self.old.device_faults self.new.device_faults }
         ensures leads { TapeLeadsTo self.old self.new }
-        ensures answered { answered self.old.outside (Hooked device off (is_done result)) ≡ Some self.new.outside }
+        ensures answered { answered_as_stated self.old.outside (Hooked device off (is_done result)) ≡ Some self.new.outside }
         ensures faults { self.new.device_faults ≡ faults_after self.old.device_faults (not (is_done result)) }
         ensures rest { self.new ≡ record self.old {
           log = self.new.log;
@@ -416,7 +407,7 @@ impl World for Tape {
           device_faults = self.new.device_faults;
         } }
     {
-        let put = station::hook(&mut self.stations, device);
+        let put = scripted_device::hook(&mut self.devices, device);
         self.device_faults = faults_after(self.device_faults, put == Put::Failed);
         self.logbook.note(Ok(hook_of(device, off, put)));
         put
@@ -451,13 +442,10 @@ impl Live for Tape {
     ghost tells_both = { Tape-tells_both };
 
     fn listen(&mut self, alloc: Global, address: &str) -> Ready
-        ensures log { Stays self.old.log self.new.log }
-        ensures outer { Grew (outer_told self.old) (listened result address.now) (outer_told self.new) }
-        ensures cause { result ≡ Ready.Failed → Rose self.old.outer.listen_faults self.new.outer.listen_faults }
-        ensures link_count { self.old.link_faults ≤ self.new.link_faults }
-        ensures device_count { self.old.device_faults ≤ self.new.device_faults }
-        ensures listen_count { self.old.outer.listen_faults ≤ self.new.outer.listen_faults }
-        ensures wait_count { self.old.outer.wait_faults ≤ self.new.outer.wait_faults }
+        ensures log { Unchanged self.old.log self.new.log }
+        ensures outer { Appended (outer_told self.old) (listened result address.now) (outer_told self.new) }
+        ensures cause { result ≡ Ready.Failed → FaultCounted self.old.outer.listen_faults self.new.outer.listen_faults }
+        ensures counts { NoCountFalls self.old self.new }
         ensures answer { result ≡ (if self.old.outer.faults.listen then Ready.Failed else Ready.Done) }
         ensures rest { self.new ≡ record self.old {
           log = self.new.log;
@@ -476,16 +464,13 @@ impl Live for Tape {
     }
 
     fn attach(&mut self, alloc: Global, device: u8, spec: &DeviceSpec, kind: Kind<'_>) -> Ready
-        ensures log { Stays self.old.log self.new.log }
-        ensures outer { Grew (outer_told self.old) (attached result device spec.now (backing_of kind.entry)) (outer_told self.new) }
-        ensures cause { result ≡ Ready.Failed → Rose self.old.device_faults self.new.device_faults }
-        ensures link_count { self.old.link_faults ≤ self.new.link_faults }
-        ensures device_count { self.old.device_faults ≤ self.new.device_faults }
-        ensures listen_count { self.old.outer.listen_faults ≤ self.new.outer.listen_faults }
-        ensures wait_count { self.old.outer.wait_faults ≤ self.new.outer.wait_faults }
+        ensures log { Unchanged self.old.log self.new.log }
+        ensures outer { Appended (outer_told self.old) (attached result device spec.now (backing_of kind.entry)) (outer_told self.new) }
+        ensures cause { result ≡ Ready.Failed → FaultCounted self.old.device_faults self.new.device_faults }
+        ensures counts { NoCountFalls self.old self.new }
         ensures answer { (result ≡ Ready.Done) ↔ ((slice_get self.old.config device ≡ Some spec.now) × (is_stated self.old.outer.faults.attach device ≡ false)) }
         ensures memory { result ≢ Ready.OutOfMemory }
-        ensures faults { self.new.device_faults ≡ faults_after self.old.device_faults (refused result) }
+        ensures faults { self.new.device_faults ≡ faults_after self.old.device_faults (was_refused result) }
         ensures rest { self.new ≡ record self.old {
           log = self.new.log;
           device_faults = self.new.device_faults;
@@ -502,16 +487,13 @@ impl Live for Tape {
     }
 
     fn wait(&mut self, more: bool) -> Waited
-        ensures log { Stays self.old.log self.new.log }
-        ensures outer { Grew (outer_told self.old) (waited more result) (outer_told self.new) }
-        ensures cause { result ≡ Waited.Failed → Rose self.old.outer.wait_faults self.new.outer.wait_faults }
-        ensures link_count { self.old.link_faults ≤ self.new.link_faults }
-        ensures device_count { self.old.device_faults ≤ self.new.device_faults }
-        ensures listen_count { self.old.outer.listen_faults ≤ self.new.outer.listen_faults }
-        ensures wait_count { self.old.outer.wait_faults ≤ self.new.outer.wait_faults }
+        ensures log { Unchanged self.old.log self.new.log }
+        ensures outer { Appended (outer_told self.old) (waited more result) (outer_told self.new) }
+        ensures cause { result ≡ Waited.Failed → FaultCounted self.old.outer.wait_faults self.new.outer.wait_faults }
+        ensures counts { NoCountFalls self.old self.new }
         ensures answer { result ≡ wait_answer self.old }
         ensures rest { self.new ≡ record self.old {
-          left = left_behind self.old;
+          left = left_after self.old;
           log = self.new.log;
           outside = waited_outside self.old;
           outer = record self.old.outer {

@@ -2,12 +2,13 @@
 ghost use Rattle.std.specs.Prelude.{◌≡◌, ◌≤◌, ◌<◌, ℕ, [], ◌∷◌, length};
 ghost use Rattle.std.specs.declared.option.Option.{Option};
 ghost use Rattle.af_outside.specs.declared.happening.Happening.TheVariants.{Woke, Read, Wrote, Closed, Captured, Emitted, Hooked};
-ghost use Rattle.af_outside.specs.Told.{Log, Grew, Rose};
-ghost use Rattle.af_outside.specs.World.{got_of, took_of, captured_of, is_done, GotFits, TookFits};
+ghost use Rattle.af_io.specs.Observed.{Appended, FaultCounted};
+ghost use Rattle.af_outside.specs.Log.{Log};
+ghost use Rattle.af_outside.specs.World.{got_of, took_of, captured_of, is_done, LinkGotFits, TookFits};
 
 use crate::{Put, Wake, Why};
 
-/// What a read of a link gave: so many bytes, or none so far, or none ever again.
+/// What a read of a link gave: n bytes, or none so far, or none ever again.
 #[derive(Clone, Copy, Debug, PartialEq, Eq)]
 pub enum LinkGot {
     Bytes(usize),
@@ -16,7 +17,7 @@ pub enum LinkGot {
     Failed,
 }
 
-/// What a write to a link did: so many bytes were taken, or it failed.
+/// What a write to a link did: n bytes were taken, or it failed.
 #[derive(Clone, Copy, Debug, PartialEq, Eq)]
 pub enum LinkTook {
     Took(usize),
@@ -26,7 +27,7 @@ pub enum LinkTook {
 /// The outside of the server: its links and its devices. Each call adds exactly its one happening to the log, where the
 /// log is told. No call moves a count of faults down.
 pub trait World {
-    /// The log so far, where it is told.
+    /// The log so far, if it is observed.
     ghost log: { Self → Option Log };
 
     /// How often a link has failed: a read, or a write.
@@ -41,49 +42,49 @@ pub trait World {
 
     /// Notes the wake that begins a turn.
     fn woke(&mut self, wake: Wake)
-        ensures log { Grew (log self.old) (Woke wake ∷ []) (log self.new) }
+        ensures log { Appended (log self.old) (Woke wake ∷ []) (log self.new) }
         ensures leads { leads_to self.old self.new };
 
     /// Reads at most 16384 bytes of a link.
     fn read(&mut self, link: u8, into: &mut [u8]) -> LinkGot
         requires { length into.old ≡ 16384 }
-        ensures log { Grew (log self.old) (Read link (got_of result into.new) ∷ []) (log self.new) }
-        ensures bound { GotFits result (length into.new) }
-        ensures cause { result ≡ LinkGot.Failed → Rose (link_faults self.old) (link_faults self.new) }
+        ensures log { Appended (log self.old) (Read link (got_of result into.new) ∷ []) (log self.new) }
+        ensures bound { LinkGotFits result (length into.new) }
+        ensures cause { result ≡ LinkGot.Failed → FaultCounted (link_faults self.old) (link_faults self.new) }
         ensures leads { leads_to self.old self.new };
 
     /// Offers a piece to a link, which takes its first bytes, or all of it, or none.
     fn write(&mut self, link: u8, piece: &[u8]) -> LinkTook
         requires some { 0 < length piece.now }
         requires bound { length piece.now ≤ 65536 }
-        ensures log { Grew (log self.old) (Wrote link (length piece.now) (took_of result piece.now) ∷ []) (log self.new) }
+        ensures log { Appended (log self.old) (Wrote link (length piece.now) (took_of result piece.now) ∷ []) (log self.new) }
         ensures bound { TookFits result (length piece.now) }
-        ensures cause { result ≡ LinkTook.Failed → Rose (link_faults self.old) (link_faults self.new) }
+        ensures cause { result ≡ LinkTook.Failed → FaultCounted (link_faults self.old) (link_faults self.new) }
         ensures leads { leads_to self.old self.new };
 
     /// Closes a link for a cause.
     fn close(&mut self, link: u8, why: Why)
-        ensures log { Grew (log self.old) (Closed link why ∷ []) (log self.new) }
+        ensures log { Appended (log self.old) (Closed link why ∷ []) (log self.new) }
         ensures leads { leads_to self.old self.new };
 
-    /// Takes what a device captured in so many frames, as many bytes as there is room for.
+    /// Takes what a device captured in n frames, as many bytes as there is room for.
     fn capture(&mut self, device: u8, frames: u32, into: &mut [u8]) -> Put
         requires { 0 < length into.old }
-        ensures log { Grew (log self.old) (Captured device frames (captured_of result into.new) ∷ []) (log self.new) }
-        ensures cause { result ≡ Put.Failed → Rose (device_faults self.old) (device_faults self.new) }
+        ensures log { Appended (log self.old) (Captured device frames (captured_of result into.new) ∷ []) (log self.new) }
+        ensures cause { result ≡ Put.Failed → FaultCounted (device_faults self.old) (device_faults self.new) }
         ensures leads { leads_to self.old self.new };
 
     /// Hands a device's sound out.
     fn emit(&mut self, device: u8, sound: &[u8]) -> Put
         requires { 0 < length sound.now }
-        ensures log { Grew (log self.old) (Emitted device sound.now (is_done result) ∷ []) (log self.new) }
-        ensures cause { result ≡ Put.Failed → Rose (device_faults self.old) (device_faults self.new) }
+        ensures log { Appended (log self.old) (Emitted device sound.now (is_done result) ∷ []) (log self.new) }
+        ensures cause { result ≡ Put.Failed → FaultCounted (device_faults self.old) (device_faults self.new) }
         ensures leads { leads_to self.old self.new };
 
     /// Gives the hook of a device's line, off or on.
     fn hook(&mut self, device: u8, off: bool) -> Put
-        ensures log { Grew (log self.old) (Hooked device off (is_done result) ∷ []) (log self.new) }
-        ensures cause { result ≡ Put.Failed → Rose (device_faults self.old) (device_faults self.new) }
+        ensures log { Appended (log self.old) (Hooked device off (is_done result) ∷ []) (log self.new) }
+        ensures cause { result ≡ Put.Failed → FaultCounted (device_faults self.old) (device_faults self.new) }
         ensures leads { leads_to self.old self.new };
 
     ghost leads_to_itself: { (a : Self) → leads_to a a };

@@ -1,6 +1,5 @@
-pub mod Keeping
-pub mod Holding
-pub mod Checking
-pub mod Requests
-pub mod Controlling
-pub mod Asking
+pub mod CheckLemmas
+pub mod LinkRequestLemmas
+pub mod DeviceRequestLemmas
+pub mod FrameRequestLemmas
+pub mod LeavesLemmas

@@ -1,3 +1,3 @@
+pub mod Asked
 pub mod Lines
-pub mod Waits
-pub mod Places
+pub mod Sounds

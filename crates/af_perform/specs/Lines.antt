@@ -3,10 +3,10 @@ use Rattle.std.specs.Prelude.{ℕ, List, slice_get, Ok, Err, Result}
 use Rattle.std.specs.declared.option.Option.{Option}
 use Rattle.std.specs.declared.option.Option.TheVariants.{None, Some}
 use Rattle.af_request.specs.declared.reply.Phone.{Phone}
-use Rattle.af_model.specs.declared.refusal.Cause.TheVariants.{BadDevice, BadLine}
+use Rattle.af_model.specs.declared.refusal.RefusalCause.TheVariants.{BadDevice, BadLine}
 use Rattle.af_model.specs.declared.refusal.Refusal.{Refusal}
 use Rattle.af_model.specs.Reply.{refusal}
-use Rattle.af_kept.specs.Kept.{KeptDevice}
+use Rattle.af_state.specs.Kept.{KeptDevice}
 
 -- the line of a device, or why there is none
 abbrev pub line_or : ℕ → Option Phone → Result Phone Refusal

@@ -1,15 +1,17 @@
 // The checks of a request, in their order.
-ghost use Rattle.std.specs.Prelude.{◌≡◌};
+ghost use Rattle.std.specs.Prelude.{◌≡◌, ◌<◌, ◌≤◌, length, IsFalse, IsTrue};
+ghost use Rattle.af_model.specs.declared.refusal.RefusalCause.TheVariants.{BadAc, BadDevice, BadLine};
 ghost use Rattle.af_model.specs.Reply.{refusal};
 ghost use Rattle.af_model.specs.ContextRequests.{named_gain};
 ghost use Rattle.af_model.specs.Checks.{check, check_gain, context_cause, first_refusal, names, where_named};
 
 use af_context::ContextFault;
-use af_model::{Cause, Refusal};
+use af_model::{Refusal, RefusalCause};
 use af_sample::Gain;
+use af_state::Device;
 
 /// What a check refuses with, where it fails.
-pub fn check(fails: bool, cause: Cause, value: u32) -> Option<Refusal>
+pub fn check(fails: bool, cause: RefusalCause, value: u32) -> Option<Refusal>
     ensures { result ≡ check fails cause value }
 {
     fails.then_some(Refusal { cause, value })
@@ -20,7 +22,11 @@ pub fn check_gain(gain: i16) -> Option<Refusal>
     ensures { result ≡ check_gain gain }
 {
     let is_bad = Gain::new(i32::from(gain)).is_none();
-    check(is_bad, Cause::BadValue, u32::from(gain.cast_unsigned()))
+    check(
+        is_bad,
+        RefusalCause::BadValue,
+        u32::from(gain.cast_unsigned()),
+    )
 }
 
 /// Whether a mask names the field of a bit.
@@ -60,14 +66,52 @@ pub fn first_refusal(checks: &[Option<Refusal>]) -> Option<Refusal>
     None
 }
 
+/// Whether there is no such device.
+pub fn is_missing(device: u8, devices: &[Device]) -> bool
+    ensures missing { IsTrue result → length devices.now ≤ device }
+    ensures there { IsFalse result → device < length devices.now }
+{
+    usize::from(device) >= devices.len()
+}
+
+/// Why there is no such device.
+pub fn no_device(device: u8) -> Refusal
+    ensures { result ≡ refusal BadDevice device }
+{
+    Refusal {
+        cause: RefusalCause::BadDevice,
+        value: u32::from(device),
+    }
+}
+
+/// Why there is no line at a device.
+pub fn no_line(device: u8) -> Refusal
+    ensures { result ≡ refusal BadLine device }
+{
+    Refusal {
+        cause: RefusalCause::BadLine,
+        value: u32::from(device),
+    }
+}
+
+/// Why there is no such context.
+pub fn no_context(ac: u32) -> Refusal
+    ensures { result ≡ refusal BadAc ac }
+{
+    Refusal {
+        cause: RefusalCause::BadAc,
+        value: ac,
+    }
+}
+
 /// Why contexts stay as they are, as errors tell it.
 pub fn context_refusal(fault: ContextFault, ac: u32) -> Refusal
     ensures { result ≡ refusal (context_cause fault) ac }
 {
     let cause = match fault {
-        ContextFault::BadAc => Cause::BadAc,
-        ContextFault::BadIdChoice => Cause::BadIdChoice,
-        ContextFault::TooMany => Cause::TooManyAcs,
+        ContextFault::BadAc => RefusalCause::BadAc,
+        ContextFault::BadIdChoice => RefusalCause::BadIdChoice,
+        ContextFault::TooMany => RefusalCause::TooManyAcs,
     };
     Refusal { cause, value: ac }
 }

@@ -1,75 +1,67 @@
 // A request that waited completes.
-ghost use Rattle.std.specs.Prelude.{◌≡◌, ℕ, ◌≤◌, ◌<◌, ◌*◌, ◌%◌, ◌^◌, List, length, slice_get};
+ghost use Rattle.std.specs.Prelude.{◌≡◌, ◌≤◌, ◌<◌, ◌*◌, length, slice_get};
 ghost use Rattle.std.specs.declared.option.Option.TheVariants.{Some};
 ghost use Rattle.af_sample.specs.SampleTypes.{width_of};
-ghost use Rattle.af_buffers.specs.PlayBuffer.{frames_within};
-ghost use Rattle.af_model.specs.State.{Around, DeviceState, held_play, held_record, place};
-ghost use Rattle.af_model.specs.Reply.{horizon_of};
-ghost use Rattle.af_model.specs.Play.{in_devices};
-ghost use Rattle.af_model.specs.Tick.{answer_held, completing};
-ghost use Rattle.af_kept.specs.Kept.{KeptDevice};
-ghost use Rattle.af_perform.specs.Waits.{IsNear, KeptWait};
-ghost use Rattle.af_perform.specs.Places.{At, StandAround};
+ghost use Rattle.af_state.specs.Deferred.{deferred_of_record};
+ghost use Rattle.af_state.specs.Kept.{KeptDevice};
+ghost use Rattle.af_state.specs.Deferrals.{DeferredEndsWithin};
+ghost use Rattle.af_perform.specs.Sounds.{CompletesDeferred};
 
-use crate::play::tell_played;
-use crate::record::give_frames;
-use crate::scratch::Work;
-use af_context::Context;
-use af_kept::{Device, Link};
-use af_time::DevTime;
+use crate::play::accept;
+use crate::record::answer_record;
+use af_state::{DeferredRequest, DeferredWork, Device, Play, Record, ServedLink, Work};
 
-/// A device accepts a play that waited, and it is replied to.
-pub fn complete_play(
-    number: u8,
-    quiet: bool,
-    start: DevTime,
-    sound: &[i16],
-    preempt: bool,
-    devices: &mut [Device],
-    link: &mut Link,
+// A record that waited for a device is answered.
+fn complete_record(
+    device: u8,
+    asked: Record,
+    devices: &[Device],
+    link: &mut ServedLink,
     work: &mut Work,
 )
     requires room { length link.old.pending ≤ 49152 }
-    requires few { length sound.now ≤ 16368 }
-    requires there { number < length devices.old }
-    requires within { (d : KeptDevice) → slice_get devices.old number ≡ Some d → length sound.now ≤ frames_within d.next start.0 }
-    ensures step { (ks : List KeptWait) (a : Around) (s : DeviceState) (whole : ℕ) → StandAround devices.old ks a → slice_get a.devices number ≡ Some s →
-        start.0 ≡ whole % 2 ^ 32 → IsNear (horizon_of s) s.now (held_play quiet whole sound.now preempt) →
-        At devices.new ks link.new (answer_held (held_play quiet whole sound.now preempt) s (in_devices number (completing (held_play quiet whole sound.now preempt)) (place a link.old))) }
+    requires fits { asked.frames * width_of asked.context.ty ≤ 16000 }
+    requires there { device < length devices.now }
+    ensures step { CompletesDeferred (deferred_of_record asked) device devices.now link.old devices.now link.new }
     ensures rest { link.new.rest ≡ link.old.rest }
 {
-    let device = &mut devices[usize::from(number)];
-    device.accept(start, sound, preempt);
-    let time = device.time();
-    tell_played(quiet, time, link, &mut work.message);
+    answer_record(asked, &devices[usize::from(device)], link, work);
 }
 
-/// A record that waited is answered.
-pub fn complete_record(
-    number: u8,
-    context: &Context,
-    start: DevTime,
-    frames: u32,
-    devices: &[Device],
-    link: &mut Link,
+/// A request that waited for a device completes.
+pub fn complete_deferred(
+    deferred: &DeferredRequest,
+    device: u8,
+    devices: &mut [Device],
+    link: &mut ServedLink,
     work: &mut Work,
 )
     requires room { length link.old.pending ≤ 49152 }
-    requires fits { frames * width_of context.now.ty ≤ 16000 }
-    requires there { number < length devices.now }
-    ensures step { (ks : List KeptWait) (a : Around) (s : DeviceState) (whole : ℕ) → StandAround devices.now ks a → slice_get a.devices number ≡ Some s →
-        start.0 ≡ whole % 2 ^ 32 → IsNear (horizon_of s) s.now (held_record context.now whole frames) →
-        At devices.now ks link.new (answer_held (held_record context.now whole frames) s (in_devices number (completing (held_record context.now whole frames)) (place a link.old))) }
+    requires there { device < length devices.old }
+    requires fits { (d : KeptDevice) → slice_get devices.old device ≡ Some d → DeferredEndsWithin d deferred.now }
+    ensures step { CompletesDeferred deferred.now device devices.old link.old devices.new link.new }
     ensures rest { link.new.rest ≡ link.old.rest }
 {
-    give_frames(
-        frames as usize,
-        context,
-        start,
-        &devices[usize::from(number)],
-        link,
-        &mut work.samples,
-        &mut work.bytes,
-        &mut work.message,
-    );
+    let (what, start, sound) = deferred.parts();
+    match what {
+        DeferredWork::Play { quiet, preempt } => {
+            let play = Play {
+                device,
+                quiet,
+                start,
+                sound,
+                preempt,
+            };
+            accept(&play, devices, link, &mut work.message);
+        }
+        DeferredWork::Record { context, frames } => {
+            let asked = Record {
+                blocking: true,
+                context,
+                start,
+                frames,
+            };
+            complete_record(device, asked, devices, link, work);
+        }
+    }
 }

@@ -1,23 +1,22 @@
 // CreateAC, ChangeAC and FreeAC: the link's contexts are created, changed and freed.
-ghost use Rattle.std.specs.Prelude.{◌≡◌, ℕ, ◌≤◌, List, length, pos, unwrap_or};
+ghost use Rattle.std.specs.Prelude.{◌≡◌, ℕ, ◌≤◌, length, pos, unwrap_or};
 ghost use Rattle.std.specs.declared.option.Option.TheVariants.{None};
 ghost use Rattle.af_sample.specs.Gains.{gain_of};
-ghost use Rattle.af_request.specs.Asked.{create_ac, change_ac, free_ac};
-ghost use Rattle.af_model.specs.State.{Around, place};
+ghost use Rattle.af_request.specs.Asked.{free_ac};
 ghost use Rattle.af_model.specs.ContextRequests.{creation_refusal, described, create, change_refusal, change, named_preempt};
 ghost use Rattle.af_model.specs.Perform.{done};
-ghost use Rattle.af_perform.specs.Waits.{KeptWait};
-ghost use Rattle.af_perform.specs.Places.{At, LeadsLink, StandAround};
+ghost use Rattle.af_state.specs.Environment.{StepsDevices, ChangesLink};
+ghost use Rattle.af_perform.specs.Asked.{new_context, new_settings};
 
 use crate::checks::{
     check, check_gain, context_refusal, first_refusal, named_gain, names, where_named,
 };
-use crate::scratch::Work;
+use crate::opcode;
 use af_context::Context;
-use af_kept::{Device, Link};
-use af_model::{Cause, Refusal};
+use af_model::{Refusal, RefusalCause};
 use af_request::Reply;
 use af_sample::{Gain, SampleType};
+use af_state::{Device, ServedLink, Work};
 
 /// What CreateAC asks, as it came.
 #[derive(Clone, Copy, Debug, PartialEq, Eq)]
@@ -43,21 +42,26 @@ pub struct NewSettings {
 
 // The settings of a new context, before its number is looked at.
 fn creation_refusal(devices: usize, asked: NewContext) -> Option<Refusal>
-    ensures { result ≡ creation_refusal devices asked.device asked.ty asked.channels asked.preempt asked.play_gain asked.record_gain }
+    ensures { result ≡
+        creation_refusal devices asked.device asked.ty asked.channels asked.preempt asked.play_gain asked.record_gain }
 {
     first_refusal(&[
         check(
             usize::from(asked.device) >= devices,
-            Cause::BadDevice,
+            RefusalCause::BadDevice,
             u32::from(asked.device),
         ),
-        check(asked.ty > 3, Cause::BadValue, u32::from(asked.ty)),
-        check(asked.preempt > 1, Cause::BadValue, u32::from(asked.preempt)),
+        check(asked.ty > 3, RefusalCause::BadValue, u32::from(asked.ty)),
+        check(
+            asked.preempt > 1,
+            RefusalCause::BadValue,
+            u32::from(asked.preempt),
+        ),
         check_gain(asked.play_gain),
         check_gain(asked.record_gain),
         check(
             asked.channels != 1,
-            Cause::BadMatch,
+            RefusalCause::BadMatch,
             u32::from(asked.channels),
         ),
     ])
@@ -84,44 +88,47 @@ fn described(asked: NewContext) -> Context
     }
 }
 
-// One context more, where the number is free and there is room.
-fn create(context: Context, link: &mut Link, work: &mut Work)
+// One context more, if the number is free and there is room.
+fn create(context: Context, link: &mut ServedLink, work: &mut Work)
     requires room { length link.old.pending ≤ 16384 }
-    ensures step { LeadsLink (create context) link.old link.new }
+    ensures step { ChangesLink (create context) link.old link.new }
     ensures rest { link.new.rest ≡ link.old.rest }
 {
     let ac = context.ac;
     match link.create(context) {
-        Ok(()) => link.reply(3, &Reply::Plain, &mut work.message),
-        Err(fault) => link.refuse(3, context_refusal(fault, ac)),
+        Ok(()) => link.reply(opcode::CREATE_AC, &Reply::Plain, &mut work.message),
+        Err(fault) => link.refuse(opcode::CREATE_AC, context_refusal(fault, ac)),
     }
 }
 
 /// CreateAC.
-pub fn create_ac(asked: NewContext, devices: &[Device], link: &mut Link, work: &mut Work)
+pub fn create_ac(asked: NewContext, devices: &[Device], link: &mut ServedLink, work: &mut Work)
     requires room { length link.old.pending ≤ 16384 }
-    ensures step { (k : ℕ) (ks : List KeptWait) (a : Around) → StandAround devices.now ks a → At devices.now ks link.new
-        (done k (create_ac asked.device asked.ac asked.ty asked.channels asked.preempt asked.play_gain asked.record_gain) (place a link.old)) }
+    ensures step { (k : ℕ) → StepsDevices (done k (new_context asked)) devices.now link.old devices.now link.new }
     ensures rest { link.new.rest ≡ link.old.rest }
 {
     match creation_refusal(devices.len(), asked) {
-        Some(refusal) => link.refuse(3, refusal),
+        Some(refusal) => link.refuse(opcode::CREATE_AC, refusal),
         None => create(described(asked), link, work),
     }
 }
 
 // The fields that the mask names are looked at.
-fn change_refusal(link: &Link, asked: NewSettings) -> Option<Refusal>
+fn change_refusal(link: &ServedLink, asked: NewSettings) -> Option<Refusal>
     ensures { result ≡ change_refusal link.now.contexts asked.mask asked.ac asked.preempt asked.play_gain asked.record_gain }
 {
     first_refusal(&[
-        check(!link.has_context(asked.ac), Cause::BadAc, asked.ac),
+        check(!link.has_context(asked.ac), RefusalCause::BadAc, asked.ac),
         where_named(asked.mask, 1, check_gain(asked.play_gain)),
         where_named(asked.mask, 2, check_gain(asked.record_gain)),
         where_named(
             asked.mask,
             4,
-            check(asked.preempt > 1, Cause::BadValue, u32::from(asked.preempt)),
+            check(
+                asked.preempt > 1,
+                RefusalCause::BadValue,
+                u32::from(asked.preempt),
+            ),
         ),
     ])
 }
@@ -134,41 +141,42 @@ fn named_preempt(mask: u8, preempt: u8) -> Option<bool>
 }
 
 // The fields that the mask names are changed.
-fn change(asked: NewSettings, link: &mut Link, work: &mut Work)
+fn change(asked: NewSettings, link: &mut ServedLink, work: &mut Work)
     requires room { length link.old.pending ≤ 16384 }
-    requires passes { change_refusal link.old.contexts asked.mask asked.ac asked.preempt asked.play_gain asked.record_gain ≡ None }
-    ensures step { LeadsLink (change asked.mask asked.ac asked.preempt asked.play_gain asked.record_gain) link.old link.new }
+    requires passes { change_refusal link.old.contexts asked.mask asked.ac asked.preempt asked.play_gain asked.record_gain
+        ≡ None }
+    ensures step { ChangesLink (change asked.mask asked.ac asked.preempt asked.play_gain asked.record_gain) link.old link.new }
     ensures rest { link.new.rest ≡ link.old.rest }
 {
     let play = named_gain(asked.mask, 1, asked.play_gain);
     let record_to = named_gain(asked.mask, 2, asked.record_gain);
     let preempt = named_preempt(asked.mask, asked.preempt);
     match link.change(asked.ac, play, record_to, preempt) {
-        Ok(()) => link.reply(4, &Reply::Plain, &mut work.message),
-        Err(fault) => link.refuse(4, context_refusal(fault, asked.ac)),
+        Ok(()) => link.reply(opcode::CHANGE_AC, &Reply::Plain, &mut work.message),
+        Err(fault) => link.refuse(opcode::CHANGE_AC, context_refusal(fault, asked.ac)),
     }
 }
 
 /// ChangeAC.
-pub fn change_ac(asked: NewSettings, link: &mut Link, work: &mut Work)
+pub fn change_ac(asked: NewSettings, link: &mut ServedLink, work: &mut Work)
     requires room { length link.old.pending ≤ 16384 }
-    ensures step { (k : ℕ) → LeadsLink (done k (change_ac asked.mask asked.ac asked.preempt asked.play_gain asked.record_gain)) link.old link.new }
+    ensures step { (k : ℕ) → ChangesLink (done k (new_settings asked)) link.old link.new }
     ensures rest { link.new.rest ≡ link.old.rest }
 {
     match change_refusal(link, asked) {
-        Some(refusal) => link.refuse(4, refusal),
+        Some(refusal) => link.refuse(opcode::CHANGE_AC, refusal),
         None => change(asked, link, work),
     }
 }
 
 /// FreeAC.
-pub fn free_ac(ac: u32, link: &mut Link, work: &mut Work)
+pub fn free_ac(ac: u32, link: &mut ServedLink, work: &mut Work)
     requires room { length link.old.pending ≤ 16384 }
-    ensures step { (k : ℕ) → LeadsLink (done k (free_ac ac)) link.old link.new }
+    ensures step { (k : ℕ) → ChangesLink (done k (free_ac ac)) link.old link.new }
     ensures rest { link.new.rest ≡ link.old.rest }
 {
     match link.free(ac) {
-        Ok(()) => link.reply(5, &Reply::Plain, &mut work.message),
-        Err(fault) => link.refuse(5, context_refusal(fault, ac)),
+        Ok(()) => link.reply(opcode::FREE_AC, &Reply::Plain, &mut work.message),
+        Err(fault) => link.refuse(opcode::FREE_AC, context_refusal(fault, ac)),
     }
 }

@@ -3,24 +3,27 @@ ghost use Rattle.std.specs.Prelude.{◌≡◌, ℕ, ◌≤◌, ◌<◌, List, le
 ghost use Rattle.std.specs.declared.option.Option.TheVariants.{None, Some};
 ghost use Rattle.af_phone.specs.Lines.{wanting};
 ghost use Rattle.af_request.specs.Answer.{plain};
-ghost use Rattle.af_request.specs.Asked.{select_events, set_controls, query_controls, hook_switch, query_phone};
-ghost use Rattle.af_model.specs.declared.refusal.Cause.TheVariants.{BadDevice};
-ghost use Rattle.af_model.specs.State.{Around, DeviceState, place};
-ghost use Rattle.af_model.specs.Reply.{refusal, replied};
+ghost use Rattle.af_request.specs.Asked.{select_events, query_controls, hook_switch, query_phone};
+ghost use Rattle.af_model.specs.State.{DeviceState};
+ghost use Rattle.af_model.specs.Reply.{replied};
 ghost use Rattle.af_model.specs.Checks.{names};
 ghost use Rattle.af_model.specs.Play.{in_devices};
-ghost use Rattle.af_model.specs.DeviceRequests.{controls_refusal, select, set_device_controls, switch_hook, switch_refusal, wanting_hook, with_named};
+ghost use Rattle.af_model.specs.DeviceRequests.{controls_refusal, select, set_device_controls, switch_refusal, wanting_hook, with_named};
 ghost use Rattle.af_model.specs.Perform.{done};
+ghost use Rattle.af_perform.specs.Asked.{new_controls};
 ghost use Rattle.af_perform.specs.Lines.{line_at};
-ghost use Rattle.af_perform.specs.Waits.{KeptWait};
-ghost use Rattle.af_perform.specs.Places.{At, LeadsLink, StandAround};
+ghost use Rattle.af_state.specs.Deferrals.{KeptDeferral};
+ghost use Rattle.af_state.specs.Environment.{kept, StepsDevices, StepsLinkFor, ChangesLink};
 
-use crate::checks::{check, check_gain, first_refusal, named_gain, names, where_named};
-use crate::scratch::Work;
-use af_kept::{Device, Link};
-use af_model::{Cause, Refusal};
+use crate::checks::{
+    check, check_gain, first_refusal, is_missing, named_gain, names, no_device, no_line,
+    where_named,
+};
+use crate::opcode;
+use af_model::{Refusal, RefusalCause};
 use af_phone::Line;
 use af_request::{Controls, Phone, Reply};
+use af_state::{Device, ServedLink, Work};
 
 /// What SetControls asks, as it came.
 #[derive(Clone, Copy, Debug, PartialEq, Eq)]
@@ -33,51 +36,44 @@ pub struct NewControls {
     pub output_gain: i16,
 }
 
-// Why there is no such device.
-fn no_device(device: u8) -> Refusal
-    ensures { result ≡ refusal BadDevice device }
-{
-    Refusal {
-        cause: Cause::BadDevice,
-        value: u32::from(device),
-    }
-}
-
 // The flags of the line of a device, or why there is none.
 fn line_at(device: u8, devices: &[Device]) -> Result<Phone, Refusal>
     ensures { result ≡ line_at devices.now device }
 {
-    if usize::from(device) >= devices.len() {
+    if is_missing(device, devices) {
         return Err(no_device(device));
     }
     match devices[usize::from(device)].line() {
         Some(line) => Ok(line.phone()),
-        None => Err(Refusal {
-            cause: Cause::BadLine,
-            value: u32::from(device),
-        }),
+        None => Err(no_line(device)),
     }
 }
 
 // The mask of the events of a device is replaced.
-fn select(device: u8, mask: u32, link: &mut Link, work: &mut Work)
+fn select(device: u8, mask: u32, link: &mut ServedLink, work: &mut Work)
     requires room { length link.old.pending ≤ 16384 }
-    ensures step { LeadsLink (select device mask) link.old link.new }
+    ensures step { ChangesLink (select device mask) link.old link.new }
     ensures rest { link.new.rest ≡ link.old.rest }
 {
     link.select(device, mask);
-    link.reply(8, &Reply::Plain, &mut work.message);
+    link.reply(opcode::SELECT_EVENTS, &Reply::Plain, &mut work.message);
 }
 
 /// SelectEvents.
-pub fn select_events(device: u8, mask: u32, devices: &[Device], link: &mut Link, work: &mut Work)
+pub fn select_events(
+    device: u8,
+    mask: u32,
+    devices: &[Device],
+    link: &mut ServedLink,
+    work: &mut Work,
+)
     requires room { length link.old.pending ≤ 16384 }
-    ensures step { (k : ℕ) (ks : List KeptWait) (a : Around) → StandAround devices.now ks a → At devices.now ks link.new (done k (select_events device mask) (place a link.old)) }
+    ensures step { (k : ℕ) → StepsDevices (done k (select_events device mask)) devices.now link.old devices.now link.new }
     ensures rest { link.new.rest ≡ link.old.rest }
 {
     match line_at(device, devices) {
         Ok(_) => select(device, mask, link, work),
-        Err(refusal) => link.refuse(8, refusal),
+        Err(refusal) => link.refuse(opcode::SELECT_EVENTS, refusal),
     }
 }
 
@@ -93,7 +89,7 @@ fn controls_refusal(asked: NewControls) -> Option<Refusal>
             4,
             check(
                 asked.input_on > 1,
-                Cause::BadValue,
+                RefusalCause::BadValue,
                 u32::from(asked.input_on),
             ),
         ),
@@ -102,7 +98,7 @@ fn controls_refusal(asked: NewControls) -> Option<Refusal>
             8,
             check(
                 asked.output_on > 1,
-                Cause::BadValue,
+                RefusalCause::BadValue,
                 u32::from(asked.output_on),
             ),
         ),
@@ -129,49 +125,58 @@ fn with_named(asked: NewControls, old: Controls) -> Controls
 }
 
 // The controls of a device that is there are changed.
-fn control(asked: NewControls, devices: &mut [Device], link: &mut Link, work: &mut Work)
+fn control(asked: NewControls, devices: &mut [Device], link: &mut ServedLink, work: &mut Work)
     requires room { length link.old.pending ≤ 16384 }
     requires there { asked.device < length devices.old }
     requires passes { controls_refusal asked.mask asked.input_on asked.output_on asked.input_gain asked.output_gain ≡ None }
-    ensures step { (ks : List KeptWait) (a : Around) (s : DeviceState) → StandAround devices.old ks a → slice_get a.devices asked.device ≡ Some s →
-        At devices.new ks link.new (set_device_controls asked.device asked.mask asked.input_on asked.output_on asked.input_gain asked.output_gain s (place a link.old)) }
+    ensures step { (ks : List KeptDeferral) → StepsLinkFor asked.device
+        (set_device_controls asked.device asked.mask asked.input_on asked.output_on asked.input_gain asked.output_gain)
+        (kept devices.old ks) link.old (kept devices.new ks) link.new }
     ensures rest { link.new.rest ≡ link.old.rest }
 {
     let device = &mut devices[usize::from(asked.device)];
     let controls = with_named(asked, device.controls());
     device.set_controls(controls);
-    link.reply(9, &Reply::Plain, &mut work.message);
+    link.reply(opcode::SET_CONTROLS, &Reply::Plain, &mut work.message);
 }
 
 /// SetControls.
-pub fn set_controls(asked: NewControls, devices: &mut [Device], link: &mut Link, work: &mut Work)
+pub fn set_controls(
+    asked: NewControls,
+    devices: &mut [Device],
+    link: &mut ServedLink,
+    work: &mut Work,
+)
     requires room { length link.old.pending ≤ 16384 }
-    ensures step { (k : ℕ) (ks : List KeptWait) (a : Around) → StandAround devices.old ks a → At devices.new ks link.new
-        (done k (set_controls asked.device asked.mask asked.input_on asked.output_on asked.input_gain asked.output_gain) (place a link.old)) }
+    ensures step { (k : ℕ) → StepsDevices (done k (new_controls asked)) devices.old link.old devices.new link.new }
     ensures rest { link.new.rest ≡ link.old.rest }
 {
-    if usize::from(asked.device) >= devices.len() {
-        link.refuse(9, no_device(asked.device));
+    if is_missing(asked.device, devices) {
+        link.refuse(opcode::SET_CONTROLS, no_device(asked.device));
         return;
     }
     match controls_refusal(asked) {
-        Some(refusal) => link.refuse(9, refusal),
+        Some(refusal) => link.refuse(opcode::SET_CONTROLS, refusal),
         None => control(asked, devices, link, work),
     }
 }
 
 /// QueryControls.
-pub fn query_controls(device: u8, devices: &[Device], link: &mut Link, work: &mut Work)
+pub fn query_controls(device: u8, devices: &[Device], link: &mut ServedLink, work: &mut Work)
     requires room { length link.old.pending ≤ 16384 }
-    ensures step { (k : ℕ) (ks : List KeptWait) (a : Around) → StandAround devices.now ks a → At devices.now ks link.new (done k (query_controls device) (place a link.old)) }
+    ensures step { (k : ℕ) → StepsDevices (done k (query_controls device)) devices.now link.old devices.now link.new }
     ensures rest { link.new.rest ≡ link.old.rest }
 {
-    if usize::from(device) >= devices.len() {
-        link.refuse(10, no_device(device));
+    if is_missing(device, devices) {
+        link.refuse(opcode::QUERY_CONTROLS, no_device(device));
         return;
     }
     let controls = devices[usize::from(device)].controls();
-    link.reply(10, &Reply::Controls { controls }, &mut work.message);
+    link.reply(
+        opcode::QUERY_CONTROLS,
+        &Reply::Controls { controls },
+        &mut work.message,
+    );
 }
 
 // Why a hook is not switched.
@@ -179,8 +184,8 @@ fn switch_refusal(device: u8, off: u32, line: Phone) -> Option<Refusal>
     ensures { result ≡ switch_refusal device off line }
 {
     first_refusal(&[
-        check(line.dead, Cause::BadLine, u32::from(device)),
-        check(off > 1, Cause::BadValue, off),
+        check(line.dead, RefusalCause::BadLine, u32::from(device)),
+        check(off > 1, RefusalCause::BadValue, off),
     ])
 }
 
@@ -194,59 +199,51 @@ fn wanting(off: bool, line: Option<Line>) -> Option<Line>
 }
 
 // The hook of a device that is there, and has a line, is wanted off or on.
-fn want_hook(device: u8, off: bool, devices: &mut [Device], link: &mut Link, work: &mut Work)
+fn want_hook(device: u8, off: bool, devices: &mut [Device], link: &mut ServedLink, work: &mut Work)
     requires room { length link.old.pending ≤ 16384 }
     requires there { device < length devices.old }
-    ensures step { (ks : List KeptWait) (a : Around) (s : DeviceState) → StandAround devices.old ks a → slice_get a.devices device ≡ Some s →
-        At devices.new ks link.new (replied 11 plain (in_devices device (wanting_hook off) (place a link.old))) }
+    ensures step { (ks : List KeptDeferral) → StepsLinkFor device (λ s p. replied 11 plain (in_devices device (wanting_hook off) p))
+        (kept devices.old ks) link.old (kept devices.new ks) link.new }
     ensures rest { link.new.rest ≡ link.old.rest }
 {
     let device = &mut devices[usize::from(device)];
     device.set_line(wanting(off, device.line()));
-    link.reply(11, &Reply::Plain, &mut work.message);
-}
-
-// The hook of a device that is there, and has this line, is switched.
-fn switch_hook(
-    device: u8,
-    off: u32,
-    line: Phone,
-    devices: &mut [Device],
-    link: &mut Link,
-    work: &mut Work,
-)
-    requires room { length link.old.pending ≤ 16384 }
-    requires there { device < length devices.old }
-    ensures step { (ks : List KeptWait) (a : Around) (s : DeviceState) → StandAround devices.old ks a → slice_get a.devices device ≡ Some s →
-        At devices.new ks link.new (switch_hook device off line (place a link.old)) }
-    ensures rest { link.new.rest ≡ link.old.rest }
-{
-    match switch_refusal(device, off, line) {
-        Some(refusal) => link.refuse(11, refusal),
-        None => want_hook(device, off == 1, devices, link, work),
-    }
+    link.reply(opcode::HOOK_SWITCH, &Reply::Plain, &mut work.message);
 }
 
 /// HookSwitch.
-pub fn hook_switch(device: u8, off: u32, devices: &mut [Device], link: &mut Link, work: &mut Work)
+pub fn hook_switch(
+    device: u8,
+    off: u32,
+    devices: &mut [Device],
+    link: &mut ServedLink,
+    work: &mut Work,
+)
     requires room { length link.old.pending ≤ 16384 }
-    ensures step { (k : ℕ) (ks : List KeptWait) (a : Around) → StandAround devices.old ks a → At devices.new ks link.new (done k (hook_switch device off) (place a link.old)) }
+    ensures step { (k : ℕ) → StepsDevices (done k (hook_switch device off)) devices.old link.old devices.new link.new }
     ensures rest { link.new.rest ≡ link.old.rest }
 {
     match line_at(device, devices) {
-        Ok(line) => switch_hook(device, off, line, devices, link, work),
-        Err(refusal) => link.refuse(11, refusal),
+        Ok(line) => match switch_refusal(device, off, line) {
+            Some(refusal) => link.refuse(opcode::HOOK_SWITCH, refusal),
+            None => want_hook(device, off == 1, devices, link, work),
+        },
+        Err(refusal) => link.refuse(opcode::HOOK_SWITCH, refusal),
     }
 }
 
 /// QueryPhone.
-pub fn query_phone(device: u8, devices: &[Device], link: &mut Link, work: &mut Work)
+pub fn query_phone(device: u8, devices: &[Device], link: &mut ServedLink, work: &mut Work)
     requires room { length link.old.pending ≤ 16384 }
-    ensures step { (k : ℕ) (ks : List KeptWait) (a : Around) → StandAround devices.now ks a → At devices.now ks link.new (done k (query_phone device) (place a link.old)) }
+    ensures step { (k : ℕ) → StepsDevices (done k (query_phone device)) devices.now link.old devices.now link.new }
     ensures rest { link.new.rest ≡ link.old.rest }
 {
     match line_at(device, devices) {
-        Ok(phone) => link.reply(12, &Reply::Phone { phone }, &mut work.message),
-        Err(refusal) => link.refuse(12, refusal),
+        Ok(phone) => link.reply(
+            opcode::QUERY_PHONE,
+            &Reply::Phone { phone },
+            &mut work.message,
+        ),
+        Err(refusal) => link.refuse(opcode::QUERY_PHONE, refusal),
     }
 }

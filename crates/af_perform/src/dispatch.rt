@@ -1,48 +1,41 @@
 // Performing a request: one function for each opcode.
-ghost use Rattle.std.specs.Prelude.{◌≡◌, ℕ, ◌≤◌, ◌<◌, false, List, IsTrue, length};
-ghost use Rattle.af_request.specs.Asked.{get_time, meaning};
-ghost use Rattle.af_request.specs.Requests.{HasRoom};
-ghost use Rattle.af_model.specs.State.{Around, place};
+ghost use Rattle.std.specs.Prelude.{◌≡◌, ℕ, ◌≤◌, IsTrue, length};
+ghost use Rattle.af_request.specs.Asked.{get_time, request_meaning};
+ghost use Rattle.af_request.specs.Requests.{FitsFrame};
 ghost use Rattle.af_model.specs.Perform.{done, perform};
-ghost use Rattle.af_perform.specs.Waits.{has_waiting, is_done_at_once, Grows, KeptWait};
-ghost use Rattle.af_perform.specs.Places.{At, StandAround};
+ghost use Rattle.af_state.specs.Environment.{StepsLink, StepsDevices, Leaves, MayAsk};
+ghost use Rattle.af_perform.specs.Asked.{is_done_at_once};
 
+use crate::checks::{is_missing, no_device};
 use crate::context_requests::{NewContext, NewSettings, change_ac, create_ac, free_ac};
 use crate::device_requests::{
     NewControls, hook_switch, query_controls, query_phone, select_events, set_controls,
 };
-use crate::play::play_run;
-use crate::record::record_run;
-use crate::scratch::Work;
-use crate::waits::Waits;
-use af_kept::{Device, Link};
-use af_model::{Cause, Refusal};
+use crate::opcode;
+use crate::play::{NewPlay, perform_play};
+use crate::record::{NewRecord, perform_record};
 use af_request::{Reply, Request};
+use af_state::{Device, Environment, ServedLink, Work};
 
 // The time of a device is replied, or the device is not there.
-fn get_time(device: u8, devices: &[Device], link: &mut Link, work: &mut Work)
+fn get_time(device: u8, devices: &[Device], link: &mut ServedLink, work: &mut Work)
     requires room { length link.old.pending ≤ 16384 }
-    ensures step { (k : ℕ) (ks : List KeptWait) (a : Around) → StandAround devices.now ks a → At devices.now ks link.new (done k (get_time device) (place a link.old)) }
+    ensures step { (k : ℕ) → StepsDevices (done k (get_time device)) devices.now link.old devices.now link.new }
     ensures rest { link.new.rest ≡ link.old.rest }
 {
-    if usize::from(device) >= devices.len() {
-        link.refuse(
-            2,
-            Refusal {
-                cause: Cause::BadDevice,
-                value: u32::from(device),
-            },
-        );
+    if is_missing(device, devices) {
+        link.refuse(opcode::GET_TIME, no_device(device));
         return;
     }
     let time = devices[usize::from(device)].time();
-    link.reply(2, &Reply::Time { time }, &mut work.message);
+    link.reply(opcode::GET_TIME, &Reply::Time { time }, &mut work.message);
 }
 
 // What a request does that leaves all but its link as it is.
-fn done_at_once(request: &Request<'_>, devices: &[Device], link: &mut Link, work: &mut Work)
+fn done_at_once(request: &Request<'_>, devices: &[Device], link: &mut ServedLink, work: &mut Work)
     requires room { length link.old.pending ≤ 16384 }
-    ensures step { (k : ℕ) (ks : List KeptWait) (a : Around) → IsTrue (is_done_at_once (meaning request.now)) → StandAround devices.now ks a → At devices.now ks link.new (done k (meaning request.now) (place a link.old)) }
+    ensures step { (k : ℕ) → IsTrue (is_done_at_once (request_meaning request.now)) →
+        StepsDevices (done k (request_meaning request.now)) devices.now link.old devices.now link.new }
     ensures rest { link.new.rest ≡ link.old.rest }
 {
     match *request {
@@ -100,19 +93,14 @@ fn done_at_once(request: &Request<'_>, devices: &[Device], link: &mut Link, work
 fn done(
     number: u8,
     request: &Request<'_>,
-    devices: &mut [Device],
-    waits: &mut Waits,
-    link: &mut Link,
+    environment: &mut Environment,
+    link: &mut ServedLink,
     work: &mut Work,
 )
-    requires number { number < 32 }
-    requires free { has_waiting waits.old number ≡ false }
-    requires room { length link.old.pending ≤ 16384 }
-    requires samples { HasRoom (meaning request.now) }
-    ensures step { (a : Around) → StandAround devices.old waits.old a → At devices.new waits.new link.new (done number (meaning request.now) (place a link.old)) }
-    ensures rest { link.new.rest ≡ link.old.rest }
-    ensures grows { Grows number waits.old waits.new }
-    ensures calm { IsTrue (has_waiting waits.new number) → length link.new.pending ≤ 16384 }
+    requires asks { MayAsk number environment.old link.old }
+    requires samples { FitsFrame (request_meaning request.now) }
+    ensures step { StepsLink (done number (request_meaning request.now)) environment.old link.old environment.new link.new }
+    ensures leaves { Leaves number environment.old link.old environment.new link.new }
 {
     match *request {
         Request::PlayRun {
@@ -120,15 +108,29 @@ fn done(
             ac,
             time,
             samples,
-        } => play_run(number, quiet, ac, time, samples, devices, waits, link, work),
+        } => {
+            let asked = NewPlay {
+                quiet,
+                ac,
+                start: time,
+                bytes: samples,
+            };
+            perform_play(number, &asked, environment, link, work)
+        }
         Request::RecordRun {
             blocking,
             ac,
             time,
             nbytes,
-        } => record_run(
-            number, blocking, ac, time, nbytes, devices, waits, link, work,
-        ),
+        } => {
+            let asked = NewRecord {
+                blocking,
+                ac,
+                start: time,
+                bytes: nbytes,
+            };
+            perform_record(number, asked, environment, link, work)
+        }
         Request::SetControls {
             device,
             mask,
@@ -145,10 +147,12 @@ fn done(
                 input_gain,
                 output_gain,
             };
-            set_controls(asked, devices, link, work)
+            set_controls(asked, &mut environment.devices, link, work)
         }
-        Request::HookSwitch { device, off } => hook_switch(device, off, devices, link, work),
-        _ => done_at_once(request, devices, link, work),
+        Request::HookSwitch { device, off } => {
+            hook_switch(device, off, &mut environment.devices, link, work)
+        }
+        _ => done_at_once(request, &environment.devices, link, work),
     }
 }
 
@@ -156,20 +160,15 @@ fn done(
 pub fn perform(
     number: u8,
     request: &Request<'_>,
-    devices: &mut [Device],
-    waits: &mut Waits,
-    link: &mut Link,
+    environment: &mut Environment,
+    link: &mut ServedLink,
     work: &mut Work,
 )
-    requires number { number < 32 }
-    requires free { has_waiting waits.old number ≡ false }
-    requires room { length link.old.pending ≤ 16384 }
-    requires samples { HasRoom (meaning request.now) }
-    ensures step { (a : Around) → StandAround devices.old waits.old a → At devices.new waits.new link.new (perform number (meaning request.now) (place a link.old)) }
-    ensures rest { link.new.rest ≡ link.old.rest }
-    ensures grows { Grows number waits.old waits.new }
-    ensures calm { IsTrue (has_waiting waits.new number) → length link.new.pending ≤ 16384 }
+    requires asks { MayAsk number environment.old link.old }
+    requires samples { FitsFrame (request_meaning request.now) }
+    ensures step { StepsLink (perform number (request_meaning request.now)) environment.old link.old environment.new link.new }
+    ensures leaves { Leaves number environment.old link.old environment.new link.new }
 {
     link.count();
-    done(number, request, devices, waits, link, work);
+    done(number, request, environment, link, work);
 }

@@ -1,4 +1,4 @@
-//! How requests are performed: one function for each, what is kept of those that wait, and how these complete.
+//! How requests are performed: one function for each, and how those that waited complete.
 #![tactic(auto)]
 
 mod checks;
@@ -6,13 +6,9 @@ mod complete;
 mod context_requests;
 mod device_requests;
 mod dispatch;
-mod held;
+mod opcode;
 mod play;
 mod record;
-mod scratch;
-mod waits;
 
+pub use complete::complete_deferred;
 pub use dispatch::perform;
-pub use held::HeldRequest;
-pub use scratch::{Scratch, Work};
-pub use waits::Waits;

@@ -1,28 +1,45 @@
 // Play: sound of a client from a time on.
-ghost use Rattle.std.specs.Prelude.{◌≡◌, ℕ, ◌≤◌, ◌<◌, ◌*◌, ◌%◌, ◌++◌, false, List, IsTrue, length, slice_get, if◌then◌else◌};
+ghost use Rattle.std.specs.Prelude.{◌≡◌, ℕ, ◌≤◌, ◌<◌, ◌*◌, ◌/◌, ◌%◌, ◌++◌, List, length, slice_get, take, if◌then◌else◌};
 ghost use Rattle.std.specs.declared.option.Option.TheVariants.{Some};
 ghost use Rattle.af_sample.specs.SampleTypes.{width_of};
+ghost use Rattle.af_context.specs.declared.Context.{Context};
 ghost use Rattle.af_request.specs.Answer.{played};
-ghost use Rattle.af_request.specs.Asked.{play_run};
-ghost use Rattle.af_buffers.specs.PlayBuffer.{accepted_at, frames_within};
-ghost use Rattle.af_model.specs.State.{Around, DeviceState, place};
+ghost use Rattle.af_buffers.specs.PlayBuffer.{frames_within};
 ghost use Rattle.af_model.specs.Reply.{reply_message};
-ghost use Rattle.af_model.specs.Checks.{in_device};
-ghost use Rattle.af_model.specs.Play.{accepting, frames_of, in_devices, play, play_refusal, sent_sound, start_play, tell_played};
+ghost use Rattle.af_model.specs.Play.{play_refusal, sent_sound, start_play};
 ghost use Rattle.af_model.specs.Perform.{done};
-ghost use Rattle.af_kept.specs.Kept.{KeptDevice};
-ghost use Rattle.af_perform.specs.Waits.{has_waiting, Grows, KeptWait};
-ghost use Rattle.af_perform.specs.Places.{At, StandAround};
+ghost use Rattle.af_state.specs.Deferred.{deferred_of_play};
+ghost use Rattle.af_state.specs.Kept.{KeptDevice};
+ghost use Rattle.af_state.specs.Environment.{StepsLink, StepsLinkFor, Leaves, MayAsk};
+ghost use Rattle.af_perform.specs.Asked.{new_play};
+ghost use Rattle.af_perform.specs.Sounds.{play_by_context, start_play_of, with_named_device, AcceptsPlay, CompletesDeferred, IsSoundOf};
 
-use crate::checks::check;
-use crate::scratch::Work;
-use crate::waits::Waits;
+use crate::checks::{check, is_missing, no_context, no_device};
+use crate::opcode;
 use af_context::Context;
-use af_kept::{Device, Link};
-use af_model::{Cause, Refusal};
+use af_model::{Refusal, RefusalCause};
 use af_request::Reply;
 use af_sample::{convert_in, gain_run};
+use af_state::{Device, Environment, Play, ServedLink, Work};
 use af_time::DevTime;
+
+/// What Play asks, as it came.
+#[derive(Clone, Copy, Debug)]
+pub struct NewPlay<'a> {
+    pub quiet: bool,
+    pub ac: u32,
+    pub start: DevTime,
+    pub bytes: &'a [u8],
+}
+
+/// A play whose context is found.
+#[derive(Clone, Copy, Debug)]
+pub struct ContextPlay<'a> {
+    pub quiet: bool,
+    pub context: Context,
+    pub start: DevTime,
+    pub bytes: &'a [u8],
+}
 
 // A play has whole frames.
 fn play_refusal(context: &Context, bytes: usize) -> Option<Refusal>
@@ -31,214 +48,155 @@ fn play_refusal(context: &Context, bytes: usize) -> Option<Refusal>
 {
     check(
         bytes % context.ty.width() != 0,
-        Cause::BadValue,
+        RefusalCause::BadValue,
         bytes as u32,
     )
 }
 
-// The samples that a client sends by a context, with the gain that the context has now.
+// The samples that a client sends by a context, with the gain that the context has now, come to stand at the front of `samples`.
 fn read_sound(context: &Context, bytes: &[u8], samples: &mut [i16])
-    requires { length bytes.now ≡ length samples.old * width_of context.now.ty }
-    ensures { samples.new ≡ sent_sound context.now bytes.now }
-{
-    convert_in(context.ty, bytes, samples);
-    gain_run(samples, context.play_gain);
-}
-
-/// A play is replied to with the device's time, unless it is quiet.
-pub fn tell_played(quiet: bool, time: DevTime, link: &mut Link, message: &mut [u8])
-    requires room { length link.old.pending ≤ 49152 }
-    requires size { length message.old ≡ 16016 }
-    ensures { link.new ≡ (if quiet then link.old else record link.old { pending = link.old.pending ++ reply_message 6 (played time.0) link.old.sequence }) }
-{
-    if !quiet {
-        link.reply(6, &Reply::Played { time }, message);
-    }
-}
-
-// A play that ends within the horizon is accepted now, and says so.
-fn accept_now(
-    quiet: bool,
-    context: &Context,
-    start: DevTime,
-    sound: &[i16],
-    devices: &mut [Device],
-    link: &mut Link,
-    message: &mut [u8],
-)
-    requires room { length link.old.pending ≤ 16384 }
-    requires size { length message.old ≡ 16016 }
-    requires few { length sound.now ≤ 16368 }
-    requires there { context.now.device < length devices.old }
-    requires within { (d : KeptDevice) → slice_get devices.old context.now.device ≡ Some d → length sound.now ≤ frames_within d.next start.0 }
-    ensures step { (ks : List KeptWait) (a : Around) (s : DeviceState) → StandAround devices.old ks a → slice_get a.devices context.now.device ≡ Some s →
-        At devices.new ks link.new (tell_played quiet s (in_devices context.now.device (accepting (accepted_at s.now start.0 sound.now context.now.preempt)) (place a link.old))) }
-    ensures rest { link.new.rest ≡ link.old.rest }
-{
-    let device = &mut devices[usize::from(context.device)];
-    device.accept(start, sound, context.preempt);
-    let time = device.time();
-    tell_played(quiet, time, link, message);
-}
-
-// A play that ends within the horizon is accepted now, and any other waits.
-fn start_play(
-    number: u8,
-    quiet: bool,
-    context: &Context,
-    start: DevTime,
-    sound: &[i16],
-    devices: &mut [Device],
-    waits: &mut Waits,
-    link: &mut Link,
-    message: &mut [u8],
-)
-    requires number { number < 32 }
-    requires free { has_waiting waits.old number ≡ false }
-    requires room { length link.old.pending ≤ 16384 }
-    requires size { length message.old ≡ 16016 }
-    requires few { length sound.now ≤ 16368 }
-    requires there { context.now.device < length devices.old }
-    ensures step { (a : Around) (s : DeviceState) (bytes : List ℕ) → StandAround devices.old waits.old a → slice_get a.devices context.now.device ≡ Some s →
-        sound.now ≡ sent_sound context.now bytes → length sound.now ≡ frames_of context.now (length bytes) →
-        At devices.new waits.new link.new (start_play number quiet context.now start.0 bytes s (place a link.old)) }
-    ensures rest { link.new.rest ≡ link.old.rest }
-    ensures grows { Grows number waits.old waits.new }
-    ensures calm { IsTrue (has_waiting waits.new number) → length link.new.pending ≤ 16384 }
-{
-    let frames = sound.len() as u32;
-    let device = &devices[usize::from(context.device)];
-    if frames <= device.frames_within(start) {
-        accept_now(quiet, context, start, sound, devices, link, message);
-    } else {
-        let left = device.play_due_in(start, frames);
-        waits.begin_play(
-            number,
-            context.device,
-            left,
-            quiet,
-            start,
-            sound,
-            context.preempt,
-        );
-    }
-}
-
-// A play by a context of a device that is there. Its samples and message come to stand in the room for them.
-fn play_on(
-    number: u8,
-    quiet: bool,
-    context: &Context,
-    start: DevTime,
-    bytes: &[u8],
-    devices: &mut [Device],
-    waits: &mut Waits,
-    link: &mut Link,
-    samples: &mut [i16],
-    message: &mut [u8],
-)
-    requires number { number < 32 }
-    requires free { has_waiting waits.old number ≡ false }
-    requires room { length link.old.pending ≤ 16384 }
-    requires samples { length samples.old ≡ 16384 }
-    requires message { length message.old ≡ 16016 }
-    requires few { length bytes.now ≤ 16368 }
-    requires there { context.now.device < length devices.old }
+    requires few { length bytes.now ≤ length samples.old }
     requires whole { length bytes.now % width_of context.now.ty ≡ 0 }
-    ensures step { (a : Around) (s : DeviceState) → StandAround devices.old waits.old a → slice_get a.devices context.now.device ≡ Some s →
-        At devices.new waits.new link.new (start_play number quiet context.now start.0 bytes.now s (place a link.old)) }
-    ensures rest { link.new.rest ≡ link.old.rest }
-    ensures grows { Grows number waits.old waits.new }
-    ensures calm { IsTrue (has_waiting waits.new number) → length link.new.pending ≤ 16384 }
+    ensures { take (length bytes.now / width_of context.now.ty) samples.new ≡ sent_sound context.now bytes.now }
 {
     let n = bytes.len() / context.ty.width();
     let sound = &mut samples[..n];
-    read_sound(context, bytes, sound);
-    start_play(
-        number, quiet, context, start, sound, devices, waits, link, message,
-    );
+    convert_in(context.ty, bytes, sound);
+    gain_run(sound, context.play_gain);
 }
 
-// A play by a context.
-fn play_by(
+// A play is replied to with the device's time, unless it is quiet.
+fn tell_played(quiet: bool, time: DevTime, link: &mut ServedLink, message: &mut [u8])
+    requires room { length link.old.pending ≤ 49152 }
+    requires size { length message.old ≡ 16016 }
+    ensures { link.new ≡ (if quiet then link.old else
+        record link.old { pending = link.old.pending ++ reply_message 6 (played time.0) link.old.sequence }) }
+{
+    if !quiet {
+        link.reply(opcode::PLAY, &Reply::Played { time }, message);
+    }
+}
+
+/// Its device accepts a play that ends within the horizon, and it is replied to.
+pub fn accept(play: &Play<'_>, devices: &mut [Device], link: &mut ServedLink, message: &mut [u8])
+    requires room { length link.old.pending ≤ 49152 }
+    requires size { length message.old ≡ 16016 }
+    requires few { length play.now.sound.now ≤ 16368 }
+    requires there { play.now.device < length devices.old }
+    requires within { (d : KeptDevice) → slice_get devices.old play.now.device ≡ Some d →
+        length play.now.sound.now ≤ frames_within d.next play.now.start.0 }
+    ensures accepts { AcceptsPlay play.now devices.old link.old devices.new link.new }
+    ensures completes { CompletesDeferred (deferred_of_play play.now) play.now.device devices.old link.old devices.new link.new }
+    ensures rest { link.new.rest ≡ link.old.rest }
+{
+    let device = &mut devices[usize::from(play.device)];
+    device.accept(play.start, play.sound, play.preempt);
+    let time = device.time();
+    tell_played(play.quiet, time, link, message);
+}
+
+// A play that ends within the horizon is accepted now, and any other waits.
+fn accept_or_defer(
     number: u8,
-    quiet: bool,
-    context: &Context,
-    start: DevTime,
-    bytes: &[u8],
-    devices: &mut [Device],
-    waits: &mut Waits,
-    link: &mut Link,
+    play: &Play<'_>,
+    environment: &mut Environment,
+    link: &mut ServedLink,
+    message: &mut [u8],
+)
+    requires asks { MayAsk number environment.old link.old }
+    requires size { length message.old ≡ 16016 }
+    requires few { length play.now.sound.now ≤ 16368 }
+    requires there { play.now.device < length environment.old.devices }
+    ensures step { (c : Context) (bytes : List ℕ) → IsSoundOf play.now c bytes →
+        StepsLinkFor c.device (start_play number play.now.quiet c play.now.start.0 bytes)
+        environment.old link.old environment.new link.new }
+    ensures leaves { Leaves number environment.old link.old environment.new link.new }
+{
+    let frames = play.sound.len() as u32;
+    let device = &environment.devices[usize::from(play.device)];
+    if frames <= device.frames_within(play.start) {
+        accept(play, &mut environment.devices, link, message);
+    } else {
+        let left = device.play_due_in(play.start, frames);
+        environment.waits.begin_play(number, left, play);
+    }
+}
+
+// The bytes of a play become samples, by its context. Its device is there, and they are whole frames.
+fn convert_play(
+    number: u8,
+    asked: &ContextPlay<'_>,
+    environment: &mut Environment,
+    link: &mut ServedLink,
     work: &mut Work,
 )
-    requires number { number < 32 }
-    requires free { has_waiting waits.old number ≡ false }
-    requires room { length link.old.pending ≤ 16384 }
-    requires few { length bytes.now ≤ 16368 }
-    ensures step { (a : Around) → StandAround devices.old waits.old a → At devices.new waits.new link.new
-        (in_device 6 context.now.device (play number quiet context.now start.0 bytes.now) (slice_get a.devices context.now.device) (place a link.old)) }
-    ensures rest { link.new.rest ≡ link.old.rest }
-    ensures grows { Grows number waits.old waits.new }
-    ensures calm { IsTrue (has_waiting waits.new number) → length link.new.pending ≤ 16384 }
+    requires asks { MayAsk number environment.old link.old }
+    requires few { length asked.now.bytes.now ≤ 16368 }
+    requires there { asked.now.context.device < length environment.old.devices }
+    requires whole { length asked.now.bytes.now % width_of asked.now.context.ty ≡ 0 }
+    ensures step { StepsLinkFor asked.now.context.device (start_play_of number asked.now)
+        environment.old link.old environment.new link.new }
+    ensures leaves { Leaves number environment.old link.old environment.new link.new }
 {
-    if usize::from(context.device) >= devices.len() {
-        link.refuse(
-            6,
-            Refusal {
-                cause: Cause::BadDevice,
-                value: u32::from(context.device),
-            },
-        );
+    read_sound(&asked.context, asked.bytes, &mut work.samples);
+    let n = asked.bytes.len() / asked.context.ty.width();
+    let play = Play {
+        device: asked.context.device,
+        quiet: asked.quiet,
+        start: asked.start,
+        sound: &work.samples[..n],
+        preempt: asked.context.preempt,
+    };
+    accept_or_defer(number, &play, environment, link, &mut work.message);
+}
+
+// The device of a play is to be there, and its bytes whole frames.
+fn check_play(
+    number: u8,
+    asked: &ContextPlay<'_>,
+    environment: &mut Environment,
+    link: &mut ServedLink,
+    work: &mut Work,
+)
+    requires asks { MayAsk number environment.old link.old }
+    requires few { length asked.now.bytes.now ≤ 16368 }
+    ensures step { StepsLink (with_named_device 6 asked.now.context.device (play_by_context number asked.now))
+        environment.old link.old environment.new link.new }
+    ensures leaves { Leaves number environment.old link.old environment.new link.new }
+{
+    if is_missing(asked.context.device, &environment.devices) {
+        link.refuse(opcode::PLAY, no_device(asked.context.device));
         return;
     }
-    match play_refusal(context, bytes.len()) {
-        Some(refusal) => link.refuse(6, refusal),
-        None => play_on(
-            number,
-            quiet,
-            context,
-            start,
-            bytes,
-            devices,
-            waits,
-            link,
-            &mut work.samples,
-            &mut work.message,
-        ),
+    match play_refusal(&asked.context, asked.bytes.len()) {
+        Some(refusal) => link.refuse(opcode::PLAY, refusal),
+        None => convert_play(number, asked, environment, link, work),
     }
 }
 
 /// Play.
-pub fn play_run(
+pub fn perform_play(
     number: u8,
-    quiet: bool,
-    ac: u32,
-    start: DevTime,
-    bytes: &[u8],
-    devices: &mut [Device],
-    waits: &mut Waits,
-    link: &mut Link,
+    asked: &NewPlay<'_>,
+    environment: &mut Environment,
+    link: &mut ServedLink,
     work: &mut Work,
 )
-    requires number { number < 32 }
-    requires free { has_waiting waits.old number ≡ false }
-    requires room { length link.old.pending ≤ 16384 }
-    requires few { length bytes.now ≤ 16368 }
-    ensures step { (a : Around) → StandAround devices.old waits.old a → At devices.new waits.new link.new (done number (play_run quiet ac start.0 bytes.now) (place a link.old)) }
-    ensures rest { link.new.rest ≡ link.old.rest }
-    ensures grows { Grows number waits.old waits.new }
-    ensures calm { IsTrue (has_waiting waits.new number) → length link.new.pending ≤ 16384 }
+    requires asks { MayAsk number environment.old link.old }
+    requires few { length asked.now.bytes.now ≤ 16368 }
+    ensures step { StepsLink (done number (new_play asked.now)) environment.old link.old environment.new link.new }
+    ensures leaves { Leaves number environment.old link.old environment.new link.new }
 {
-    match link.context(ac) {
-        Some(context) => play_by(
-            number, quiet, &context, start, bytes, devices, waits, link, work,
-        ),
-        None => link.refuse(
-            6,
-            Refusal {
-                cause: Cause::BadAc,
-                value: ac,
-            },
-        ),
+    match link.context(asked.ac) {
+        Some(context) => {
+            let asked = ContextPlay {
+                quiet: asked.quiet,
+                context,
+                start: asked.start,
+                bytes: asked.bytes,
+            };
+            check_play(number, &asked, environment, link, work);
+        }
+        None => link.refuse(opcode::PLAY, no_context(asked.ac)),
     }
 }

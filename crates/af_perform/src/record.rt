@@ -1,26 +1,44 @@
 // Record: sound of a device from a time on.
-ghost use Rattle.std.specs.Prelude.{◌≡◌, ◌≤◌, ◌<◌, ◌*◌, ◌&&◌, nat_lt, false, List, IsTrue, length, min, slice_get, if◌then◌else◌};
-ghost use Rattle.std.specs.declared.option.Option.TheVariants.{Some};
+ghost use Rattle.std.specs.Prelude.{◌≡◌, ℕ, ◌≤◌, ◌<◌, ◌*◌, ◌&&◌, nat_lt, length, min, take, if◌then◌else◌};
 ghost use Rattle.af_time.specs.DeviceTime.{unwrap};
 ghost use Rattle.af_sample.specs.SampleTypes.{width_of};
-ghost use Rattle.af_request.specs.Asked.{record_run};
-ghost use Rattle.af_model.specs.State.{Around, DeviceState, place};
-ghost use Rattle.af_model.specs.Checks.{in_device};
+ghost use Rattle.af_model.specs.State.{DeviceState};
 ghost use Rattle.af_model.specs.Play.{frames_of};
-ghost use Rattle.af_model.specs.Record.{give_record, given_frames, record_refusal, record_sound, start_record};
+ghost use Rattle.af_model.specs.Record.{give_record, given_frames, record_refusal, recorded_bytes, start_record};
 ghost use Rattle.af_model.specs.Perform.{done};
-ghost use Rattle.af_kept.specs.Kept.{KeptDevice, StandsForDevice};
-ghost use Rattle.af_perform.specs.Waits.{has_waiting, Grows};
-ghost use Rattle.af_perform.specs.Places.{At, LeadsLink, StandAround};
+ghost use Rattle.af_state.specs.Kept.{StandsForDevice};
+ghost use Rattle.af_state.specs.Environment.{StepsLink, StepsLinkFor, ChangesLink, Leaves, MayAsk};
+ghost use Rattle.af_perform.specs.Asked.{new_record};
+ghost use Rattle.af_perform.specs.Sounds.{record_by_context, with_named_device};
 
-use crate::checks::{check, first_refusal};
-use crate::scratch::Work;
-use crate::waits::Waits;
+use crate::checks::{check, first_refusal, is_missing, no_context, no_device};
+use crate::opcode;
 use af_context::Context;
-use af_kept::{Device, Link};
-use af_model::{Cause, Refusal};
+use af_model::{Refusal, RefusalCause};
 use af_request::Reply;
+use af_state::{Device, Environment, Record, ServedLink, Work};
 use af_time::DevTime;
+
+/// What Record asks, as it came.
+#[derive(Clone, Copy, Debug, PartialEq, Eq)]
+pub struct NewRecord {
+    pub blocking: bool,
+    pub ac: u32,
+    pub start: DevTime,
+    pub bytes: u32,
+}
+
+/// A record whose context is found.
+#[derive(Clone, Copy, Debug, PartialEq, Eq)]
+pub struct ContextRecord {
+    pub blocking: bool,
+    pub context: Context,
+    pub start: DevTime,
+    pub bytes: u32,
+}
+
+/// The most bytes of a record.
+const LONGEST_RECORD: u32 = 16000;
 
 // A record has at most 16000 bytes, in whole frames.
 fn record_refusal(context: &Context, bytes: u32) -> Option<Refusal>
@@ -28,84 +46,68 @@ fn record_refusal(context: &Context, bytes: u32) -> Option<Refusal>
 {
     let width = context.ty.width() as u32;
     first_refusal(&[
-        check(bytes > 16000, Cause::BadValue, bytes),
-        check(bytes % width != 0, Cause::BadValue, bytes),
+        check(bytes > LONGEST_RECORD, RefusalCause::BadValue, bytes),
+        check(bytes % width != 0, RefusalCause::BadValue, bytes),
     ])
 }
 
 // How many frames a record gives, of which so many are before now: all, or, of one that does not block, those.
-fn given_frames(blocking: bool, before: usize, frames: usize) -> usize
+fn given_frames(blocking: bool, before: u32, frames: u32) -> u32
     ensures given { result ≡ (if blocking then frames else min before frames) }
     ensures few { result ≤ frames }
 {
     if blocking { frames } else { before.min(frames) }
 }
 
-/// The first n frames that were recorded from a time on are given. Their samples, bytes and message come to stand in the room
-/// for them.
-pub fn give_frames(
-    n: usize,
-    context: &Context,
-    start: DevTime,
-    device: &Device,
-    link: &mut Link,
-    samples: &mut [i16],
-    bytes: &mut [u8],
-    message: &mut [u8],
-)
-    requires room { length link.old.pending ≤ 49152 }
-    requires few { n ≤ 16000 }
-    requires fits { n * width_of context.now.ty ≤ 16000 }
+// The frames of a record come to stand at the front of `bytes`, and their samples at that of `samples`.
+fn read_frames(asked: Record, device: &Device, samples: &mut [i16], bytes: &mut [u8])
+    requires few { asked.frames ≤ 16000 }
+    requires fits { asked.frames * width_of asked.context.ty ≤ 16000 }
     requires samples { length samples.old ≡ 16384 }
     requires bytes { length bytes.old ≡ 16384 }
-    requires message { length message.old ≡ 16016 }
-    ensures step { (s : DeviceState) → StandsForDevice device.now s → LeadsLink (give_record context.now (unwrap s.now start.0) n s) link.old link.new }
-    ensures rest { link.new.rest ≡ link.old.rest }
+    ensures { (s : DeviceState) → StandsForDevice device.now s →
+        take (asked.frames * width_of asked.context.ty) bytes.new
+        ≡ recorded_bytes asked.context s (unwrap s.now asked.start.0) asked.frames }
 {
-    let size = n * context.ty.width();
+    let n = asked.frames as usize;
+    let size = n * asked.context.ty.width();
     let samples = &mut samples[..n];
-    let bytes = &mut bytes[..size];
-    device.record(context, start, samples, bytes);
-    let time = device.time();
-    link.reply(
-        7,
-        &Reply::Recorded {
-            time,
-            samples: bytes,
-        },
-        message,
-    );
+    let front = &mut bytes[..size];
+    device.record(&asked.context, asked.start, samples, front);
 }
 
-// The frames that a record gives: all, or, of one that does not block, those before now.
-fn give(
-    blocking: bool,
-    context: &Context,
-    start: DevTime,
-    bytes: u32,
-    device: &Device,
-    link: &mut Link,
-    work: &mut Work,
-)
-    requires room { length link.old.pending ≤ 16384 }
-    requires few { bytes ≤ 16000 }
+/// A record is answered with its frames.
+pub fn answer_record(asked: Record, device: &Device, link: &mut ServedLink, work: &mut Work)
+    requires room { length link.old.pending ≤ 49152 }
+    requires few { asked.frames ≤ 16000 }
+    requires fits { asked.frames * width_of asked.context.ty ≤ 16000 }
     ensures step { (s : DeviceState) → StandsForDevice device.now s →
-        LeadsLink (give_record context.now (unwrap s.now start.0) (given_frames blocking s start.0 (frames_of context.now bytes)) s) link.old link.new }
+        ChangesLink (give_record asked.context (unwrap s.now asked.start.0) asked.frames s) link.old link.new }
     ensures rest { link.new.rest ≡ link.old.rest }
 {
-    let width = context.ty.width();
-    let before = device.frames_before(start) as usize;
-    let n = given_frames(blocking, before, bytes as usize / width);
-    give_frames(
-        n,
-        context,
-        start,
-        device,
-        link,
-        &mut work.samples,
-        &mut work.bytes,
-        &mut work.message,
-    );
+    let n = asked.frames as usize;
+    let size = n * asked.context.ty.width();
+    read_frames(asked, device, &mut work.samples, &mut work.bytes);
+    let reply = Reply::Recorded {
+        time: device.time(),
+        samples: &work.bytes[..size],
+    };
+    link.reply(opcode::RECORD, &reply, &mut work.message);
+}
+
+// A record is answered with all of its frames, or, if it does not block, with those before now.
+fn answer_available(asked: Record, device: &Device, link: &mut ServedLink, work: &mut Work)
+    requires room { length link.old.pending ≤ 16384 }
+    requires few { asked.frames ≤ 16000 }
+    requires fits { asked.frames * width_of asked.context.ty ≤ 16000 }
+    ensures step { (s : DeviceState) → StandsForDevice device.now s → ChangesLink
+        (give_record asked.context (unwrap s.now asked.start.0) (given_frames asked.blocking s asked.start.0 asked.frames) s)
+        link.old link.new }
+    ensures rest { link.new.rest ≡ link.old.rest }
+{
+    let before = device.frames_before(asked.start);
+    let frames = given_frames(asked.blocking, before, asked.frames);
+    answer_record(Record { frames, ..asked }, device, link, work);
 }
 
 // A record waits where it blocks and has a frame that is not before now.
@@ -116,106 +118,89 @@ fn is_to_wait(blocking: bool, before: u32, frames: u32) -> bool
 }
 
 // A record waits, or is answered now.
-fn start_record(
+fn answer_or_defer(
     number: u8,
-    blocking: bool,
-    context: &Context,
-    start: DevTime,
-    bytes: u32,
-    device: &Device,
-    waits: &mut Waits,
-    link: &mut Link,
+    asked: Record,
+    environment: &mut Environment,
+    link: &mut ServedLink,
     work: &mut Work,
 )
-    requires number { number < 32 }
-    requires free { has_waiting waits.old number ≡ false }
-    requires room { length link.old.pending ≤ 16384 }
-    requires few { bytes ≤ 16000 }
-    ensures step { (ds : List KeptDevice) (a : Around) (s : DeviceState) → StandAround ds waits.old a → slice_get a.devices context.now.device ≡ Some s → StandsForDevice device.now s →
-        At ds waits.new link.new (start_record number blocking context.now start.0 bytes s (place a link.old)) }
-    ensures rest { link.new.rest ≡ link.old.rest }
-    ensures grows { Grows number waits.old waits.new }
-    ensures calm { IsTrue (has_waiting waits.new number) → length link.new.pending ≤ 16384 }
+    requires asks { MayAsk number environment.old link.old }
+    requires there { asked.context.device < length environment.old.devices }
+    requires few { asked.frames ≤ 16000 }
+    requires fits { asked.frames * width_of asked.context.ty ≤ 16000 }
+    ensures step { (bytes : ℕ) → asked.frames ≡ frames_of asked.context bytes →
+        StepsLinkFor asked.context.device (start_record number asked.blocking asked.context asked.start.0 bytes)
+        environment.old link.old environment.new link.new }
+    ensures leaves { Leaves number environment.old link.old environment.new link.new }
 {
-    let frames = bytes / context.ty.width() as u32;
-    if is_to_wait(blocking, device.frames_before(start), frames) {
-        let left = device.record_due_in(start, frames);
-        waits.begin_record(number, context.device, left, *context, start, frames);
+    let device = &environment.devices[usize::from(asked.context.device)];
+    if is_to_wait(
+        asked.blocking,
+        device.frames_before(asked.start),
+        asked.frames,
+    ) {
+        let left = device.record_due_in(asked.start, asked.frames);
+        environment.waits.begin_record(number, left, asked);
     } else {
-        give(blocking, context, start, bytes, device, link, work);
+        answer_available(asked, device, link, work);
     }
 }
 
-// A record by a context.
-fn record_by(
+// The device of a record is to be there, and its bytes whole frames, and not too many.
+fn check_record(
     number: u8,
-    blocking: bool,
-    context: &Context,
-    start: DevTime,
-    bytes: u32,
-    devices: &[Device],
-    waits: &mut Waits,
-    link: &mut Link,
+    asked: ContextRecord,
+    environment: &mut Environment,
+    link: &mut ServedLink,
     work: &mut Work,
 )
-    requires number { number < 32 }
-    requires free { has_waiting waits.old number ≡ false }
-    requires room { length link.old.pending ≤ 16384 }
-    ensures step { (a : Around) → StandAround devices.now waits.old a → At devices.now waits.new link.new
-        (in_device 7 context.now.device (record_sound number blocking context.now start.0 bytes) (slice_get a.devices context.now.device) (place a link.old)) }
-    ensures rest { link.new.rest ≡ link.old.rest }
-    ensures grows { Grows number waits.old waits.new }
-    ensures calm { IsTrue (has_waiting waits.new number) → length link.new.pending ≤ 16384 }
+    requires asks { MayAsk number environment.old link.old }
+    ensures step { StepsLink (with_named_device 7 asked.context.device (record_by_context number asked))
+        environment.old link.old environment.new link.new }
+    ensures leaves { Leaves number environment.old link.old environment.new link.new }
 {
-    if usize::from(context.device) >= devices.len() {
-        link.refuse(
-            7,
-            Refusal {
-                cause: Cause::BadDevice,
-                value: u32::from(context.device),
-            },
-        );
+    if is_missing(asked.context.device, &environment.devices) {
+        link.refuse(opcode::RECORD, no_device(asked.context.device));
         return;
     }
-    let device = &devices[usize::from(context.device)];
-    match record_refusal(context, bytes) {
-        Some(refusal) => link.refuse(7, refusal),
-        None => start_record(
-            number, blocking, context, start, bytes, device, waits, link, work,
-        ),
+    match record_refusal(&asked.context, asked.bytes) {
+        Some(refusal) => link.refuse(opcode::RECORD, refusal),
+        None => {
+            let frames = asked.bytes / asked.context.ty.width() as u32;
+            let asked = Record {
+                blocking: asked.blocking,
+                context: asked.context,
+                start: asked.start,
+                frames,
+            };
+            answer_or_defer(number, asked, environment, link, work);
+        }
     }
 }
 
 /// Record.
-pub fn record_run(
+pub fn perform_record(
     number: u8,
-    blocking: bool,
-    ac: u32,
-    start: DevTime,
-    bytes: u32,
-    devices: &[Device],
-    waits: &mut Waits,
-    link: &mut Link,
+    asked: NewRecord,
+    environment: &mut Environment,
+    link: &mut ServedLink,
     work: &mut Work,
 )
-    requires number { number < 32 }
-    requires free { has_waiting waits.old number ≡ false }
-    requires room { length link.old.pending ≤ 16384 }
-    ensures step { (a : Around) → StandAround devices.now waits.old a → At devices.now waits.new link.new (done number (record_run blocking ac start.0 bytes) (place a link.old)) }
-    ensures rest { link.new.rest ≡ link.old.rest }
-    ensures grows { Grows number waits.old waits.new }
-    ensures calm { IsTrue (has_waiting waits.new number) → length link.new.pending ≤ 16384 }
+    requires asks { MayAsk number environment.old link.old }
+    ensures step { StepsLink (done number (new_record asked)) environment.old link.old environment.new link.new }
+    ensures leaves { Leaves number environment.old link.old environment.new link.new }
 {
-    match link.context(ac) {
-        Some(context) => record_by(
-            number, blocking, &context, start, bytes, devices, waits, link, work,
-        ),
-        None => link.refuse(
-            7,
-            Refusal {
-                cause: Cause::BadAc,
-                value: ac,
-            },
-        ),
+    match link.context(asked.ac) {
+        Some(context) => {
+            let asked = ContextRecord {
+                blocking: asked.blocking,
+                context,
+                start: asked.start,
+                bytes: asked.bytes,
+            };
+            check_record(number, asked, environment, link, work);
+        }
+        None => link.refuse(opcode::RECORD, no_context(asked.ac)),
     }
 }

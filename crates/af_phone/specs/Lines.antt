@@ -3,7 +3,7 @@ use Rattle.std.specs.Prelude.{ℕ, Bool, true, false, not, ◌==◌, if◌then�
 use Rattle.std.specs.List.{list_any}
 use Rattle.af_wire.specs.declared.event.EventKind.{EventKind}
 use Rattle.af_wire.specs.declared.event.EventKind.TheVariants as kind
-use Rattle.af_wire.specs.Event.{code_of}
+use Rattle.af_wire.specs.Event.{detail_of}
 use Rattle.af_request.specs.declared.reply.Phone.{Phone}
 use Rattle.af_phone.specs.declared.line.LineChange.{LineChange}
 use Rattle.af_phone.specs.declared.line.LineChange.TheVariants.{Ring, Current, Digit}
@@ -33,10 +33,10 @@ changed (Current on) line = record line { current = on }
 changed (Digit code) line = line
 
 -- the kind of the event that tells a change
-abbrev pub kind_of : LineChange → EventKind
-kind_of (Ring on) = kind.Ring
-kind_of (Current on) = kind.Current
-kind_of (Digit code) = kind.Digit
+abbrev pub event_kind_of : LineChange → EventKind
+event_kind_of (Ring on) = kind.Ring
+event_kind_of (Current on) = kind.Current
+event_kind_of (Digit code) = kind.Digit
 
 -- a flag as the value of an event
 abbrev pub flag_value : Bool → ℕ
@@ -69,4 +69,4 @@ hooked false line = record line { dead = true }
 
 -- whether a mask of events selects a kind: it has the bit of the kind
 abbrev pub selects : ℕ → EventKind → Bool
-selects mask kind = not (bit_and mask (code_of kind) == 0)
+selects mask kind = not (bit_and mask (detail_of kind) == 0)

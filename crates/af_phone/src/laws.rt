@@ -1,6 +1,6 @@
 //! Laws of telephone lines, each the contract of a function that does nothing.
 ghost use Rattle.std.specs.Prelude.{◌≡◌, ◌≢◌, ◌↔◌, true, false, Bool, None, Some, IsTrue};
-ghost use Rattle.af_wire.specs.Event.{code_of};
+ghost use Rattle.af_wire.specs.Event.{detail_of};
 ghost use Rattle.af_wire.specs.declared.event.EventKind.{EventKind};
 ghost use Rattle.af_request.specs.declared.reply.Phone.{Phone};
 ghost use Rattle.af_phone.specs.Lines.{changed, hooked, hook_due, selects, wanting};
@@ -26,7 +26,7 @@ pub fn only_a_try_moves_the_hook()
 
 /// Each kind of event has a bit of its own in a mask, which is the detail of its message.
 pub fn each_kind_has_its_bit()
-    ensures one { (a b : EventKind) → IsTrue (selects (code_of a) b) ↔ (a ≡ b) }
+    ensures one { (a b : EventKind) → IsTrue (selects (detail_of a) b) ↔ (a ≡ b) }
     ensures none { (kind : EventKind) → selects 0 kind ≡ false }
     ensures all { (kind : EventKind) → selects 15 kind ≡ true }
 {}

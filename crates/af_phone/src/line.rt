@@ -1,7 +1,7 @@
 // A device's telephone line.
 ghost use Rattle.std.specs.Prelude.{◌≡◌, ◌↔◌, ◌⊎◌, true, IsTrue, IsNone, IfSome};
 ghost use Rattle.af_wire.specs.Event.{is_value};
-ghost use Rattle.af_phone.specs.Lines.{changed, hooked, hook_due, is_change, is_digit, kind_of, quiet_line, selects, value_of, wanting};
+ghost use Rattle.af_phone.specs.Lines.{changed, hooked, hook_due, is_change, is_digit, event_kind_of, quiet_line, selects, value_of, wanting};
 
 use af_request::Phone;
 use af_wire::EventKind;
@@ -32,7 +32,7 @@ impl LineChange {
     /// The kind and the value of the event that tells the change: 1 or 0 for ringing and current that begin or end, and a
     /// digit's code.
     pub fn event(self) -> (EventKind, u32)
-        ensures kind { result.0 ≡ kind_of self }
+        ensures kind { result.0 ≡ event_kind_of self }
         ensures value { result.1 ≡ value_of self }
         ensures stated { IsTrue (is_value result.0 result.1) }
     {
@@ -87,7 +87,7 @@ impl Line {
     pub fn change(&mut self, change: LineChange) -> (EventKind, u32)
         requires { IsTrue (is_change change) }
         ensures line { self.new ≡ changed change self.old }
-        ensures kind { result.0 ≡ kind_of change }
+        ensures kind { result.0 ≡ event_kind_of change }
         ensures value { result.1 ≡ value_of change }
         ensures stated { IsTrue (is_value result.0 result.1) }
     {
@@ -106,7 +106,7 @@ impl Line {
         self.phone.wanted_off = off;
     }
 
-    /// The wanted hook, off or on, where it is still to be given. None where the line is dead or its two hooks agree.
+    /// The wanted hook, off or on, if it is still to be given. None where the line is dead or its two hooks agree.
     pub fn needs_hook(&self) -> Option<bool>
         ensures due { result ≡ hook_due self.now }
         ensures wanted { IfSome result (λ off. off ≡ self.now.wanted_off) }

@@ -1,5 +1,5 @@
-pub mod Pairing
-pub mod Passing
-pub mod PassTop
-pub mod Wording
-pub mod Passable
+pub mod RelayPartLemmas
+pub mod PassedBlockLemmas
+pub mod RelayEndLemmas
+pub mod TimeWordLemmas
+pub mod RelayedLemmas

@@ -1,4 +1,5 @@
 pub mod Pass
-pub mod Both
+pub mod RelayParts
 pub mod Relayed
 pub mod Pair
+pub mod Ran

@@ -3,9 +3,9 @@ use Rattle.std.specs.Prelude.{ℕ, ◌==◌, if◌then◌else◌, Bool, true, Li
 use Rattle.std.specs.declared.option.Option.{Option}
 use Rattle.std.specs.declared.option.Option.TheVariants.{None, Some}
 use Rattle.af_request.specs.declared.reply.DeviceInfo.{DeviceInfo}
-use Rattle.af_course.specs.declared.end.ToolEnd.{ToolEnd}
-use Rattle.af_course.specs.declared.end.ToolEnd.TheVariants as end
-use Rattle.af_course.specs.Ends.{is_of_link}
+use Rattle.af_tool.specs.declared.end.ToolEnd.{ToolEnd}
+use Rattle.af_tool.specs.declared.end.ToolEnd.TheVariants as end
+use Rattle.af_tool.specs.Ends.{is_of_link}
 
 -- two devices of one rate: the first of them
 abbrev pub rate_or_end : (one other : DeviceInfo) → Result DeviceInfo ToolEnd

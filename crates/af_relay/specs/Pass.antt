@@ -12,54 +12,54 @@ use Rattle.af_request.specs.Answer.{Answer}
 use Rattle.af_request.specs.Requests.{request_bytes}
 use Rattle.af_lib.specs.declared.fault.ConnFault.{ConnFault}
 use Rattle.af_lib.specs.Calls.{as_done, as_recorded, as_time}
-use Rattle.af_jobs.specs.declared.job.PassJob.{PassJob}
-use Rattle.af_course.specs.Course.{Course, Finish, Wire, answer_on, behind, done, mismatch, no_device, refused}
-use Rattle.af_relay.specs.declared.pass.Pace.{Pace}
-use Rattle.af_relay.specs.declared.pass.Passed.{Passed}
-use Rattle.af_relay.specs.declared.pass.Place.{Place}
+use Rattle.af_options.specs.declared.job.PassJob.{PassJob}
+use Rattle.af_tool.specs.Trace.{Trace, Finish, ClientState, answer_on, after_reply, done, mismatch, no_device, refused}
+use Rattle.af_relay.specs.declared.pass.RelayPace.{RelayPace}
+use Rattle.af_relay.specs.declared.pass.RelayProgress.{RelayProgress}
+use Rattle.af_relay.specs.declared.pass.PlayMoment.{PlayMoment}
 
 -- what a relay sends on each of its two links, what it writes, and why it ends
-pub record Relay : Type 0 where
+pub record RelayTrace : Type 0 where
   pub from : List ℕ
   pub to : List ℕ
   pub output : List ℕ
   pub finish : Finish
 
 -- a relay, as each of its links sees it
-abbrev pub on_from : Relay → Course
+abbrev pub on_from : RelayTrace → Trace
 on_from r = record { sends = r.from; output = r.output; finish = r.finish }
 
-abbrev pub on_to : Relay → Course
+abbrev pub on_to : RelayTrace → Trace
 on_to r = record { sends = r.to; output = r.output; finish = r.finish }
 
 -- nothing more is sent or written
-abbrev pub ends_both : Finish → Relay
+abbrev pub ends_both : Finish → RelayTrace
 ends_both finish = record { from = []; to = []; output = []; finish = finish }
 
 -- these bytes are sent first, on one of the links
-abbrev pub sending_from : List ℕ → Relay → Relay
+abbrev pub sending_from : List ℕ → RelayTrace → RelayTrace
 sending_from bytes r = record { from = bytes ++ r.from; to = r.to; output = r.output; finish = r.finish }
 
-abbrev pub sending_to : List ℕ → Relay → Relay
+abbrev pub sending_to : List ℕ → RelayTrace → RelayTrace
 sending_to bytes r = record { from = r.from; to = bytes ++ r.to; output = r.output; finish = r.finish }
 
 -- these bytes are written first
-abbrev pub relay_writing : List ℕ → Relay → Relay
+abbrev pub relay_writing : List ℕ → RelayTrace → RelayTrace
 relay_writing bytes r = record { from = r.from; to = r.to; output = bytes ++ r.output; finish = r.finish }
 
 -- what follows an answer: a fault ends the relay
-abbrev pub relayed_by : {X : Type 0} → Result X ConnFault → Wire → (X → Wire → Relay) → Relay
+abbrev pub relayed_by : {X : Type 0} → Result X ConnFault → ClientState → (X → ClientState → RelayTrace) → RelayTrace
 relayed_by (Ok x) w next = next x w
 relayed_by (Err fault) w next = ends_both (refused fault)
 
 -- a request is sent on one of the links, and what follows goes by its answer
-unfoldable pub asks_by : {X : Type 0} → (List ℕ → Relay → Relay) → Asked → (Answer → Option X) → Wire → (X → Wire → Relay) → Relay
-asks_by sending asked value_of w next = sending (request_bytes asked) (relayed_by (answer_on asked value_of w) (behind w) next)
+unfoldable pub asks_by : {X : Type 0} → (List ℕ → RelayTrace → RelayTrace) → Asked → (Answer → Option X) → ClientState → (X → ClientState → RelayTrace) → RelayTrace
+asks_by sending asked value_of w next = sending (request_bytes asked) (relayed_by (answer_on asked value_of w) (after_reply w) next)
 
-abbrev pub asks_from : {X : Type 0} → Asked → (Answer → Option X) → Wire → (X → Wire → Relay) → Relay
+abbrev pub asks_from : {X : Type 0} → Asked → (Answer → Option X) → ClientState → (X → ClientState → RelayTrace) → RelayTrace
 asks_from asked value_of v next = asks_by sending_from asked value_of v next
 
-abbrev pub asks_to : {X : Type 0} → Asked → (Answer → Option X) → Wire → (X → Wire → Relay) → Relay
+abbrev pub asks_to : {X : Type 0} → Asked → (Answer → Option X) → ClientState → (X → ClientState → RelayTrace) → RelayTrace
 asks_to asked value_of w next = asks_by sending_to asked value_of w next
 
 -- the time that a reply tells: a word of 32 bits
@@ -69,7 +69,7 @@ word_or_none now = if nat_lt now.0 (2 ^ 32) then Some now else None
 unfoldable pub as_word : Answer → Option DevTime
 as_word answer = option_and_then word_or_none (as_time answer)
 
--- so many frames after a time
+-- n frames after a time
 abbrev pub after : DevTime → ℕ → DevTime
 after time frames = record { 0 = (time.0 + frames) % 2 ^ 32 }
 
@@ -79,33 +79,33 @@ abbrev pub has_drifted : (due now : DevTime) (delay slack : ℕ) → Bool
 has_drifted due now delay slack = nat_lt slack (unsigned_abs (word_difference due.0 now.0 -ℤ pos delay))
 
 -- in step with the other server: ahead of its time by the delay
-abbrev pub in_step : (now : DevTime) → ℕ → Bool → Place
+abbrev pub in_step : (now : DevTime) → ℕ → Bool → PlayMoment
 in_step now delay resynced = record { time = after now delay; resynced = resynced }
 
--- when a block is played: the first in step, and each other when it is due, or in step anew where the relay has drifted
-abbrev pub place_of : Option DevTime → (now : DevTime) (delay slack : ℕ) → Place
-place_of None now delay slack = in_step now delay false
-place_of (Some due) now delay slack = if has_drifted due now delay slack then in_step now delay true else record { time = due; resynced = false }
+-- when a block is played: the first in step, and each other when it is due, or in step again where the relay has drifted
+abbrev pub moment_of : Option DevTime → (now : DevTime) (delay slack : ℕ) → PlayMoment
+moment_of None now delay slack = in_step now delay false
+moment_of (Some due) now delay slack = if has_drifted due now delay slack then in_step now delay true else record { time = due; resynced = false }
 
 -- how far a relay has come, when one more block was played at its place
-abbrev pub passed_on : Passed → Place → ℕ → Passed
-passed_on passed place frames = record {
+abbrev pub after_block : RelayProgress → PlayMoment → ℕ → RelayProgress
+after_block passed place frames = record {
   at = after passed.at frames;
   due = Some (after place.time frames);
   resynced = passed.resynced + (if place.resynced then 1 else 0);
 }
 
 -- a block is recorded on the one server, and played on the other
-unfoldable pub passes_block : PassJob → Pace → Passed → (v w : Wire) → (Passed → Wire → Wire → Relay) → Relay
+unfoldable pub passes_block : PassJob → RelayPace → RelayProgress → (v w : ClientState) → (RelayProgress → ClientState → ClientState → RelayTrace) → RelayTrace
 passes_block job pace passed v w next =
     asks_from (record_run true 1 passed.at.0 pace.size) (as_recorded true pace.size) v (λ r v.
     asks_to (get_time job.to_device) as_word w (λ now w.
-    let place = place_of passed.due now pace.delay pace.slack in
+    let place = moment_of passed.due now pace.delay pace.slack in
     asks_to (play_run false 1 place.time.0 r.samples) as_time w (λ _ w.
-    next (passed_on passed place job.block) v w)))
+    next (after_block passed place job.block) v w)))
 
--- so many blocks
-unfoldable pub passes : ℕ → PassJob → Pace → Passed → (v w : Wire) → (Passed → Wire → Wire → Relay) → Relay
+-- n blocks
+unfoldable pub passes : ℕ → PassJob → RelayPace → RelayProgress → (v w : ClientState) → (RelayProgress → ClientState → ClientState → RelayTrace) → RelayTrace
 passes zero job pace passed v w next = next passed v w
 passes (suc n) job pace passed v w next = passes_block job pace passed v w (λ passed v w. passes n job pace passed v w next)
 
@@ -117,26 +117,26 @@ abbrev pub to_context : PassJob → SampleType → Asked
 to_context job ty = create_ac job.to_device 1 (code_of ty) 1 0 (pos 0) (pos 0)
 
 -- both contexts are made, and the time of the device that is recorded is asked
-unfoldable pub begins_both : PassJob → SampleType → (v w : Wire) → (DevTime → Wire → Wire → Relay) → Relay
+unfoldable pub begins_both : PassJob → SampleType → (v w : ClientState) → (DevTime → ClientState → ClientState → RelayTrace) → RelayTrace
 begins_both job ty v w next =
     asks_from (from_context job ty) as_done v (λ _ v.
     asks_to (to_context job ty) as_done w (λ _ w.
     asks_from (get_time job.from_device) as_time v (λ now v. next now v w)))
 
 -- both contexts are freed
-unfoldable pub ends_contexts : (v w : Wire) → (Unit {0} → Wire → Wire → Relay) → Relay
+unfoldable pub ends_contexts : (v w : ClientState) → (Unit {0} → ClientState → ClientState → RelayTrace) → RelayTrace
 ends_contexts v w next = asks_from (free_ac 1) as_done v (λ _ v. asks_to (free_ac 1) as_done w (λ _ w. next tt v w))
 
 -- the pace of a job at a rate: the bytes of a block, and the delay and the slack in frames
-abbrev pub pace_of : PassJob → SampleType → (rate : ℕ) → Pace
+abbrev pub pace_of : PassJob → SampleType → (rate : ℕ) → RelayPace
 pace_of job ty rate = record { size = job.block * width_of ty; delay = frames_lasting rate job.delay; slack = frames_lasting rate job.slack }
 
 -- nothing was passed so far
-abbrev pub none_passed : DevTime → Passed
+abbrev pub none_passed : DevTime → RelayProgress
 none_passed now = record { at = now; due = None; resynced = 0 }
 
--- all blocks of a job are passed between two devices of one rate; what follows is told how often the relay fell in step anew
-unfoldable pub passed_between : PassJob → (from : DeviceInfo) → (v w : Wire) → (ℕ → Wire → Wire → Relay) → Relay
+-- all blocks of a job are passed between two devices of one rate; what follows is told how often the relay fell in step again
+unfoldable pub passed_between : PassJob → (from : DeviceInfo) → (v w : ClientState) → (ℕ → ClientState → ClientState → RelayTrace) → RelayTrace
 passed_between job device v w next =
     let ty = unwrap_or job.ty device.ty in
     begins_both job ty v w (λ now v w.
@@ -148,18 +148,18 @@ unfoldable pub passed_text : (blocks resynced : ℕ) → List ℕ
 passed_text blocks resynced = codes "passed " ++ decimal blocks ++ codes " resynced " ++ decimal resynced ++ codes "\n"
 
 -- a device that a relay names is to be there
-abbrev pub on_one : Option DeviceInfo → ℕ → (DeviceInfo → Relay) → Relay
+abbrev pub on_one : Option DeviceInfo → ℕ → (DeviceInfo → RelayTrace) → RelayTrace
 on_one (Some device) devices next = next device
 on_one None devices next = ends_both (no_device devices)
 
 -- the two devices are to have one rate
-abbrev pub at_one_rate : (from to : DeviceInfo) → Relay → Relay
+abbrev pub at_one_rate : (from to : DeviceInfo) → RelayTrace → RelayTrace
 at_one_rate from to next = if from.rate == to.rate then next else ends_both (mismatch from.rate to.rate)
 
--- the course of apass, by the devices of the two servers and what the links give: it passes all blocks, and then writes how many
--- these were and how often it fell in step anew
-unfoldable pub apass_course : PassJob → (from to : List DeviceInfo) → (v w : Wire) → Relay
-apass_course job from to v w =
+-- the trace of apass, by the devices of the two servers and what the links give: it passes all blocks, and then writes how many
+-- these were and how often it fell in step again
+unfoldable pub apass_trace : PassJob → (from to : List DeviceInfo) → (v w : ClientState) → RelayTrace
+apass_trace job from to v w =
     on_one (slice_get from job.from_device) (length from) (λ a.
     on_one (slice_get to job.to_device) (length to) (λ b.
     at_one_rate a b (passed_between job a v w (λ resynced _ _. relay_writing (passed_text job.blocks resynced) (ends_both done)))))

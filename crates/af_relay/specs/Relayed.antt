@@ -4,14 +4,14 @@ use Rattle.std.specs.declared.option.Option.{Option}
 use Rattle.std.specs.declared.option.Option.TheVariants.{None, Some}
 use Rattle.af_time.specs.declared.DevTime.{DevTime}
 use Rattle.af_sample.specs.declared.sample_type.SampleType.{SampleType}
-use Rattle.af_outside.specs.Told.{Grew}
+use Rattle.af_io.specs.Observed.{Appended}
 use Rattle.af_request.specs.declared.reply.DeviceInfo.{DeviceInfo}
 use Rattle.af_request.specs.Asked.{free_ac, get_time, play_run, record_run}
 use Rattle.af_request.specs.Requests.{request_bytes}
 use Rattle.af_lib.specs.declared.fault.ConnFault.{ConnFault}
 use Rattle.af_lib.specs.Calls.{Recorded, as_recorded, as_time}
-use Rattle.af_jobs.specs.declared.job.PassJob.{PassJob}
-use Rattle.af_course.specs.Course.{Wire, answer_on, behind}
+use Rattle.af_options.specs.declared.job.PassJob.{PassJob}
+use Rattle.af_tool.specs.Trace.{ClientState, answer_on, after_reply}
 use Rattle.af_relay.specs.Pass.{after, as_word, from_context, pace_of, passed_text, to_context}
 
 -- a block that was passed: the time that the other server told before it, when it was played, and its bytes
@@ -30,7 +30,7 @@ unfoldable pub plays : PassJob → List PassedBlock → List ℕ
 plays job [] = []
 plays job (b ∷ blocks) = request_bytes (get_time job.to_device) ++ request_bytes (play_run false 1 b.time.0 b.samples) ++ plays job blocks
 
--- so many record requests, each of so many bytes: the first records from a time on, and each other from a block later
+-- n record requests, each of n bytes: the first records from a time on, and each other from a block later
 unfoldable pub records : ℕ → PassJob → (size : ℕ) → DevTime → List ℕ
 records zero job size at = []
 records (suc n) job size at = request_bytes (record_run true 1 at.0 size) ++ records n job size (after at job.block)
@@ -41,10 +41,10 @@ reply_then (Ok r) replies = r.samples ∷ replies
 reply_then (Err fault) replies = []
 
 -- the bytes of the replies to these record requests
-unfoldable pub record_replies : ℕ → PassJob → (size : ℕ) → DevTime → Wire → List (List ℕ)
+unfoldable pub record_replies : ℕ → PassJob → (size : ℕ) → DevTime → ClientState → List (List ℕ)
 record_replies zero job size at v = []
 record_replies (suc n) job size at v =
-    reply_then (answer_on (record_run true 1 at.0 size) (as_recorded true size) v) (record_replies n job size (after at job.block) (behind v))
+    reply_then (answer_on (record_run true 1 at.0 size) (as_recorded true size) v) (record_replies n job size (after at job.block) (after_reply v))
 
 -- a block is not played when it was due: the first is never due
 abbrev pub is_moved : Option DevTime → DevTime → ℕ
@@ -57,9 +57,9 @@ moves frames due [] = 0
 moves frames due (b ∷ blocks) = is_moved due b.time + moves frames (Some (after b.time frames)) blocks
 
 -- the other server told these times, each in the reply before that to its play
-unfoldable pub AreTold : PassJob → Wire → List PassedBlock → Type 0
+unfoldable pub AreTold : PassJob → ClientState → List PassedBlock → Type 0
 AreTold job w [] = ⊤
-AreTold job w (b ∷ blocks) = (answer_on (get_time job.to_device) as_word w ≡ Ok b.told) × AreTold job (behind (behind w)) blocks
+AreTold job w (b ∷ blocks) = (answer_on (get_time job.to_device) as_word w ≡ Ok b.told) × AreTold job (after_reply (after_reply w)) blocks
 
 -- the type of a job's samples, where this device is recorded
 abbrev pub type_from : PassJob → DeviceInfo → SampleType
@@ -72,13 +72,13 @@ size_from job device = (pace_of job (type_from job device) device.rate).size
 -- What a relay has sent and written that passed all blocks of its job from a device, by what its links gave: the bytes of each
 -- play are those of the record reply with its number, and each play's time is the one before plus the block, but at exactly so
 -- many plays as are written.
-pub record Relayed (job : PassJob) (device : DeviceInfo) (v w : Wire) (sends_from sends_to output : List ℕ) : Type 0 where
+pub record Relayed (job : PassJob) (device : DeviceInfo) (v w : ClientState) (sends_from sends_to output : List ℕ) : Type 0 where
   pub start : DevTime
-  pub started : answer_on (get_time job.from_device) as_time (behind v) ≡ Ok start
+  pub started : answer_on (get_time job.from_device) as_time (after_reply v) ≡ Ok start
   pub blocks : List PassedBlock
   pub number : length blocks ≡ job.blocks
-  pub bytes : samples_of blocks ≡ record_replies job.blocks job (size_from job device) start (behind (behind v))
-  pub told : AreTold job (behind w) blocks
+  pub bytes : samples_of blocks ≡ record_replies job.blocks job (size_from job device) start (after_reply (after_reply v))
+  pub told : AreTold job (after_reply w) blocks
   pub recorded : sends_from ≡ request_bytes (from_context job (type_from job device)) ++ request_bytes (get_time job.from_device) ++ records job.blocks job (size_from job device) start ++ request_bytes (free_ac 1)
   pub played : sends_to ≡ request_bytes (to_context job (type_from job device)) ++ plays job blocks ++ request_bytes (free_ac 1)
   pub resynced : ℕ
@@ -86,13 +86,13 @@ pub record Relayed (job : PassJob) (device : DeviceInfo) (v w : Wire) (sends_fro
   pub moved : resynced ≡ moves job.block None blocks
 
 -- the same by what the links were sent and the sink holds, before and after, and by the devices of the server that is recorded
-pub record IsRelayed (job : PassJob) (from : List DeviceInfo) (v w : Wire) (sent sent' sent_to sent_to' held held' : Option (List ℕ)) : Type 0 where
+pub record IsRelayed (job : PassJob) (from : List DeviceInfo) (v w : ClientState) (sent sent' sent_to sent_to' held held' : Option (List ℕ)) : Type 0 where
   pub device : DeviceInfo
   pub is_there : slice_get from job.from_device ≡ Some device
   pub sends_from : List ℕ
   pub sends_to : List ℕ
   pub output : List ℕ
   pub relayed : Relayed job device v w sends_from sends_to output
-  pub link_from : Grew sent sends_from sent'
-  pub link_to : Grew sent_to sends_to sent_to'
-  pub sink : Grew held output held'
+  pub link_from : Appended sent sends_from sent'
+  pub link_to : Appended sent_to sends_to sent_to'
+  pub sink : Appended held output held'

@@ -1,37 +1,36 @@
 // Block behind block is recorded on one server, and played on another.
-ghost use Rattle.std.specs.Prelude.{◌≡◌, ◌<◌, ◌≤◌, ◌+◌, ◌^◌, ℕ, List, true, length, IfErr, IfOk};
-ghost use Rattle.std.specs.declared.option.Option.{Option};
-ghost use Rattle.std.specs.declared.option.Option.TheVariants.{None, Some};
-ghost use Rattle.af_course.specs.Ends.{is_of_link, wire_of};
-ghost use Rattle.af_relay.specs.Pass.{has_drifted, in_step, none_passed, passed_on, passes, passes_block, place_of};
-ghost use Rattle.af_relay.specs.Both.{GoesBoth, HoldsBoth};
+ghost use Rattle.std.specs.Prelude.{◌≡◌, ◌<◌, ◌≤◌, ◌+◌, ◌^◌, true, length, IfErr, IfOk};
+ghost use Rattle.std.specs.declared.option.Option.TheVariants.{None};
+ghost use Rattle.af_tool.specs.Ends.{is_of_link};
+ghost use Rattle.af_relay.specs.Pass.{has_drifted, in_step, none_passed, after_block, passes, passes_block, moment_of};
+ghost use Rattle.af_relay.specs.RelayParts.{ObservedRelayPartOver, KeepsConnections};
 
-use af_course::{CONTEXT, ToolEnd, time_behind};
-use af_jobs::PassJob;
+use af_io::Link;
 use af_lib::Conn;
-use af_outside::Link;
+use af_options::PassJob;
 use af_time::DevTime;
+use af_tool::{CONTEXT, ToolEnd, time_behind};
 
 /// The pace of a relay: the bytes of a block, and in frames how far ahead of the other server's time it plays, and by how much
 /// it may drift from that.
 #[derive(Clone, Copy)]
-pub struct Pace {
+pub struct RelayPace {
     pub size: u32,
     pub delay: u64,
     pub slack: u64,
 }
 
-/// When a block is played, and whether the relay fell in step anew for it.
+/// When a block is played, and whether the relay fell in step again for it.
 #[derive(Clone, Copy)]
-pub struct Place {
+pub struct PlayMoment {
     pub time: DevTime,
     pub resynced: bool,
 }
 
 /// How far a relay has come: when the next block is recorded, when it is due to be played where one was played before, and how
-/// often the relay fell in step anew.
+/// often the relay fell in step again.
 #[derive(Clone, Copy)]
-pub struct Passed {
+pub struct RelayProgress {
     pub at: DevTime,
     pub due: Option<DevTime>,
     pub resynced: u32,
@@ -47,19 +46,19 @@ fn has_drifted(due: DevTime, now: DevTime, delay: u64, slack: u64) -> bool
 }
 
 // The place of a block in step with the other server, where its time is now.
-fn in_step(now: DevTime, delay: u64, resynced: bool) -> Place
+fn in_step(now: DevTime, delay: u64, resynced: bool) -> PlayMoment
     ensures { result ≡ in_step now delay resynced }
 {
-    Place {
+    PlayMoment {
         time: time_behind(now, delay),
         resynced,
     }
 }
 
 // When a block is played, where the other server's time is now.
-fn place_of(due: Option<DevTime>, now: DevTime, delay: u64, slack: u64) -> Place
+fn moment_of(due: Option<DevTime>, now: DevTime, delay: u64, slack: u64) -> PlayMoment
     requires { delay < 2 ^ 40 }
-    ensures { result ≡ place_of due now delay slack }
+    ensures { result ≡ moment_of due now delay slack }
 {
     let Some(due) = due else {
         return in_step(now, delay, false);
@@ -67,20 +66,20 @@ fn place_of(due: Option<DevTime>, now: DevTime, delay: u64, slack: u64) -> Place
     if has_drifted(due, now, delay, slack) {
         in_step(now, delay, true)
     } else {
-        Place {
+        PlayMoment {
             time: due,
             resynced: false,
         }
     }
 }
 
-// How far a relay has come behind one more block of so many frames.
-fn passed_on(passed: Passed, place: Place, frames: u32) -> Passed
+// How far a relay has come behind one more block of n frames.
+fn after_block(passed: RelayProgress, place: PlayMoment, frames: u32) -> RelayProgress
     requires { passed.resynced + 1 < 2 ^ 32 }
-    ensures value { result ≡ passed_on passed place frames }
+    ensures value { result ≡ after_block passed place frames }
     ensures few { result.resynced ≤ passed.resynced + 1 }
 {
-    Passed {
+    RelayProgress {
         at: passed.at.after(frames),
         due: Some(place.time.after(frames)),
         resynced: passed.resynced + u32::from(place.resynced),
@@ -90,48 +89,48 @@ fn passed_on(passed: Passed, place: Place, frames: u32) -> Passed
 // Records a block on the one server, and plays it on the other.
 fn pass_block<L: Link + Drop, M: Link + Drop>(
     job: &PassJob,
-    pace: Pace,
-    passed: Passed,
+    pace: RelayPace,
+    passed: RelayProgress,
     from: &mut Conn<L>,
     to: &mut Conn<M>,
     block: &mut [u8],
-) -> Result<Passed, ToolEnd>
+) -> Result<RelayProgress, ToolEnd>
     requires usable { (from.old.cause ≡ None) × (to.old.cause ≡ None) }
     requires block { (length block.old ≡ pace.size) × (length block.old ≤ 16000) }
     requires pace { pace.delay < 2 ^ 40 }
     requires few { passed.resynced + 1 < 2 ^ 32 }
-    ensures goes { (v w : List ℕ) → L.left from.old.link ≡ Some v → M.left to.old.link ≡ Some w →
-        GoesBoth (passes_block job.now pace passed (wire_of from.old v) (wire_of to.old w)) result (L.left from.new.link) (wire_of from.new) (L.sent from.old.link) (L.sent from.new.link) (M.left to.new.link) (wire_of to.new) (M.sent to.old.link) (M.sent to.new.link) }
-    ensures holds { HoldsBoth L.left L.faults M.left M.faults from.old from.new to.old to.new result }
+    ensures goes { ObservedRelayPartOver L.left L.sent M.left M.sent from.old from.new to.old to.new
+        (λ v w. passes_block job.now pace passed v w) result }
+    ensures holds { KeepsConnections L.left L.faults M.left M.faults from.old from.new to.old to.new result }
     ensures end { IfErr result (λ how. is_of_link how ≡ true) }
     ensures few { IfOk result (λ p. p.resynced ≤ passed.resynced + 1) }
     ensures size { length block.new ≡ length block.old }
 {
     from.record_run(CONTEXT, passed.at, true, block)?;
     let now = to.get_time(job.to_device)?;
-    let place = place_of(passed.due, now, pace.delay, pace.slack);
+    let place = moment_of(passed.due, now, pace.delay, pace.slack);
     to.play_run(CONTEXT, place.time, block)?;
-    Ok(passed_on(passed, place, job.block))
+    Ok(after_block(passed, place, job.block))
 }
 
 /// Passes all blocks of a job, the first of them recorded from a time on.
 pub fn pass_blocks<L: Link + Drop, M: Link + Drop>(
     job: &PassJob,
-    pace: Pace,
+    pace: RelayPace,
     start: DevTime,
     from: &mut Conn<L>,
     to: &mut Conn<M>,
     block: &mut [u8],
-) -> Result<Passed, ToolEnd>
+) -> Result<RelayProgress, ToolEnd>
     requires usable { (from.old.cause ≡ None) × (to.old.cause ≡ None) }
     requires block { (length block.old ≡ pace.size) × (length block.old ≤ 16000) }
     requires pace { pace.delay < 2 ^ 40 }
-    ensures goes { (v w : List ℕ) → L.left from.old.link ≡ Some v → M.left to.old.link ≡ Some w →
-        GoesBoth (passes job.now.blocks job.now pace (none_passed start) (wire_of from.old v) (wire_of to.old w)) result (L.left from.new.link) (wire_of from.new) (L.sent from.old.link) (L.sent from.new.link) (M.left to.new.link) (wire_of to.new) (M.sent to.old.link) (M.sent to.new.link) }
-    ensures holds { HoldsBoth L.left L.faults M.left M.faults from.old from.new to.old to.new result }
+    ensures goes { ObservedRelayPartOver L.left L.sent M.left M.sent from.old from.new to.old to.new
+        (λ v w. passes job.now.blocks job.now pace (none_passed start) v w) result }
+    ensures holds { KeepsConnections L.left L.faults M.left M.faults from.old from.new to.old to.new result }
     ensures end { IfErr result (λ how. is_of_link how ≡ true) }
 {
-    let mut passed = Passed {
+    let mut passed = RelayProgress {
         at: start,
         due: None,
         resynced: 0,

@@ -1,6 +1,6 @@
-pub mod Reading
-pub mod FieldTrips
-pub mod DeviceRun
-pub mod RequestTrips
-pub mod ReplyTrips
-pub mod Stating
+pub mod UnreadableLemmas
+pub mod FieldRoundTrips
+pub mod DeviceListLemmas
+pub mod RequestRoundTrips
+pub mod ReplyRoundTrips
+pub mod SetupReplyLemmas

@@ -21,11 +21,11 @@ abbrev pub items_of : ArrayVec DeviceInfo → List DeviceInfo
 items_of devices = devices.items
 
 -- what a reply of the code answers
-abbrev pub meaning : Reply → Answer
-meaning (code.Setup devices) = setup devices.items
-meaning code.Plain = plain
-meaning (code.Time now) = time now.0
-meaning (code.Played now) = played now.0
-meaning (code.Recorded now samples) = recorded now.0 samples.now
-meaning (code.Controls c) = controls c
-meaning (code.Phone p) = phone p
+abbrev pub reply_meaning : Reply → Answer
+reply_meaning (code.Setup devices) = setup devices.items
+reply_meaning code.Plain = plain
+reply_meaning (code.Time now) = time now.0
+reply_meaning (code.Played now) = played now.0
+reply_meaning (code.Recorded now samples) = recorded now.0 samples.now
+reply_meaning (code.Controls c) = controls c
+reply_meaning (code.Phone p) = phone p

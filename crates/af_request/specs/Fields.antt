@@ -30,7 +30,7 @@ i16_bytes x = to_be_bytes w16 (cast_unsigned w16 x)
 abbrev pub flag_byte : Bool → ℕ
 flag_byte set = if set then 1 else 0
 
--- how many words of 4 bytes so many bytes take, the last of them padded
+-- how many words of 4 bytes n bytes take, the last of them padded
 abbrev pub words_for : ℕ → ℕ
 words_for count = div_ceil count 4
 

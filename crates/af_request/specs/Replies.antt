@@ -19,19 +19,19 @@ is_zero bytes = list_all (λ b. b == 0) bytes
 abbrev pub flag_of : ℕ → Option Bool
 flag_of byte = if byte == 0 then Some false else if byte == 1 then Some true else None
 
--- a device of so many channels, of a listed rate, that can be played to four seconds ahead
-abbrev pub device_of : Option SampleType → ℕ → Option Bool → ℕ → ℕ → Option DeviceInfo
-device_of (Some ty) channels (Some line) rate horizon =
+-- a device of n channels, of a listed rate, that can be played to four seconds ahead
+abbrev pub device_info_of : Option SampleType → ℕ → Option Bool → ℕ → ℕ → Option DeviceInfo
+device_info_of (Some ty) channels (Some line) rate horizon =
     if channels == 1 && is_listed_rate rate && horizon == rate * 4
     then Some (record { ty = ty; channels = channels; line = line; rate = rate; horizon = horizon })
     else None
-device_of _ _ _ _ _ = None
+device_info_of _ _ _ _ _ = None
 
 -- what 12 bytes of the reply to a setup say of a device
 abbrev pub device_in : List ℕ → Option DeviceInfo
 device_in bytes =
     if u8_at 3 bytes == 0
-    then device_of (type_of_code (u8_at 0 bytes)) (u8_at 1 bytes) (flag_of (u8_at 2 bytes)) (u32_at 4 bytes) (u32_at 8 bytes)
+    then device_info_of (type_of_code (u8_at 0 bytes)) (u8_at 1 bytes) (flag_of (u8_at 2 bytes)) (u32_at 4 bytes) (u32_at 8 bytes)
     else None
 
 -- a device and those behind it
@@ -39,7 +39,7 @@ abbrev pub device_then : Option DeviceInfo → Option (List DeviceInfo) → Opti
 device_then (Some device) (Some devices) = Some (device ∷ devices)
 device_then _ _ = None
 
--- so many devices
+-- n devices
 abbrev pub devices_in : ℕ → List ℕ → Option (List DeviceInfo)
 devices_in zero bytes = Some []
 devices_in (suc count) bytes = device_then (device_in (take 12 bytes)) (devices_in count (drop 12 bytes))
@@ -64,8 +64,8 @@ abbrev pub played_in : List ℕ → Option Answer
 played_in body = if length body == 4 then Some (played (u32_at 0 body)) else None
 
 -- the reply to a Record: its samples are padded with zeros to a word
-abbrev pub recorded_in : List ℕ → Option Answer
-recorded_in body = let count = u32_at 4 body in
+abbrev pub recorded_body : List ℕ → Option Answer
+recorded_body body = let count = u32_at 4 body in
     if length body == 8 + 4 * words_for count && is_zero (drop (8 + count) body)
     then Some (recorded (u32_at 0 body) (slice_range body 8 (8 + count)))
     else None
@@ -105,7 +105,7 @@ answer_in opcode body =
     else if opcode == 0 then setup_in body
     else if opcode == 2 then time_in body
     else if opcode == 6 then played_in body
-    else if opcode == 7 then recorded_in body
+    else if opcode == 7 then recorded_body body
     else if opcode == 10 then controls_in body
     else if opcode == 12 then phone_in body
     else None
@@ -141,19 +141,19 @@ abbrev pub reply_bytes : ℕ → Answer → ℕ → List ℕ
 reply_bytes opcode answer sequence = head 1 opcode sequence (body_words answer) ++ body_bytes answer
 
 -- a reply whose record has at most the samples that the longest reply has room for
-abbrev pub HasRoom : Answer → Type 0
-HasRoom (recorded now samples) = length samples ≤ 16000
-HasRoom _ = ⊤
+abbrev pub FitsMessage : Answer → Type 0
+FitsMessage (recorded now samples) = length samples ≤ 16000
+FitsMessage _ = ⊤
 
 -- a device as the reply to a setup may state it
-pub record IsStated (d : DeviceInfo) : Type 0 where
+pub record IsDeviceInfo (d : DeviceInfo) : Type 0 where
   pub channels : d.channels ≡ 1
   pub rate : IsListedRate d.rate
   pub horizon : d.horizon ≡ d.rate * 4
 
 -- a reply that a request of an opcode may get
 abbrev pub IsReplyTo : ℕ → Answer → Type 0
-IsReplyTo opcode (setup devices) = (opcode ≡ 0) × (1 ≤ length devices) × (length devices ≤ 8) × All IsStated devices
+IsReplyTo opcode (setup devices) = (opcode ≡ 0) × (1 ≤ length devices) × (length devices ≤ 8) × All IsDeviceInfo devices
 IsReplyTo opcode plain = IsTrue (is_plain opcode)
 IsReplyTo opcode (time now) = (opcode ≡ 2) × (now < 2 ^ 32)
 IsReplyTo opcode (played now) = (opcode ≡ 6) × (now < 2 ^ 32)

@@ -121,9 +121,9 @@ request_bytes (hook_switch device off) = front 11 device 2 ++ u32_bytes off
 request_bytes (query_phone device) = front 12 device 1
 
 -- a request whose play has at most the samples that the longest frame has room for
-abbrev pub HasRoom : Asked → Type 0
-HasRoom (play_run quiet ac time samples) = length samples ≤ 16368
-HasRoom _ = ⊤
+abbrev pub FitsFrame : Asked → Type 0
+FitsFrame (play_run quiet ac time samples) = length samples ≤ 16368
+FitsFrame _ = ⊤
 
 -- a request whose numbers fit their fields, with room for its samples
 abbrev pub IsWritable : Asked → Type 0

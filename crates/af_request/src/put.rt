@@ -12,7 +12,7 @@ pub fn put(out: &mut [u8], at: usize, piece: &[u8]) -> usize
     end
 }
 
-/// Writes so many zeros at `at`, and answers where they end.
+/// Writes n zeros at `at`, and answers where they end.
 pub fn put_zeros(out: &mut [u8], at: usize, count: usize) -> usize
     requires { at + count ≤ length out.old }
     ensures end { result ≡ at + count }

@@ -15,9 +15,9 @@ pub struct DeviceInfo {
 }
 
 impl Default for DeviceInfo {
-    ghost use Rattle.af_request.specs.Replies.{IsStated};
+    ghost use Rattle.af_request.specs.Replies.{IsDeviceInfo};
 
-    ghost is_default = { λ device. IsStated device };
+    ghost is_default = { λ device. IsDeviceInfo device };
 
     /// A device that the reply to a setup may state. It fills the room of a `Devices` that is not used.
     fn default() -> DeviceInfo {

@@ -2,8 +2,8 @@
 ghost use Rattle.std.specs.Prelude.{◌≡◌, ◌≤◌, ◌*◌, length, option_map, slice_index, true};
 ghost use Rattle.std.specs.Int.{w16, cast_signed, from_be_bytes};
 ghost use Rattle.af_sample.specs.Gains.{gain_of};
-ghost use Rattle.af_request.specs.Answer.{meaning, items_of};
-ghost use Rattle.af_request.specs.Replies.{answer_in, controls_in, device_in, devices_in, flag_of, phone_in, phone_of, plain_in, played_in, recorded_in, setup_in, time_in, is_zero};
+ghost use Rattle.af_request.specs.Answer.{reply_meaning, items_of};
+ghost use Rattle.af_request.specs.Replies.{answer_in, controls_in, device_in, devices_in, flag_of, phone_in, phone_of, plain_in, played_in, recorded_body, setup_in, time_in, is_zero};
 
 use crate::reply::{Controls, DeviceInfo, Devices, Phone, Reply};
 use af_sample::{Gain, SampleType, is_listed_rate};
@@ -13,7 +13,7 @@ use af_time::DevTime;
 /// a length that does not fit, a flag above 1, a gain outside -30..30, a type above 3, channels other than 1, a rate that
 /// is not listed, a horizon that is not 4 seconds, fewer than 1 or more than 8 devices, or padding that is not zero.
 pub fn read_reply<'a>(opcode: u8, body: &'a [u8]) -> Option<Reply<'a>>
-    ensures { option_map meaning result ≡ answer_in opcode body.entry.now }
+    ensures { option_map reply_meaning result ≡ answer_in opcode body.entry.now }
 {
     match opcode {
         0 => setup(body),
@@ -28,7 +28,7 @@ pub fn read_reply<'a>(opcode: u8, body: &'a [u8]) -> Option<Reply<'a>>
 }
 
 fn plain<'a>(body: &'a [u8]) -> Option<Reply<'a>>
-    ensures { option_map meaning result ≡ plain_in body.entry.now }
+    ensures { option_map reply_meaning result ≡ plain_in body.entry.now }
 {
     if body.is_empty() {
         Some(Reply::Plain)
@@ -38,7 +38,7 @@ fn plain<'a>(body: &'a [u8]) -> Option<Reply<'a>>
 }
 
 fn time<'a>(body: &'a [u8]) -> Option<Reply<'a>>
-    ensures { option_map meaning result ≡ time_in body.entry.now }
+    ensures { option_map reply_meaning result ≡ time_in body.entry.now }
 {
     let [a, b, c, d] = body else {
         return None;
@@ -49,7 +49,7 @@ fn time<'a>(body: &'a [u8]) -> Option<Reply<'a>>
 }
 
 fn played<'a>(body: &'a [u8]) -> Option<Reply<'a>>
-    ensures { option_map meaning result ≡ played_in body.entry.now }
+    ensures { option_map reply_meaning result ≡ played_in body.entry.now }
 {
     let [a, b, c, d] = body else {
         return None;
@@ -60,7 +60,7 @@ fn played<'a>(body: &'a [u8]) -> Option<Reply<'a>>
 }
 
 fn recorded<'a>(body: &'a [u8]) -> Option<Reply<'a>>
-    ensures { option_map meaning result ≡ recorded_in body.entry.now }
+    ensures { option_map reply_meaning result ≡ recorded_body body.entry.now }
 {
     let [a, b, c, d, e, f, g, h, data @ ..] = body else {
         return None;
@@ -76,7 +76,7 @@ fn recorded<'a>(body: &'a [u8]) -> Option<Reply<'a>>
 }
 
 fn controls<'a>(body: &'a [u8]) -> Option<Reply<'a>>
-    ensures { option_map meaning result ≡ controls_in body.entry.now }
+    ensures { option_map reply_meaning result ≡ controls_in body.entry.now }
 {
     let [input_on, output_on, 0, 0, a, b, c, d] = body else {
         return None;
@@ -96,7 +96,7 @@ fn controls<'a>(body: &'a [u8]) -> Option<Reply<'a>>
 }
 
 fn phone<'a>(body: &'a [u8]) -> Option<Reply<'a>>
-    ensures { option_map meaning result ≡ phone_in body.entry.now }
+    ensures { option_map reply_meaning result ≡ phone_in body.entry.now }
 {
     let [wanted_off, given_off, ringing, current, dead, padding @ ..] = body else {
         return None;
@@ -123,7 +123,7 @@ fn phone_of(flags: [u8; 5]) -> Option<Phone>
 }
 
 fn setup<'a>(body: &'a [u8]) -> Option<Reply<'a>>
-    ensures { option_map meaning result ≡ setup_in body.entry.now }
+    ensures { option_map reply_meaning result ≡ setup_in body.entry.now }
 {
     let [a, b, c, d, e, f, g, h, data @ ..] = body else {
         return None;
@@ -138,7 +138,7 @@ fn setup<'a>(body: &'a [u8]) -> Option<Reply<'a>>
     Some(Reply::Setup { devices })
 }
 
-// What so many times 12 bytes of the reply to a setup say of the devices.
+// What n times 12 bytes of the reply to a setup say of the devices.
 fn devices(count: usize, bytes: &[u8]) -> Option<Devices>
     requires most { count ≤ 8 }
     requires whole { length bytes.now ≡ 12 * count }

@@ -1,10 +1,10 @@
 // Writing a reply as a message.
 ghost use Rattle.std.specs.Prelude.{◌≡◌, ◌≤◌, ◌+◌, ◌*◌, ◌++◌, drop, length, take};
 ghost use Rattle.af_wire.specs.Message.{head};
-ghost use Rattle.af_request.specs.Answer.{meaning, recorded, setup};
+ghost use Rattle.af_request.specs.Answer.{reply_meaning, recorded, setup};
 ghost use Rattle.af_request.specs.Answer.{controls as controls_answer, phone as phone_answer};
 ghost use Rattle.af_request.specs.Fields.{i16_bytes, words_for};
-ghost use Rattle.af_request.specs.Replies.{answer_in, body_bytes, body_words, device_bytes, reply_bytes, HasRoom, IsReplyTo};
+ghost use Rattle.af_request.specs.Replies.{answer_in, body_bytes, body_words, device_bytes, reply_bytes, FitsMessage, IsReplyTo};
 
 use crate::put::{put, put_zeros};
 use crate::reply::{Controls, DeviceInfo, Phone, Reply};
@@ -14,24 +14,24 @@ use af_wire::write_head;
 /// Writes the reply to a request of this opcode, 0 standing for a setup, and answers how many bytes that are. Recorded
 /// samples have at most 16000 bytes.
 pub fn write_reply(opcode: u8, reply: &Reply<'_>, sequence: u16, out: &mut [u8]) -> usize
-    requires samples { HasRoom (meaning reply.now) }
+    requires samples { FitsMessage (reply_meaning reply.now) }
     requires room { 16016 ≤ length out.old }
-    ensures size { result ≡ 8 + 4 * body_words (meaning reply.now) }
+    ensures size { result ≡ 8 + 4 * body_words (reply_meaning reply.now) }
     ensures most { result ≤ 16016 }
-    ensures bytes { take result out.new ≡ reply_bytes opcode (meaning reply.now) sequence }
-    ensures again { IsReplyTo opcode (meaning reply.now) →
-        answer_in opcode (drop 8 (take result out.new)) ≡ Some (meaning reply.now) }
+    ensures bytes { take result out.new ≡ reply_bytes opcode (reply_meaning reply.now) sequence }
+    ensures again { IsReplyTo opcode (reply_meaning reply.now) →
+        answer_in opcode (drop 8 (take result out.new)) ≡ Some (reply_meaning reply.now) }
 {
     let at = put_head(out, opcode, sequence, words_of(reply));
     put_body(out, at, reply)
 }
 
 fn put_body(out: &mut [u8], at: usize, reply: &Reply<'_>) -> usize
-    requires samples { HasRoom (meaning reply.now) }
+    requires samples { FitsMessage (reply_meaning reply.now) }
     requires room { at + 16008 ≤ length out.old }
-    ensures end { result ≡ at + 4 * body_words (meaning reply.now) }
+    ensures end { result ≡ at + 4 * body_words (reply_meaning reply.now) }
     ensures most { result ≤ at + 16008 }
-    ensures bytes { take result out.new ≡ take at out.old ++ body_bytes (meaning reply.now) }
+    ensures bytes { take result out.new ≡ take at out.old ++ body_bytes (reply_meaning reply.now) }
 {
     match reply {
         Reply::Setup { devices } => put_devices(out, at, devices.as_slice()),
@@ -46,8 +46,8 @@ fn put_body(out: &mut [u8], at: usize, reply: &Reply<'_>) -> usize
 
 // How many words the body of a reply has.
 fn words_of(reply: &Reply<'_>) -> u32
-    requires { HasRoom (meaning reply.now) }
-    ensures value { result ≡ body_words (meaning reply.now) }
+    requires { FitsMessage (reply_meaning reply.now) }
+    ensures value { result ≡ body_words (reply_meaning reply.now) }
 {
     match reply {
         Reply::Setup { devices } => 2 + 3 * devices.len() as u32,

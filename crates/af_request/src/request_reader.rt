@@ -1,6 +1,6 @@
 // Reading a frame as a request: one function for each opcode whose request has more than one word.
 ghost use Rattle.std.specs.Prelude.{◌≡◌, ◌↔◌, option_and_then, option_map, IsNone};
-ghost use Rattle.af_request.specs.Asked.{meaning};
+ghost use Rattle.af_request.specs.Asked.{request_meaning};
 ghost use Rattle.af_request.specs.Requests.{asked_in, asked_by, row_of, IsNoRequest};
 ghost use Rattle.af_request.specs.Requests.{no_op_row, get_time_row, create_ac_row, change_ac_row, free_ac_row, play_run_row};
 ghost use Rattle.af_request.specs.Requests.{record_run_row, select_events_row, set_controls_row, query_controls_row, hook_switch_row, query_phone_row};
@@ -11,7 +11,7 @@ use af_time::DevTime;
 /// Reads one whole frame. None exactly where its opcode is unknown, or its length is not the opcode's. Padding, and bits
 /// that have no meaning, are ignored.
 pub fn read_request<'a>(frame: &'a [u8]) -> Option<Request<'a>>
-    ensures value { option_map meaning result ≡ asked_in frame.entry.now }
+    ensures value { option_map request_meaning result ≡ asked_in frame.entry.now }
     ensures none { IsNone result ↔ IsNoRequest frame.entry.now }
 {
     let opcode = frame.first()?;
@@ -19,7 +19,7 @@ pub fn read_request<'a>(frame: &'a [u8]) -> Option<Request<'a>>
 }
 
 fn request_of<'a>(opcode: u8, frame: &'a [u8]) -> Option<Request<'a>>
-    ensures { option_map meaning result ≡ option_and_then (asked_by frame.entry.now) (row_of opcode frame.entry.now) }
+    ensures { option_map request_meaning result ≡ option_and_then (asked_by frame.entry.now) (row_of opcode frame.entry.now) }
 {
     match opcode {
         1 => no_op(frame),
@@ -39,7 +39,7 @@ fn request_of<'a>(opcode: u8, frame: &'a [u8]) -> Option<Request<'a>>
 }
 
 fn no_op<'a>(frame: &'a [u8]) -> Option<Request<'a>>
-    ensures { option_map meaning result ≡ asked_by frame.entry.now (no_op_row frame.entry.now) }
+    ensures { option_map request_meaning result ≡ asked_by frame.entry.now (no_op_row frame.entry.now) }
 {
     let [_, _, _, _] = frame else {
         return None;
@@ -48,7 +48,7 @@ fn no_op<'a>(frame: &'a [u8]) -> Option<Request<'a>>
 }
 
 fn get_time<'a>(frame: &'a [u8]) -> Option<Request<'a>>
-    ensures { option_map meaning result ≡ asked_by frame.entry.now (get_time_row frame.entry.now) }
+    ensures { option_map request_meaning result ≡ asked_by frame.entry.now (get_time_row frame.entry.now) }
 {
     let [_, device, _, _] = frame else {
         return None;
@@ -57,7 +57,7 @@ fn get_time<'a>(frame: &'a [u8]) -> Option<Request<'a>>
 }
 
 fn create_ac<'a>(frame: &'a [u8]) -> Option<Request<'a>>
-    ensures { option_map meaning result ≡ asked_by frame.entry.now (create_ac_row frame.entry.now) }
+    ensures { option_map request_meaning result ≡ asked_by frame.entry.now (create_ac_row frame.entry.now) }
 {
     let [
         _,
@@ -92,7 +92,7 @@ fn create_ac<'a>(frame: &'a [u8]) -> Option<Request<'a>>
 }
 
 fn change_ac<'a>(frame: &'a [u8]) -> Option<Request<'a>>
-    ensures { option_map meaning result ≡ asked_by frame.entry.now (change_ac_row frame.entry.now) }
+    ensures { option_map request_meaning result ≡ asked_by frame.entry.now (change_ac_row frame.entry.now) }
 {
     let [_, mask, _, _, a, b, c, d, preempt, _, _, _, p, q, r, s] = frame else {
         return None;
@@ -107,7 +107,7 @@ fn change_ac<'a>(frame: &'a [u8]) -> Option<Request<'a>>
 }
 
 fn free_ac<'a>(frame: &'a [u8]) -> Option<Request<'a>>
-    ensures { option_map meaning result ≡ asked_by frame.entry.now (free_ac_row frame.entry.now) }
+    ensures { option_map request_meaning result ≡ asked_by frame.entry.now (free_ac_row frame.entry.now) }
 {
     let [_, _, _, _, a, b, c, d] = frame else {
         return None;
@@ -118,7 +118,7 @@ fn free_ac<'a>(frame: &'a [u8]) -> Option<Request<'a>>
 }
 
 fn play_run<'a>(frame: &'a [u8]) -> Option<Request<'a>>
-    ensures { option_map meaning result ≡ asked_by frame.entry.now (play_run_row frame.entry.now) }
+    ensures { option_map request_meaning result ≡ asked_by frame.entry.now (play_run_row frame.entry.now) }
 {
     let [
         _,
@@ -155,7 +155,7 @@ fn play_run<'a>(frame: &'a [u8]) -> Option<Request<'a>>
 }
 
 fn record_run<'a>(frame: &'a [u8]) -> Option<Request<'a>>
-    ensures { option_map meaning result ≡ asked_by frame.entry.now (record_run_row frame.entry.now) }
+    ensures { option_map request_meaning result ≡ asked_by frame.entry.now (record_run_row frame.entry.now) }
 {
     let [_, detail, _, _, a, b, c, d, e, f, g, h, i, j, k, l] = frame else {
         return None;
@@ -169,7 +169,7 @@ fn record_run<'a>(frame: &'a [u8]) -> Option<Request<'a>>
 }
 
 fn select_events<'a>(frame: &'a [u8]) -> Option<Request<'a>>
-    ensures { option_map meaning result ≡ asked_by frame.entry.now (select_events_row frame.entry.now) }
+    ensures { option_map request_meaning result ≡ asked_by frame.entry.now (select_events_row frame.entry.now) }
 {
     let [_, device, _, _, a, b, c, d] = frame else {
         return None;
@@ -181,7 +181,7 @@ fn select_events<'a>(frame: &'a [u8]) -> Option<Request<'a>>
 }
 
 fn set_controls<'a>(frame: &'a [u8]) -> Option<Request<'a>>
-    ensures { option_map meaning result ≡ asked_by frame.entry.now (set_controls_row frame.entry.now) }
+    ensures { option_map request_meaning result ≡ asked_by frame.entry.now (set_controls_row frame.entry.now) }
 {
     let [_, device, _, _, mask, input_on, output_on, _, p, q, r, s] = frame else {
         return None;
@@ -197,7 +197,7 @@ fn set_controls<'a>(frame: &'a [u8]) -> Option<Request<'a>>
 }
 
 fn query_controls<'a>(frame: &'a [u8]) -> Option<Request<'a>>
-    ensures { option_map meaning result ≡ asked_by frame.entry.now (query_controls_row frame.entry.now) }
+    ensures { option_map request_meaning result ≡ asked_by frame.entry.now (query_controls_row frame.entry.now) }
 {
     let [_, device, _, _] = frame else {
         return None;
@@ -206,7 +206,7 @@ fn query_controls<'a>(frame: &'a [u8]) -> Option<Request<'a>>
 }
 
 fn hook_switch<'a>(frame: &'a [u8]) -> Option<Request<'a>>
-    ensures { option_map meaning result ≡ asked_by frame.entry.now (hook_switch_row frame.entry.now) }
+    ensures { option_map request_meaning result ≡ asked_by frame.entry.now (hook_switch_row frame.entry.now) }
 {
     let [_, device, _, _, a, b, c, d] = frame else {
         return None;
@@ -218,7 +218,7 @@ fn hook_switch<'a>(frame: &'a [u8]) -> Option<Request<'a>>
 }
 
 fn query_phone<'a>(frame: &'a [u8]) -> Option<Request<'a>>
-    ensures { option_map meaning result ≡ asked_by frame.entry.now (query_phone_row frame.entry.now) }
+    ensures { option_map request_meaning result ≡ asked_by frame.entry.now (query_phone_row frame.entry.now) }
 {
     let [_, device, _, _] = frame else {
         return None;

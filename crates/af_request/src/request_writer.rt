@@ -1,22 +1,22 @@
 // Writing a request as a frame.
 ghost use Rattle.std.specs.Prelude.{◌≡◌, ◌≤◌, ◌+◌, ◌*◌, ◌++◌, length, take, slice_index};
-ghost use Rattle.af_request.specs.Asked.{meaning, play_run, record_run};
+ghost use Rattle.af_request.specs.Asked.{request_meaning, play_run, record_run};
 ghost use Rattle.af_request.specs.Fields.{u32_bytes, i16_bytes, words_for};
-ghost use Rattle.af_request.specs.Requests.{asked_in, front, request_bytes, HasRoom};
+ghost use Rattle.af_request.specs.Requests.{asked_in, front, request_bytes, FitsFrame};
 
 use crate::Request;
 use crate::put::{put, put_zeros};
 
 /// Writes a request as a frame, its padding as zeros, and answers how many bytes that are. A Play has at most 16368 bytes
 /// of samples.
-#[tactic(auto, using(crate::proofs::RequestTrips::spelled_again))]
+#[tactic(auto, using(crate::proofs::RequestRoundTrips::spelled_again))]
 pub fn write_request(request: &Request<'_>, out: &mut [u8]) -> usize
-    requires samples { HasRoom (meaning request.now) }
+    requires samples { FitsFrame (request_meaning request.now) }
     requires room { 16384 ≤ length out.old }
-    ensures size { result ≡ length (request_bytes (meaning request.now)) }
+    ensures size { result ≡ length (request_bytes (request_meaning request.now)) }
     ensures most { result ≤ 16384 }
-    ensures bytes { take result out.new ≡ request_bytes (meaning request.now) }
-    ensures again { asked_in (take result out.new) ≡ Some (meaning request.now) }
+    ensures bytes { take result out.new ≡ request_bytes (request_meaning request.now) }
+    ensures again { asked_in (take result out.new) ≡ Some (request_meaning request.now) }
 {
     match request {
         Request::NoOp => put_front(out, 1, 0, 1),
@@ -132,7 +132,7 @@ fn put_run(out: &mut [u8], kind: [u8; 2], words: u16, run: [u32; 3]) -> usize
 }
 
 // A play, its samples padded with zeros to a word.
-#[tactic(auto, using(crate::proofs::RequestTrips::spelled_again))]
+#[tactic(auto, using(crate::proofs::RequestRoundTrips::spelled_again))]
 fn put_play(out: &mut [u8], quiet: bool, ac: u32, time: u32, samples: &[u8]) -> usize
     requires samples { length samples.now ≤ 16368 }
     requires room { 16384 ≤ length out.old }
@@ -147,7 +147,7 @@ fn put_play(out: &mut [u8], quiet: bool, ac: u32, time: u32, samples: &[u8]) -> 
     put_zeros(out, at, 4 * words - samples.len())
 }
 
-#[tactic(auto, using(crate::proofs::RequestTrips::spelled_again))]
+#[tactic(auto, using(crate::proofs::RequestRoundTrips::spelled_again))]
 fn put_record(out: &mut [u8], blocking: bool, ac: u32, time: u32, nbytes: u32) -> usize
     requires { 16 ≤ length out.old }
     ensures end { result ≡ 16 }

@@ -11,11 +11,11 @@ use Rattle.std.proofs.lemmas.Nat.{leading_length}
 use Rattle.std.proofs.Math.Pow.{pow_mono}
 use lib.Signed.{lt_z}
 use Rattle.af_sample.specs.G711.{alaw_starts, interval_of, alaw_samples, from_alaw, to_alaw}
-use Rattle.af_sample.proofs.Tables.{all_from, entry_passes}
-use Rattle.af_sample.proofs.Intervals.{rises, interval_is}
-use Rattle.af_sample.proofs.Segments.{InSegment, segment_of, place, code, joined, from, to}
+use Rattle.af_sample.proofs.TableLemmas.{all_from, entry_passes}
+use Rattle.af_sample.proofs.IntervalLemmas.{rises, interval_is}
+use Rattle.af_sample.proofs.SegmentLemmas.{InSegment, segment_of, place, code, joined, from, to}
 
--- a start is so many times 16 in the first segment, and 16 and more steps of each other
+-- a start is n times 16 in the first segment, and 16 and more steps of each other
 abbrev is_start : ℕ → ℕ → Bool
 is_start p start = (nat_lt p 16 && nat_eq start (p * 16)) || (nat_le 16 p && nat_eq start ((16 + p % 16) * 2 ^ (p / 16 + 3)))
 

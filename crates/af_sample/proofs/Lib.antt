@@ -1,10 +1,10 @@
-pub mod Tables
-pub mod Multipliers
-pub mod Scaling
-pub mod Intervals
-pub mod Segments
+pub mod TableLemmas
+pub mod MultiplierLemmas
+pub mod GainLemmas
+pub mod IntervalLemmas
+pub mod SegmentLemmas
 pub mod MuLawLemmas
 pub mod AlawLemmas
 pub mod RunLemmas
-pub mod Hearing
-pub mod Alone
+pub mod HeardLemmas
+pub mod SinglePlayLemmas

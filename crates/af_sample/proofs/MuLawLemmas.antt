@@ -9,9 +9,9 @@ use Rattle.std.specs.List.{range_with_len}
 use Rattle.std.proofs.lemmas.List.FromFn.{get_or-map-range_with_len}
 use Rattle.std.proofs.lemmas.Bool.{and_parts, or_cases, eqb-true, cases_lt, lt-ltb, le-ltb, ltb-true, true≢false, cond-true, cond-false}
 use Rattle.af_sample.specs.G711.{mu_law_starts, mu_law_decisions, interval_of, mu_law_samples, from_mu_law, to_mu_law}
-use Rattle.af_sample.proofs.Tables.{all_from, entry_passes}
-use Rattle.af_sample.proofs.Intervals.{rises, interval_is}
-use Rattle.af_sample.proofs.Segments.{InSegment, segment_of, place, code, code_is, from, to}
+use Rattle.af_sample.proofs.TableLemmas.{all_from, entry_passes}
+use Rattle.af_sample.proofs.IntervalLemmas.{rises, interval_is}
+use Rattle.af_sample.proofs.SegmentLemmas.{InSegment, segment_of, place, code, code_is, from, to}
 
 -- a start, biased, is 16 and more steps of its segment, but for the first, which is 0
 abbrev is_start : ℕ → ℕ → Bool

@@ -21,7 +21,7 @@ abbrev pub greatest : (ℕ → Bool) → ℕ → ℕ
 greatest passes zero = zero
 greatest passes (suc n) = if passes (suc n) then suc n else greatest passes n
 
--- the greatest m within so many decibels: the bound is above each such m
+-- the greatest m within n decibels: the bound is above each such m
 unfoldable pub multiplier : ℤ → ℕ
 multiplier db = greatest (is_within db) (1024 ^ 20 * 10 ^ nat_abs db)
 

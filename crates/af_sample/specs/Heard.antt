@@ -7,14 +7,14 @@ use Rattle.af_sample.specs.Mixing.{mixed}
 
 -- an accepted play: its samples from a start on, whether it replaces what was there, and the time of
 -- the device when it was accepted
-pub record Entry : Type 0 where
+pub record AcceptedPlay : Type 0 where
   pub start : ℕ
   pub samples : List ℤ
   pub preempt : Bool
   pub at : ℕ
 
 -- whether an entry says something of a time: not of one that was past when it was accepted
-abbrev pub covers : Entry → ℕ → Bool
+abbrev pub covers : AcceptedPlay → ℕ → Bool
 covers e t = nat_le e.at t && (nat_le e.start t && nat_lt t (e.start + length e.samples))
 
 -- what a sample makes of the sound so far: it replaces the sound, or is mixed with it
@@ -22,10 +22,10 @@ abbrev pub blended : Bool → ℤ → ℤ → ℤ
 blended preempt sound x = if preempt then x else mixed sound x
 
 -- the sound of a time with one entry more
-abbrev pub with_entry : ℕ → ℤ → Entry → ℤ
+abbrev pub with_entry : ℕ → ℤ → AcceptedPlay → ℤ
 with_entry t sound e =
     if covers e t then blended e.preempt sound (slice_index_or e.samples (t - e.start) (pos 0)) else sound
 
 -- the sound of a time: the entries that cover it, from silence on, in the order of their acceptance
-unfoldable pub heard : List Entry → ℕ → ℤ
+unfoldable pub heard : List AcceptedPlay → ℕ → ℤ
 heard accepted t = fold (with_entry t) (pos 0) accepted

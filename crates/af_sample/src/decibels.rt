@@ -21,7 +21,7 @@ impl Model for Gain {
 }
 
 impl Gain {
-    /// The gain of so many decibels. None outside -30..30.
+    /// The gain of n decibels. None outside -30..30.
     pub fn new(db: i32) -> Option<Gain>
         ensures value { result ≡ gain_of db }
         ensures some { IsSome result ↔ IsGain db }

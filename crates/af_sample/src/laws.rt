@@ -3,7 +3,7 @@ ghost use Rattle.std.specs.Prelude.{◌≡◌, ◌≢◌, ◌+◌, ◌<◌, ◌�
 ghost use Rattle.std.specs.Int.{w16};
 ghost use Rattle.std.specs.List.{All};
 ghost use Rattle.af_sample.specs.Gains.{is_within, multiplier};
-ghost use Rattle.af_sample.specs.Heard.{heard, with_entry, Entry};
+ghost use Rattle.af_sample.specs.Heard.{heard, with_entry, AcceptedPlay};
 ghost use Rattle.af_sample.specs.Samples.{decoded, encoded};
 ghost use Rattle.af_sample.specs.Window.{recorded};
 
@@ -32,9 +32,9 @@ pub fn greatest_multiplier()
 
 /// A play that is accepted is blended into what was heard before, and what was past by then stays.
 pub fn heard_grows()
-    ensures next { (accepted : List Entry) (e : Entry) (t : ℕ) →
+    ensures next { (accepted : List AcceptedPlay) (e : AcceptedPlay) (t : ℕ) →
         heard (accepted ++ e ∷ []) t ≡ with_entry t (heard accepted t) e }
-    ensures past { (accepted more : List Entry) (t : ℕ) → All (λ e. t < e.at) more →
+    ensures past { (accepted more : List AcceptedPlay) (t : ℕ) → All (λ e. t < e.at) more →
         heard (accepted ++ more) t ≡ heard accepted t }
 {}
 

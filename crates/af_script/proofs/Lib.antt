@@ -1,4 +1,4 @@
 pub mod LineByLine
-pub mod Stating
-pub mod Printing
-pub mod Playing
+pub mod StatementLemmas
+pub mod PrintLemmas
+pub mod TapeRunLemmas

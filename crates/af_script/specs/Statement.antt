@@ -2,19 +2,20 @@
 use Rattle.std.specs.Prelude.{ℕ, ◌*◌, ◌-◌, ◌^◌, nat_lt, Bool, true, false, List, [], ◌∷◌, length, codes, bytes_eq, Option, Some, None, option_map, option_and_then, if◌then◌else◌}
 use Rattle.af_sample.specs.declared.sample_type.SampleType.{SampleType}
 use Rattle.af_phone.specs.Lines.{is_digit}
+use Rattle.af_phone.specs.declared.line.LineChange.{LineChange}
 use Rattle.af_phone.specs.declared.line.LineChange.TheVariants as change
 use Rattle.af_outside.specs.declared.script.DeviceSpec.{DeviceSpec}
 use Rattle.af_outside.specs.declared.script.Step.{Step}
 use Rattle.af_outside.specs.declared.script.Step.TheVariants as step
-use Rattle.af_outside.specs.Outside.{line_at, width_at}
-use Rattle.af_script.specs.declared.statement.Kind.{Kind}
-use Rattle.af_script.specs.declared.statement.Kind.TheVariants as kind
+use Rattle.af_outside.specs.Outside.{spec_has_line, width_at}
+use Rattle.af_script.specs.declared.statement.LineKind.{LineKind}
+use Rattle.af_script.specs.declared.statement.LineKind.TheVariants as kind
 pub use Rattle.af_text.specs.Sound.{type_of, rate_of}
 use Rattle.af_script.specs.Words.{number_of, number_within, only_if, bytes_within}
 
 -- the kind of a line by its first word
-abbrev pub kind_of : List ℕ → Option Kind
-kind_of name =
+abbrev pub line_kind_of : List ℕ → Option LineKind
+line_kind_of name =
     if bytes_eq name (codes "device") then Some kind.Device
     else if bytes_eq name (codes "open") then Some kind.Open
     else if bytes_eq name (codes "send") then Some kind.Send
@@ -33,12 +34,12 @@ kind_of name =
     else None
 
 -- the kind of a line by all its words
-abbrev pub kind_of_words : List (List ℕ) → Option Kind
+abbrev pub kind_of_words : List (List ℕ) → Option LineKind
 kind_of_words [] = None
-kind_of_words (name ∷ arguments) = kind_of name
+kind_of_words (name ∷ arguments) = line_kind_of name
 
 -- the kind of device lines
-abbrev pub is_device_kind : Option Kind → Bool
+abbrev pub is_device_kind : Option LineKind → Bool
 is_device_kind None = false
 is_device_kind (Some kind.Device) = true
 is_device_kind (Some kind.Open) = false
@@ -79,13 +80,13 @@ device_with (ty ∷ rate ∷ start ∷ line) =
 device_with _ = None
 
 -- the device that a line of this kind states, by the words that follow its name
-abbrev pub device_of_kind : Option Kind → List (List ℕ) → Option DeviceSpec
+abbrev pub device_of_kind : Option LineKind → List (List ℕ) → Option DeviceSpec
 device_of_kind kind arguments = if is_device_kind kind then device_with arguments else None
 
 -- the device that the words of a line state
 abbrev pub device_of : List (List ℕ) → Option DeviceSpec
 device_of [] = None
-device_of (name ∷ arguments) = device_of_kind (kind_of name) arguments
+device_of (name ∷ arguments) = device_of_kind (line_kind_of name) arguments
 
 -- Steps
 
@@ -103,7 +104,7 @@ device_number config word = option_and_then (only_if (λ d. nat_lt d (length con
 
 -- the number of one of these devices that has a line
 abbrev pub line_number : List DeviceSpec → List ℕ → Option ℕ
-line_number config word = option_and_then (only_if (line_at config)) (device_number config word)
+line_number config word = option_and_then (only_if (spec_has_line config)) (device_number config word)
 
 -- a step that names a link alone, by the words that follow its name
 abbrev pub with_link : (ℕ → Step) → List (List ℕ) → Option Step
@@ -132,7 +133,7 @@ abbrev pub room_of : List (List ℕ) → Option Step
 room_of (link ∷ room ∷ []) = option_and_then (λ k. option_map (step.Room k) (room_stated room)) (link_of link)
 room_of _ = None
 
--- what the words that follow `tick D N` state is captured: so many bytes, or nothing
+-- what the words that follow `tick D N` state is captured: n bytes, or nothing
 abbrev pub capture_of : ℕ → List (List ℕ) → Option (Option (List ℕ))
 capture_of size [] = Some None
 capture_of size (hex ∷ []) = option_map Some (bytes_within size size hex)
@@ -156,15 +157,18 @@ abbrev pub digit_of : List ℕ → Option ℕ
 digit_of (code ∷ []) = only_if is_digit code
 digit_of _ = None
 
+-- what `on` or `off` changes on a device's line, by the words that follow its name
+abbrev pub switched : (Bool → LineChange) → List DeviceSpec → List (List ℕ) → Option Step
+switched change config (device ∷ on ∷ []) = option_and_then (λ d. option_map (λ b. step.Line d (change b)) (switch_of on)) (line_number config device)
+switched change config _ = None
+
 -- the step of `ring D on` or `ring D off`
 abbrev pub ring_of : List DeviceSpec → List (List ℕ) → Option Step
-ring_of config (device ∷ on ∷ []) = option_and_then (λ d. option_map (λ b. step.Line d (change.Ring b)) (switch_of on)) (line_number config device)
-ring_of config _ = None
+ring_of config arguments = switched change.Ring config arguments
 
 -- the step of `loop D on` or `loop D off`
 abbrev pub loop_of : List DeviceSpec → List (List ℕ) → Option Step
-loop_of config (device ∷ on ∷ []) = option_and_then (λ d. option_map (λ b. step.Line d (change.Current b)) (switch_of on)) (line_number config device)
-loop_of config _ = None
+loop_of config arguments = switched change.Current config arguments
 
 -- the step of `digit D C`
 abbrev pub dial_of : List DeviceSpec → List (List ℕ) → Option Step
@@ -179,15 +183,18 @@ fail_read_of arguments = with_link step.FailRead arguments
 abbrev pub fail_write_of : List (List ℕ) → Option Step
 fail_write_of arguments = with_link step.FailWrite arguments
 
+-- a step that names a device alone, by the words that follow its name
+abbrev pub with_number : (ℕ → Step) → List DeviceSpec → List (List ℕ) → Option Step
+with_number step config (device ∷ []) = option_map step (device_number config device)
+with_number step config _ = None
+
 -- the step of `failcapture D`
 abbrev pub fail_capture_of : List DeviceSpec → List (List ℕ) → Option Step
-fail_capture_of config (device ∷ []) = option_map step.FailCapture (device_number config device)
-fail_capture_of config _ = None
+fail_capture_of config arguments = with_number step.FailCapture config arguments
 
 -- the step of `failemit D`
 abbrev pub fail_emit_of : List DeviceSpec → List (List ℕ) → Option Step
-fail_emit_of config (device ∷ []) = option_map step.FailEmit (device_number config device)
-fail_emit_of config _ = None
+fail_emit_of config arguments = with_number step.FailEmit config arguments
 
 -- the step of `failhook D`
 abbrev pub fail_hook_of : List DeviceSpec → List (List ℕ) → Option Step
@@ -200,7 +207,7 @@ idle_of [] = Some step.Idle
 idle_of (word ∷ words) = None
 
 -- the step of a line of this kind, by the words that follow its name
-abbrev pub step_of_kind : List DeviceSpec → Option Kind → List (List ℕ) → Option Step
+abbrev pub step_of_kind : List DeviceSpec → Option LineKind → List (List ℕ) → Option Step
 step_of_kind config None arguments = None
 step_of_kind config (Some kind.Device) arguments = None
 step_of_kind config (Some kind.Open) arguments = open_of arguments
@@ -221,4 +228,4 @@ step_of_kind config (Some kind.Idle) arguments = idle_of arguments
 -- the step that the words of a line state, where these are the devices
 abbrev pub step_of : List DeviceSpec → List (List ℕ) → Option Step
 step_of config [] = None
-step_of config (name ∷ arguments) = step_of_kind config (kind_of name) arguments
+step_of config (name ∷ arguments) = step_of_kind config (line_kind_of name) arguments

@@ -2,7 +2,7 @@
 use Rattle.std.specs.Prelude.{ℕ, ◌%◌, ◌^◌, Bool, true, false, List, [], ◌++◌, length, sum, codes, decimal, flat_map, count_by, Option, Some, None, if◌then◌else◌}
 use Rattle.af_outside.specs.declared.happening.Happening.{Happening}
 use Rattle.af_outside.specs.declared.happening.Happening.TheVariants as happening
-use Rattle.af_outside.specs.Told.{Log}
+use Rattle.af_outside.specs.Log.{Log}
 use Rattle.af_script.specs.declared.summary.Tally.{Tally}
 
 -- the bytes that a device took where an emit was done
@@ -30,8 +30,8 @@ abbrev pub emitted : Log → List ℕ
 emitted log = flat_map emitted_by log
 
 -- all bytes that links took, in order
-abbrev pub taken : Log → List ℕ
-taken log = flat_map taken_by log
+abbrev pub bytes_taken : Log → List ℕ
+bytes_taken log = flat_map taken_by log
 
 -- a line of a name and a number
 abbrev pub count_line : List ℕ → ℕ → List ℕ
@@ -40,7 +40,7 @@ count_line name number = name ++ decimal number ++ codes "\n"
 -- what is counted of a log: the bytes of all emits that were done, the bytes that links took, the closes, and the sum of
 -- the emitted bytes modulo 2^64
 abbrev pub tally_of : Log → Tally
-tally_of log = record { emitted = length (emitted log); taken = length (taken log); closed = count_by is_close log; total = sum (emitted log) % 2 ^ 64 }
+tally_of log = record { emitted = length (emitted log); taken = length (bytes_taken log); closed = count_by is_close log; total = sum (emitted log) % 2 ^ 64 }
 
 -- the lines of these counts, with the steps of the script before them
 abbrev pub tally_lines : ℕ → Tally → List ℕ
@@ -48,6 +48,6 @@ tally_lines steps tally =
     count_line (codes "steps ") steps ++ count_line (codes "emitted ") tally.emitted ++ count_line (codes "taken ") tally.taken
     ++ count_line (codes "closed ") tally.closed ++ count_line (codes "sum ") tally.total
 
--- the summary of a log that came of so many steps
+-- the summary of a log that came of n steps
 abbrev pub summary : ℕ → Log → List ℕ
 summary steps log = tally_lines steps (tally_of log)

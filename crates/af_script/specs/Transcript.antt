@@ -7,7 +7,7 @@ use Rattle.af_outside.specs.declared.happening.ReadGot.{ReadGot}
 use Rattle.af_outside.specs.declared.happening.ReadGot.TheVariants as got
 use Rattle.af_outside.specs.declared.happening.Why.{Why}
 use Rattle.af_outside.specs.declared.happening.Why.TheVariants as why
-use Rattle.af_outside.specs.Told.{Log}
+use Rattle.af_outside.specs.Log.{Log}
 
 -- the word for why a link was closed
 abbrev pub cause_word : Why → List ℕ

@@ -1,12 +1,13 @@
 // A log is printed as its transcript, piece by piece.
 ghost use Rattle.std.specs.Prelude.{◌≡◌, ◌≤◌, ◌<◌, length, decimal};
 ghost use Rattle.hex.specs.Hex.{encode_lower};
-ghost use Rattle.af_outside.specs.Told.{Rose};
-ghost use Rattle.af_outside.specs.Flow.{Written};
+ghost use Rattle.af_io.specs.Observed.{CountsFault};
+ghost use Rattle.af_io.specs.Flow.{Written};
 ghost use Rattle.af_script.specs.Transcript.{transcript, line_for, line_of, head_of, read_line, taken_line, cause_word, hook_word};
-ghost use Rattle.af_script.specs.Printing.{Prints, filled};
+ghost use Rattle.af_script.specs.Printing.{Puts};
 
-use af_outside::{Happening, Put, ReadGot, Sink, Why};
+use af_io::{Put, Sink};
+use af_outside::{Happening, ReadGot, Why};
 use itoa::Buffer;
 
 /// How many bytes are written in hexadecimal at once.
@@ -19,8 +20,7 @@ pub(crate) struct Broken;
 /// Prints the transcript of a log. Failed comes only where the sink has failed; then a prefix was written.
 pub fn print_log<K: Sink>(log: &[Happening], sink: &mut K) -> Put
     ensures written { Written result (K.held sink.old) (transcript log.now) (K.held sink.new) }
-    ensures count { K.faults sink.old ≤ K.faults sink.new }
-    ensures cause { result ≡ Put.Failed → Rose (K.faults sink.old) (K.faults sink.new) }
+    ensures faults { CountsFault (result ≡ Put.Failed) (K.faults sink.old) (K.faults sink.new) }
 {
     match print_all(log, sink) {
         Ok(()) => Put::Done,
@@ -30,7 +30,7 @@ pub fn print_log<K: Sink>(log: &[Happening], sink: &mut K) -> Put
 
 /// Prints the lines of these happenings.
 fn print_all<K: Sink>(log: &[Happening], sink: &mut K) -> Result<(), Broken>
-    ensures { Prints result (filled (K.held sink.old) (K.faults sink.old)) (transcript log.now) (filled (K.held sink.new) (K.faults sink.new)) }
+    ensures { Puts K.held K.faults result sink.old (transcript log.now) sink.new }
 {
     for happening in log {
         print_happening(happening, sink)?;
@@ -38,9 +38,9 @@ fn print_all<K: Sink>(log: &[Happening], sink: &mut K) -> Result<(), Broken>
     Ok(())
 }
 
-/// Prints the line of a happening, where it has one.
+/// Prints the line of a happening, if it has one.
 fn print_happening<K: Sink>(happening: &Happening, sink: &mut K) -> Result<(), Broken>
-    ensures { Prints result (filled (K.held sink.old) (K.faults sink.old)) (line_for happening.now) (filled (K.held sink.new) (K.faults sink.new)) }
+    ensures { Puts K.held K.faults result sink.old (line_for happening.now) sink.new }
 {
     match happening {
         Happening::Woke(_) | Happening::Captured { got: Some(_), .. } => Ok(()),
@@ -108,7 +108,7 @@ fn hook_word(off: bool, done: bool) -> &'static [u8]
 
 /// Prints the line of a read of a link, which has one where it failed.
 fn print_read<K: Sink>(link: u8, got: &ReadGot, sink: &mut K) -> Result<(), Broken>
-    ensures { Prints result (filled (K.held sink.old) (K.faults sink.old)) (read_line link got.now) (filled (K.held sink.new) (K.faults sink.new)) }
+    ensures { Puts K.held K.faults result sink.old (read_line link got.now) sink.new }
 {
     match got {
         ReadGot::Given(_) | ReadGot::NotYet | ReadGot::Ended => Ok(()),
@@ -118,7 +118,7 @@ fn print_read<K: Sink>(link: u8, got: &ReadGot, sink: &mut K) -> Result<(), Brok
 
 /// Prints the line of a link that took these bytes, if they are some.
 fn print_taken<K: Sink>(link: u8, bytes: &[u8], sink: &mut K) -> Result<(), Broken>
-    ensures { Prints result (filled (K.held sink.old) (K.faults sink.old)) (taken_line link bytes.now) (filled (K.held sink.new) (K.faults sink.new)) }
+    ensures { Puts K.held K.faults result sink.old (taken_line link bytes.now) sink.new }
 {
     match bytes {
         [] => Ok(()),
@@ -130,7 +130,7 @@ fn print_taken<K: Sink>(link: u8, bytes: &[u8], sink: &mut K) -> Result<(), Brok
 fn print_word<K: Sink>(name: &[u8], number: u8, word: &[u8], sink: &mut K) -> Result<(), Broken>
     requires named { 0 < length name.now }
     requires some { 0 < length word.now }
-    ensures { Prints result (filled (K.held sink.old) (K.faults sink.old)) (line_of name.now number word.now) (filled (K.held sink.new) (K.faults sink.new)) }
+    ensures { Puts K.held K.faults result sink.old (line_of name.now number word.now) sink.new }
 {
     print_head(name, number, sink)?;
     put(word, sink)?;
@@ -140,7 +140,7 @@ fn print_word<K: Sink>(name: &[u8], number: u8, word: &[u8], sink: &mut K) -> Re
 /// Prints a line of a name, a number and bytes in hexadecimal.
 fn print_bytes<K: Sink>(name: &[u8], number: u8, bytes: &[u8], sink: &mut K) -> Result<(), Broken>
     requires { 0 < length name.now }
-    ensures { Prints result (filled (K.held sink.old) (K.faults sink.old)) (line_of name.now number (encode_lower bytes.now)) (filled (K.held sink.new) (K.faults sink.new)) }
+    ensures { Puts K.held K.faults result sink.old (line_of name.now number (encode_lower bytes.now)) sink.new }
 {
     print_head(name, number, sink)?;
     print_hex(bytes, sink)?;
@@ -150,7 +150,7 @@ fn print_bytes<K: Sink>(name: &[u8], number: u8, bytes: &[u8], sink: &mut K) -> 
 /// Prints the beginning of a line: its name, and a number between two spaces.
 fn print_head<K: Sink>(name: &[u8], number: u8, sink: &mut K) -> Result<(), Broken>
     requires { 0 < length name.now }
-    ensures { Prints result (filled (K.held sink.old) (K.faults sink.old)) (head_of name.now number) (filled (K.held sink.new) (K.faults sink.new)) }
+    ensures { Puts K.held K.faults result sink.old (head_of name.now number) sink.new }
 {
     put(name, sink)?;
     put(b" ", sink)?;
@@ -160,7 +160,7 @@ fn print_head<K: Sink>(name: &[u8], number: u8, sink: &mut K) -> Result<(), Brok
 
 /// Prints a number in decimal digits.
 pub(crate) fn print_number<K: Sink>(number: u128, sink: &mut K) -> Result<(), Broken>
-    ensures { Prints result (filled (K.held sink.old) (K.faults sink.old)) (decimal number) (filled (K.held sink.new) (K.faults sink.new)) }
+    ensures { Puts K.held K.faults result sink.old (decimal number) sink.new }
 {
     let mut buffer = Buffer::new();
     put(buffer.format(number).as_bytes(), sink)
@@ -168,7 +168,7 @@ pub(crate) fn print_number<K: Sink>(number: u128, sink: &mut K) -> Result<(), Br
 
 /// Prints bytes in hexadecimal.
 fn print_hex<K: Sink>(bytes: &[u8], sink: &mut K) -> Result<(), Broken>
-    ensures { Prints result (filled (K.held sink.old) (K.faults sink.old)) (encode_lower bytes.now) (filled (K.held sink.new) (K.faults sink.new)) }
+    ensures { Puts K.held K.faults result sink.old (encode_lower bytes.now) sink.new }
 {
     let mut rest = bytes;
     while !rest.is_empty() {
@@ -183,7 +183,7 @@ fn print_hex<K: Sink>(bytes: &[u8], sink: &mut K) -> Result<(), Broken>
 fn print_chunk<K: Sink>(bytes: &[u8], sink: &mut K) -> Result<(), Broken>
     requires some { 0 < length bytes.now }
     requires bound { length bytes.now ≤ 1024 }
-    ensures { Prints result (filled (K.held sink.old) (K.faults sink.old)) (encode_lower bytes.now) (filled (K.held sink.new) (K.faults sink.new)) }
+    ensures { Puts K.held K.faults result sink.old (encode_lower bytes.now) sink.new }
 {
     let mut text = [0u8; 2 * CHUNK];
     let digits = &mut text[..2 * bytes.len()];
@@ -194,7 +194,7 @@ fn print_chunk<K: Sink>(bytes: &[u8], sink: &mut K) -> Result<(), Broken>
 /// Adds a piece to the sink.
 pub(crate) fn put<K: Sink>(piece: &[u8], sink: &mut K) -> Result<(), Broken>
     requires { 0 < length piece.now }
-    ensures { Prints result (filled (K.held sink.old) (K.faults sink.old)) piece.now (filled (K.held sink.new) (K.faults sink.new)) }
+    ensures { Puts K.held K.faults result sink.old piece.now sink.new }
 {
     match sink.write(piece) {
         Put::Done => Ok(()),

@@ -3,18 +3,19 @@ ghost use Rattle.std.specs.Prelude.{◌≡◌, ◌≤◌, ◌&&◌, ◌⊎◌, �
 ghost use Rattle.af_sample.specs.Rates.{IsListedRate};
 ghost use Rattle.af_outside.specs.Outside.{IsStep};
 ghost use Rattle.af_script.specs.Lines.{words};
-ghost use Rattle.af_script.specs.Script.{script_of, IsFault};
+ghost use Rattle.af_script.specs.Script.{script_of, IsScriptFault};
 ghost use Rattle.af_script.specs.Words.{then_some};
 ghost use Rattle.af_script.specs.Statement.{is_device_kind, device_with, step_of_kind};
 ghost use Rattle.af_script.specs.Reading.{with_line, can_take_device};
 
-use crate::statement::{Kind, device_stated, kind_named, step_stated};
+use crate::statement::{LineKind, device_stated, kind_named, step_stated};
 use crate::{ScriptFault, Steps};
 use af_outside::{Config, DeviceSpec, Step};
-use af_text::{next_line, next_word, passes_over};
+use af_text::{ByLine, LineFault, next_word, passes_over, read_lines};
 use af_time::OutOfMemory;
 use arrayvec::ArrayVec;
 use std::alloc::Global;
+use std::marker::Model;
 
 /// How many devices a script may have.
 const MOST_DEVICES: usize = 8;
@@ -26,38 +27,64 @@ pub struct Script {
     pub steps: Steps,
 }
 
-/// Reads the script that a text is. Where the text is none, the fault has the number of its first line that is not
+/// Reads the script that a text is. If the text is none, the fault has the number of its first line that is not
 /// allowed where it stands; want of memory can come in the place of any answer. The text has at most 1048576 bytes.
 pub fn read_script(alloc: Global, text: &[u8]) -> Result<Script, ScriptFault>
     requires { length text.now ≤ 1048576 }
     ensures script { IfOk result (λ s. script_of text.now ≡ Ok (record { config = s.config.items; steps = s.steps })) }
-    ensures fault { IfErr result (λ e. IsFault text.now e) }
-    ensures found { (n : ℕ) → script_of text.now ≡ Err n → (result ≡ Err (ScriptFault.Line n)) ⊎ (result ≡ Err ScriptFault.OutOfMemory) }
+    ensures fault { IfErr result (λ e. IsScriptFault text.now e) }
+    ensures found { (n : ℕ) → script_of text.now ≡ Err n →
+        (result ≡ Err (ScriptFault.Line n)) ⊎ (result ≡ Err ScriptFault.OutOfMemory) }
     ensures devices { IfOk result (λ s. (1 ≤ length s.config.items) × (length s.config.items ≤ 8)) }
     ensures rates { IfOk result (λ s. All (λ device. IsListedRate device.rate) s.config.items) }
     ensures steps { IfOk result (λ s. All (IsStep s.config.items) s.steps) }
 {
-    let mut config = ArrayVec::new();
-    let mut steps = Vec::new(alloc);
-    let mut number = 1u32;
-    let mut rest = text;
-    while !rest.is_empty() {
-        let (line, behind) = next_line(rest);
-        match add_line(alloc, line, &mut config, &mut steps) {
-            Ok(true) => {}
-            Ok(false) => return Err(ScriptFault::Line(number)),
-            Err(OutOfMemory) => return Err(ScriptFault::OutOfMemory),
-        }
-        number += 1;
-        rest = behind;
+    let mut draft = Draft {
+        config: ArrayVec::new(),
+        steps: Vec::new(alloc),
+    };
+    match read_lines(alloc, text, &mut draft) {
+        Ok(()) => Ok(Script {
+            config: draft.config,
+            steps: Steps::of(draft.steps),
+        }),
+        Err(LineFault::Line(line)) => Err(ScriptFault::Line(line)),
+        Err(LineFault::OutOfMemory) => Err(ScriptFault::OutOfMemory),
     }
-    if config.is_empty() {
-        return Err(ScriptFault::Line(number));
+}
+
+/// What is read of a script so far.
+#[derive(Drop)]
+struct Draft {
+    config: Config,
+    steps: Vec<Step>,
+}
+
+impl Model for Draft {
+    ghost use Rattle.af_script.specs.Script.{StatedScript};
+
+    ghost Value = { StatedScript };
+
+    ghost view = { λ d. record { config = d.config.items; steps = d.steps.items } };
+}
+
+impl ByLine for Draft {
+    ghost use Rattle.std.specs.Prelude.{⊤};
+    ghost use Rattle.af_script.specs.Reading.{with_line, wants_device};
+
+    ghost with_line = { with_line };
+
+    ghost wants = { wants_device };
+
+    ghost keeps = { λ _. ⊤ };
+
+    fn add_line(&mut self, alloc: Global, line: &[u8]) -> Result<bool, OutOfMemory> {
+        add_line(alloc, line, &mut self.config, &mut self.steps)
     }
-    Ok(Script {
-        config,
-        steps: Steps::of(steps),
-    })
+
+    fn is_wanting(&self) -> bool {
+        self.config.is_empty()
+    }
 }
 
 /// Adds what a line states, and says whether the line was allowed there.
@@ -89,16 +116,17 @@ fn add_line(
 }
 
 /// Whether a line of this kind states a further device.
-fn is_further_device(kind: Kind, config: &Config, steps: &[Step]) -> bool
+fn is_further_device(kind: LineKind, config: &Config, steps: &[Step]) -> bool
     ensures { result ≡ (can_take_device (record { config = config.now.items; steps = steps.now }) && is_device_kind (Some kind)) }
 {
-    kind == Kind::Device && steps.is_empty() && config.len() < MOST_DEVICES
+    kind == LineKind::Device && steps.is_empty() && config.len() < MOST_DEVICES
 }
 
 /// Adds the device that the words behind `device` state, and says whether they state one.
 fn add_device(arguments: &[u8], config: &mut Config) -> bool
     requires { length config.old.items < 8 }
-    ensures { option_map (λ device. config.old.items ++ device ∷ []) (device_with (words arguments.now)) ≡ then_some result config.new.items }
+    ensures { option_map (λ device. config.old.items ++ device ∷ []) (device_with (words arguments.now))
+        ≡ then_some result config.new.items }
 {
     match device_stated(arguments) {
         Some(device) => {
@@ -113,13 +141,13 @@ fn add_device(arguments: &[u8], config: &mut Config) -> bool
 fn add_step(
     alloc: Global,
     config: &[DeviceSpec],
-    kind: Kind,
+    kind: LineKind,
     arguments: &[u8],
     steps: &mut Vec<Step>,
 ) -> Result<bool, OutOfMemory>
     requires { length config.now ≤ 8 }
-    ensures { IfOk result (λ allowed. option_map (λ step. steps.old.items ++ step ∷ []) (step_of_kind config.now (Some kind) (words arguments.now))
-        ≡ then_some allowed steps.new.items) }
+    ensures { IfOk result (λ allowed. option_map (λ step. steps.old.items ++ step ∷ [])
+        (step_of_kind config.now (Some kind) (words arguments.now)) ≡ then_some allowed steps.new.items) }
 {
     match step_stated(alloc, config, kind, arguments)? {
         Some(step) => {

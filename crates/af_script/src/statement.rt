@@ -1,11 +1,12 @@
 // What a line states: a device, or a step.
 ghost use Rattle.std.specs.Prelude.{◌≡◌, ◌≤◌, IfOk, length};
-ghost use Rattle.af_outside.specs.Outside.{line_at, width_at};
+ghost use Rattle.af_outside.specs.Outside.{spec_has_line, width_at};
 ghost use Rattle.af_script.specs.Lines.{words};
 ghost use Rattle.af_script.specs.Words.{bytes_within};
-ghost use Rattle.af_script.specs.Statement.{kind_of, line_stated, device_with, device_number, line_number, link_of, switch_of, digit_of, open_of, send_of, end_of, room_stated, room_of, capture_of, tick_of, ring_of, loop_of, dial_of, fail_read_of, fail_write_of, fail_capture_of, fail_emit_of, fail_hook_of, idle_of, step_of_kind};
+ghost use Rattle.af_script.specs.Statement.{line_kind_of, line_stated, device_with, device_number, line_number, link_of, switch_of, digit_of, open_of, send_of, end_of, room_stated, room_of, capture_of, tick_of, ring_of, loop_of, dial_of, fail_read_of, fail_write_of, fail_capture_of, fail_emit_of, fail_hook_of, idle_of, step_of_kind};
 
-use af_outside::{Bytes, DeviceSpec, Step};
+use af_io::Bytes;
+use af_outside::{DeviceSpec, Step};
 use af_phone::{LineChange, is_digit};
 use af_text::{
     is_word, listed_rate, next_word, number, number_between, one_word, sample_type, two_words,
@@ -19,7 +20,7 @@ const LAST_LINK: u32 = 31;
 
 /// What the first word of a line says that the line is.
 #[derive(Clone, Copy, Debug, PartialEq, Eq)]
-pub enum Kind {
+pub enum LineKind {
     Device,
     Open,
     Send,
@@ -38,39 +39,39 @@ pub enum Kind {
 }
 
 /// The kind of a line by its first word.
-pub fn kind_named(name: &[u8]) -> Option<Kind>
-    ensures { result ≡ kind_of name.now }
+pub fn kind_named(name: &[u8]) -> Option<LineKind>
+    ensures { result ≡ line_kind_of name.now }
 {
     if is_word(name, b"device") {
-        Some(Kind::Device)
+        Some(LineKind::Device)
     } else if is_word(name, b"open") {
-        Some(Kind::Open)
+        Some(LineKind::Open)
     } else if is_word(name, b"send") {
-        Some(Kind::Send)
+        Some(LineKind::Send)
     } else if is_word(name, b"end") {
-        Some(Kind::End)
+        Some(LineKind::End)
     } else if is_word(name, b"room") {
-        Some(Kind::Room)
+        Some(LineKind::Room)
     } else if is_word(name, b"tick") {
-        Some(Kind::Tick)
+        Some(LineKind::Tick)
     } else if is_word(name, b"ring") {
-        Some(Kind::Ring)
+        Some(LineKind::Ring)
     } else if is_word(name, b"loop") {
-        Some(Kind::Loop)
+        Some(LineKind::Loop)
     } else if is_word(name, b"digit") {
-        Some(Kind::Digit)
+        Some(LineKind::Digit)
     } else if is_word(name, b"failread") {
-        Some(Kind::FailRead)
+        Some(LineKind::FailRead)
     } else if is_word(name, b"failwrite") {
-        Some(Kind::FailWrite)
+        Some(LineKind::FailWrite)
     } else if is_word(name, b"failcapture") {
-        Some(Kind::FailCapture)
+        Some(LineKind::FailCapture)
     } else if is_word(name, b"failemit") {
-        Some(Kind::FailEmit)
+        Some(LineKind::FailEmit)
     } else if is_word(name, b"failhook") {
-        Some(Kind::FailHook)
+        Some(LineKind::FailHook)
     } else if is_word(name, b"idle") {
-        Some(Kind::Idle)
+        Some(LineKind::Idle)
     } else {
         None
     }
@@ -145,7 +146,7 @@ fn line(config: &[DeviceSpec], word: &[u8]) -> Option<u8>
 
 /// Whether a device has a line.
 fn has_line(config: &[DeviceSpec], device: u8) -> bool
-    ensures { result ≡ line_at config.now device }
+    ensures { result ≡ spec_has_line config.now device }
 {
     match config.get(device as usize) {
         Some(device) => device.line,
@@ -190,6 +191,9 @@ fn open(arguments: &[u8]) -> Option<Step>
     Some(Step::Open(link))
 }
 
+/// The most bytes of one `send`: as many as one read of a link may take.
+const LONGEST_SEND: usize = 16384;
+
 /// `send K HEX`
 fn send(alloc: Global, arguments: &[u8]) -> Result<Option<Step>, OutOfMemory>
     ensures { IfOk result (λ step. step ≡ send_of (words arguments.now)) }
@@ -200,7 +204,7 @@ fn send(alloc: Global, arguments: &[u8]) -> Result<Option<Step>, OutOfMemory>
     let Some(link) = link(first) else {
         return Ok(None);
     };
-    Ok(bytes_between(alloc, 1, 16384, second)?.map(|bytes| Step::Send(link, bytes)))
+    Ok(bytes_between(alloc, 1, LONGEST_SEND, second)?.map(|bytes| Step::Send(link, bytes)))
 }
 
 /// `end K`
@@ -232,7 +236,7 @@ fn room(arguments: &[u8]) -> Option<Step>
     Some(Step::Room(link, room))
 }
 
-/// What the words behind `tick D N` state is captured: so many bytes, or with no words nothing, which is Some(None).
+/// What the words behind `tick D N` state is captured: n bytes, or with no words nothing, which is Some(None).
 fn capture(
     alloc: Global,
     size: usize,
@@ -383,27 +387,27 @@ fn idle(arguments: &[u8]) -> Option<Step>
 pub fn step_stated(
     alloc: Global,
     config: &[DeviceSpec],
-    kind: Kind,
+    kind: LineKind,
     arguments: &[u8],
 ) -> Result<Option<Step>, OutOfMemory>
     requires { length config.now ≤ 8 }
     ensures { IfOk result (λ step. step ≡ step_of_kind config.now (Some kind) (words arguments.now)) }
 {
     match kind {
-        Kind::Device => Ok(None),
-        Kind::Open => Ok(open(arguments)),
-        Kind::Send => send(alloc, arguments),
-        Kind::End => Ok(end(arguments)),
-        Kind::Room => Ok(room(arguments)),
-        Kind::Tick => tick(alloc, config, arguments),
-        Kind::Ring => Ok(ring(config, arguments)),
-        Kind::Loop => Ok(current(config, arguments)),
-        Kind::Digit => Ok(dial(config, arguments)),
-        Kind::FailRead => Ok(fail_read(arguments)),
-        Kind::FailWrite => Ok(fail_write(arguments)),
-        Kind::FailCapture => Ok(fail_capture(config, arguments)),
-        Kind::FailEmit => Ok(fail_emit(config, arguments)),
-        Kind::FailHook => Ok(fail_hook(config, arguments)),
-        Kind::Idle => Ok(idle(arguments)),
+        LineKind::Device => Ok(None),
+        LineKind::Open => Ok(open(arguments)),
+        LineKind::Send => send(alloc, arguments),
+        LineKind::End => Ok(end(arguments)),
+        LineKind::Room => Ok(room(arguments)),
+        LineKind::Tick => tick(alloc, config, arguments),
+        LineKind::Ring => Ok(ring(config, arguments)),
+        LineKind::Loop => Ok(current(config, arguments)),
+        LineKind::Digit => Ok(dial(config, arguments)),
+        LineKind::FailRead => Ok(fail_read(arguments)),
+        LineKind::FailWrite => Ok(fail_write(arguments)),
+        LineKind::FailCapture => Ok(fail_capture(config, arguments)),
+        LineKind::FailEmit => Ok(fail_emit(config, arguments)),
+        LineKind::FailHook => Ok(fail_hook(config, arguments)),
+        LineKind::Idle => Ok(idle(arguments)),
     }
 }

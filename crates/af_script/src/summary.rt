@@ -1,12 +1,13 @@
 // A log is counted, and the counts are printed.
 ghost use Rattle.std.specs.Prelude.{◌≡◌, ◌≤◌, ◌<◌, ◌+◌, ◌%◌, ◌^◌, length, sum, count_by};
-ghost use Rattle.af_outside.specs.Told.{Rose};
-ghost use Rattle.af_outside.specs.Flow.{Written};
-ghost use Rattle.af_script.specs.Printing.{Prints, filled};
-ghost use Rattle.af_script.specs.Summary.{summary, tally_of, tally_lines, count_line, emitted, emitted_by, taken, taken_by, is_close};
+ghost use Rattle.af_io.specs.Observed.{CountsFault};
+ghost use Rattle.af_io.specs.Flow.{Written};
+ghost use Rattle.af_script.specs.Printing.{Puts};
+ghost use Rattle.af_script.specs.Summary.{summary, tally_of, tally_lines, count_line, emitted, emitted_by, bytes_taken, taken_by, is_close};
 
 use crate::print::{Broken, print_number, put};
-use af_outside::{Happening, Put, Sink};
+use af_io::{Put, Sink};
+use af_outside::Happening;
 
 /// What is counted of a log.
 #[derive(Clone, Copy, Debug)]
@@ -21,12 +22,11 @@ struct Tally {
     total: u64,
 }
 
-/// Prints the summary of a log, which came of so many steps. Failed comes only where the sink has failed; then a prefix was
+/// Prints the summary of a log, which came of n steps. Failed comes only where the sink has failed; then a prefix was
 /// written.
 pub fn print_summary<K: Sink>(log: &[Happening], steps: u32, sink: &mut K) -> Put
     ensures written { Written result (K.held sink.old) (summary steps log.now) (K.held sink.new) }
-    ensures count { K.faults sink.old ≤ K.faults sink.new }
-    ensures cause { result ≡ Put.Failed → Rose (K.faults sink.old) (K.faults sink.new) }
+    ensures faults { CountsFault (result ≡ Put.Failed) (K.faults sink.old) (K.faults sink.new) }
 {
     match print_tally(steps, &count(log), sink) {
         Ok(()) => Put::Done,
@@ -36,7 +36,7 @@ pub fn print_summary<K: Sink>(log: &[Happening], steps: u32, sink: &mut K) -> Pu
 
 /// Prints the five lines.
 fn print_tally<K: Sink>(steps: u32, tally: &Tally, sink: &mut K) -> Result<(), Broken>
-    ensures { Prints result (filled (K.held sink.old) (K.faults sink.old)) (tally_lines steps tally.now) (filled (K.held sink.new) (K.faults sink.new)) }
+    ensures { Puts K.held K.faults result sink.old (tally_lines steps tally.now) sink.new }
 {
     print_count(b"steps ", steps as u128, sink)?;
     print_count(b"emitted ", tally.emitted, sink)?;
@@ -48,7 +48,7 @@ fn print_tally<K: Sink>(steps: u32, tally: &Tally, sink: &mut K) -> Result<(), B
 /// Prints a line of a name and a number.
 fn print_count<K: Sink>(name: &[u8], number: u128, sink: &mut K) -> Result<(), Broken>
     requires { 0 < length name.now }
-    ensures { Prints result (filled (K.held sink.old) (K.faults sink.old)) (count_line name.now number) (filled (K.held sink.new) (K.faults sink.new)) }
+    ensures { Puts K.held K.faults result sink.old (count_line name.now number) sink.new }
 {
     put(name, sink)?;
     print_number(number, sink)?;
@@ -107,7 +107,7 @@ fn emitted_length(log: &[Happening]) -> u128
 
 /// How many bytes links took.
 fn taken_length(log: &[Happening]) -> u128
-    ensures { result ≡ length (taken log.now) }
+    ensures { result ≡ length (bytes_taken log.now) }
 {
     let mut count = 0u128;
     for happening in log {

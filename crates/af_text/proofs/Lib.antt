@@ -1,2 +1,3 @@
-pub mod Splitting
-pub mod Cutting
+pub mod LineSplitLemmas
+pub mod WordCutLemmas
+pub mod LineByLine

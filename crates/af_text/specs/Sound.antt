@@ -14,6 +14,6 @@ type_of word =
     else if bytes_eq word (codes "lin32") then Some Lin32
     else None
 
--- the rate of a word, where it is listed
+-- the rate of a word, if it is listed
 abbrev pub rate_of : List ℕ → Option ℕ
 rate_of word = option_and_then (only_if is_listed_rate) (number_of word)

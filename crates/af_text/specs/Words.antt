@@ -3,11 +3,11 @@ use Rattle.std.specs.Prelude.{ℕ, nat_le, ◌&&◌, Bool, List, length, Option,
 use Rattle.std.specs.Str.{all_ascii_digits}
 use Rattle.std.specs.Str.Parse.{digits_value}
 
--- a value, where it is there
+-- a value, if it is there
 abbrev pub then_some : {A : Type 0} → Bool → A → Option A
 then_some is_there x = if is_there then Some x else None
 
--- a value, where the test holds of it
+-- a value, if the test holds of it
 abbrev pub only_if : {A : Type 0} → (A → Bool) → A → Option A
 only_if test x = then_some (test x) x
 

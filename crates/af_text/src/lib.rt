@@ -4,8 +4,10 @@
 
 mod lines;
 mod numbers;
+mod reading;
 mod sound;
 
 pub use lines::{is_word, next_line, next_word, one_word, passes_over, two_words};
 pub use numbers::{long_number_between, number, number_between};
+pub use reading::{ByLine, LineFault, read_lines};
 pub use sound::{listed_rate, sample_type};

@@ -66,7 +66,8 @@ pub fn one_word(line: &[u8]) -> Option<&[u8]>
 
 /// The words of a line that has just two. Of a text both are texts.
 pub fn two_words(line: &[u8]) -> Option<(&[u8], &[u8])>
-    ensures split { MatchOption result ((v w : List ℕ) → words line.now ≢ v ∷ w ∷ []) (λ p. words line.now ≡ p.0.now ∷ p.1.now ∷ []) }
+    ensures split { MatchOption result ((v w : List ℕ) → words line.now ≢ v ∷ w ∷ [])
+        (λ p. words line.now ≡ p.0.now ∷ p.1.now ∷ []) }
     ensures text { IsUtf8 line.now → IfSome result (λ p. IsUtf8 p.0.now × IsUtf8 p.1.now) }
 {
     let (first, rest) = next_word(line)?;

@@ -2,7 +2,7 @@
 ghost use Rattle.std.specs.Prelude.{◌≡◌, ◌≤◌, ◌<◌, ◌^◌, IfSome};
 ghost use Rattle.af_text.specs.Words.{number_of, number_up_to, number_within, long_number_of, long_number_within};
 
-// The number of a word of 1 to so many decimal digits.
+// The number of a word of 1 to n decimal digits.
 fn number_up_to(most: usize, word: &[u8]) -> Option<u128>
     requires { most ≤ 20 }
     ensures value { result ≡ number_up_to most word.now }

@@ -23,7 +23,7 @@ pub fn sample_type(word: &[u8]) -> Option<SampleType>
     }
 }
 
-/// The rate of a word, in frames a second, where it is one that a device can have.
+/// The rate of a word, in frames a second, if it is one that a device can have.
 pub fn listed_rate(word: &[u8]) -> Option<u32>
     ensures value { result ≡ rate_of word.now }
     ensures listed { IfSome result IsListedRate }

@@ -1,1 +1,1 @@
-pub mod WholeTimes
+pub mod WholeTimeLemmas

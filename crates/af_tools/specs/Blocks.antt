@@ -4,7 +4,7 @@ use Rattle.af_sample.specs.declared.sample_type.SampleType.{SampleType}
 use Rattle.af_sample.specs.SampleTypes.{width_of}
 use Rattle.af_sample.specs.Samples.{samples}
 use Rattle.af_sample.specs.Gains.{gained}
-use Rattle.af_sample.specs.Heard.{covers, heard, Entry}
+use Rattle.af_sample.specs.Heard.{covers, heard, AcceptedPlay}
 use Rattle.af_tools.specs.Play.{blocks, frames_in, whole_frames}
 
 -- a block that is sent: how many frames were sent before it, and its bytes
@@ -12,7 +12,7 @@ pub record Block : Type 0 where
   pub before : ℕ
   pub bytes : List ℕ
 
--- the blocks with a whole frame, behind so many frames, up to the first without one
+-- the blocks with a whole frame, behind n frames, up to the first without one
 abbrev pub sent_behind : ℕ → ℕ → List (List ℕ) → List Block
 sent_behind width before [] = []
 sent_behind width before (block ∷ more) =
@@ -20,7 +20,7 @@ sent_behind width before (block ∷ more) =
     then (record { before = before; bytes = whole_frames width block }) ∷ sent_behind width (before + frames_in width block) more
     else []
 
--- the blocks that are sent of a source's bytes, each of so many frames but for the last
+-- the blocks that are sent of a source's bytes, each of n frames but for the last
 abbrev pub sent_blocks : SampleType → ℕ → List ℕ → List Block
 sent_blocks ty frames bytes = sent_behind (width_of ty) 0 (blocks (frames * width_of ty) bytes)
 
@@ -29,19 +29,19 @@ abbrev pub gained_samples : SampleType → ℤ → List ℕ → List ℤ
 gained_samples ty gain bytes = map (λ x. gained x gain) (samples ty bytes)
 
 -- an entry is that of a block, where the first frame of all is played at this time: it was accepted by its start
-pub record IsEntryOf (ty : SampleType) (gain : ℤ) (start : ℕ) (block : Block) (entry : Entry) : Type 0 where
+pub record IsEntryOf (ty : SampleType) (gain : ℤ) (start : ℕ) (block : Block) (entry : AcceptedPlay) : Type 0 where
   pub at_its_time : entry.start ≡ start + block.before
   pub its_samples : entry.samples ≡ gained_samples ty gain block.bytes
   pub in_time : entry.at ≤ entry.start
 
 -- Each block has an entry in an accepted list, at a place of its own, and no entry at another place covers a time of the frames.
-pub record AreAccepted (ty : SampleType) (gain : ℤ) (start frames : ℕ) (sent : List Block) (accepted : List Entry) : Type 0 where
+pub record AreAccepted (ty : SampleType) (gain : ℤ) (start frames : ℕ) (sent : List Block) (accepted : List AcceptedPlay) : Type 0 where
   pub place : ℕ → ℕ
-  pub each : (k : ℕ) (block : Block) → slice_get sent k ≡ Some block → (entry : Entry) × (slice_get accepted (place k) ≡ Some entry) × IsEntryOf ty gain start block entry
-  pub no_other : (j i : ℕ) (entry : Entry) → slice_get accepted j ≡ Some entry → i < frames → covers entry (start + i) ≡ true → (k : ℕ) × (k < length sent) × (j ≡ place k)
+  pub each : (k : ℕ) (block : Block) → slice_get sent k ≡ Some block → (entry : AcceptedPlay) × (slice_get accepted (place k) ≡ Some entry) × IsEntryOf ty gain start block entry
+  pub no_other : (j i : ℕ) (entry : AcceptedPlay) → slice_get accepted j ≡ Some entry → i < frames → covers entry (start + i) ≡ true → (k : ℕ) × (k < length sent) × (j ≡ place k)
 
 -- Where the blocks of a source's bytes are accepted, what is heard is the samples of its whole frames.
 abbrev pub HeardAsIntended : Type 0
-HeardAsIntended = (ty : SampleType) (gain : ℤ) (block : ℕ) (bytes : List ℕ) (start : ℕ) (accepted : List Entry) → 0 < block →
+HeardAsIntended = (ty : SampleType) (gain : ℤ) (block : ℕ) (bytes : List ℕ) (start : ℕ) (accepted : List AcceptedPlay) → 0 < block →
     AreAccepted ty gain start (length bytes / width_of ty) (sent_blocks ty block bytes) accepted →
     (i : ℕ) → i < length bytes / width_of ty → heard accepted (start + i) ≡ slice_index_or (gained_samples ty gain bytes) i (pos 0)

@@ -7,14 +7,14 @@ use Rattle.af_time.specs.DeviceTime.{frames_lasting}
 use Rattle.af_time.specs.declared.DevTime.{DevTime}
 use Rattle.af_sample.specs.declared.sample_type.SampleType.{SampleType}
 use Rattle.af_sample.specs.SampleTypes.{width_of}
-use Rattle.af_sample.specs.Heard.{heard, Entry}
-use Rattle.af_outside.specs.Told.{Grew}
+use Rattle.af_sample.specs.Heard.{heard, AcceptedPlay}
+use Rattle.af_io.specs.Observed.{Appended}
 use Rattle.af_request.specs.declared.reply.DeviceInfo.{DeviceInfo}
 use Rattle.af_request.specs.Asked.{free_ac, get_time, play_run}
 use Rattle.af_request.specs.Requests.{request_bytes}
 use Rattle.af_lib.specs.Calls.{as_time}
-use Rattle.af_jobs.specs.declared.job.PlayJob.{PlayJob}
-use Rattle.af_course.specs.Course.{Wire, answer_on, behind}
+use Rattle.af_options.specs.declared.job.PlayJob.{PlayJob}
+use Rattle.af_tool.specs.Trace.{ClientState, answer_on, after_reply}
 use Rattle.af_tools.specs.Play.{play_context, played, start_at}
 use Rattle.af_tools.specs.Blocks.{gained_samples, sent_blocks, AreAccepted, Block}
 
@@ -35,15 +35,15 @@ played_whole job device bytes start =
 -- A job is done on the device, from a start on, which is stated or follows the time that the device told, and which is written
 -- behind the number of the source's whole frames. Where a device accepts the blocks from a whole time on that is this start modulo
 -- 2^32, it plays the samples of the source.
-pub record IsPlayed (job : PlayJob) (devices : List DeviceInfo) (bytes : List ℕ) (w : Wire) (sent sent' held held' : Option (List ℕ)) : Type 0 where
+pub record IsPlayed (job : PlayJob) (devices : List DeviceInfo) (bytes : List ℕ) (w : ClientState) (sent sent' held held' : Option (List ℕ)) : Type 0 where
   pub device : DeviceInfo
   pub is_there : slice_get devices job.device ≡ Some device
   pub now : DevTime
-  pub told : answer_on (get_time job.device) as_time (behind w) ≡ Ok now
+  pub told : answer_on (get_time job.device) as_time (after_reply w) ≡ Ok now
   pub start : ℕ
   pub starts : start ≡ start_at job.time now.0 (frames_lasting device.rate job.lead)
-  pub link : Grew sent (played_whole job device bytes start) sent'
-  pub sink : Grew held (played (length bytes / width_of (type_on job device)) start) held'
-  pub hears : (whole : ℕ) (accepted : List Entry) → whole % 2 ^ 32 ≡ start →
+  pub link : Appended sent (played_whole job device bytes start) sent'
+  pub sink : Appended held (played (length bytes / width_of (type_on job device)) start) held'
+  pub hears : (whole : ℕ) (accepted : List AcceptedPlay) → whole % 2 ^ 32 ≡ start →
       AreAccepted (type_on job device) job.gain whole (length bytes / width_of (type_on job device)) (sent_blocks (type_on job device) job.block bytes) accepted →
       (i : ℕ) → i < length bytes / width_of (type_on job device) → heard accepted (whole + i) ≡ slice_index_or (gained_samples (type_on job device) job.gain bytes) i (pos 0)

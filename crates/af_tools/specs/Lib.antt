@@ -5,5 +5,7 @@ pub mod Record
 pub mod Set
 pub mod Ways
 pub mod Fill
+pub mod Reading
+pub mod Ran
 pub mod Dialled
 pub mod Run

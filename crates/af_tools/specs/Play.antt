@@ -8,14 +8,14 @@ use Rattle.af_request.specs.declared.reply.DeviceInfo.{DeviceInfo}
 use Rattle.af_request.specs.Asked.{Asked, create_ac, free_ac, play_run}
 use Rattle.af_request.specs.Fields.{flag_byte}
 use Rattle.af_lib.specs.Calls.{as_done, as_time}
-use Rattle.af_jobs.specs.declared.job.PlayJob.{PlayJob}
-use Rattle.af_course.specs.Course.{Course, Wire, asks, begins, done, ends, too_long, with_device, writing}
+use Rattle.af_options.specs.declared.job.PlayJob.{PlayJob}
+use Rattle.af_tool.specs.Trace.{Trace, ClientState, asks, begins, done, ends, too_long, with_job_device, writing}
 
 -- how many bytes a source may give
 abbrev pub most_bytes : ℕ
 most_bytes = 2 ^ 40
 
--- a list cut into blocks of so many bytes, the last of what is left
+-- a list cut into blocks of n bytes, the last of what is left
 abbrev pub cut : ℕ → ℕ → List ℕ → List (List ℕ)
 cut zero size bytes = []
 cut (suc n) size [] = []
@@ -24,16 +24,16 @@ cut (suc n) size (b ∷ bytes) = take size (b ∷ bytes) ∷ cut n size (drop si
 unfoldable pub blocks : ℕ → List ℕ → List (List ℕ)
 blocks size bytes = cut (length bytes) size bytes
 
--- how many frames of so many bytes a block has, and the bytes of these
+-- how many frames of n bytes a block has, and the bytes of these
 abbrev pub frames_in : ℕ → List ℕ → ℕ
 frames_in width block = length block / width
 
 abbrev pub whole_frames : ℕ → List ℕ → List ℕ
 whole_frames width block = take (frames_in width block * width) block
 
--- Each block is played behind those before it: so many frames after the start. What follows is told how many frames there
--- were in all. A block without a whole frame is not sent, and where the source has given too much the tool ends.
-unfoldable pub plays : (width start sent given : ℕ) → List (List ℕ) → Wire → (ℕ → Wire → Course) → Course
+-- Each block is played behind those before it: n frames after the start. What follows is told how many frames there
+-- were in all. A block without a whole frame is not sent, and if the source has given too much the tool ends.
+unfoldable pub plays : (width start sent given : ℕ) → List (List ℕ) → ClientState → (ℕ → ClientState → Trace) → Trace
 plays width start sent given [] w next = next sent w
 plays width start sent given (block ∷ more) w next =
     if nat_lt most_bytes (given + length block) then ends too_long
@@ -41,12 +41,12 @@ plays width start sent given (block ∷ more) w next =
     (λ _ v. plays width start (sent + frames_in width block) (given + length block) more v next)
     else next sent w
 
--- the start, where it is stated, or else so many frames after the device's time
+-- the start, if it is stated, or else n frames after the device's time
 abbrev pub start_at : Option ℕ → ℕ → ℕ → ℕ
 start_at (Some time) now lead = time
 start_at None now lead = (now + lead) % 2 ^ 32
 
--- what aplay writes of so many frames from a start
+-- what aplay writes of n frames from a start
 unfoldable pub played : ℕ → ℕ → List ℕ
 played sent start = codes "played " ++ decimal sent ++ codes " at " ++ decimal start ++ codes "\n"
 
@@ -56,7 +56,7 @@ play_context job device = create_ac job.device 1 (code_of (unwrap_or job.ty devi
 
 -- a context is made and the device's time asked, the blocks are played, and the context is freed; what follows is told how
 -- many frames these were, and from when on
-unfoldable pub played_on : PlayJob → DeviceInfo → List ℕ → Wire → (ℕ → ℕ → Wire → Course) → Course
+unfoldable pub played_on : PlayJob → DeviceInfo → List ℕ → ClientState → (ℕ → ℕ → ClientState → Trace) → Trace
 played_on job device bytes w next =
     let width = width_of (unwrap_or job.ty device.ty) in
     begins (play_context job device) job.device w (λ now w.
@@ -64,15 +64,15 @@ played_on job device bytes w next =
     plays width start 0 0 (blocks (job.block * width) bytes) w (λ frames w.
     asks (free_ac 1) as_done w (λ _ w. next frames start w)))
 
--- the course of aplay, by the devices of the server, the bytes of the source, and what the link gives: it plays all, and then
+-- the trace of aplay, by the devices of the server, the bytes of the source, and what the link gives: it plays all, and then
 -- writes how much from when on
-unfoldable pub aplay_course : PlayJob → List DeviceInfo → List ℕ → Wire → Course
-aplay_course job devices bytes w = with_device job.device devices (λ device.
+unfoldable pub aplay_trace : PlayJob → List DeviceInfo → List ℕ → ClientState → Trace
+aplay_trace job devices bytes w = with_job_device job.device devices (λ device.
     played_on job device bytes w (λ frames start _. writing (played frames start) (ends done)))
 
 -- what aplay sends, what it writes, and how it ends
-abbrev pub aplay_sends : PlayJob → List DeviceInfo → List ℕ → Wire → List ℕ
-aplay_sends job devices bytes w = (aplay_course job devices bytes w).sends
+abbrev pub aplay_sends : PlayJob → List DeviceInfo → List ℕ → ClientState → List ℕ
+aplay_sends job devices bytes w = (aplay_trace job devices bytes w).sends
 
-abbrev pub aplay_output : PlayJob → List DeviceInfo → List ℕ → Wire → List ℕ
-aplay_output job devices bytes w = (aplay_course job devices bytes w).output
+abbrev pub aplay_output : PlayJob → List DeviceInfo → List ℕ → ClientState → List ℕ
+aplay_output job devices bytes w = (aplay_trace job devices bytes w).output

@@ -8,8 +8,8 @@ use Rattle.af_request.specs.declared.reply.Phone.{Phone}
 use Rattle.af_request.specs.Asked.{Asked, hook_switch, query_controls, query_phone}
 use Rattle.af_request.specs.Fields.{flag_byte}
 use Rattle.af_lib.specs.Calls.{as_controls, as_done, as_phone, controls_changed}
-use Rattle.af_jobs.specs.declared.job.SetJob.{SetJob}
-use Rattle.af_course.specs.Course.{Course, Wire, asks, done, ends, with_device, writing}
+use Rattle.af_options.specs.declared.job.SetJob.{SetJob}
+use Rattle.af_tool.specs.Trace.{Trace, ClientState, asks, done, ends, with_job_device, writing}
 use Rattle.af_tools.specs.declared.standing.Standing.{Standing}
 
 -- some control is stated
@@ -21,22 +21,22 @@ abbrev pub control_request : SetJob → Asked
 control_request job = controls_changed job.device job.input_gain job.output_gain job.input_on job.output_on
 
 -- a request that is sent only where there is need of it
-abbrev pub asks_where : Bool → Asked → Wire → (Unit {0} → Wire → Course) → Course
+abbrev pub asks_where : Bool → Asked → ClientState → (Unit {0} → ClientState → Trace) → Trace
 asks_where true asked w next = asks asked as_done w next
 asks_where false asked w next = next tt w
 
--- the hook is taken off or put on, where that is stated
-abbrev pub hooks : ℕ → Option Bool → Wire → (Unit {0} → Wire → Course) → Course
+-- the hook is taken off or put on, if that is stated
+abbrev pub hooks : ℕ → Option Bool → ClientState → (Unit {0} → ClientState → Trace) → Trace
 hooks device (Some off) w next = asks (hook_switch device (flag_byte off)) as_done w next
 hooks device None w next = next tt w
 
 -- the state of a line is asked where the device has one
-abbrev pub asks_line : Bool → ℕ → Wire → (Option Phone → Wire → Course) → Course
+abbrev pub asks_line : Bool → ℕ → ClientState → (Option Phone → ClientState → Trace) → Trace
 asks_line true device w next = asks (query_phone device) as_phone w (λ phone v. next (Some phone) v)
 asks_line false device w next = next None w
 
 -- the controls and the hook are set, and then how they stand is asked
-unfoldable pub set_on : SetJob → DeviceInfo → Wire → (Standing → Wire → Course) → Course
+unfoldable pub set_on : SetJob → DeviceInfo → ClientState → (Standing → ClientState → Trace) → Trace
 set_on job device w next =
     asks_where (states_controls job) (control_request job) w (λ _ w.
     hooks job.device job.hook_off w (λ _ w.
@@ -63,13 +63,13 @@ standing_text s =
     ++ control_text (codes "output") s.controls.output_on s.controls.output_gain
     ++ line_text s.phone
 
--- the course of aset, by the devices of the server and what the link gives
-unfoldable pub aset_course : SetJob → List DeviceInfo → Wire → Course
-aset_course job devices w = with_device job.device devices (λ device. set_on job device w (λ standing _. writing (standing_text standing) (ends done)))
+-- the trace of aset, by the devices of the server and what the link gives
+unfoldable pub aset_trace : SetJob → List DeviceInfo → ClientState → Trace
+aset_trace job devices w = with_job_device job.device devices (λ device. set_on job device w (λ standing _. writing (standing_text standing) (ends done)))
 
 -- what aset sends, and what it writes
-abbrev pub aset_sends : SetJob → List DeviceInfo → Wire → List ℕ
-aset_sends job devices w = (aset_course job devices w).sends
+abbrev pub aset_sends : SetJob → List DeviceInfo → ClientState → List ℕ
+aset_sends job devices w = (aset_trace job devices w).sends
 
-abbrev pub aset_output : SetJob → List DeviceInfo → Wire → List ℕ
-aset_output job devices w = (aset_course job devices w).output
+abbrev pub aset_output : SetJob → List DeviceInfo → ClientState → List ℕ
+aset_output job devices w = (aset_trace job devices w).output

@@ -1,8 +1,8 @@
 -- The ends that a tool of one link may have, and those of its parts that do more than to send requests and take their replies.
 use Rattle.std.specs.Prelude.{Bool, true}
-use Rattle.af_course.specs.declared.end.ToolEnd.{ToolEnd}
-use Rattle.af_course.specs.declared.end.ToolEnd.TheVariants as end
-use Rattle.af_course.specs.Ends.{is_of_link}
+use Rattle.af_tool.specs.declared.end.ToolEnd.{ToolEnd}
+use Rattle.af_tool.specs.declared.end.ToolEnd.TheVariants as end
+use Rattle.af_tool.specs.Ends.{is_of_link}
 
 -- the ends of a part that also reads the source
 abbrev pub is_of_blocks : ToolEnd → Bool

@@ -1,11 +1,11 @@
 // Blocks of a source's bytes.
-ghost use Rattle.std.specs.Prelude.{◌≡◌, ◌<◌, ◌≤◌, ◌^◌, length, take, Err, IfOk, IsErrOf};
-ghost use Rattle.af_outside.specs.Told.{Gave, Rose};
-ghost use Rattle.af_outside.specs.Flow.{IsSpent};
-ghost use Rattle.af_tools.specs.Fill.{fill_end, GaveAbove, GaveUpTo};
+ghost use Rattle.std.specs.Prelude.{◌≡◌, ◌<◌, ◌≤◌, length, take, Err, IfOk, IsErrOf};
+ghost use Rattle.af_io.specs.Observed.{CountsFault, Consumed};
+ghost use Rattle.af_io.specs.Flow.{IsSpent};
+ghost use Rattle.af_tools.specs.Fill.{fill_end, ConsumedAbove, ConsumedUpTo};
 
-use af_course::ToolEnd;
-use af_outside::{Got, Source};
+use af_io::{Got, Source};
+use af_tool::ToolEnd;
 
 /// Why a source gave no block.
 #[derive(Clone, Copy, Debug, PartialEq, Eq)]
@@ -27,19 +27,19 @@ impl From<FillFault> for ToolEnd {
     }
 }
 
-/// Reads until the block is full or the source has ended: how many bytes it has. At most so many bytes are allowed.
+/// Reads until the block is full or the source has ended: how many bytes it has. At most n bytes are allowed.
 pub fn fill_block<S: Source>(
     source: &mut S,
     block: &mut [u8],
     allowed: u64,
 ) -> Result<usize, FillFault>
-    ensures given { IfOk result (λ n. Gave (S.left source.old) (take n block.new) (S.left source.new)) }
+    ensures given { IfOk result (λ n. Consumed (S.left source.old) (take n block.new) (S.left source.new)) }
     ensures within { IfOk result (λ n. (n ≤ length block.new) × (n ≤ allowed)) }
     ensures ended { IfOk result (λ n. n < length block.new → IsSpent (S.left source.new)) }
-    ensures long { IsErrOf result FillFault.TooLong → GaveAbove allowed (length block.new) (S.left source.old) (S.left source.new) }
-    ensures cut { IsErrOf result FillFault.ReadFault → GaveUpTo allowed (S.left source.old) (S.left source.new) }
-    ensures fault { IsErrOf result FillFault.ReadFault → Rose (S.faults source.old) (S.faults source.new) }
-    ensures count { S.faults source.old ≤ S.faults source.new }
+    ensures long { IsErrOf result FillFault.TooLong →
+        ConsumedAbove allowed (length block.new) (S.left source.old) (S.left source.new) }
+    ensures cut { IsErrOf result FillFault.ReadFault → ConsumedUpTo allowed (S.left source.old) (S.left source.new) }
+    ensures fault { CountsFault (IsErrOf result FillFault.ReadFault) (S.faults source.old) (S.faults source.new) }
 {
     let mut filled = 0;
     while filled < block.len() {

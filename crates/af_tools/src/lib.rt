@@ -14,9 +14,9 @@ mod set;
 mod setter;
 mod standing;
 
-pub use af_course::ToolEnd;
-pub use af_jobs::{PassJob, PlayJob, RecordJob, SetJob};
+pub use af_options::{PassJob, PlayJob, RecordJob, SetJob};
 pub use af_relay::apass;
+pub use af_tool::ToolEnd;
 pub use player::aplay;
 pub use recorder::arecord;
 pub use run::af_run;

@@ -1,19 +1,19 @@
 // Blocks are recorded, one behind the other, and written to the sink.
-ghost use Rattle.std.specs.Prelude.{◌≡◌, ◌<◌, ◌≤◌, ◌+◌, ◌*◌, ◌^◌, ℕ, List, [], length, nat_lt, if◌then◌else◌, true, Err, IfErr, IsErrOf};
+ghost use Rattle.std.specs.Prelude.{◌≡◌, ◌<◌, ◌≤◌, ◌+◌, ◌*◌, ◌^◌, [], length, nat_lt, if◌then◌else◌, true, Err, IfErr};
 ghost use Rattle.std.specs.declared.option.Option.{Option};
-ghost use Rattle.std.specs.declared.option.Option.TheVariants.{None, Some};
-ghost use Rattle.af_outside.specs.Told.{Rose};
-ghost use Rattle.af_sample.specs.SampleTypes.{width_of};
-ghost use Rattle.af_course.specs.Ends.{wire_of, Goes, Holds};
-ghost use Rattle.af_tools.specs.Record.{block_lengths, peak, records, takes_block, value_in};
+ghost use Rattle.std.specs.declared.option.Option.TheVariants.{None};
+ghost use Rattle.af_io.specs.Observed.{CountsFault};
+ghost use Rattle.af_tool.specs.Ends.{KeepsConnection};
+ghost use Rattle.af_tools.specs.Record.{block_lengths, peak, records, takes_block, value_stored};
 ghost use Rattle.af_tools.specs.Ways.{is_of_records};
+ghost use Rattle.af_tools.specs.Reading.{ObservedPartWriting};
 
-use af_course::{CONTEXT, ToolEnd};
-use af_jobs::RecordJob;
+use af_io::{Link, Put, Sink};
 use af_lib::Conn;
-use af_outside::{Link, Put, Sink};
+use af_options::RecordJob;
 use af_sample::{SampleType, decode};
 use af_time::DevTime;
+use af_tool::{CONTEXT, ToolEnd};
 
 /// The peak of a block: the greatest absolute value of its samples.
 pub fn peak(ty: SampleType, block: &[u8]) -> u32
@@ -46,12 +46,11 @@ fn record_block<L: Link + Drop, K: Sink>(
 ) -> Result<(), ToolEnd>
     requires usable { conn.old.cause ≡ None }
     requires block { (0 < length block.old) × (length block.old ≤ 16000) }
-    ensures goes { (input : List ℕ) → L.left conn.old.link ≡ Some input →
-        Goes (takes_block at.0 (length block.old) (wire_of conn.old input)) (value_in result block.new) (L.left conn.new.link) (wire_of conn.new) (L.sent conn.old.link) (L.sent conn.new.link) (K.held sink.old) (K.held sink.new) }
-    ensures holds { Holds L.left L.faults conn.old conn.new result }
+    ensures goes { ObservedPartWriting L.left L.sent K.held conn.old conn.new sink.old sink.new
+        (λ w. takes_block at.0 (length block.old) w) (value_stored result block.new) }
+    ensures holds { KeepsConnection L.left L.faults conn.old conn.new result }
     ensures end { IfErr result (λ how. is_of_records how ≡ true) }
-    ensures fault { result ≡ Err ToolEnd.SinkFault → Rose (K.faults sink.old) (K.faults sink.new) }
-    ensures count { K.faults sink.old ≤ K.faults sink.new }
+    ensures fault { CountsFault (result ≡ Err ToolEnd.SinkFault) (K.faults sink.old) (K.faults sink.new) }
 {
     conn.record_run(CONTEXT, at, true, block)?;
     match sink.write(block) {
@@ -60,7 +59,7 @@ fn record_block<L: Link + Drop, K: Sink>(
     }
 }
 
-/// Records so many frames from a start on, in blocks, and writes each block. Enough quiet blocks in a row end it.
+/// Records n frames from a start on, in blocks, and writes each block. Enough quiet blocks in a row end it.
 pub fn record_blocks<L: Link + Drop, K: Sink>(
     job: &RecordJob,
     conn: &mut Conn<L>,
@@ -73,12 +72,11 @@ pub fn record_blocks<L: Link + Drop, K: Sink>(
     requires block { (1 ≤ job.now.block) × (job.now.block ≤ 4000) }
     requires stop { (1 ≤ job.now.stop_blocks) × (job.now.stop_blocks ≤ 1000000) }
     requires room { 16000 ≤ length room.old }
-    ensures goes { (input : List ℕ) → L.left conn.old.link ≡ Some input →
-        Goes (λ next. records job.now ty start.0 [] (block_lengths job.now.block job.now.frames) (wire_of conn.old input) (next tt)) result (L.left conn.new.link) (wire_of conn.new) (L.sent conn.old.link) (L.sent conn.new.link) (K.held sink.old) (K.held sink.new) }
-    ensures holds { Holds L.left L.faults conn.old conn.new result }
+    ensures goes { ObservedPartWriting L.left L.sent K.held conn.old conn.new sink.old sink.new
+        (λ w next. records job.now ty start.0 [] (block_lengths job.now.block job.now.frames) w (next tt)) result }
+    ensures holds { KeepsConnection L.left L.faults conn.old conn.new result }
     ensures end { IfErr result (λ how. is_of_records how ≡ true) }
-    ensures fault { result ≡ Err ToolEnd.SinkFault → Rose (K.faults sink.old) (K.faults sink.new) }
-    ensures count { K.faults sink.old ≤ K.faults sink.new }
+    ensures fault { CountsFault (result ≡ Err ToolEnd.SinkFault) (K.faults sink.old) (K.faults sink.new) }
 {
     let width = ty.width();
     let mut at = start;

@@ -1,21 +1,22 @@
 // arecord: blocks are recorded and written to the sink.
-ghost use Rattle.std.specs.Prelude.{◌≡◌, ◌<◌, ◌≤◌, ◌↔◌, ℕ, List, true, length, unwrap_or, Err, IfErr};
-ghost use Rattle.std.specs.declared.option.Option.{Option};
-ghost use Rattle.std.specs.declared.option.Option.TheVariants.{None, Some};
-ghost use Rattle.af_outside.specs.Told.{Rose};
-ghost use Rattle.af_course.specs.Talk.{creates};
-ghost use Rattle.af_course.specs.Ends.{wire_of, EndsByReply, Followed, Goes, Holds, IsAnswered};
-ghost use Rattle.af_tools.specs.Record.{arecord_course, record_context, recorded_on};
+ghost use Rattle.std.specs.Prelude.{◌≡◌, ◌≤◌, true, length, unwrap_or, Err, IfErr};
+ghost use Rattle.std.specs.declared.option.Option.TheVariants.{None};
+ghost use Rattle.af_io.specs.Observed.{CountsFault};
+ghost use Rattle.af_tool.specs.Talk.{creates};
+ghost use Rattle.af_tool.specs.Ends.{KeepsConnection};
+ghost use Rattle.af_tools.specs.Record.{arecord_trace, record_context, recorded_on};
 ghost use Rattle.af_tools.specs.Ways.{is_of_writer, is_of_records};
+ghost use Rattle.af_tools.specs.Reading.{ObservedPartWriting};
+ghost use Rattle.af_tools.specs.Ran.{LacksDevice, RunsTool};
 
 use crate::record::record_blocks;
-use af_course::{Context, ToolEnd, begin, device_with, finish};
-use af_jobs::RecordJob;
+use af_io::{Link, Sink};
 use af_lib::Conn;
-use af_outside::{Link, Sink};
+use af_options::RecordJob;
 use af_request::DeviceInfo;
 use af_sample::Gain;
 use af_time::DevTime;
+use af_tool::{ToolContext, ToolEnd, begin, device_with, finish};
 
 // The start of a job, where the device's time is now.
 fn start_of(job: &RecordJob, now: DevTime) -> DevTime
@@ -28,12 +29,12 @@ fn start_of(job: &RecordJob, now: DevTime) -> DevTime
 }
 
 // The context of a job on a device.
-fn context_of(job: &RecordJob, device: DeviceInfo) -> Context
+fn context_of(job: &RecordJob, device: DeviceInfo) -> ToolContext
     ensures asked { creates result ≡ record_context job.now device }
     ensures device { result.device ≡ job.now.device }
     ensures ty { result.ty ≡ unwrap_or job.now.ty device.ty }
 {
-    Context {
+    ToolContext {
         device: job.device,
         ty: job.ty.unwrap_or(device.ty),
         play: Gain::default(),
@@ -54,12 +55,11 @@ fn record_on<L: Link + Drop, K: Sink>(
     requires block { (1 ≤ job.now.block) × (job.now.block ≤ 4000) }
     requires stop { (1 ≤ job.now.stop_blocks) × (job.now.stop_blocks ≤ 1000000) }
     requires room { 16000 ≤ length room.old }
-    ensures goes { (input : List ℕ) → L.left conn.old.link ≡ Some input →
-        Goes (λ next. recorded_on job.now device (wire_of conn.old input) (next tt)) result (L.left conn.new.link) (wire_of conn.new) (L.sent conn.old.link) (L.sent conn.new.link) (K.held sink.old) (K.held sink.new) }
-    ensures holds { Holds L.left L.faults conn.old conn.new result }
+    ensures goes { ObservedPartWriting L.left L.sent K.held conn.old conn.new sink.old sink.new
+        (λ w next. recorded_on job.now device w (next tt)) result }
+    ensures holds { KeepsConnection L.left L.faults conn.old conn.new result }
     ensures end { IfErr result (λ how. is_of_records how ≡ true) }
-    ensures fault { result ≡ Err ToolEnd.SinkFault → Rose (K.faults sink.old) (K.faults sink.new) }
-    ensures count { K.faults sink.old ≤ K.faults sink.new }
+    ensures fault { CountsFault (result ≡ Err ToolEnd.SinkFault) (K.faults sink.old) (K.faults sink.new) }
 {
     let context = context_of(job, device);
     let ty = context.ty;
@@ -69,7 +69,7 @@ fn record_on<L: Link + Drop, K: Sink>(
     finish(conn)
 }
 
-/// Records so many frames of a device in blocks, and writes each block to the sink. Enough quiet blocks in a row end it early.
+/// Records n frames of a device in blocks, and writes each block to the sink. Enough quiet blocks in a row end it early.
 /// The connection is one that was just made; room for 16000 bytes is handed in.
 pub fn arecord<L: Link + Drop, K: Sink>(
     job: &RecordJob,
@@ -82,22 +82,15 @@ pub fn arecord<L: Link + Drop, K: Sink>(
     requires stop { (1 ≤ job.now.stop_blocks) × (job.now.stop_blocks ≤ 1000000) }
     requires room { 16000 ≤ length room.old }
 
-    // what the link was sent and the sink gained are those of the course, or prefixes of them where one of these failed
-    ensures followed { (input : List ℕ) → L.left conn.old.link ≡ Some input →
-        Followed (arecord_course job.now conn.old.devices (wire_of conn.old input)) result (L.sent conn.old.link) (L.sent conn.new.link) (K.held sink.old) (K.held sink.new) }
+    // what was sent and written, and when it is done
+    ensures ran { RunsTool L.left L.sent K.held (λ w. arecord_trace job.now conn.old.devices w)
+        job.now.device result conn.old conn.new sink.old sink.new }
 
     // each end has its cause
     ensures end { is_of_writer result ≡ true }
-    ensures no_device { (n : ℕ) → (result ≡ ToolEnd.NoDevice n) ↔ ((n ≡ length conn.old.devices) × (length conn.old.devices ≤ job.now.device)) }
-    ensures reply { (input : List ℕ) → L.left conn.old.link ≡ Some input → EndsByReply (arecord_course job.now conn.old.devices (wire_of conn.old input)) result }
-    ensures link { result ≡ ToolEnd.LinkFault → Rose (L.faults conn.old.link) (L.faults conn.new.link) }
-    ensures sink { result ≡ ToolEnd.SinkFault → Rose (K.faults sink.old) (K.faults sink.new) }
-
-    // with the device there and an awaited reply for each request it is done, unless the link or the sink fails
-    ensures complete { (input : List ℕ) → L.left conn.old.link ≡ Some input → job.now.device < length conn.old.devices → IsAnswered (arecord_course job.now conn.old.devices (wire_of conn.old input))
-        → ¬ (Rose (L.faults conn.old.link) (L.faults conn.new.link)) → ¬ (Rose (K.faults sink.old) (K.faults sink.new)) → result ≡ ToolEnd.Done }
-    ensures link_count { L.faults conn.old.link ≤ L.faults conn.new.link }
-    ensures sink_count { K.faults sink.old ≤ K.faults sink.new }
+    ensures no_device { LacksDevice job.now.device conn.old.devices result }
+    ensures link { CountsFault (result ≡ ToolEnd.LinkFault) (L.faults conn.old.link) (L.faults conn.new.link) }
+    ensures sink { CountsFault (result ≡ ToolEnd.SinkFault) (K.faults sink.old) (K.faults sink.new) }
 {
     let device = match device_with(conn, job.device) {
         Ok(device) => device,

@@ -1,14 +1,12 @@
 // What aplay writes when it has played all.
-ghost use Rattle.std.specs.Prelude.{◌≡◌, ◌≤◌, List, ℕ, length, take, true};
-ghost use Rattle.std.specs.declared.option.Option.{Option};
-ghost use Rattle.af_outside.specs.Told.{Rose};
-ghost use Rattle.af_course.specs.Course.{done, ends, writing};
-ghost use Rattle.af_course.specs.Ends.{is_of_report, Followed};
+ghost use Rattle.std.specs.Prelude.{◌≡◌, ◌≤◌, length, take, true};
+ghost use Rattle.af_io.specs.Observed.{CountsFault};
+ghost use Rattle.af_tool.specs.Ends.{is_of_report, Reports};
 ghost use Rattle.af_tools.specs.Play.{played};
 
-use af_course::{ToolEnd, put, put_number, write_text};
-use af_outside::Sink;
+use af_io::Sink;
 use af_time::DevTime;
+use af_tool::{ToolEnd, put, put_number, write_text};
 
 // Writes the line into a buffer: its length.
 fn write_line(out: &mut [u8], frames: u64, start: DevTime) -> usize
@@ -25,10 +23,9 @@ fn write_line(out: &mut [u8], frames: u64, start: DevTime) -> usize
 
 /// Writes how many frames were played, and from when on.
 pub fn report<K: Sink>(sink: &mut K, frames: u64, start: DevTime) -> ToolEnd
-    ensures followed { (sent : Option (List ℕ)) → Followed (writing (played frames start.0) (ends done)) result sent sent (K.held sink.old) (K.held sink.new) }
+    ensures followed { Reports K.held (played frames start.0) result sink.old sink.new }
     ensures end { is_of_report result ≡ true }
-    ensures fault { result ≡ ToolEnd.SinkFault → Rose (K.faults sink.old) (K.faults sink.new) }
-    ensures count { K.faults sink.old ≤ K.faults sink.new }
+    ensures fault { CountsFault (result ≡ ToolEnd.SinkFault) (K.faults sink.old) (K.faults sink.new) }
 {
     let mut line = [0; 128];
     let length = write_line(&mut line, frames, start);

@@ -1,16 +1,15 @@
 // What aset asks.
-ghost use Rattle.std.specs.Prelude.{◌≡◌, ◌≤◌, ℕ, List, true, IfErr};
-ghost use Rattle.std.specs.declared.option.Option.{Option};
-ghost use Rattle.std.specs.declared.option.Option.TheVariants.{None, Some};
-ghost use Rattle.af_course.specs.Ends.{is_of_link, wire_of, Goes, Holds};
+ghost use Rattle.std.specs.Prelude.{◌≡◌, true, IfErr};
+ghost use Rattle.std.specs.declared.option.Option.TheVariants.{None};
+ghost use Rattle.af_tool.specs.Ends.{is_of_link, ObservedPartOver, KeepsConnection};
 ghost use Rattle.af_tools.specs.Set.{asks_line, asks_where, control_request, hooks, set_on, states_controls};
 
 use crate::standing::Standing;
-use af_course::ToolEnd;
-use af_jobs::SetJob;
+use af_io::Link;
 use af_lib::Conn;
-use af_outside::Link;
+use af_options::SetJob;
 use af_request::{DeviceInfo, Phone};
+use af_tool::ToolEnd;
 
 // Whether a job states a control.
 fn states_controls(job: &SetJob) -> bool
@@ -25,9 +24,9 @@ fn states_controls(job: &SetJob) -> bool
 // Sets the controls that a job states.
 fn set_controls<L: Link + Drop>(job: &SetJob, conn: &mut Conn<L>) -> Result<(), ToolEnd>
     requires { conn.old.cause ≡ None }
-    ensures goes { (input : List ℕ) (held : Option (List ℕ)) → L.left conn.old.link ≡ Some input →
-        Goes (asks_where (states_controls job.now) (control_request job.now) (wire_of conn.old input)) result (L.left conn.new.link) (wire_of conn.new) (L.sent conn.old.link) (L.sent conn.new.link) held held }
-    ensures holds { Holds L.left L.faults conn.old conn.new result }
+    ensures goes { ObservedPartOver L.left L.sent conn.old conn.new
+        (λ w. asks_where (states_controls job.now) (control_request job.now) w) result }
+    ensures holds { KeepsConnection L.left L.faults conn.old conn.new result }
     ensures end { IfErr result (λ how. is_of_link how ≡ true) }
 {
     if states_controls(job) {
@@ -45,9 +44,8 @@ fn set_controls<L: Link + Drop>(job: &SetJob, conn: &mut Conn<L>) -> Result<(), 
 // Takes the hook off or puts it on, where a job states that.
 fn set_hook<L: Link + Drop>(job: &SetJob, conn: &mut Conn<L>) -> Result<(), ToolEnd>
     requires { conn.old.cause ≡ None }
-    ensures goes { (input : List ℕ) (held : Option (List ℕ)) → L.left conn.old.link ≡ Some input →
-        Goes (hooks job.now.device job.now.hook_off (wire_of conn.old input)) result (L.left conn.new.link) (wire_of conn.new) (L.sent conn.old.link) (L.sent conn.new.link) held held }
-    ensures holds { Holds L.left L.faults conn.old conn.new result }
+    ensures goes { ObservedPartOver L.left L.sent conn.old conn.new (λ w. hooks job.now.device job.now.hook_off w) result }
+    ensures holds { KeepsConnection L.left L.faults conn.old conn.new result }
     ensures end { IfErr result (λ how. is_of_link how ≡ true) }
 {
     if let Some(off) = job.hook_off {
@@ -56,16 +54,15 @@ fn set_hook<L: Link + Drop>(job: &SetJob, conn: &mut Conn<L>) -> Result<(), Tool
     Ok(())
 }
 
-// The state of a device's line, where it has one.
+// The state of a device's line, if it has one.
 fn phone_of<L: Link + Drop>(
     number: u8,
     line: bool,
     conn: &mut Conn<L>,
 ) -> Result<Option<Phone>, ToolEnd>
     requires { conn.old.cause ≡ None }
-    ensures goes { (input : List ℕ) (held : Option (List ℕ)) → L.left conn.old.link ≡ Some input →
-        Goes (asks_line line number (wire_of conn.old input)) result (L.left conn.new.link) (wire_of conn.new) (L.sent conn.old.link) (L.sent conn.new.link) held held }
-    ensures holds { Holds L.left L.faults conn.old conn.new result }
+    ensures goes { ObservedPartOver L.left L.sent conn.old conn.new (λ w. asks_line line number w) result }
+    ensures holds { KeepsConnection L.left L.faults conn.old conn.new result }
     ensures end { IfErr result (λ how. is_of_link how ≡ true) }
 {
     if line {
@@ -82,9 +79,8 @@ pub fn set_on<L: Link + Drop>(
     conn: &mut Conn<L>,
 ) -> Result<Standing, ToolEnd>
     requires { conn.old.cause ≡ None }
-    ensures goes { (input : List ℕ) (held : Option (List ℕ)) → L.left conn.old.link ≡ Some input →
-        Goes (set_on job.now device (wire_of conn.old input)) result (L.left conn.new.link) (wire_of conn.new) (L.sent conn.old.link) (L.sent conn.new.link) held held }
-    ensures holds { Holds L.left L.faults conn.old conn.new result }
+    ensures goes { ObservedPartOver L.left L.sent conn.old conn.new (λ w. set_on job.now device w) result }
+    ensures holds { KeepsConnection L.left L.faults conn.old conn.new result }
     ensures end { IfErr result (λ how. is_of_link how ≡ true) }
 {
     set_controls(job, conn)?;

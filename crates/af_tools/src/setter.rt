@@ -1,26 +1,25 @@
 // aset: controls and a hook are set, and how they stand is written to the sink.
-ghost use Rattle.std.specs.Prelude.{◌≡◌, ◌<◌, ◌≤◌, ◌↔◌, ℕ, List, true, length};
+ghost use Rattle.std.specs.Prelude.{◌≡◌, true};
 ghost use Rattle.std.specs.declared.option.Option.{Option};
-ghost use Rattle.std.specs.declared.option.Option.TheVariants.{None, Some};
-ghost use Rattle.af_outside.specs.Told.{Rose};
-ghost use Rattle.af_course.specs.Course.{done, ends, writing};
-ghost use Rattle.af_course.specs.Ends.{is_of_report, wire_of, EndsByReply, Followed, IsAnswered};
-ghost use Rattle.af_tools.specs.Set.{aset_course, standing_text};
+ghost use Rattle.std.specs.declared.option.Option.TheVariants.{None};
+ghost use Rattle.af_io.specs.Observed.{CountsFault};
+ghost use Rattle.af_tool.specs.Ends.{is_of_report, Reports};
+ghost use Rattle.af_tools.specs.Set.{aset_trace, standing_text};
 ghost use Rattle.af_tools.specs.Ways.{is_of_writer};
+ghost use Rattle.af_tools.specs.Ran.{LacksDevice, RunsTool};
 
 use crate::set::set_on;
 use crate::standing::{Standing, write_standing};
-use af_course::{ToolEnd, device_with, write_text};
-use af_jobs::SetJob;
+use af_io::{Link, Sink};
 use af_lib::Conn;
-use af_outside::{Link, Sink};
+use af_options::SetJob;
+use af_tool::{ToolEnd, device_with, write_text};
 
 // Writes how a device stands.
 fn report<K: Sink>(sink: &mut K, standing: Standing) -> ToolEnd
-    ensures followed { (sent : Option (List ℕ)) → Followed (writing (standing_text standing) (ends done)) result sent sent (K.held sink.old) (K.held sink.new) }
+    ensures followed { Reports K.held (standing_text standing) result sink.old sink.new }
     ensures end { is_of_report result ≡ true }
-    ensures fault { result ≡ ToolEnd.SinkFault → Rose (K.faults sink.old) (K.faults sink.new) }
-    ensures count { K.faults sink.old ≤ K.faults sink.new }
+    ensures fault { CountsFault (result ≡ ToolEnd.SinkFault) (K.faults sink.old) (K.faults sink.new) }
 {
     let mut text = [0; 136];
     let length = write_standing(&mut text, standing);
@@ -32,22 +31,15 @@ fn report<K: Sink>(sink: &mut K, standing: Standing) -> ToolEnd
 pub fn aset<L: Link + Drop, K: Sink>(job: &SetJob, conn: &mut Conn<L>, sink: &mut K) -> ToolEnd
     requires { conn.old.cause ≡ None }
 
-    // what the link was sent and the sink gained are those of the course, or prefixes of them where one of these failed
-    ensures followed { (input : List ℕ) → L.left conn.old.link ≡ Some input →
-        Followed (aset_course job.now conn.old.devices (wire_of conn.old input)) result (L.sent conn.old.link) (L.sent conn.new.link) (K.held sink.old) (K.held sink.new) }
+    // what was sent and written, and when it is done
+    ensures ran { RunsTool L.left L.sent K.held (λ w. aset_trace job.now conn.old.devices w)
+        job.now.device result conn.old conn.new sink.old sink.new }
 
     // each end has its cause
     ensures end { is_of_writer result ≡ true }
-    ensures no_device { (n : ℕ) → (result ≡ ToolEnd.NoDevice n) ↔ ((n ≡ length conn.old.devices) × (length conn.old.devices ≤ job.now.device)) }
-    ensures reply { (input : List ℕ) → L.left conn.old.link ≡ Some input → EndsByReply (aset_course job.now conn.old.devices (wire_of conn.old input)) result }
-    ensures link { result ≡ ToolEnd.LinkFault → Rose (L.faults conn.old.link) (L.faults conn.new.link) }
-    ensures sink { result ≡ ToolEnd.SinkFault → Rose (K.faults sink.old) (K.faults sink.new) }
-
-    // with the device there and an awaited reply for each request it is done, unless the link or the sink fails
-    ensures complete { (input : List ℕ) → L.left conn.old.link ≡ Some input → job.now.device < length conn.old.devices → IsAnswered (aset_course job.now conn.old.devices (wire_of conn.old input))
-        → ¬ (Rose (L.faults conn.old.link) (L.faults conn.new.link)) → ¬ (Rose (K.faults sink.old) (K.faults sink.new)) → result ≡ ToolEnd.Done }
-    ensures link_count { L.faults conn.old.link ≤ L.faults conn.new.link }
-    ensures sink_count { K.faults sink.old ≤ K.faults sink.new }
+    ensures no_device { LacksDevice job.now.device conn.old.devices result }
+    ensures link { CountsFault (result ≡ ToolEnd.LinkFault) (L.faults conn.old.link) (L.faults conn.new.link) }
+    ensures sink { CountsFault (result ≡ ToolEnd.SinkFault) (K.faults sink.old) (K.faults sink.new) }
 {
     let device = match device_with(conn, job.device) {
         Ok(device) => device,

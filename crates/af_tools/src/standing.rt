@@ -1,10 +1,10 @@
 // How the controls of a device stand, and its line, as text.
-ghost use Rattle.std.specs.Prelude.{◌≡◌, ◌<◌, ◌≤◌, ◌+◌, ◌++◌, codes, length, take};
+ghost use Rattle.std.specs.Prelude.{◌≡◌, ◌<◌, ◌≤◌, ◌+◌, ◌++◌, length, take};
 ghost use Rattle.af_tools.specs.Set.{control_text, flag_text, line_text, standing_text};
 
-use af_course::{put, put_gain};
 use af_request::{Controls, Phone};
 use af_sample::Gain;
+use af_tool::{put, put_gain};
 
 /// How the controls of a device stand, and its line, if it has one.
 #[derive(Clone, Copy)]

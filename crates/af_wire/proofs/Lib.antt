@@ -1,1 +1,1 @@
-pub mod MessageTrips
+pub mod MessageRoundTrips

@@ -7,11 +7,11 @@ use Rattle.af_wire.specs.declared.event.EventKind.TheVariants as kind
 use Rattle.af_wire.specs.Message.{head}
 
 -- the detail of an event's message, which is also its bit in the mask of the events that a client selects
-abbrev pub code_of : EventKind → ℕ
-code_of kind.Ring = 1
-code_of kind.Hook = 2
-code_of kind.Current = 4
-code_of kind.Digit = 8
+abbrev pub detail_of : EventKind → ℕ
+detail_of kind.Ring = 1
+detail_of kind.Hook = 2
+detail_of kind.Current = 4
+detail_of kind.Digit = 8
 
 -- the kind of event that a detail stands for, if it stands for one
 abbrev pub kind_of_code : ℕ → Option EventKind
@@ -30,25 +30,25 @@ is_value _ value = nat_le value 1
 -- how an event is spelled, with the number of the request that was performed or begun last
 unfoldable pub event_bytes : Event → ℕ → List ℕ
 event_bytes e sequence =
-    head 2 (code_of e.kind) sequence 3 ++ (to_be_bytes w32 e.device ++ to_be_bytes w32 e.time.0 ++ to_be_bytes w32 e.value)
+    head 2 (detail_of e.kind) sequence 3 ++ (to_be_bytes w32 e.device ++ to_be_bytes w32 e.time.0 ++ to_be_bytes w32 e.value)
 
 -- an event of a kind, if its device is one of the eight that a server may have, and its value one of its kind
-abbrev pub event_of : Option EventKind → ℕ → ℕ → ℕ → Option Event
-event_of (Some kind) device time value =
+abbrev pub event_from : Option EventKind → ℕ → ℕ → ℕ → Option Event
+event_from (Some kind) device time value =
     if nat_le device 7 && is_value kind value
     then Some (record { kind = kind; device = device; time = record { 0 = time }; value = value })
     else None
-event_of None device time value = None
+event_from None device time value = None
 
 -- the event that a detail and a body state, if they state one
 abbrev pub event_in : ℕ → List ℕ → Option Event
 event_in detail (d0 ∷ d1 ∷ d2 ∷ d3 ∷ t0 ∷ t1 ∷ t2 ∷ t3 ∷ v0 ∷ v1 ∷ v2 ∷ v3 ∷ []) =
-    event_of (kind_of_code detail) (from_be_bytes w32 (d0 ∷ d1 ∷ d2 ∷ d3 ∷ [])) (from_be_bytes w32 (t0 ∷ t1 ∷ t2 ∷ t3 ∷ []))
+    event_from (kind_of_code detail) (from_be_bytes w32 (d0 ∷ d1 ∷ d2 ∷ d3 ∷ [])) (from_be_bytes w32 (t0 ∷ t1 ∷ t2 ∷ t3 ∷ []))
     (from_be_bytes w32 (v0 ∷ v1 ∷ v2 ∷ v3 ∷ []))
 event_in detail _ = None
 
 -- an event as a message may state it
-pub record IsStated (e : Event) : Type 0 where
+pub record IsEvent (e : Event) : Type 0 where
   pub device : e.device ≤ 7
   pub time : e.time.0 < 2 ^ 32
   pub value : e.value < 2 ^ 32

@@ -25,7 +25,7 @@ setup_front (a ∷ b ∷ c ∷ d ∷ e ∷ f ∷ g ∷ h ∷ rest) =
     setup_with (from_be_bytes w32 (a ∷ b ∷ c ∷ d ∷ [])) (from_be_bytes w16 (e ∷ f ∷ []))
 setup_front _ = setup.NeedMore
 
--- the front of so many bytes that state a length in words of 4 bytes
+-- the front of n bytes that state a length in words of 4 bytes
 abbrev pub frame_with : ℕ → ℕ → Front
 frame_with words there =
     if words == 0 || nat_lt 4096 words then Malformed

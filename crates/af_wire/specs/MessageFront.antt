@@ -13,7 +13,7 @@ is_head kind detail words =
     else if kind == 2 then (detail == 1 || detail == 2 || detail == 4 || detail == 8) && words == 3
     else false
 
--- the front of so many bytes that begin with these fields of a head
+-- the front of n bytes that begin with these fields of a head
 abbrev pub message_with : ℕ → ℕ → ℕ → ℕ → ℕ → MessageFront
 message_with kind detail sequence words there =
     if is_head kind detail words

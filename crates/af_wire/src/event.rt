@@ -1,6 +1,6 @@
 // Events of telephone lines, as messages.
 ghost use Rattle.std.specs.Prelude.{◌≡◌, length};
-ghost use Rattle.af_wire.specs.Event.{code_of, event_bytes, event_in, kind_of_code};
+ghost use Rattle.af_wire.specs.Event.{detail_of, event_bytes, event_in, kind_of_code};
 
 use crate::write_head;
 use af_time::DevTime;
@@ -21,7 +21,7 @@ pub enum EventKind {
 impl EventKind {
     /// The detail of such an event's message, which is also its bit in a mask of events.
     pub fn code(self) -> u8
-        ensures { result ≡ code_of self }
+        ensures { result ≡ detail_of self }
     {
         match self {
             EventKind::Ring => 1,

@@ -21,7 +21,7 @@ pub enum SetupFront {
 #[derive(Clone, Copy, Debug, PartialEq, Eq)]
 pub enum Front {
     NeedMore,
-    /// A frame of so many bytes, which are all there.
+    /// A frame of n bytes, which are all there.
     Frame(usize),
     /// A stated length of 0 or of more than 4096 words.
     Malformed,

@@ -2,7 +2,7 @@
 ghost use Rattle.std.specs.Prelude.{◌≡◌, ◌<◌, ◌+◌, ◌*◌, ◌^◌, ◌++◌, ℕ, List, IsTrue, drop, length};
 ghost use Rattle.af_wire.specs.declared.event.Event.{Event};
 ghost use Rattle.af_wire.specs.declared.message_front.MessageFront.TheVariants.{Message};
-ghost use Rattle.af_wire.specs.Event.{code_of, event_bytes, event_in, IsStated};
+ghost use Rattle.af_wire.specs.Event.{detail_of, event_bytes, event_in, IsEvent};
 ghost use Rattle.af_wire.specs.declared.front.SetupFront.TheVariants.{Setup};
 ghost use Rattle.af_wire.specs.Front.{setup_bytes, setup_front};
 ghost use Rattle.af_wire.specs.Message.{head};
@@ -15,8 +15,8 @@ pub fn messages_round_trip()
         → sequence < 2 ^ 16 → words < 2 ^ 32 → length body ≡ 4 * words
         → message_front (head kind detail sequence words ++ body ++ rest) ≡ Message kind detail sequence (8 + 4 * words) }
     ensures events { (e : Event) (sequence : ℕ) (rest : List ℕ) → sequence < 2 ^ 16
-        → message_front (event_bytes e sequence ++ rest) ≡ Message 2 (code_of e.kind) sequence 20 }
-    ensures again { (e : Event) (sequence : ℕ) → IsStated e → event_in (code_of e.kind) (drop 8 (event_bytes e sequence)) ≡ Some e }
+        → message_front (event_bytes e sequence ++ rest) ≡ Message 2 (detail_of e.kind) sequence 20 }
+    ensures again { (e : Event) (sequence : ℕ) → IsEvent e → event_in (detail_of e.kind) (drop 8 (event_bytes e sequence)) ≡ Some e }
 {}
 
 /// The setup that a client sends is a good one to a server, whatever follows it.

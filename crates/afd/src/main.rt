@@ -1,8 +1,8 @@
 //! The server's program: it makes the real objects, calls the one function that its first word names, and says how that ended.
 #![tactic(auto)]
 
+use af_io::{Args, StdSink, StdSource, WordsFault, program_words};
 use af_live::MioWorld;
-use af_outside::{Args, StdSink, StdSource, WordsFault, program_words};
 use afd_script::{ScriptEnd, afd_script};
 use afd_serve::{LiveEnd, afd_live};
 use std::io;

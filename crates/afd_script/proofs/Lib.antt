@@ -1,2 +1,2 @@
-pub mod Exercising
-pub mod Jobs
+pub mod ExerciseStepLemmas
+pub mod JobLemmas

@@ -1,22 +1,22 @@
 // The script command: a script comes in, and the transcript of its one log goes out; or a script is made, and the summary of its log
 // goes out.
-ghost use Rattle.std.specs.Prelude.{◌≡◌, ◌≢◌, ◌↔◌, ◌⊎◌, ◌≤◌, ℕ, length, true, false, All, IfOk, IfErr};
+ghost use Rattle.std.specs.Prelude.{◌≡◌, ◌≢◌, ◌↔◌, ◌⊎◌, ◌≤◌, length, true, false, All, IfOk, IfErr};
 ghost use Rattle.std.specs.declared.option.Option.TheVariants.{None, Some};
-ghost use Rattle.af_outside.specs.Told.{Rose};
-ghost use Rattle.af_outside.specs.declared.flow.Put.TheVariants as put;
-ghost use Rattle.af_outside.specs.Flow.{GaveWithin, GaveTooMuch};
+ghost use Rattle.af_io.specs.Observed.{CountsFault, NoFault};
+ghost use Rattle.af_io.specs.declared.flow.Put.TheVariants as put;
 ghost use Rattle.af_sample.specs.Rates.{IsListedRate};
 ghost use Rattle.af_outside.specs.Outside.{IsStep};
 ghost use Rattle.af_script.specs.Run.{HasOneLog};
-ghost use Rattle.af_script.specs.Script.{script_of, IsFault};
-ghost use Rattle.afd_script.specs.declared.job.Job.TheVariants as job;
-ghost use Rattle.afd_script.specs.Ends.{RanWhole, RanCutOff, DidWhole, DidCutOff, CanBeDone, WroteSummary, IsFaultyAt, IsGood, longest_script, reads, status, writes};
+ghost use Rattle.af_script.specs.Script.{IsScriptFault};
+ghost use Rattle.afd_script.specs.declared.job.ScriptJob.TheVariants as job;
+ghost use Rattle.afd_script.specs.Ends.{CanBeDone, Did, IsGoodScript, ScriptLeavesAlone, ScriptReadAs, WroteSummary, WroteTranscript, reads, script_status, writes};
 ghost use Rattle.afd_script.specs.Run.{TellsLogOf};
 ghost use Rattle.afd_script.specs.Words.{job_of};
 
-use crate::job::{Job, job_of};
+use crate::job::{ScriptJob, job_of};
 use af_exercise::make_script;
-use af_outside::{Args, OuterFaults, Put, Sink, Source, Tape, TextFault, read_text};
+use af_io::{Args, Put, Sink, Source, TextFault, read_text};
+use af_outside::{OuterFaults, Tape};
 use af_script::{Script, ScriptFault, print_log, print_summary, read_script, run_tape};
 use af_time::OutOfMemory;
 use std::alloc::Global;
@@ -41,7 +41,7 @@ pub enum ScriptEnd {
 
 /// The exit status of an end.
 pub fn status_of(end: ScriptEnd) -> u8
-    ensures { result ≡ status end }
+    ensures { result ≡ script_status end }
 {
     match end {
         ScriptEnd::Done => 0,
@@ -65,52 +65,44 @@ pub fn afd_script<S: Source, K: Sink>(
     sink: &mut K,
 ) -> ScriptEnd
     ensures usage { (result ≡ ScriptEnd.Usage) ↔ (job_of words.now ≡ None) }
-    ensures untouched { result ≡ ScriptEnd.Usage → K.faults sink.new ≡ K.faults sink.old }
-
-    // the source is read for `script` alone
-    ensures unread { job_of words.now ≢ Some job.Script → (S.left source.new ≡ S.left source.old) × (S.faults source.new ≡ S.faults source.old) }
+    ensures untouched { ScriptLeavesAlone (job_of words.now) result source.old source.new sink.old sink.new }
     ensures reading { reads result ≡ true → job_of words.now ≡ Some job.Script }
+    ensures given { ScriptReadAs result (S.left source.old) (S.left source.new) }
 
-    ensures done { result ≡ ScriptEnd.Done → DidWhole (job_of words.now) (S.left source.old) (S.left source.new) (K.held sink.old) (K.held sink.new) }
-
-    // TooLong exactly where more came than a script may have
-    ensures long { result ≡ ScriptEnd.TooLong → GaveTooMuch longest_script (S.left source.old) (S.left source.new) }
-    ensures within { result ≢ ScriptEnd.TooLong → GaveWithin longest_script (S.left source.old) (S.left source.new) }
-
-    ensures fault { (line : ℕ) → result ≡ ScriptEnd.ScriptFault line → IsFaultyAt line (S.left source.old) (S.left source.new) }
-    ensures cut { result ≡ ScriptEnd.SinkFault → DidCutOff (job_of words.now) (S.left source.old) (S.left source.new) (K.held sink.old) (K.held sink.new) }
-    ensures unwritten { writes result ≡ false → K.held sink.new ≡ K.held sink.old }
+    // what was asked for is done, or as much of it as the sink took
+    ensures done { result ≡ ScriptEnd.Done →
+        Did put.Done (job_of words.now) (S.left source.old) (S.left source.new) (K.held sink.old) (K.held sink.new) }
+    ensures cut { result ≡ ScriptEnd.SinkFault →
+        Did put.Failed (job_of words.now) (S.left source.old) (S.left source.new) (K.held sink.old) (K.held sink.new) }
 
     // each fault has its cause
-    ensures read { result ≡ ScriptEnd.ReadFault → Rose (S.faults source.old) (S.faults source.new) }
-    ensures sink { result ≡ ScriptEnd.SinkFault → Rose (K.faults sink.old) (K.faults sink.new) }
+    ensures source { CountsFault (result ≡ ScriptEnd.ReadFault) (S.faults source.old) (S.faults source.new) }
+    ensures sink { CountsFault (result ≡ ScriptEnd.SinkFault) (K.faults sink.old) (K.faults sink.new) }
 
-    // what can be done is done whole, where memory is there
-    ensures complete { CanBeDone (job_of words.now) (S.left source.old) (S.left source.new) (S.faults source.old) (S.faults source.new) (K.faults sink.old) (K.faults sink.new) → (result ≡ ScriptEnd.Done) ⊎ (result ≡ ScriptEnd.OutOfMemory) }
-    ensures source_count { S.faults source.old ≤ S.faults source.new }
-    ensures sink_count { K.faults sink.old ≤ K.faults sink.new }
+    // what can be done is done whole, if memory is there
+    ensures complete { CanBeDone S.left S.faults (job_of words.now) source.old source.new → NoFault K.faults sink.old sink.new →
+        (result ≡ ScriptEnd.Done) ⊎ (result ≡ ScriptEnd.OutOfMemory) }
 {
     match job_of(words) {
         None => ScriptEnd::Usage,
-        Some(Job::Script) => transcribe(alloc, source, sink),
-        Some(Job::Exercise { seed, turns }) => exercise(alloc, seed, turns, sink),
+        Some(ScriptJob::Script) => transcribe(alloc, source, sink),
+        Some(ScriptJob::Exercise { seed, turns }) => exercise(alloc, seed, turns, sink),
     }
 }
 
 // Reads the source as a script, runs it, and writes its transcript.
 fn transcribe<S: Source, K: Sink>(alloc: Global, source: &mut S, sink: &mut K) -> ScriptEnd
     ensures used { result ≢ ScriptEnd.Usage }
-    ensures done { result ≡ ScriptEnd.Done → RanWhole (S.left source.old) (S.left source.new) (K.held sink.old) (K.held sink.new) }
-    ensures long { result ≡ ScriptEnd.TooLong → GaveTooMuch longest_script (S.left source.old) (S.left source.new) }
-    ensures within { result ≢ ScriptEnd.TooLong → GaveWithin longest_script (S.left source.old) (S.left source.new) }
-    ensures fault { (line : ℕ) → result ≡ ScriptEnd.ScriptFault line → IsFaultyAt line (S.left source.old) (S.left source.new) }
-    ensures cut { result ≡ ScriptEnd.SinkFault → RanCutOff (S.left source.old) (S.left source.new) (K.held sink.old) (K.held sink.new) }
-    ensures unwritten { writes result ≡ false → K.held sink.new ≡ K.held sink.old }
-    ensures read { result ≡ ScriptEnd.ReadFault → Rose (S.faults source.old) (S.faults source.new) }
-    ensures sink { result ≡ ScriptEnd.SinkFault → Rose (K.faults sink.old) (K.faults sink.new) }
-    ensures complete { IsGood (S.left source.old) (S.left source.new) (S.faults source.old) (S.faults source.new) (K.faults sink.old) (K.faults sink.new) → (result ≡ ScriptEnd.Done) ⊎ (result ≡ ScriptEnd.OutOfMemory) }
-    ensures source_count { S.faults source.old ≤ S.faults source.new }
-    ensures sink_count { K.faults sink.old ≤ K.faults sink.new }
+    ensures given { ScriptReadAs result (S.left source.old) (S.left source.new) }
+    ensures done { result ≡ ScriptEnd.Done →
+        WroteTranscript put.Done (S.left source.old) (S.left source.new) (K.held sink.old) (K.held sink.new) }
+    ensures cut { result ≡ ScriptEnd.SinkFault →
+        WroteTranscript put.Failed (S.left source.old) (S.left source.new) (K.held sink.old) (K.held sink.new) }
+    ensures unwritten { writes result ≡ false → sink.new ≡ sink.old }
+    ensures source { CountsFault (result ≡ ScriptEnd.ReadFault) (S.faults source.old) (S.faults source.new) }
+    ensures sink { CountsFault (result ≡ ScriptEnd.SinkFault) (K.faults sink.old) (K.faults sink.new) }
+    ensures complete { IsGoodScript S.left S.faults source.old source.new → NoFault K.faults sink.old sink.new →
+        (result ≡ ScriptEnd.Done) ⊎ (result ≡ ScriptEnd.OutOfMemory) }
 {
     let text = match read_text(alloc, source, LONGEST_SCRIPT) {
         Ok(text) => text,
@@ -129,15 +121,14 @@ fn transcribe<S: Source, K: Sink>(alloc: Global, source: &mut S, sink: &mut K) -
     }
 }
 
-// Runs the script of a seed and so many turns, and writes the summary of its log.
+// Runs the script of a seed and n turns, and writes the summary of its log.
 fn exercise<K: Sink>(alloc: Global, seed: u64, turns: u32, sink: &mut K) -> ScriptEnd
     requires { (1 ≤ turns) × (turns ≤ 10000) }
     ensures ends { (result ≡ ScriptEnd.Done) ⊎ ((result ≡ ScriptEnd.SinkFault) ⊎ (result ≡ ScriptEnd.OutOfMemory)) }
     ensures done { result ≡ ScriptEnd.Done → WroteSummary put.Done seed turns (K.held sink.old) (K.held sink.new) }
     ensures cut { result ≡ ScriptEnd.SinkFault → WroteSummary put.Failed seed turns (K.held sink.old) (K.held sink.new) }
-    ensures unwritten { result ≡ ScriptEnd.OutOfMemory → K.held sink.new ≡ K.held sink.old }
-    ensures sink { result ≡ ScriptEnd.SinkFault → Rose (K.faults sink.old) (K.faults sink.new) }
-    ensures sink_count { K.faults sink.old ≤ K.faults sink.new }
+    ensures unwritten { result ≡ ScriptEnd.OutOfMemory → sink.new ≡ sink.old }
+    ensures sink { CountsFault (result ≡ ScriptEnd.SinkFault) (K.faults sink.old) (K.faults sink.new) }
 {
     let Ok(script) = make_script(alloc, seed, turns) else {
         return ScriptEnd::OutOfMemory;
@@ -156,7 +147,7 @@ fn exercise<K: Sink>(alloc: Global, seed: u64, turns: u32, sink: &mut K) -> Scri
 fn run_text(alloc: Global, text: &[u8]) -> Result<Tape, ScriptFault>
     requires { length text.now ≤ 1048576 }
     ensures ran { IfOk result (λ tape. TellsLogOf text.now tape.log) }
-    ensures fault { IfErr result (λ e. IsFault text.now e) }
+    ensures fault { IfErr result (λ e. IsScriptFault text.now e) }
 {
     let script = read_script(alloc, text)?;
     let Ok(tape) = run_script(alloc, &script) else {

@@ -1,3 +1,3 @@
-pub mod Rounds
-pub mod Starting
-pub mod Ending
+pub mod ServeRoundLemmas
+pub mod StartLemmas
+pub mod ServeEndLemmas

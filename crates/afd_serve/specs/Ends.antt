@@ -1,37 +1,45 @@
 -- How the server ends: what was read, what was asked of the world, and what that told.
-use Rattle.std.specs.Prelude.{◌≡◌, ℕ, ◌<◌, ◌≤◌, ⊤, Bool, true, false, List, [], ◌∷◌, ◌++◌, length, take, Ok, Err, IsOk, IsSome}
+use Rattle.std.specs.Prelude.{◌≡◌, ◌≢◌, ℕ, ◌<◌, ◌≤◌, ◌⊎◌, ⊤, Bool, true, false, List, [], ◌∷◌, ◌++◌, length, take, Ok, Err}
 use Rattle.std.specs.declared.option.Option.{Option}
-use Rattle.std.specs.declared.option.Option.TheVariants.{Some}
+use Rattle.std.specs.declared.option.Option.TheVariants.{None, Some}
 use Rattle.af_outside.specs.declared.happening.Wake.TheVariants as wake
 use Rattle.af_outside.specs.declared.outer.Outer.{Outer}
 use Rattle.af_outside.specs.declared.outer.Outer.TheVariants as noted
-use Rattle.af_outside.specs.Told.{Log, Grew, Rose}
-use Rattle.af_outside.specs.Flow.{GaveWhole}
+use Rattle.af_io.specs.Observed.{CountsFault, Appended, FaultCounted, Unchanged}
+use Rattle.af_outside.specs.Log.{Log}
+use Rattle.af_io.specs.Flow.{ConsumedWhole, ConsumedWithin, ConsumedTooMuch}
+use Rattle.af_text.specs.Reading.{IsGoodText}
 use Rattle.af_live.specs.Stating.{Settings}
 use Rattle.af_live.specs.Configuration.{config_of}
 use Rattle.af_model.specs.State.{State}
 use Rattle.af_model.specs.More.{has_more}
 use Rattle.afd_serve.specs.declared.live.LiveEnd.{LiveEnd}
 use Rattle.afd_serve.specs.declared.live.LiveEnd.TheVariants as end
-use Rattle.afd_serve.specs.Words.{Job, job_of}
-use Rattle.afd_serve.specs.Serving.{Asked, Served, all_attached, started}
+use Rattle.afd_serve.specs.Words.{ServeJob, serve_job_of}
+use Rattle.afd_serve.specs.Serving.{WaitMade, Served, all_attached, started}
 
 -- how many bytes a configuration may have
 abbrev pub longest_config : ℕ
 longest_config = 65536
 
 -- all that the source gave is no configuration, and this is the first line that may not stand where it stands
-pub record IsFaultyAt (line : ℕ) (left left' : Option (List ℕ)) : Type 0 where
+pub record IsFaultyConfig (line : ℕ) (left left' : Option (List ℕ)) : Type 0 where
   pub text : List ℕ
-  pub read : GaveWhole longest_config left left' text
+  pub read : ConsumedWhole longest_config left left' text
   pub fault : config_of text ≡ Err line
+
+-- What the source gave, by how it ended: TooLong exactly where more came than a configuration may have.
+pub record ConfigReadAs (ends : LiveEnd → Type 0) (left left' : Option (List ℕ)) : Type 0 where
+  pub long : ends end.TooLong → ConsumedTooMuch longest_config left left'
+  pub within : ¬ ends end.TooLong → ConsumedWithin longest_config left left'
+  pub fault : (line : ℕ) → ends (end.ConfigFault line) → IsFaultyConfig line left left'
 
 -- the words ask for a job, and all that the source gave is a configuration
 pub record IsTold (words : List (List ℕ)) (left left' : Option (List ℕ)) : Type 0 where
-  pub job : Job
-  pub asks : job_of words ≡ Some job
+  pub job : ServeJob
+  pub asks : serve_job_of words ≡ Some job
   pub text : List ℕ
-  pub read : GaveWhole longest_config left left' text
+  pub read : ConsumedWhole longest_config left left' text
   pub settings : Settings
   pub states : config_of text ≡ Ok settings
 
@@ -50,6 +58,21 @@ comes_to_wait end.WaitFault = true
 comes_to_wait end.WaitsSpent = true
 comes_to_wait _ = false
 
+-- What an early end leaves alone: the source where the words ask for nothing, the world where there is no configuration, and the
+-- log where no wait came.
+pub record ServeLeavesAlone {S W : Type 0} (log : W → Option Log) (ended : LiveEnd) (before after : S) (world world' : W) : Type 0 where
+  pub unread : ended ≡ end.Usage → after ≡ before
+  pub uncalled : calls_nothing ended ≡ true → world' ≡ world
+  pub unserved : comes_to_wait ended ≡ false → Unchanged (log world) (log world')
+
+-- No count of a world's faults falls, and that of what failed has risen, by how it ended.
+pub record CountsFaults {W : Type 0} (link_faults device_faults listen_faults wait_faults : W → ℕ) (ends : LiveEnd → Type 0) (before after : W) : Type 0 where
+  pub links : link_faults before ≤ link_faults after
+  pub devices : device_faults before ≤ device_faults after
+  pub attach : (d : ℕ) → ends (end.AttachFault d) → FaultCounted (device_faults before) (device_faults after)
+  pub listen : CountsFault (ends end.ListenFault) (listen_faults before) (listen_faults after)
+  pub wait : CountsFault (ends end.WaitFault) (wait_faults before) (wait_faults after)
+
 -- how many waits had their turn, of so many at most: all where they are spent, and fewer where one gave Stop or failed
 abbrev pub IsCount : LiveEnd → ℕ → ℕ → Type 0
 IsCount end.Done n most = n < most
@@ -58,28 +81,28 @@ IsCount end.WaitsSpent n most = n ≡ most
 IsCount _ n most = ⊤
 
 -- the entry of a last wait that gave Stop, and had no turn
-abbrev pub last_of : LiveEnd → State → List Outer
-last_of end.Done s = noted.Waited (has_more s) wake.Stop ∷ []
-last_of _ s = []
+abbrev pub last_entry : LiveEnd → State → List Outer
+last_entry end.Done s = noted.Waited (has_more s) wake.Stop ∷ []
+last_entry _ s = []
 
 -- A server that came to its first wait: it listened where the words say, attached each device that the source states, and
 -- then waited and took turns, as often as this end says.
-pub record Ran (end : LiveEnd) (words : List (List ℕ)) (left left' : Option (List ℕ)) (log log' : Option Log) (outer outer' : Option (List Outer)) : Type 0 where
+pub record ServerRan (end : LiveEnd) (words : List (List ℕ)) (left left' : Option (List ℕ)) (log log' : Option Log) (outer outer' : Option (List Outer)) : Type 0 where
   pub told : IsTold words left left'
-  pub waits : List Asked
+  pub waits : List WaitMade
   pub count : IsCount end (length waits) told.job.waits
-  pub served : Served told.settings.config (started told.job.address told.settings) (last_of end) waits log log' outer outer'
+  pub served : Served told.settings.config (started told.job.address told.settings) (last_entry end) waits log log' outer outer'
 
 -- nothing was done: the listen where the words say failed
 pub record Unheard (words : List (List ℕ)) (left left' : Option (List ℕ)) (outer outer' : Option (List Outer)) : Type 0 where
   pub told : IsTold words left left'
-  pub grew : Grew outer [] outer'
+  pub appended : Appended outer [] outer'
 
 -- the attach of this device failed, behind a listen and the attaches of exactly the devices below it
 pub record FailedAt (d : ℕ) (words : List (List ℕ)) (left left' : Option (List ℕ)) (outer outer' : Option (List Outer)) : Type 0 where
   pub told : IsTold words left left'
   pub is_device : d < length told.settings.config
-  pub grew : Grew outer (noted.Listened told.job.address ∷ take d (all_attached told.settings)) outer'
+  pub appended : Appended outer (noted.Listened told.job.address ∷ take d (all_attached told.settings)) outer'
 
 -- a prefix of a whole start was made
 pub record StartedInPart (words : List (List ℕ)) (left left' : Option (List ℕ)) (outer outer' : Option (List Outer)) : Type 0 where
@@ -87,19 +110,19 @@ pub record StartedInPart (words : List (List ℕ)) (left left' : Option (List �
   pub front : List Outer
   pub rest : List Outer
   pub whole : started told.job.address told.settings ≡ front ++ rest
-  pub grew : Grew outer front outer'
+  pub appended : Appended outer front outer'
 
--- A configuration that is good in every way: the source tells its bytes before and after, they are a configuration, and neither the
--- source nor a listen nor a wait failed.
-pub record IsGood (left left' : Option (List ℕ)) (read read' listened listened' waited waited' : ℕ) : Type 0 where
-  pub text : List ℕ
-  pub told : left ≡ Some text
-  pub tells : IsSome left'
-  pub config : IsOk (config_of text)
-  pub within : length text ≤ longest_config
-  pub source : ¬ Rose read read'
-  pub listen : ¬ Rose listened listened'
-  pub wait : ¬ Rose waited waited'
+-- What was asked of the world where no wait came: nothing where the listen failed, the listen and the devices below one whose
+-- attach failed, and if memory ran out a part of the whole, unless the world was not called.
+pub record EndsBeforeWaits {W : Type 0} (outer : W → Option (List Outer)) (ended : LiveEnd) (words : List (List ℕ)) (left left' : Option (List ℕ)) (world world' : W) : Type 0 where
+  pub unlistened : ended ≡ end.ListenFault → Unheard words left left' (outer world) (outer world')
+  pub attached : (d : ℕ) → ended ≡ end.AttachFault d → FailedAt d words left left' (outer world) (outer world')
+  pub memory : ended ≡ end.OutOfMemory → (world' ≡ world) ⊎ StartedInPart words left left' (outer world) (outer world')
+
+-- the words ask for a job, the source tells its bytes before and after, and they are a configuration
+pub record IsGoodConfig (words : List (List ℕ)) (left left' : Option (List ℕ)) : Type 0 where
+  pub asks : serve_job_of words ≢ None
+  pub text : IsGoodText config_of longest_config left left'
 
 -- what a good configuration can end in: Stop or all waits came, memory ran out, or the attach of a device failed
 abbrev pub EndsWell : LiveEnd → Type 0
@@ -110,14 +133,14 @@ EndsWell (end.AttachFault device) = ⊤
 EndsWell _ = ⊥
 
 -- the exit status of an end
-abbrev pub status : LiveEnd → ℕ
-status end.Done = 0
-status end.Usage = 2
-status (end.ConfigFault line) = 3
-status end.TooLong = 4
-status end.ReadFault = 5
-status end.OutOfMemory = 7
-status end.ListenFault = 8
-status (end.AttachFault device) = 9
-status end.WaitFault = 10
-status end.WaitsSpent = 11
+abbrev pub live_status : LiveEnd → ℕ
+live_status end.Done = 0
+live_status end.Usage = 2
+live_status (end.ConfigFault line) = 3
+live_status end.TooLong = 4
+live_status end.ReadFault = 5
+live_status end.OutOfMemory = 7
+live_status end.ListenFault = 8
+live_status (end.AttachFault device) = 9
+live_status end.WaitFault = 10
+live_status end.WaitsSpent = 11

@@ -3,14 +3,14 @@ use Rattle.std.specs.Prelude.{◌≡◌, ℕ, List, [], length, true}
 use Rattle.std.specs.declared.option.Option.{Option}
 use Rattle.af_outside.specs.declared.outer.Outer.{Outer}
 use Rattle.af_outside.specs.declared.script.DeviceSpec.{DeviceSpec}
-use Rattle.af_outside.specs.Told.{Log}
+use Rattle.af_outside.specs.Log.{Log}
 use Rattle.afd_serve.specs.declared.live.LiveEnd.{LiveEnd}
-use Rattle.afd_serve.specs.Serving.{Asked, Served}
-use Rattle.afd_serve.specs.Ends.{IsCount, comes_to_wait, last_of}
+use Rattle.afd_serve.specs.Serving.{WaitMade, Served}
+use Rattle.afd_serve.specs.Ends.{IsCount, comes_to_wait, last_entry}
 
 -- it waited as often as this end says, of so many at most
 pub record ServedUntil (config : List DeviceSpec) (end : LiveEnd) (most : ℕ) (log log' : Option Log) (outer outer' : Option (List Outer)) : Type 0 where
   pub is_end : comes_to_wait end ≡ true
-  pub asked : List Asked
+  pub asked : List WaitMade
   pub count : IsCount end (length asked) most
-  pub served : Served config [] (last_of end) asked log log' outer outer'
+  pub served : Served config [] (last_entry end) asked log log' outer outer'

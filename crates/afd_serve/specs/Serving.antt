@@ -8,45 +8,44 @@ use Rattle.af_outside.specs.declared.outer.Outer.{Outer}
 use Rattle.af_outside.specs.declared.outer.Outer.TheVariants as noted
 use Rattle.af_outside.specs.declared.script.DeviceSpec.{DeviceSpec}
 use Rattle.af_outside.specs.declared.outer.Backing.{Backing}
-use Rattle.af_outside.specs.Told.{Log, Grew}
+use Rattle.af_io.specs.Observed.{Appended}
+use Rattle.af_outside.specs.Log.{Log}
 use Rattle.af_live.specs.Stating.{Settings}
 use Rattle.af_model.specs.State.{State, opening, outline}
 use Rattle.af_model.specs.Turn.{IsTurn, fits}
 use Rattle.af_model.specs.Run.{wakes, IsRun}
 use Rattle.af_model.specs.More.{has_more}
-use Rattle.af_model.specs.NoLoss.{RunLosesNone}
-use Rattle.af_model.specs.Prefix.{TakesInOrder}
-use Rattle.af_model.specs.Fold.{MixesAll}
+use Rattle.af_model.specs.Laws.{KeepsLaws}
 
 -- a wait: whether it was asked with more to do, and the wake that it gave
-pub record Asked : Type 0 where
+pub record WaitMade : Type 0 where
   pub more : Bool
   pub wake : Wake
 
 -- its entry in the outer list
-abbrev pub entry_of : Asked → Outer
+abbrev pub entry_of : WaitMade → Outer
 entry_of wait = noted.Waited wait.more wait.wake
 
 -- what is taken of a wake: one that does not fit the state is taken as Idle
-abbrev pub taken_as : State → Wake → Wake
-taken_as s w = if fits (outline s) w then w else wake.Idle
+abbrev pub wake_taken_as : State → Wake → Wake
+wake_taken_as s w = if fits (outline s) w then w else wake.Idle
 
 -- The wait was asked with whether there was more to do in this state, it did not give Stop, and the log begins with the one turn
 -- of its wake, which leads to the next state.
-pub record HasTurn (s : State) (wait : Asked) (log : Log) : Type 0 where
+pub record HasTurn (s : State) (wait : WaitMade) (log : Log) : Type 0 where
   pub asked : wait.more ≡ has_more s
   pub goes_on : wait.wake ≢ wake.Stop
   pub part : Log
   pub rest : Log
   pub whole : log ≡ part ++ rest
   pub tail : Log
-  pub begins : part ≡ Woke (taken_as s wait.wake) ∷ tail
+  pub begins : part ≡ Woke (wake_taken_as s wait.wake) ∷ tail
   pub only : wakes tail ≡ 0
   pub next : State
   pub is_turn : IsTurn s part next
 
 -- each of these waits had its turn, from the first state to the last, and the log is these turns
-abbrev pub Serves : State → List Asked → Log → State → Type 0
+abbrev pub Serves : State → List WaitMade → Log → State → Type 0
 Serves s [] log end = (log ≡ []) × (end ≡ s)
 Serves s (wait ∷ waits) log end = (turn : HasTurn s wait log) × Serves turn.next waits turn.rest end
 
@@ -64,15 +63,13 @@ abbrev pub started : List ℕ → Settings → List Outer
 started address settings = noted.Listened address ∷ all_attached settings
 
 -- What a server did with these devices from its opening state on: what was added to the log is a run, the outer list grew by what
--- stood before, by the waits, each of which had its turn, and by what stands behind them in the last state. In the run no request that had
--- waited lost a sample, what each link took begins what was said to it, and each sound is the mix of all that was ever accepted.
-pub record Served (config : List DeviceSpec) (front : List Outer) (last : State → List Outer) (waits : List Asked) (log log' : Option Log) (outer outer' : Option (List Outer)) : Type 0 where
+-- stood before, by the waits, each of which had its turn, and by what stands behind them in the last state. The laws of whole runs hold
+-- of the run.
+pub record Served (config : List DeviceSpec) (front : List Outer) (last : State → List Outer) (waits : List WaitMade) (log log' : Option Log) (outer outer' : Option (List Outer)) : Type 0 where
   pub added : Log
-  pub grew : Grew log added log'
+  pub appended : Appended log added log'
   pub end : State
   pub serves : Serves (opening config) waits added end
-  pub told : Grew outer (front ++ (map entry_of waits ++ last end)) outer'
+  pub told : Appended outer (front ++ (map entry_of waits ++ last end)) outer'
   pub is_run : IsRun config added
-  pub lossless : RunLosesNone config added
-  pub prefixes : TakesInOrder config added
-  pub mixes : MixesAll config added
+  pub laws : KeepsLaws config added

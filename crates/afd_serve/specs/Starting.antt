@@ -4,8 +4,8 @@ use Rattle.std.specs.declared.option.Option.{Option}
 use Rattle.std.specs.declared.result.Result.TheVariants.{Ok}
 use Rattle.af_outside.specs.declared.outer.Outer.{Outer}
 use Rattle.af_outside.specs.declared.outer.Outer.TheVariants as noted
-use Rattle.af_outside.specs.Told.{Grew}
-use Rattle.af_outside.specs.Flow.{GaveWhole}
+use Rattle.af_io.specs.Observed.{Appended}
+use Rattle.af_io.specs.Flow.{ConsumedWhole}
 use Rattle.af_live.specs.Stating.{Settings}
 use Rattle.af_live.specs.Configuration.{config_of}
 use Rattle.afd_serve.specs.declared.live.LiveEnd.{LiveEnd}
@@ -16,7 +16,7 @@ use Rattle.afd_serve.specs.Serving.{all_attached, started}
 -- all that the source gave is this configuration
 pub record IsReadFrom (left left' : Option (List ℕ)) (settings : Settings) : Type 0 where
   pub text : List ℕ
-  pub read : GaveWhole longest_config left left' text
+  pub read : ConsumedWhole longest_config left left' text
   pub states : config_of text ≡ Ok settings
 
 -- why no configuration was read
@@ -28,21 +28,21 @@ IsReadEnd end.OutOfMemory = Unit {0}
 IsReadEnd _ = ⊥
 
 -- a list grew by a prefix of what was to be added
-pub record GrewInPart (all : List Outer) (before after : Option (List Outer)) : Type 0 where
+pub record AppendedInPart (all : List Outer) (before after : Option (List Outer)) : Type 0 where
   pub front : List Outer
   pub rest : List Outer
   pub whole : all ≡ front ++ rest
-  pub grew : Grew before front after
+  pub appended : Appended before front after
 
 -- exactly the devices below one of which the attach failed were attached, or some where memory ran out
 abbrev pub AttachedUntil : LiveEnd → Settings → Option (List Outer) → Option (List Outer) → Type 0
-AttachedUntil (end.AttachFault d) settings outer outer' = (d < length settings.config) × Grew outer (take d (all_attached settings)) outer'
-AttachedUntil end.OutOfMemory settings outer outer' = GrewInPart (all_attached settings) outer outer'
+AttachedUntil (end.AttachFault d) settings outer outer' = (d < length settings.config) × Appended outer (take d (all_attached settings)) outer'
+AttachedUntil end.OutOfMemory settings outer outer' = AppendedInPart (all_attached settings) outer outer'
 AttachedUntil _ settings outer outer' = ⊥
 
 -- the same behind a listen, which may have failed
 abbrev pub StartedUntil : LiveEnd → List ℕ → Settings → Option (List Outer) → Option (List Outer) → Type 0
-StartedUntil end.ListenFault address settings outer outer' = Grew outer [] outer'
-StartedUntil (end.AttachFault d) address settings outer outer' = (d < length settings.config) × Grew outer (noted.Listened address ∷ take d (all_attached settings)) outer'
-StartedUntil end.OutOfMemory address settings outer outer' = GrewInPart (started address settings) outer outer'
+StartedUntil end.ListenFault address settings outer outer' = Appended outer [] outer'
+StartedUntil (end.AttachFault d) address settings outer outer' = (d < length settings.config) × Appended outer (noted.Listened address ∷ take d (all_attached settings)) outer'
+StartedUntil end.OutOfMemory address settings outer outer' = AppendedInPart (started address settings) outer outer'
 StartedUntil _ address settings outer outer' = ⊥

@@ -1,15 +1,15 @@
 // The server's command over a world on real time.
-ghost use Rattle.std.specs.Prelude.{◌≡◌, ◌≢◌, ◌↔◌, ◌⊎◌, ◌≤◌, ℕ, true, false};
+ghost use Rattle.std.specs.Prelude.{◌≡◌, ◌↔◌, true};
 ghost use Rattle.std.specs.declared.option.Option.TheVariants.{None};
-ghost use Rattle.af_outside.specs.Told.{Rose, Stays};
-ghost use Rattle.af_outside.specs.Flow.{GaveWithin, GaveTooMuch};
-ghost use Rattle.afd_serve.specs.Words.{job_of};
-ghost use Rattle.afd_serve.specs.Ends.{EndsWell, FailedAt, IsFaultyAt, IsGood, Ran, StartedInPart, Unheard, calls_nothing, comes_to_wait, longest_config, status};
+ghost use Rattle.af_io.specs.Observed.{CountsFault, NoFault};
+ghost use Rattle.afd_serve.specs.Words.{serve_job_of};
+ghost use Rattle.afd_serve.specs.Ends.{CountsFaults, EndsBeforeWaits, EndsWell, IsGoodConfig, ServeLeavesAlone, ServerRan, ConfigReadAs, comes_to_wait, live_status};
 
 use crate::serve::serve;
 use crate::start::{read_setting, start};
 use crate::words::asked_for;
-use af_outside::{Args, Live, Source};
+use af_io::{Args, Source};
+use af_outside::Live;
 use std::alloc::Global;
 
 /// How the server ended.
@@ -35,7 +35,7 @@ pub enum LiveEnd {
 
 /// The exit status of an end.
 pub fn status_of(end: LiveEnd) -> u8
-    ensures { result ≡ status end }
+    ensures { result ≡ live_status end }
 {
     match end {
         LiveEnd::Done => 0,
@@ -60,39 +60,23 @@ pub fn afd_live<S: Source, W: Live>(
     config: &mut S,
     world: &mut W,
 ) -> LiveEnd
-    ensures usage { (result ≡ LiveEnd.Usage) ↔ (job_of words.now ≡ None) }
-    ensures unread { result ≡ LiveEnd.Usage → (S.left config.new ≡ S.left config.old) × (S.faults config.new ≡ S.faults config.old) }
-    ensures uncalled { calls_nothing result ≡ true → world.new ≡ world.old }
-
-    // TooLong exactly where more came than a configuration may have
-    ensures long { result ≡ LiveEnd.TooLong → GaveTooMuch longest_config (S.left config.old) (S.left config.new) }
-    ensures within { result ≢ LiveEnd.TooLong → GaveWithin longest_config (S.left config.old) (S.left config.new) }
-    ensures fault { (line : ℕ) → result ≡ LiveEnd.ConfigFault line → IsFaultyAt line (S.left config.old) (S.left config.new) }
+    ensures usage { (result ≡ LiveEnd.Usage) ↔ (serve_job_of words.now ≡ None) }
+    ensures untouched { ServeLeavesAlone W.World.log result config.old config.new world.old world.new }
+    ensures given { ConfigReadAs (λ end. result ≡ end) (S.left config.old) (S.left config.new) }
 
     // each fault has its cause
-    ensures read { result ≡ LiveEnd.ReadFault → Rose (S.faults config.old) (S.faults config.new) }
-    ensures listen { result ≡ LiveEnd.ListenFault → Rose (W.listen_faults world.old) (W.listen_faults world.new) }
-    ensures attach { (d : ℕ) → result ≡ LiveEnd.AttachFault d → Rose (W.World.device_faults world.old) (W.World.device_faults world.new) }
-    ensures wait { result ≡ LiveEnd.WaitFault → Rose (W.wait_faults world.old) (W.wait_faults world.new) }
+    ensures source { CountsFault (result ≡ LiveEnd.ReadFault) (S.faults config.old) (S.faults config.new) }
+    ensures world { CountsFaults W.World.link_faults W.World.device_faults W.listen_faults W.wait_faults
+        (λ end. result ≡ end) world.old world.new }
 
-    // what was asked of the world before the first wait, where none came; no turn was taken then
-    ensures unlistened { result ≡ LiveEnd.ListenFault → Unheard words.now (S.left config.old) (S.left config.new) (W.outer world.old) (W.outer world.new) }
-    ensures attached { (d : ℕ) → result ≡ LiveEnd.AttachFault d → FailedAt d words.now (S.left config.old) (S.left config.new) (W.outer world.old) (W.outer world.new) }
-    ensures memory { result ≡ LiveEnd.OutOfMemory → (world.new ≡ world.old) ⊎ StartedInPart words.now (S.left config.old) (S.left config.new) (W.outer world.old) (W.outer world.new) }
-    ensures unserved { comes_to_wait result ≡ false → Stays (W.World.log world.old) (W.World.log world.new) }
+    // what was asked of the world before the first wait, if none came, and from the first wait on
+    ensures unserved { EndsBeforeWaits W.outer result words.now (S.left config.old) (S.left config.new) world.old world.new }
+    ensures served { comes_to_wait result ≡ true → ServerRan result words.now (S.left config.old) (S.left config.new)
+        (W.World.log world.old) (W.World.log world.new) (W.outer world.old) (W.outer world.new) }
 
-    // from the first wait on
-    ensures served { comes_to_wait result ≡ true →
-        Ran result words.now (S.left config.old) (S.left config.new) (W.World.log world.old) (W.World.log world.new) (W.outer world.old) (W.outer world.new) }
-
-    // a good configuration is served, where memory is there and the devices are
-    ensures complete { IsGood (S.left config.old) (S.left config.new) (S.faults config.old) (S.faults config.new) (W.listen_faults world.old) (W.listen_faults world.new) (W.wait_faults world.old) (W.wait_faults world.new) →
-        job_of words.now ≢ None → EndsWell result }
-    ensures source_count { S.faults config.old ≤ S.faults config.new }
-    ensures link_count { W.World.link_faults world.old ≤ W.World.link_faults world.new }
-    ensures device_count { W.World.device_faults world.old ≤ W.World.device_faults world.new }
-    ensures listen_count { W.listen_faults world.old ≤ W.listen_faults world.new }
-    ensures wait_count { W.wait_faults world.old ≤ W.wait_faults world.new }
+    // a good configuration is served, if memory is there and the devices are
+    ensures complete { IsGoodConfig words.now (S.left config.old) (S.left config.new) → NoFault S.faults config.old config.new →
+        NoFault W.listen_faults world.old world.new → NoFault W.wait_faults world.old world.new → EndsWell result }
 {
     let Some(command) = asked_for(words) else {
         return LiveEnd::Usage;

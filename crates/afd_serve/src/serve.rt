@@ -1,12 +1,12 @@
 // The server between its first wait and its end.
-ghost use Rattle.std.specs.Prelude.{◌≡◌, ◌≤◌, ◌<◌, ℕ, [], List, length, IsTrue, if◌then◌else◌};
+ghost use Rattle.std.specs.Prelude.{◌≡◌, ◌≤◌, List, IsTrue, if◌then◌else◌};
 ghost use Rattle.af_outside.specs.declared.happening.Wake.TheVariants.{Idle};
 ghost use Rattle.af_outside.specs.declared.script.DeviceSpec.{DeviceSpec};
-ghost use Rattle.af_outside.specs.Told.{Rose};
 ghost use Rattle.af_model.specs.State.{opening};
 ghost use Rattle.af_model.specs.Turn.{fits};
 ghost use Rattle.af_core.specs.Stands.{Stands, Turns, outline_of};
 ghost use Rattle.afd_serve.specs.Rounds.{ServedUntil};
+ghost use Rattle.afd_serve.specs.Ends.{CountsFaults};
 
 use crate::LiveEnd;
 use af_core::Core;
@@ -22,22 +22,21 @@ fn taken(core: &Core, wake: Wake) -> Wake
 
 // The turn of what is taken of a wake.
 fn take_turn<W: World>(core: &mut Core, wake: Wake, world: &mut W)
-    ensures turns { Turns (W.log world.old) (W.log world.new) (if fits (outline_of core.old) wake then wake else Idle) core.old core.new }
+    ensures turns { Turns (W.log world.old) (W.log world.new)
+        (if fits (outline_of core.old) wake then wake else Idle) core.old core.new }
     ensures leads { W.leads_to world.old world.new }
 {
     let wake = taken(core, wake);
     core.turn(wake, world);
 }
 
-/// Waits and takes turns until a wait gives Stop or fails, or so many waits had theirs. There is at least one.
+/// Waits and takes turns until a wait gives Stop or fails, or n waits had theirs. There is at least one.
 pub(crate) fn serve<W: Live>(core: &mut Core, waits: u64, world: &mut W) -> LiveEnd
     requires { 1 ≤ waits }
-    ensures served { (config : List DeviceSpec) → Stands core.old (opening config) → ServedUntil config result waits (W.World.log world.old) (W.World.log world.new) (W.outer world.old) (W.outer world.new) }
-    ensures cause { result ≡ LiveEnd.WaitFault → Rose (W.wait_faults world.old) (W.wait_faults world.new) }
-    ensures link_count { W.World.link_faults world.old ≤ W.World.link_faults world.new }
-    ensures device_count { W.World.device_faults world.old ≤ W.World.device_faults world.new }
-    ensures listen_count { W.listen_faults world.old ≤ W.listen_faults world.new }
-    ensures wait_count { W.wait_faults world.old ≤ W.wait_faults world.new }
+    ensures served { (config : List DeviceSpec) → Stands core.old (opening config) →
+        ServedUntil config result waits (W.World.log world.old) (W.World.log world.new) (W.outer world.old) (W.outer world.new) }
+    ensures world { CountsFaults W.World.link_faults W.World.device_faults W.listen_faults W.wait_faults
+        (λ end. result ≡ end) world.old world.new }
 {
     for _number in 0..waits {
         let more = core.more();

@@ -1,19 +1,19 @@
 // The start of a server: its configuration is read, it is listened in, and its devices are attached.
-ghost use Rattle.std.specs.Prelude.{◌≡◌, ◌≢◌, ◌≤◌, ℕ, length, All, IfOk, IfErr, IsErrOf};
+ghost use Rattle.std.specs.Prelude.{◌≡◌, ◌≤◌, length, All, IfOk, IfErr};
 ghost use Rattle.std.specs.declared.result.Result.TheVariants.{Err};
 ghost use Rattle.af_sample.specs.Rates.{IsListedRate};
-ghost use Rattle.af_outside.specs.Told.{Grew, Rose, Stays};
-ghost use Rattle.af_outside.specs.Flow.{GaveWithin, GaveTooMuch};
+ghost use Rattle.af_io.specs.Observed.{CountsFault, Appended, Unchanged};
 ghost use Rattle.af_model.specs.State.{opening};
 ghost use Rattle.af_core.specs.Stands.{Stands};
-ghost use Rattle.afd_serve.specs.Ends.{IsFaultyAt, longest_config};
+ghost use Rattle.afd_serve.specs.Ends.{CountsFaults, ConfigReadAs};
 ghost use Rattle.afd_serve.specs.Serving.{all_attached, started};
 ghost use Rattle.afd_serve.specs.Starting.{AttachedUntil, IsReadEnd, IsReadFrom, StartedUntil};
 
 use crate::LiveEnd;
 use af_core::Core;
+use af_io::{Source, TextFault, read_text};
 use af_live::{ConfigFault, Setting, read_config};
-use af_outside::{Live, Ready, Source, TextFault, read_text};
+use af_outside::{Live, Ready};
 use std::alloc::Global;
 
 /// How many bytes a configuration may have.
@@ -25,11 +25,8 @@ pub(crate) fn read_setting<S: Source>(alloc: Global, source: &mut S) -> Result<S
     ensures devices { IfOk result (λ s. length s.config ≤ 8) }
     ensures rates { IfOk result (λ s. All (λ device. IsListedRate device.rate) s.config) }
     ensures ends { IfErr result (λ end. IsReadEnd end) }
-    ensures fault { (line : ℕ) → result ≡ Err (LiveEnd.ConfigFault line) → IsFaultyAt line (S.left source.old) (S.left source.new) }
-    ensures long { result ≡ Err LiveEnd.TooLong → GaveTooMuch longest_config (S.left source.old) (S.left source.new) }
-    ensures within { result ≢ Err LiveEnd.TooLong → GaveWithin longest_config (S.left source.old) (S.left source.new) }
-    ensures read { result ≡ Err LiveEnd.ReadFault → Rose (S.faults source.old) (S.faults source.new) }
-    ensures count { S.faults source.old ≤ S.faults source.new }
+    ensures given { ConfigReadAs (λ end. result ≡ Err end) (S.left source.old) (S.left source.new) }
+    ensures source { CountsFault (result ≡ Err LiveEnd.ReadFault) (S.faults source.old) (S.faults source.new) }
 {
     let text = match read_text(alloc, source, LONGEST_CONFIG) {
         Ok(text) => text,
@@ -47,14 +44,11 @@ pub(crate) fn read_setting<S: Source>(alloc: Global, source: &mut S) -> Result<S
 // Attaches each device by rising number.
 fn attach_devices<W: Live>(alloc: Global, setting: &Setting, world: &mut W) -> Result<(), LiveEnd>
     requires { length setting.now.config ≤ 8 }
-    ensures log { Stays (W.World.log world.old) (W.World.log world.new) }
-    ensures all { IfOk result (λ _. Grew (W.outer world.old) (all_attached setting.now) (W.outer world.new)) }
+    ensures log { Unchanged (W.World.log world.old) (W.World.log world.new) }
+    ensures all { IfOk result (λ _. Appended (W.outer world.old) (all_attached setting.now) (W.outer world.new)) }
     ensures some { IfErr result (λ end. AttachedUntil end setting.now (W.outer world.old) (W.outer world.new)) }
-    ensures cause { (d : ℕ) → result ≡ Err (LiveEnd.AttachFault d) → Rose (W.World.device_faults world.old) (W.World.device_faults world.new) }
-    ensures link_count { W.World.link_faults world.old ≤ W.World.link_faults world.new }
-    ensures device_count { W.World.device_faults world.old ≤ W.World.device_faults world.new }
-    ensures listen_count { W.listen_faults world.old ≤ W.listen_faults world.new }
-    ensures wait_count { W.wait_faults world.old ≤ W.wait_faults world.new }
+    ensures world { CountsFaults W.World.link_faults W.World.device_faults W.listen_faults W.wait_faults
+        (λ end. result ≡ Err end) world.old world.new }
 {
     let config = setting.config().as_slice();
     for number in 0..config.len() {
@@ -78,15 +72,11 @@ pub(crate) fn start<W: Live>(
     requires few { length setting.now.config ≤ 8 }
     requires rates { All (λ device. IsListedRate device.rate) setting.now.config }
     ensures core { IfOk result (λ core. Stands core (opening setting.now.config)) }
-    ensures log { Stays (W.World.log world.old) (W.World.log world.new) }
-    ensures whole { IfOk result (λ _. Grew (W.outer world.old) (started address.now setting.now) (W.outer world.new)) }
+    ensures log { Unchanged (W.World.log world.old) (W.World.log world.new) }
+    ensures whole { IfOk result (λ _. Appended (W.outer world.old) (started address.now setting.now) (W.outer world.new)) }
     ensures part { IfErr result (λ end. StartedUntil end address.now setting.now (W.outer world.old) (W.outer world.new)) }
-    ensures listen { result ≡ Err LiveEnd.ListenFault → Rose (W.listen_faults world.old) (W.listen_faults world.new) }
-    ensures attach { (d : ℕ) → result ≡ Err (LiveEnd.AttachFault d) → Rose (W.World.device_faults world.old) (W.World.device_faults world.new) }
-    ensures link_count { W.World.link_faults world.old ≤ W.World.link_faults world.new }
-    ensures device_count { W.World.device_faults world.old ≤ W.World.device_faults world.new }
-    ensures listen_count { W.listen_faults world.old ≤ W.listen_faults world.new }
-    ensures wait_count { W.wait_faults world.old ≤ W.wait_faults world.new }
+    ensures world { CountsFaults W.World.link_faults W.World.device_faults W.listen_faults W.wait_faults
+        (λ end. result ≡ Err end) world.old world.new }
 {
     match world.listen(alloc, address) {
         Ready::Done => {}

@@ -1,8 +1,8 @@
 // The words of the server's command.
 ghost use Rattle.std.specs.Prelude.{◌≡◌, ◌≤◌, option_map, IfSome};
-ghost use Rattle.afd_serve.specs.Words.{is_address, job_in, job_of, job_of_three};
+ghost use Rattle.afd_serve.specs.Words.{is_address, job_of_command, serve_job_of, serve_job_of_three};
 
-use af_outside::Args;
+use af_io::Args;
 use af_text::{is_word, long_number_between};
 
 /// The most waits that may be asked for.
@@ -21,9 +21,9 @@ pub(crate) struct Command<'a> {
     pub(crate) waits: u64,
 }
 
-/// What the words ask for, where they are these, with an address of 1 to 64 bytes and 1 to 2^63 - 1 waits.
+/// What the words ask for, if they are these, with an address of 1 to 64 bytes and 1 to 2^63 - 1 waits.
 pub(crate) fn asked_for(words: &Args) -> Option<Command<'_>>
-    ensures job { option_map job_in result ≡ job_of words.now }
+    ensures job { option_map job_of_command result ≡ serve_job_of words.now }
     ensures waits { IfSome result (λ command. 1 ≤ command.waits) }
 {
     match words.as_slice() {
@@ -35,7 +35,7 @@ pub(crate) fn asked_for(words: &Args) -> Option<Command<'_>>
 }
 
 fn command_of<'a>(name: &[u8], address: &'a str, number: &[u8]) -> Option<Command<'a>>
-    ensures job { option_map job_in result ≡ job_of_three name.now address.now number.now }
+    ensures job { option_map job_of_command result ≡ serve_job_of_three name.now address.now number.now }
     ensures waits { IfSome result (λ command. 1 ≤ command.waits) }
 {
     if !is_word(name, b"serve") {

@@ -1,8 +1,8 @@
 //! How a client is written: it plays and records over a server in memory, and says what it was told.
 #![tactic(auto)]
 
+use af_io::MemLink;
 use af_lib::{Conn, ConnFault};
-use af_outside::MemLink;
 use af_sample::{Gain, SampleType};
 use af_time::DevTime;
 use std::io;
@@ -18,8 +18,11 @@ const REPLIES: [u8; 88] = [
     1, 5, 0, 5, 0, 0, 0, 0, // FreeAC
 ];
 
-// Plays two samples 100 ms ahead, and records the two of now.
-fn converse(conn: &mut Conn<MemLink>, recorded: &mut [u8; 4]) -> Result<DevTime, ConnFault> {
+// Plays two samples 100 ms ahead, and records the two of now: says when that was, and how many bytes came.
+fn converse(
+    conn: &mut Conn<MemLink>,
+    recorded: &mut [u8; 4],
+) -> Result<(DevTime, usize), ConnFault> {
     conn.create_ac(
         1,
         0,
@@ -30,25 +33,33 @@ fn converse(conn: &mut Conn<MemLink>, recorded: &mut [u8; 4]) -> Result<DevTime,
     )?;
     let now = conn.get_time(0)?;
     conn.play_run(1, now.after(800), &[0, 1, 0, 2])?;
-    conn.record_run(1, now, true, recorded)?;
+    let (_, count) = conn.record_run(1, now, true, recorded)?;
     conn.free_ac(1)?;
-    Ok(now)
+    Ok((now, count))
 }
 
-// Says what a conversation came to.
+// Says what a conversation came to. The status is 0 only if all of it was had.
 fn report(
     rt: &impl Print,
-    told: Result<DevTime, ConnFault>,
+    told: Result<(DevTime, usize), ConnFault>,
     recorded: [u8; 4],
     sent: usize,
-) -> io::Result<()> {
+) -> io::Result<ExitCode> {
     match told {
-        Ok(now) => {
+        Ok((now, 4)) => {
             println!(rt; "time {}", now.0)?;
             println!(rt; "recorded {recorded:?}")?;
-            println!(rt; "sent {sent} bytes")
+            println!(rt; "sent {sent} bytes")?;
+            Ok(ExitCode::from(0u8))
         }
-        Err(fault) => println!(rt; "{fault}"),
+        Ok((_, count)) => {
+            println!(rt; "recorded {count} bytes, and not 4")?;
+            Ok(ExitCode::from(1u8))
+        }
+        Err(fault) => {
+            println!(rt; "{fault}")?;
+            Ok(ExitCode::from(1u8))
+        }
     }
 }
 
@@ -61,8 +72,7 @@ fn main(rt: HostRuntime) -> io::Result<ExitCode> {
             let mut recorded = [0; 4];
             let told = converse(&mut conn, &mut recorded);
             let link = conn.into_link();
-            report(&rt, told, recorded, link.sent().len())?;
-            Ok(ExitCode::from(0u8))
+            report(&rt, told, recorded, link.sent().len())
         }
         Err((fault, _)) => {
             println!(rt; "{fault}")?;

@@ -1,5 +1,5 @@
 // What the tests share: bytes that hexadecimal digits state, words, and a check with a name for the message.
-use af_outside::Args;
+use af_io::Args;
 use std::alloc::Global;
 use std::process::Abort;
 use std::test::Fail;

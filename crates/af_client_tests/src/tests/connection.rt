@@ -1,7 +1,7 @@
 // Conversations of a connection: what its link gives, what is called, what that answers, and what was sent.
 use crate::tests::checks::{SETUP_REPLY, bytes_of, holds, same_bytes};
+use af_io::MemLink;
 use af_lib::{Cause, Conn, ConnFault};
-use af_outside::MemLink;
 use af_request::{Controls, DeviceInfo, Phone};
 use af_sample::{Gain, SampleType};
 use af_time::DevTime;

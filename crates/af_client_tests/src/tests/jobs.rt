@@ -1,6 +1,6 @@
 // Words of the tools, and what they ask.
 use crate::tests::checks::{holds, words_of};
-use af_jobs::{Call, PassJob, PlayJob, Task, WordsFault, call_of};
+use af_options::{Call, OptionsFault, PassJob, PlayJob, Task, call_of};
 use af_sample::{Gain, SampleType};
 use std::alloc::Global;
 use std::process::Abort;
@@ -35,7 +35,7 @@ fn ask_nothing(rt: &impl Abort, alloc: Global, words: &[&str]) -> Result<(), Fai
     let Err(fault) = call_of(alloc, &args) else {
         return Err(Fail::from("a call"));
     };
-    holds(rt, "the fault", fault == WordsFault::Usage);
+    holds(rt, "the fault", fault == OptionsFault::Usage);
     Ok(())
 }
 

@@ -1,7 +1,7 @@
 // The tools over sources, sinks and links in memory, which give their bytes in pieces. What the tools send for which words is
 // shown by the worked runs in tests/tools.
 use crate::tests::checks::{SETUP_REPLY, bytes_of, holds, same_bytes, words_of};
-use af_outside::{MemDial, MemLink, MemSink, MemSource};
+use af_io::{MemDial, MemLink, MemSink, MemSource};
 use af_tools::{ToolEnd, af_run};
 use std::alloc::Global;
 use std::process::Abort;

@@ -1,4 +1,4 @@
-use Rattle.af_model.proofs.Cutting.{cutting}
+use Rattle.af_model.proofs.CuttingLawLemmas.{cutting}
 use Rattle.af_model.proofs.cutting_law.Goals as goal
 
 pub returns : goal.returns

@@ -1,4 +1,4 @@
-use Rattle.af_model.proofs.Folding.{mixes_all}
+use Rattle.af_model.proofs.FoldLawLemmas.{mixes_all}
 use Rattle.af_model.proofs.fold_law.Goals as goal
 
 pub returns : goal.returns

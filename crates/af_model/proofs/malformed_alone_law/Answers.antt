@@ -1,4 +1,4 @@
-use Rattle.af_model.proofs.Alone.{closes_alone, others_stay}
+use Rattle.af_model.proofs.MalformedLinkLemmas.{closes_alone, others_stay}
 use Rattle.af_model.proofs.malformed_alone_law.Goals as goal
 
 pub returns-clause-closes : goal.returns-clause-closes

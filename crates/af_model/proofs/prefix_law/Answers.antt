@@ -1,4 +1,4 @@
-use Rattle.af_model.proofs.Prefixing.{takes_in_order}
+use Rattle.af_model.proofs.PrefixLawLemmas.{takes_in_order}
 use Rattle.af_model.proofs.prefix_law.Goals as goal
 
 pub returns : goal.returns

@@ -1,9 +1,9 @@
 // Each request and each reply with its bytes written out by hand, both ways, and what is refused.
 ghost use Rattle.std.specs.Prelude.{◌≡◌, true};
-ghost use Rattle.af_request.specs.Asked.{meaning as asked};
-ghost use Rattle.af_request.specs.Answer.{meaning as answered};
-ghost use Rattle.af_request.specs.Requests.{HasRoom as PlaysWithin};
-ghost use Rattle.af_request.specs.Replies.{HasRoom as RecordsWithin};
+ghost use Rattle.af_request.specs.Asked.{request_meaning as asked};
+ghost use Rattle.af_request.specs.Answer.{reply_meaning as answered};
+ghost use Rattle.af_request.specs.Requests.{FitsFrame as PlaysWithin};
+ghost use Rattle.af_request.specs.Replies.{FitsMessage as RecordsWithin};
 
 use crate::tests::asserts::assert_bytes;
 use af_request::*;

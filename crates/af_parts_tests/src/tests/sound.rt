@@ -95,7 +95,7 @@ fn linear_samples_have_their_high_byte_first(rt: HostRuntime) {
     );
 }
 
-// Each sample with so many decibels, or that so many are no gain.
+// Each sample with n decibels, or that so many are no gain.
 fn assert_gains(rt: &impl Abort, cases: &[(i16, i32, Option<i16>)]) {
     for (sample, db, wanted) in cases {
         let mut run = [*sample; 2];

@@ -4,10 +4,10 @@ use std::process::Abort;
 
 // What is done, or asked with its answer.
 enum Step {
-    // a link begins to wait for so many frames of a device
+    // a link begins to wait for n frames of a device
     Add(u8, u8, u32),
     Drop(u8),
-    // so many frames of a device pass
+    // n frames of a device pass
     Pass(u8, u32),
     // the link that is due next for a device leaves
     Next(u8, Option<u8>),

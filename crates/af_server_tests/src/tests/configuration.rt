@@ -57,7 +57,7 @@ fn assert_states(
     Ok(())
 }
 
-// At these readings of the clock so many frames of each rate are due.
+// At these readings of the clock n frames of each rate are due.
 fn assert_due(rt: &impl Abort, cases: &[(u32, &[(u64, u32)])]) {
     for (rate, readings) in cases {
         let mut pace = Pace::new(*rate);

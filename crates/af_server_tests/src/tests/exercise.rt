@@ -10,9 +10,9 @@ use std::test::Fail;
 #[derive(Clone, Copy)]
 enum Drawn<'a> {
     Open(u8),
-    // so many bytes on a link, of which these are the first
+    // n bytes on a link, of which these are the first
     Send(u8, usize, &'a [u8]),
-    // so many frames in which this pattern is captured
+    // n frames in which this pattern is captured
     Tick(u32, &'a [u8]),
     RoomForAll(u8),
     Digit(u8),

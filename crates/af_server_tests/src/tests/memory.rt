@@ -1,6 +1,6 @@
 // The outside in memory: what each call answers, and which calls fail.
 use crate::tests::checks::{holds, same_bytes};
-use af_outside::{
+use af_io::{
     Args, Dial, Dialed, Got, Link, MemDial, MemLink, MemSink, MemSource, Put, Sink, Source,
     TextFault, read_text,
 };

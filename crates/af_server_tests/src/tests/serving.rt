@@ -1,8 +1,7 @@
 // The server over a tape: how it ends, what it asks of its world, and what has a turn, on examples worked by hand.
 use crate::tests::checks::holds;
-use af_outside::{
-    Args, Backing, DeviceSpec, Happening, MemSink, MemSource, Outer, OuterFaults, Tape, Wake,
-};
+use af_io::{Args, MemSink, MemSource};
+use af_outside::{Backing, DeviceSpec, Happening, Outer, OuterFaults, Tape, Wake};
 use af_script::{Script, print_log, read_script};
 use afd_serve::{LiveEnd, afd_live, status_of};
 use std::alloc::Global;

@@ -1,8 +1,9 @@
 // A tape as a world that gives its own wakes: what its calls answer, and what it tells of listens, attaches and waits.
 use crate::tests::checks::{holds, same_text};
+use af_io::{Bytes, Put};
 use af_outside::{
-    Bytes, Config, DeviceSpec, Kind, LinkGot, LinkTook, Live, Outer, OuterFaults, Put, Ready, Step,
-    Tape, Waited, Wake, Why, World,
+    Config, DeviceSpec, Kind, LinkGot, LinkTook, Live, Outer, OuterFaults, Ready, Step, Tape,
+    Waited, Wake, Why, World,
 };
 use af_phone::LineChange;
 use af_sample::SampleType;
@@ -22,7 +23,7 @@ enum Call {
     // three bytes are offered to a link
     Write(u8, LinkTook),
     Close(Why),
-    // what is captured of a device, where that is done
+    // what is captured of a device, if that is done
     Capture(u8, &'static [u8], Put),
     Emit(Put),
     // the hook of device 2 is to be off
@@ -152,7 +153,7 @@ const CALLS: [Call; 38] = [
     // a link that is not there takes all
     Call::Write(40, LinkTook::Took(3)),
     Call::Capture(0, &[5, 6], Put::Failed),
-    // what a tick states is captured, also again, where it is as many bytes as are asked for, and else silence
+    // what a tick states is captured, also again, if it is as many bytes as are asked for, and else silence
     Call::Capture(0, &[5, 6], Put::Done),
     Call::Capture(0, &[0], Put::Done),
     Call::Capture(0, &[5, 6], Put::Done),

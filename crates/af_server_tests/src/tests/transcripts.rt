@@ -1,11 +1,12 @@
 // A log is printed line by line and as its summary, against what was written by hand.
-use af_outside::{Bytes, Happening, MemSink, Put, ReadGot, Wake, Why};
+use af_io::{Bytes, MemSink, Put};
+use af_outside::{Happening, ReadGot, Wake, Why};
 use af_script::{print_log, print_summary};
 use std::alloc::Global;
 use std::process::Abort;
 use std::test::Fail;
 
-// A happening whose bytes, where it has some, stand beside it.
+// A happening whose bytes, if it has some, stand beside it.
 #[derive(Clone, Copy)]
 enum Row<'a> {
     Woke(Wake),

@@ -1,12 +1,12 @@
 // Sources, sinks and links over readers, writers and sockets: what the traits of std say nothing of.
-use af_outside::{Dial, Dialed, Got, Link, Put, Sink, Source, StdSink, StdSource, TcpDial};
+use af_io::{Dial, Dialed, Got, Link, Put, Sink, Source, StdSink, StdSource, TcpDial};
 use std::io;
 use std::io::{ErrorKind, Read, Write};
 use std::net::TcpListener;
 use std::process::Abort;
 use std::test::Fail;
 
-// A reader that is interrupted so many times, then gives 3 bytes, one a call, and then ends or fails.
+// A reader that is interrupted n times, then gives 3 bytes, one a call, and then ends or fails.
 #[derive(Drop)]
 struct Slow {
     interruptions: u32,

@@ -1,6 +1,7 @@
 // Each call of the real world, on the loopback, with the system's clock and files.
+use af_io::Put;
 use af_live::MioWorld;
-use af_outside::{DeviceSpec, Kind, LinkGot, LinkTook, Live, Put, Ready, Waited, Wake, Why};
+use af_outside::{DeviceSpec, Kind, LinkGot, LinkTook, Live, Ready, Waited, Wake, Why};
 use af_sample::SampleType;
 use std::alloc::{Alloc, Global};
 use std::fs;

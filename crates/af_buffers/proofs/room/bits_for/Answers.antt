@@ -1,5 +1,5 @@
 use Rattle.std.proofs.Common.{arith}
-use Rattle.af_buffers.proofs.Rooms.{horizon_within, room_of}
+use Rattle.af_buffers.proofs.HorizonLemmas.{horizon_within, room_of}
 use Rattle.af_buffers.proofs.room.bits_for.Goals as goal
 
 pub returns-in-0-to-32768-clause-room : goal.returns-in-0-to-32768-clause-room

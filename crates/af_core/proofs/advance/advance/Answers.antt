@@ -1,21 +1,20 @@
-use Rattle.std.proofs.Common.{◌≤◌, sym, ◌∙◌, List, length, IsTrue, arith, refl, inr, ⊎_elim, subst}
-use Rattle.af_core.proofs.Taking.{goes_on, ends}
-use Rattle.af_perform.proofs.Keeping.{grows_on}
-use Rattle.af_perform.specs.Waits.{KeptWait, has_waiting}
-use Rattle.af_model.specs.State.{LinkState, place}
+use Rattle.std.proofs.Common.{◌≤◌, sym, ◌∙◌, length, IsTrue, arith, refl, inr, ⊎_elim, subst}
+use Rattle.af_core.proofs.AdvanceStepLemmas.{goes_on, ends}
+use Rattle.af_state.proofs.DeferralLemmas.{only_queues_on}
+use Rattle.af_state.specs.Deferrals.{has_waiting}
+use Rattle.af_state.specs.Environment.{KeptEnvironment}
+use Rattle.af_model.specs.State.{LinkState, open_link}
 use Rattle.af_core.proofs.advance.advance.Goals as goal
 
 pub loop-preserved : goal.loop-preserved
 loop-preserved c = record {
   number = omega arith;
-  count = omega arith;
-  size = omega arith;
   answered = let s = c.loop-test.ensures.shorter refl in inr (⊎_elim (λ e. rw (← e) s) (λ less. omega arith) c.loop.invariant.answered);
-  room = λ w. let few = c.loop-test.ensures.calm refl w in omega (arith, few);
-  grows = grows_on _ _ _ _ c.loop.invariant.grows c.loop-test.ensures.grows;
+  room = λ w. let few = c.loop-test.ensures.small_pending refl w in omega (arith, few);
+  only_queues = only_queues_on _ _ _ _ c.loop.invariant.only_queues c.loop-test.ensures.only_queues;
   step = λ a h.
       let before = c.loop.invariant.step a h in
-      let on = goes_on c.args.number (place before.0 c.loop.link) _ _ _ (c.loop-test.ensures.step before.0 before.1) in
+      let on = goes_on c.args.number (open_link before.0 c.loop.link) _ _ (c.loop-test.ensures.step before.0 before.1) in
       (on.0, on.1, on.2 ∙ before.2);
 }
 
@@ -23,8 +22,8 @@ pub returns-clause-step : goal.returns-clause-step
 returns-clause-step c = λ a h.
     let before = c.loop.invariant.step a h in
     let same = c.loop-test.ensures.same refl in
-    let e = sym before.2 ∙ ends c.args.number (place before.0 c.loop.link) _ _ _ (c.loop-test.ensures.step before.0 before.1) in
-    rw e (rw (same.0, same.1) before.1, sym same.2)
+    let e = sym before.2 ∙ ends c.args.number (open_link before.0 c.loop.link) _ _ (c.loop-test.ensures.step before.0 before.1) in
+    rw e (rw same.0 before.1, sym same.1)
 
 pub returns-clause-settled : goal.returns-clause-settled
 returns-clause-settled c = record {
@@ -32,5 +31,5 @@ returns-clause-settled c = record {
   short = c.loop-test.ensures.short refl;
   room = λ waits.
       let same = c.loop-test.ensures.same refl in
-      subst (λ (l : LinkState). length l.pending ≤ 49152) (sym same.2) (c.loop.invariant.room (subst (λ (ks : List KeptWait). IsTrue (has_waiting ks c.args.number)) same.1 waits));
+      subst (λ (l : LinkState). length l.pending ≤ 49152) (sym same.1) (c.loop.invariant.room (subst (λ (e : KeptEnvironment). IsTrue (has_waiting e.waits c.args.number)) same.0 waits));
 }

@@ -1,20 +1,18 @@
 use Rattle.std.proofs.Common.{◌≡◌, ◌⊎◌, ◌<◌, ◌≤◌, length, IsTrue}
-use Rattle.af_model.specs.State.{Around, place}
+use Rattle.af_model.specs.State.{EnvironmentState, open_link}
 use Rattle.af_model.specs.Advance.{advance}
-use Rattle.af_perform.specs.Waits.{has_waiting, Grows}
-use Rattle.af_perform.specs.Places.{StandAround}
+use Rattle.af_state.specs.Deferrals.{has_waiting, OnlyQueues}
+use Rattle.af_state.specs.Environment.{StandsForEnvironment}
 use Rattle.af_core.proofs.advance.advance.Given as goal
 
 abbrev pub invariant-loop : goal.invariant-loop
 invariant-loop l = record {
   number : l.number < 32;
-  count : length l.devices ≤ 8;
-  size : length l.input ≡ 16384;
   answered : (l.link ≡ l.initial.link) ⊎ (length l.link.rest < length l.initial.link.rest);
-  room : IsTrue (has_waiting l.waits l.number) → length l.link.pending ≤ 49152;
-  grows : Grows l.number l.initial.waits l.waits;
-  step : (a : Around) → StandAround l.initial.devices l.initial.waits a →
-      (now : Around) × StandAround l.devices l.waits now × (advance l.number (place now l.link) ≡ advance l.number (place a l.initial.link));
+  room : IsTrue (has_waiting l.environment.waits l.number) → length l.link.pending ≤ 49152;
+  only_queues : OnlyQueues l.number l.initial.environment.waits l.environment.waits;
+  step : (a : EnvironmentState) → StandsForEnvironment l.initial.environment a →
+      (now : EnvironmentState) × StandsForEnvironment l.environment now × (advance l.number (open_link now l.link) ≡ advance l.number (open_link a l.initial.link));
 }
 
 abbrev pub decreases-loop : goal.decreases-loop

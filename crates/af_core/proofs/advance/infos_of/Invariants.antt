@@ -1,5 +1,5 @@
 use Rattle.std.proofs.Common.{◌≡◌, take, map}
-use Rattle.af_kept.specs.Kept.{kept_info}
+use Rattle.af_state.specs.Kept.{kept_info}
 use Rattle.af_core.proofs.advance.infos_of.Given as goal
 
 abbrev pub invariant-loop-device : goal.invariant-loop-device

@@ -1,19 +1,29 @@
-use Rattle.std.proofs.Common.{ℕ, ◌∙◌, ap, option_map, refl, slice_set, subst}
+use Rattle.std.proofs.Common.{ℕ, ◌∙◌, ap, length, length-set, option_map, subst, sym}
 use Rattle.af_wire.specs.declared.event.Event.{Event}
 use Rattle.af_model.specs.State.{State, with_device}
 use Rattle.af_model.specs.Events.{tell}
-use Rattle.af_kept.specs.Kept.{KeptDevice}
-use Rattle.af_kept.proofs.Devices.{device_at}
-use Rattle.af_core.specs.Stands.{StandsFor}
-use Rattle.af_core.proofs.Telling.{lines_set, time_is}
+use Rattle.af_state.specs.Kept.{KeptDevice}
+use Rattle.af_state.specs.Environment.{KeptEnvironment}
+use Rattle.af_core.specs.Stands.{AreOrderly, Kept, StandsFor, kept_of}
+use Rattle.af_core.proofs.EnvironmentLemmas.{device_inside}
+use Rattle.af_core.proofs.EventLemmas.{lines_set, time_is}
 use Rattle.af_core.proofs.events.become_line.Goals as goal
 
+pub tell-requires : goal.tell-requires
+tell-requires c = record { kept = subst (λ (e : KeptEnvironment). AreOrderly e.waits c.args.slots.now) (sym c.environment.view_is) c.requires.kept }
+
 pub returns-clause-step : goal.returns-clause-step
-returns-clause-step c = λ f s device h there is.
+returns-clause-step c = λ s device h there f is.
     let d = c.args.number in
-    let here = device_at c.args.devices.now d d c.index-devices-number.result refl c.requires.there in
+    let ds = c.environment.inside.devices.items in
+    let kept : Kept = kept_of (record { devices = ds; waits = c.environment.inside.waits }) c.args.slots.now in
+    let here = device_inside d c.index_mut-device.result.now c.environment.view_is c.requires.there c.index_mut-device.ensures.value in
+    let old = subst (λ (e : KeptEnvironment). StandsFor (kept_of e c.args.slots.now) s) (sym c.environment.view_is) h in
     let next : State = record s { devices = with_device d (λ device. record device { line = option_map f device.line }) s.devices } in
-    let event : ℕ → Event = λ t. record { kind = c.args.kind; device = d; time = record { 0 = t }; value = c.args.value } in
-    let time = time_is c.args.devices.now c.args.waits.now c.args.slots.now d _ s device c.time.result.0 here there (c.time.ensures ∙ ap (λ (x : KeptDevice). x.next.time) c.set_line.ensures) h in
-    subst (λ t. StandsFor (slice_set c.args.devices.now d c.set_line.new.self) c.tell.new.waits c.tell.new.slots (tell (event t) next)) time
-    (c.tell.ensures.step (slice_set c.args.devices.now d c.set_line.new.self) next (lines_set c.args.devices.now c.args.waits.now c.args.slots.now d _ c.set_line.new.self c.args.line f s device here c.set_line.ensures there is h))
+    let event : ℕ → Event = λ t. record { kind = c.args.change.0; device = d; time = record { 0 = t }; value = c.args.change.1 } in
+    let time = time_is kept d _ s device c.time.result.0 here there (c.time.ensures ∙ ap (λ (x : KeptDevice). x.next.time) c.set_line.ensures) old in
+    subst (λ t. StandsFor (kept_of c.tell.new.environment c.tell.new.slots) (tell (event t) next)) time (c.tell.ensures.step next (lines_set kept d _ c.set_line.new.self c.args.line f s device here c.set_line.ensures there is old))
+
+pub returns-clause-count : goal.returns-clause-count
+returns-clause-count c =
+    ap length c.tell.ensures.devices ∙ length-set c.environment.inside.devices.items c.args.number c.set_line.new.self ∙ ap (λ (e : KeptEnvironment). length e.devices) c.environment.view_is

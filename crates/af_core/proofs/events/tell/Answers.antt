@@ -1,24 +1,32 @@
-use Rattle.std.proofs.Common.{◌-◌, length, refl, arith}
-use Rattle.af_core.proofs.Serving.{link_here, settled_here, settled_set}
-use Rattle.af_core.proofs.Telling.{sheds_later, sheds_others, tells_begin, tells_end, tells_more}
+use Rattle.std.proofs.Common.{◌-◌, ◌∙◌, length, length-set, refl, arith}
+use Rattle.af_core.specs.Stands.{kept_of}
+use Rattle.af_core.proofs.LinkPhaseLemmas.{link_here, settled_here, settled_set}
+use Rattle.af_core.proofs.EventLemmas.{only_drops_devices, only_drops_later, only_drops_others, tells_begin, tells_end, tells_more}
 use Rattle.af_core.proofs.events.tell.Goals as goal
 
 pub loop-number-init : goal.loop-number-init
 loop-number-init c = record {
-  later = c.requires.later;
-  settled = c.requires.settled;
-  step = λ ds s h. tells_begin ds c.args.waits.now c.args.slots.now c.args.event _ s (omega arith) h;
+  kept = c.requires.kept;
+  devices = refl;
+  step = λ s h. tells_begin (kept_of c.args.environment.now c.args.slots.now) c.args.event _ s (omega arith) h;
 }
 
 pub tell-requires : goal.tell-requires
-tell-requires c = settled_here c.loop-number.waits c.loop-number.slots c.loop-number.number c.loop-number.number _ _ c.loop-number.invariant.settled refl refl (omega arith)
+tell-requires c = settled_here c.loop-number.environment.waits c.loop-number.slots c.loop-number.number c.loop-number.number _ _ c.loop-number.invariant.kept.settled refl refl (omega arith)
 
 pub loop-number-preserved : goal.loop-number-preserved
-loop-number-preserved c = record {
-  later = sheds_later c.loop-number.number c.loop-number.waits _ c.tell.ensures.sheds c.loop-number.invariant.later;
-  settled = settled_set c.loop-number.waits _ c.loop-number.slots c.loop-number.number _ c.loop-number.invariant.settled (λ j apart. sheds_others c.loop-number.number j c.loop-number.waits _ c.tell.ensures.sheds apart) c.tell.ensures.settled;
-  step = λ ds s h. tells_more ds c.loop-number.waits _ c.loop-number.slots c.args.event _ _ c.loop-number.number _ _ s (omega arith) (link_here c.loop-number.slots c.loop-number.number _ (omega arith)) (c.tell.ensures.step ds) (c.loop-number.invariant.step ds s h);
-}
+loop-number-preserved c =
+    let kept = c.loop-number.invariant.kept in
+    let k = c.loop-number.number in
+    record {
+      kept = record {
+        links = length-set c.loop-number.slots k c.tell.new.self ∙ kept.links;
+        settled = settled_set c.loop-number.environment.waits _ c.loop-number.slots k _ kept.settled (λ j apart. only_drops_others k j c.loop-number.environment _ c.tell.ensures.only_drops apart) c.tell.ensures.settled;
+        later = only_drops_later k c.loop-number.environment _ c.tell.ensures.only_drops kept.later;
+      };
+      devices = only_drops_devices k c.loop-number.environment _ c.tell.ensures.only_drops ∙ c.loop-number.invariant.devices;
+      step = λ s h. tells_more c.loop-number.environment _ c.loop-number.slots c.args.event _ _ k _ _ s (omega arith) (link_here c.loop-number.slots k _ (omega arith)) c.tell.ensures.step (c.loop-number.invariant.step s h);
+    }
 
 pub returns-clause-step : goal.returns-clause-step
-returns-clause-step c = λ ds s h. tells_end ds c.loop-number.waits c.loop-number.slots c.args.event (length c.args.slots.now - c.loop-number.number) c.loop-number.number s (omega arith) (c.loop-number.invariant.step ds s h)
+returns-clause-step c = λ s h. tells_end (kept_of c.loop-number.environment c.loop-number.slots) c.args.event (length c.args.slots.now - c.loop-number.number) c.loop-number.number s (omega arith) (c.loop-number.invariant.step s h)

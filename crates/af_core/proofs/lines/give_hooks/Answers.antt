@@ -1,22 +1,24 @@
-use Rattle.std.proofs.Common.{◌-◌, length, arith}
-use Rattle.af_core.proofs.Telling.{next_hooked, none_hooked, all_hooked}
+use Rattle.std.proofs.Common.{◌-◌, ◌∙◌, ap, length, refl, arith}
+use Rattle.af_state.specs.Environment.{KeptEnvironment}
+use Rattle.af_core.proofs.EventLemmas.{next_hooked, none_hooked, all_hooked}
 use Rattle.af_core.proofs.lines.give_hooks.Goals as goal
 
 pub loop-number-init : goal.loop-number-init
 loop-number-init g c = record {
-  later = c.requires.later;
-  settled = c.requires.settled;
+  kept = c.requires.kept;
+  count = refl;
   leads = g.met.W.World.leads_to_itself _;
-  does = none_hooked _ _ _ _ _ _ (omega arith);
+  simulates = none_hooked _ _ _ _ (omega arith);
 }
 
 pub loop-number-preserved : goal.loop-number-preserved
-loop-number-preserved g c = record {
-  later = c.give_hook.ensures.later;
-  settled = c.give_hook.ensures.settled;
-  leads = g.met.W.World.leads_on _ _ _ c.loop-number.invariant.leads c.give_hook.ensures.leads;
-  does = next_hooked _ _ _ _ _ c.loop-number.number _ _ _ _ _ _ _ _ _ (omega arith) c.loop-number.invariant.does c.give_hook.ensures.does;
-}
+loop-number-preserved g c =
+    let size = ap (λ (e : KeptEnvironment). length e.devices) c.environment.view_is in record {
+      kept = c.give_hook.ensures.kept;
+      count = c.give_hook.ensures.count ∙ c.loop-number.invariant.count;
+      leads = g.met.W.World.leads_on _ _ _ c.loop-number.invariant.leads c.give_hook.ensures.leads;
+      simulates = next_hooked _ _ _ _ _ c.loop-number.number _ _ _ (omega (arith, size)) c.loop-number.invariant.simulates c.give_hook.ensures.simulates;
+    }
 
-pub returns-clause-does : goal.returns-clause-does
-returns-clause-does g c = all_hooked _ _ (length c.args.devices.now - c.loop-number.number) c.loop-number.number _ _ _ _ _ _ (omega arith) c.loop-number.invariant.does
+pub returns-clause-simulates : goal.returns-clause-simulates
+returns-clause-simulates g c = let size = ap (λ (e : KeptEnvironment). length e.devices) c.environment.view_is in all_hooked _ _ (length c.args.environment.now.devices - c.loop-number.number) c.loop-number.number _ _ (omega (arith, size)) c.loop-number.invariant.simulates

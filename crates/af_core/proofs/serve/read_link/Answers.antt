@@ -4,45 +4,46 @@ use Rattle.af_outside.specs.declared.happening.Why.TheVariants as why
 use Rattle.af_model.specs.State.{stopped}
 use Rattle.af_model.specs.Advance.{absorb}
 use Rattle.af_model.specs.Events.{dropped}
-use Rattle.af_perform.proofs.Keeping.{touches_dropped, touches_grown, touches_nothing}
-use Rattle.af_core.proofs.Serving.{absorbed, reads, reads_nothing, at_place, at_update, given_fits}
+use Rattle.af_state.specs.Environment.{KeptEnvironment}
+use Rattle.af_state.proofs.DeferralLemmas.{leaves_others_dropped, leaves_others_grown, leaves_others_nothing}
+use Rattle.af_core.proofs.LinkPhaseLemmas.{absorbed, reads, reads_nothing, at_open_link, at_update, given_fits}
 use Rattle.af_core.proofs.serve.read_link.Goals as goal
 
-pub returns-then-not-wants_read-clause-does : goal.returns-then-not-wants_read-clause-does
-returns-then-not-wants_read-clause-does g c = reads_nothing _ _ _ c.args.waits.now _ (search rules)
+pub returns-then-not-wants_read-clause-simulates : goal.returns-then-not-wants_read-clause-simulates
+returns-then-not-wants_read-clause-simulates g c = reads_nothing _ _ c.args.environment.now _ (search rules)
 
-pub returns-in-Bytes-clause-does : goal.returns-in-Bytes-clause-does
-returns-in-Bytes-clause-does g c =
+pub returns-in-Bytes-clause-simulates : goal.returns-in-Bytes-clause-simulates
+returns-in-Bytes-clause-simulates g c =
     let taken : c.take_in.new.self ≡ record c.args.link.now { rest = c.args.link.now.rest ++ take c.in-Bytes.n c.read.new.into } = search rules in
-    reads _ _ c.args.number c.args.devices.now _ c.args.waits.now _ c.args.link.now _ (Given (take c.in-Bytes.n c.read.new.into)) (search rules) (given_fits _ _ c.in-Bytes.ensures.bound.0 c.in-Bytes.ensures.bound.1 (omega arith)) c.in-Bytes.ensures.log
-    (at_place _ _ _ _ _ _ (λ p. absorb c.args.number (take c.in-Bytes.n c.read.new.into) p)
-    (absorbed c.args.number c.args.devices.now _ c.args.waits.now _ c.args.link.now _ _ (take c.in-Bytes.n c.read.new.into) (search rules) taken c.advance.ensures.step))
+    reads _ _ c.args.number c.args.environment.now _ c.args.link.now _ (Given (take c.in-Bytes.n c.read.new.into)) (search rules) (given_fits _ _ c.in-Bytes.ensures.bound.0 c.in-Bytes.ensures.bound.1 (omega arith)) c.in-Bytes.ensures.log
+    (at_open_link _ _ _ _ (λ p. absorb c.args.number (take c.in-Bytes.n c.read.new.into) p)
+    (absorbed c.args.number c.args.environment.now _ c.args.link.now _ _ (take c.in-Bytes.n c.read.new.into) (search rules) taken c.advance.ensures.step))
 
-pub returns-in-NotYet-clause-does : goal.returns-in-NotYet-clause-does
-returns-in-NotYet-clause-does g c =
-    reads _ _ c.args.number c.args.devices.now _ c.args.waits.now _ c.args.link.now _ NotYet (search rules) refl c.in-NotYet.ensures.log (at_update _ _ _ _ (λ l. record l { is_ready = false }) c.wait_for_bytes.ensures)
+pub returns-in-NotYet-clause-simulates : goal.returns-in-NotYet-clause-simulates
+returns-in-NotYet-clause-simulates g c =
+    reads _ _ c.args.number c.args.environment.now _ c.args.link.now _ NotYet (search rules) refl c.in-NotYet.ensures.log (at_update _ _ _ (λ l. record l { is_ready = false }) c.wait_for_bytes.ensures)
 
-pub returns-in-Ended-clause-does : goal.returns-in-Ended-clause-does
-returns-in-Ended-clause-does g c =
-    reads _ _ c.args.number c.args.devices.now _ c.args.waits.now _ c.args.link.now _ Ended (search rules) refl c.in-Ended.ensures.log
-    (at_update _ _ _ _ (λ l. stopped why.Ended (record l { is_ready = false })) (c.stop.ensures ∙ ap (stopped why.Ended) c.wait_for_bytes-in-Ended.ensures))
+pub returns-in-Ended-clause-simulates : goal.returns-in-Ended-clause-simulates
+returns-in-Ended-clause-simulates g c =
+    reads _ _ c.args.number c.args.environment.now _ c.args.link.now _ Ended (search rules) refl c.in-Ended.ensures.log
+    (at_update _ _ _ (λ l. stopped why.Ended (record l { is_ready = false })) (c.stop.ensures ∙ ap (stopped why.Ended) c.wait_for_bytes-in-Ended.ensures))
 
-pub returns-in-Failed-clause-does : goal.returns-in-Failed-clause-does
-returns-in-Failed-clause-does g c =
-    reads _ _ c.args.number c.args.devices.now _ c.args.waits.now _ c.args.link.now _ Failed (search rules) refl c.in-Failed.ensures.log
-    (at_place _ _ _ _ _ _ (dropped c.args.number why.LinkFault) (c.drop_link.ensures.step c.args.devices.now))
+pub returns-in-Failed-clause-simulates : goal.returns-in-Failed-clause-simulates
+returns-in-Failed-clause-simulates g c =
+    reads _ _ c.args.number c.args.environment.now _ c.args.link.now _ Failed (search rules) refl c.in-Failed.ensures.log
+    (at_open_link _ _ _ _ (dropped c.args.number why.LinkFault) c.drop_link.ensures.step)
 
-pub returns-then-not-wants_read-clause-touches : goal.returns-then-not-wants_read-clause-touches
-returns-then-not-wants_read-clause-touches g c = touches_nothing c.args.number c.args.waits.now
+pub returns-then-not-wants_read-clause-link : goal.returns-then-not-wants_read-clause-link
+returns-then-not-wants_read-clause-link g c = record { settled = c.requires.link.settled; leaves_others = leaves_others_nothing c.args.number c.args.environment.now.waits }
 
-pub returns-in-Bytes-clause-touches : goal.returns-in-Bytes-clause-touches
-returns-in-Bytes-clause-touches g c = touches_grown _ _ _ c.advance.ensures.grows
+pub returns-in-Bytes-clause-link : goal.returns-in-Bytes-clause-link
+returns-in-Bytes-clause-link g c = record { settled = c.advance.ensures.settled; leaves_others = leaves_others_grown _ _ _ c.advance.ensures.only_queues }
 
-pub returns-in-NotYet-clause-touches : goal.returns-in-NotYet-clause-touches
-returns-in-NotYet-clause-touches g c = touches_nothing c.args.number c.args.waits.now
+pub returns-in-NotYet-clause-link : goal.returns-in-NotYet-clause-link
+returns-in-NotYet-clause-link g c = record { settled = search rules; leaves_others = leaves_others_nothing c.args.number c.args.environment.now.waits }
 
-pub returns-in-Ended-clause-touches : goal.returns-in-Ended-clause-touches
-returns-in-Ended-clause-touches g c = touches_nothing c.args.number c.args.waits.now
+pub returns-in-Ended-clause-link : goal.returns-in-Ended-clause-link
+returns-in-Ended-clause-link g c = record { settled = search rules; leaves_others = leaves_others_nothing c.args.number c.args.environment.now.waits }
 
-pub returns-in-Failed-clause-touches : goal.returns-in-Failed-clause-touches
-returns-in-Failed-clause-touches g c = touches_dropped _ _ _ c.drop_link.ensures.without
+pub returns-in-Failed-clause-link : goal.returns-in-Failed-clause-link
+returns-in-Failed-clause-link g c = record { settled = c.drop_link.ensures.settled; leaves_others = leaves_others_dropped _ _ _ (ap (λ (e : KeptEnvironment). e.waits) c.drop_link.ensures.without) }

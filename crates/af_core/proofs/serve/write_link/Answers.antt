@@ -1,19 +1,19 @@
-use Rattle.std.proofs.Common.{arith, rules}
-use Rattle.af_perform.proofs.Keeping.{touches_on}
-use Rattle.af_core.proofs.Doing.{does_more}
-use Rattle.af_core.proofs.Serving.{writes_nothing}
+use Rattle.std.proofs.Common.{rules}
+use Rattle.af_state.proofs.DeferralLemmas.{leaves_others_on}
+use Rattle.af_core.proofs.SimulationLemmas.{simulates_more}
+use Rattle.af_core.proofs.LinkPhaseLemmas.{writes_nothing}
 use Rattle.af_core.proofs.serve.write_link.Goals as goal
 
-pub loop-devices-preserved : goal.loop-devices-preserved
-loop-devices-preserved g c = record {
-  number = omega arith;
-  count = omega arith;
-  size = omega arith;
-  settled = c.write_once.ensures.settled;
-  leads = g.met.W.World.leads_on _ _ _ c.loop-devices.invariant.leads c.write_once.ensures.leads;
-  touches = touches_on _ _ _ _ c.loop-devices.invariant.touches c.write_once.ensures.touches;
-  does = does_more c.loop-devices.invariant.does c.write_once.ensures.does;
+pub loop-environment-preserved : goal.loop-environment-preserved
+loop-environment-preserved g c = record {
+  number = c.loop-environment.invariant.number;
+  link = record { settled = c.write_once.ensures.link.settled; leaves_others = leaves_others_on _ _ _ _ c.loop-environment.invariant.link.leaves_others c.write_once.ensures.link.leaves_others };
+  leads = g.met.W.World.leads_on _ _ _ c.loop-environment.invariant.leads c.write_once.ensures.leads;
+  simulates = simulates_more c.loop-environment.invariant.simulates c.write_once.ensures.simulates;
 }
 
-pub returns-clause-does : goal.returns-clause-does
-returns-clause-does g c = does_more c.loop-devices.invariant.does (writes_nothing _ _ _ _ _ (search rules))
+pub returns-clause-simulates : goal.returns-clause-simulates
+returns-clause-simulates g c = simulates_more c.loop-environment.invariant.simulates (writes_nothing _ _ _ _ (search rules))
+
+pub write_once-requires-clause-link : goal.write_once-requires-clause-link
+write_once-requires-clause-link g c = record { number = c.loop-environment.invariant.number; settled = c.loop-environment.invariant.link.settled }

@@ -1,41 +1,46 @@
-use Rattle.std.proofs.Common.{◌≡◌, ◌<◌, ◌∙◌, ap, arith, inl, inr, length, refl, subst, take, ⊎_elim}
+use Rattle.std.proofs.Common.{◌≡◌, ◌<◌, ◌≤◌, ◌∙◌, ℕ, List, [], ◌∷◌, ap, rules, arith, inl, inr, length, refl, subst, take, ⊎_elim}
 use Rattle.std.specs.declared.option.Option.TheVariants.{None, Some}
+use Rattle.af_outside.specs.declared.happening.Happening.TheVariants.{Wrote}
 use Rattle.af_outside.specs.declared.happening.Why.TheVariants as why
-use Rattle.af_model.specs.State.{LinkState, place}
+use Rattle.af_io.specs.Observed.{Appended}
+use Rattle.af_model.specs.State.{LinkState, open_link}
 use Rattle.af_model.specs.Advance.{advance}
 use Rattle.af_model.specs.Events.{dropped}
 use Rattle.af_model.specs.Turn.{sent}
-use Rattle.af_perform.specs.Places.{At}
-use Rattle.af_perform.proofs.Keeping.{touches_dropped, touches_grown}
-use Rattle.af_core.proofs.Serving.{fewer_writes, first_taken, writes, writes_some}
+use Rattle.af_state.specs.Environment.{StandsForLink, KeptEnvironment, StepsLink}
+use Rattle.af_state.proofs.DeferralLemmas.{leaves_others_dropped, leaves_others_grown}
+use Rattle.af_core.proofs.LinkPhaseLemmas.{fewer_writes, first_taken, writes, writes_some}
 use Rattle.af_core.proofs.serve.write_once.Goals as goal
 
-pub returns-in-Took-clause-does : goal.returns-in-Took-clause-does
-returns-in-Took-clause-does g c =
+pub returns-in-Took-clause-simulates : goal.returns-in-Took-clause-simulates
+returns-in-Took-clause-simulates g c =
     let k = c.args.number in
     let l = c.args.link.now in
-    let took : c.took.new.self ≡ sent c.in-Took.n l = c.took.ensures ∙ ap (sent c.in-Took.n) c.offer.ensures.same in
-    writes _ _ k c.args.devices.now _ c.args.waits.now _ l _ (Some (take c.in-Took.n l.pending)) (λ p. advance k (place p.around (sent c.in-Took.n p.link))) c.requires.wants
-    (λ a. first_taken k c.in-Took.n (place a l) c.in-Took.ensures.bound) c.in-Took.ensures.log
-    (λ a h. subst (λ m. At c.advance.new.devices c.advance.new.waits c.advance.new.link (advance k (place a m))) took (c.advance.ensures.step a h))
+    let n = c.in-Took.n in
+    let took : c.took.new.self ≡ sent n l = search rules in
+    let bound : n ≤ length l.pending = subst (λ (xs : List ℕ). n ≤ length xs) c.pending.ensures.pending c.in-Took.ensures.bound in
+    let log = subst (λ (xs : List ℕ). Appended (g.W.World.log c.args.world.now) (Wrote k (length xs) (Some (take n xs)) ∷ []) (g.W.World.log c.write.new.self)) c.pending.ensures.pending c.in-Took.ensures.log in
+    writes _ _ k c.args.environment.now _ l _ (Some (take n l.pending)) (λ p. advance k (open_link p.environment (sent n p.link))) c.requires.wants (λ a. first_taken k n (open_link a l) bound) log
+    (λ a h. subst (λ m. StandsForLink c.advance.new.environment c.advance.new.link (advance k (open_link a m))) took (c.advance.ensures.step a h))
 
-pub returns-in-Failed-clause-does : goal.returns-in-Failed-clause-does
-returns-in-Failed-clause-does g c =
+pub returns-in-Failed-clause-simulates : goal.returns-in-Failed-clause-simulates
+returns-in-Failed-clause-simulates g c =
     let k = c.args.number in
-    let ds = c.args.devices.now in
-    writes _ _ k ds _ c.args.waits.now _ c.args.link.now _ None (dropped k why.LinkFault) c.requires.wants (λ a. refl) c.in-Failed.ensures.log
-    (λ a h. subst (λ (m : LinkState). At ds c.drop_link.new.waits c.drop_link.new.link (dropped k why.LinkFault (place a m))) c.offer.ensures.same (c.drop_link.ensures.step ds a h))
+    let log = subst (λ (xs : List ℕ). Appended (g.W.World.log c.args.world.now) (Wrote k (length xs) None ∷ []) (g.W.World.log c.write.new.self)) c.pending.ensures.pending c.in-Failed.ensures.log in
+    let step : StepsLink (dropped k why.LinkFault) c.args.environment.now c.args.link.now c.drop_link.new.environment c.drop_link.new.link = search rules in
+    writes _ _ k c.args.environment.now _ c.args.link.now _ None (dropped k why.LinkFault) c.requires.wants (λ a. refl) log step
 
-pub returns-in-Took-clause-touches : goal.returns-in-Took-clause-touches
-returns-in-Took-clause-touches g c = touches_grown _ _ _ c.advance.ensures.grows
+pub returns-in-Took-clause-link : goal.returns-in-Took-clause-link
+returns-in-Took-clause-link g c = record { settled = c.advance.ensures.settled; leaves_others = leaves_others_grown _ _ _ c.advance.ensures.only_queues }
 
-pub returns-in-Failed-clause-touches : goal.returns-in-Failed-clause-touches
-returns-in-Failed-clause-touches g c = touches_dropped _ _ _ c.drop_link.ensures.without
+pub returns-in-Failed-clause-link : goal.returns-in-Failed-clause-link
+returns-in-Failed-clause-link g c = record { settled = c.drop_link.ensures.settled; leaves_others = leaves_others_dropped _ _ _ (ap (λ (e : KeptEnvironment). e.waits) c.drop_link.ensures.without) }
 
 pub returns-in-Took-clause-fewer : goal.returns-in-Took-clause-fewer
 returns-in-Took-clause-fewer g c =
-    let took : c.took.new.self ≡ sent c.in-Took.n c.args.link.now = c.took.ensures ∙ ap (sent c.in-Took.n) c.offer.ensures.same in
-    fewer_writes c.in-Took.n c.args.link.now _ c.in-Took.ensures.bound c.requires.wants
+    let took : c.took.new.self ≡ sent c.in-Took.n c.args.link.now = search rules in
+    let bound = subst (λ (xs : List ℕ). c.in-Took.n ≤ length xs) c.pending.ensures.pending c.in-Took.ensures.bound in
+    fewer_writes c.in-Took.n c.args.link.now _ bound c.requires.wants
     (⊎_elim (λ e. inl (e ∙ took)) (λ less. inr (subst (λ (m : LinkState). length c.advance.new.link.rest < length m.rest) took less)) c.advance.ensures.answered)
 
 pub returns-in-Failed-clause-fewer : goal.returns-in-Failed-clause-fewer

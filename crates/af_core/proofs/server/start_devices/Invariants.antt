@@ -1,6 +1,6 @@
 use Rattle.std.proofs.Common.{◌≡◌, map, take, length}
 use Rattle.af_model.specs.State.{opening_device}
-use Rattle.af_kept.specs.Kept.{StandForDevices}
+use Rattle.af_state.specs.Kept.{StandForDevices}
 use Rattle.af_core.proofs.server.start_devices.Given as goal
 
 abbrev pub invariant-loop-spec : goal.invariant-loop-spec

@@ -1,33 +1,62 @@
-use Rattle.std.proofs.Common.{ap, refl, slice_set, ⊎_elim}
+use Rattle.std.proofs.Common.{◌∙◌, ap, length-set, refl, slice_set, ⊎_elim}
 use Rattle.af_model.specs.Turn.{ready, writable}
-use Rattle.af_core.proofs.Serving.{link_here, opened_settled, flag_settled, settled_here, settled_set}
-use Rattle.af_core.proofs.Turning.{opens, readies, unsticks, read_below, write_below, ready_settled, writable_settled, stays_idle, stays_stop, at_wake}
+use Rattle.af_core.specs.Stands.{kept_of}
+use Rattle.af_core.proofs.LinkPhaseLemmas.{link_here, opened_settled, flag_settled, settled_here, settled_set}
+use Rattle.af_core.proofs.TurnLemmas.{opens, readies, unsticks, read_below, write_below, ready_settled, writable_settled, stays_idle, stays_stop, at_wake, simulates_keep}
 use Rattle.af_core.proofs.server.wake_up.Goals as goal
 
-pub returns-in-Opened-clause-does : goal.returns-in-Opened-clause-does
-returns-in-Opened-clause-does g c = at_wake c.in-Opened.is (opens _ c.in-Opened.number _ _ _ _ (ap (λ o. slice_set c.args.slots.now c.in-Opened.number o) c.open.ensures))
+pub returns-in-Opened-clause-simulates : goal.returns-in-Opened-clause-simulates
+returns-in-Opened-clause-simulates g c = at_wake c.in-Opened.is (opens _ c.in-Opened.number (kept_of c.args.environment.now c.args.slots.now) _ (ap (λ o. slice_set c.args.slots.now c.in-Opened.number o) c.open.ensures))
 
-pub returns-in-Readable-clause-does : goal.returns-in-Readable-clause-does
-returns-in-Readable-clause-does g c =
-    at_wake c.in-Readable.is (readies _ c.in-Readable.number _ _ _ _ _ (link_here c.args.slots.now c.in-Readable.number _ (read_below _ c.in-Readable.number c.args.slots.now c.args.wake c.in-Readable.is c.requires.fits)) (ap (λ o. slice_set c.args.slots.now c.in-Readable.number o) c.set_ready.ensures))
+pub returns-in-Readable-clause-simulates : goal.returns-in-Readable-clause-simulates
+returns-in-Readable-clause-simulates g c =
+    let k = c.in-Readable.number in
+    let low = read_below _ k c.args.slots.now c.args.wake c.in-Readable.is c.requires.fits in
+    at_wake c.in-Readable.is (readies _ k (kept_of c.args.environment.now c.args.slots.now) _ _ (link_here c.args.slots.now k _ low) (ap (λ o. slice_set c.args.slots.now k o) c.set_ready.ensures))
 
-pub returns-in-Idle-clause-does : goal.returns-in-Idle-clause-does
-returns-in-Idle-clause-does g c = ⊎_elim (λ e. at_wake e (stays_idle _ _ _ _)) (λ e. at_wake e (stays_stop _ _ _ _)) c.in-Idle.is
+pub returns-in-Writable-clause-simulates : goal.returns-in-Writable-clause-simulates
+returns-in-Writable-clause-simulates g c =
+    let k = c.in-Writable.number in
+    let low = write_below _ k c.args.slots.now c.args.wake c.in-Writable.is c.requires.fits in
+    at_wake c.in-Writable.is (unsticks _ k (kept_of c.args.environment.now c.args.slots.now) _ _ (link_here c.args.slots.now k _ low) (ap (λ o. slice_set c.args.slots.now k o) c.set_writable.ensures))
 
-pub returns-in-Opened-clause-settled : goal.returns-in-Opened-clause-settled
-returns-in-Opened-clause-settled g c =
-    settled_set c.args.waits.now c.args.waits.now c.args.slots.now c.in-Opened.number _ c.requires.settled (λ j apart. refl) (opened_settled _ _ c.open.ensures)
+pub returns-in-Idle-clause-simulates : goal.returns-in-Idle-clause-simulates
+returns-in-Idle-clause-simulates g c = ⊎_elim (λ e. at_wake e (stays_idle _ _)) (λ e. at_wake e (stays_stop _ _)) c.in-Idle.is
 
-pub returns-in-Readable-clause-settled : goal.returns-in-Readable-clause-settled
-returns-in-Readable-clause-settled g c =
-    settled_set c.args.waits.now c.args.waits.now c.args.slots.now c.in-Readable.number _ c.requires.settled (λ j apart. refl)
-    (flag_settled ready _ _ _ (ready_settled _) (settled_here c.args.waits.now c.args.slots.now c.in-Readable.number c.in-Readable.number _ _ c.requires.settled refl refl (read_below _ c.in-Readable.number c.args.slots.now c.args.wake c.in-Readable.is c.requires.fits)) c.set_ready.ensures)
+pub returns-in-Opened-clause-kept : goal.returns-in-Opened-clause-kept
+returns-in-Opened-clause-kept g c =
+    let kept = c.requires.kept.orderly in
+    let k = c.in-Opened.number in
+    let ks = c.args.environment.now.waits in
+    simulates_keep _ _ (returns-in-Opened-clause-simulates g c) c.requires.kept
+    (record {
+      links = length-set c.args.slots.now k c.open.new.self ∙ kept.links;
+      settled = settled_set ks ks c.args.slots.now k _ kept.settled (λ j apart. refl) (opened_settled _ _ c.open.ensures);
+      later = kept.later;
+    })
 
-pub returns-in-Writable-clause-does : goal.returns-in-Writable-clause-does
-returns-in-Writable-clause-does g c =
-    at_wake c.in-Writable.is (unsticks _ c.in-Writable.number _ _ _ _ _ (link_here c.args.slots.now c.in-Writable.number _ (write_below _ c.in-Writable.number c.args.slots.now c.args.wake c.in-Writable.is c.requires.fits)) (ap (λ o. slice_set c.args.slots.now c.in-Writable.number o) c.set_writable.ensures))
+pub returns-in-Readable-clause-kept : goal.returns-in-Readable-clause-kept
+returns-in-Readable-clause-kept g c =
+    let kept = c.requires.kept.orderly in
+    let k = c.in-Readable.number in
+    let ks = c.args.environment.now.waits in
+    let low = read_below _ k c.args.slots.now c.args.wake c.in-Readable.is c.requires.fits in
+    simulates_keep _ _ (returns-in-Readable-clause-simulates g c) c.requires.kept
+    (record {
+      links = length-set c.args.slots.now k c.set_ready.new.self ∙ kept.links;
+      settled = settled_set ks ks c.args.slots.now k _ kept.settled (λ j apart. refl) (flag_settled ready _ _ _ (ready_settled _) (settled_here ks c.args.slots.now k k _ _ kept.settled refl refl low) c.set_ready.ensures);
+      later = kept.later;
+    })
 
-pub returns-in-Writable-clause-settled : goal.returns-in-Writable-clause-settled
-returns-in-Writable-clause-settled g c =
-    settled_set c.args.waits.now c.args.waits.now c.args.slots.now c.in-Writable.number _ c.requires.settled (λ j apart. refl)
-    (flag_settled writable _ _ _ (writable_settled _) (settled_here c.args.waits.now c.args.slots.now c.in-Writable.number c.in-Writable.number _ _ c.requires.settled refl refl (write_below _ c.in-Writable.number c.args.slots.now c.args.wake c.in-Writable.is c.requires.fits)) c.set_writable.ensures)
+pub returns-in-Writable-clause-kept : goal.returns-in-Writable-clause-kept
+returns-in-Writable-clause-kept g c =
+    let kept = c.requires.kept.orderly in
+    let k = c.in-Writable.number in
+    let ks = c.args.environment.now.waits in
+    let low = write_below _ k c.args.slots.now c.args.wake c.in-Writable.is c.requires.fits in
+    simulates_keep _ _ (returns-in-Writable-clause-simulates g c) c.requires.kept
+    (record {
+      links = length-set c.args.slots.now k c.set_writable.new.self ∙ kept.links;
+      settled = settled_set ks ks c.args.slots.now k _ kept.settled (λ j apart. refl) (flag_settled writable _ _ _ (writable_settled _) (settled_here ks c.args.slots.now k k _ _ kept.settled refl refl low) c.set_writable.ensures);
+      later = kept.later;
+    })

@@ -1,7 +1,7 @@
 use Rattle.std.proofs.Common.{◌∙◌, sym, ap, arith}
 use Rattle.af_model.specs.More.{open_wants}
-use Rattle.af_perform.specs.Waits.{has_waiting}
-use Rattle.af_core.proofs.Wanting.{none_wants, others_want, this_wants}
+use Rattle.af_state.specs.Deferrals.{has_waiting}
+use Rattle.af_core.proofs.WantsTurnLemmas.{none_wants, others_want, this_wants}
 use Rattle.af_core.proofs.slot.any_wants.Goals as goal
 
 pub returns-then-wants_turn : goal.returns-then-wants_turn

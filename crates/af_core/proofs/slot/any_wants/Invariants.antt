@@ -1,6 +1,6 @@
 use Rattle.std.proofs.Common.{◌≡◌, drop}
 use Rattle.af_model.specs.More.{any_wants}
-use Rattle.af_perform.specs.Waits.{has_waiting}
+use Rattle.af_state.specs.Deferrals.{has_waiting}
 use Rattle.af_core.proofs.slot.any_wants.Given as goal
 
 abbrev pub invariant-loop-number : goal.invariant-loop-number

@@ -1,26 +1,38 @@
-use Rattle.std.proofs.Common.{refl, sym, slice_set, subst, List}
-use Rattle.af_model.specs.State.{State}
-use Rattle.af_perform.specs.Waits.{KeptWait, has_waiting, AreLaterBut}
-use Rattle.af_kept.proofs.Devices.{device_at}
-use Rattle.af_perform.proofs.Keeping.{later_passed, passed_waiting}
-use Rattle.af_core.specs.Stands.{IsSettled, StandsFor}
-use Rattle.af_core.proofs.Turning.{passed_state, ticks}
+use Rattle.std.proofs.Common.{slice_set, sym, subst, List}
+use Rattle.af_state.specs.Deferrals.{KeptDeferral}
+use Rattle.af_state.specs.Environment.{KeptEnvironment}
+use Rattle.af_state.proofs.DeferralLemmas.{later_passed, passed_waiting}
+use Rattle.af_core.specs.Stands.{IsBetweenPhases, IsCompleting, IsSettled, StandsFor, kept_of}
+use Rattle.af_core.proofs.EnvironmentLemmas.{device_inside, device_kept}
+use Rattle.af_core.proofs.TurnLemmas.{passed_kept, passed_state, ticks}
 use Rattle.af_core.proofs.tick.tick.Goals as goal
 
-pub complete_due-requires-clause-later : goal.complete_due-requires-clause-later
-complete_due-requires-clause-later g c = subst (AreLaterBut c.args.number) (sym c.pass.ensures) (later_passed c.args.number c.args.frames c.args.waits.now c.requires.later)
+pub complete_due-requires : goal.complete_due-requires
+complete_due-requires g c =
+    let d = c.args.number in
+    let ds = c.environment.inside.devices.items in
+    let ks = c.environment.inside.waits in
+    let x = c.index_mut-device.result.now in
+    let here = device_inside d x c.environment.view_is c.requires.there c.index_mut-device.ensures.value in
+    let old = subst (λ (e : KeptEnvironment). IsBetweenPhases (kept_of e c.args.slots.now)) (sym c.environment.view_is) c.requires.kept in
+    record {
+      kept = subst (λ (qs : List KeptDeferral). IsCompleting d (kept_of (record { devices = slice_set ds d c.tick_device.new.device; waits = qs }) c.args.slots.now)) (sym c.pass.ensures)
+          (record {
+            links = old.orderly.links;
+            settled = λ k l at. subst (λ b. IsSettled b l) (sym (passed_waiting d c.args.frames ks k)) (old.orderly.settled k l at);
+            later = later_passed d c.args.frames ks old.orderly.later;
+            stands = passed_state _ _ d c.args.frames (kept_of (record { devices = ds; waits = ks }) c.args.slots.now) x _ c.requires.bound old.orderly.later here c.tick_device.ensures.ticks old.stands;
+          });
+    }
 
-pub complete_due-requires-clause-settled : goal.complete_due-requires-clause-settled
-complete_due-requires-clause-settled g c = λ k l here.
-    subst (λ (ks : List KeptWait). IsSettled (has_waiting ks k) l) (sym c.pass.ensures)
-    (subst (λ b. IsSettled b l) (sym (passed_waiting c.args.number c.args.frames c.args.waits.now k)) (c.requires.settled k l here))
-
-pub complete_due-requires-clause-stands : goal.complete_due-requires-clause-stands
-complete_due-requires-clause-stands g c =
-    subst (λ (ks : List KeptWait). (s : State) × StandsFor (slice_set c.args.devices.now c.args.number c.tick_device.new.device) ks c.args.slots.now s) (sym c.pass.ensures)
-    (passed_state _ _ c.args.number c.args.frames c.args.devices.now _ _ c.args.waits.now c.args.slots.now c.requires.bound c.requires.later (device_at c.args.devices.now c.args.number _ c.index-devices-number.result refl c.requires.there) c.tick_device.ensures.ticks c.requires.stands)
-
-pub returns-clause-does : goal.returns-clause-does
-returns-clause-does g c =
-    ticks _ _ c.args.number c.args.frames c.args.devices.now _ _ _ c.args.waits.now _ c.args.slots.now _ c.requires.bound c.requires.later (device_at c.args.devices.now c.args.number _ c.index-devices-number.result refl c.requires.there) c.tick_device.ensures.ticks
-    (λ s h. c.complete_due.ensures.step s (subst (λ (ks : List KeptWait). StandsFor (slice_set c.args.devices.now c.args.number c.tick_device.new.device) ks c.args.slots.now s) (sym c.pass.ensures) h))
+pub returns-clause-simulates : goal.returns-clause-simulates
+returns-clause-simulates g c =
+    let d = c.args.number in
+    let ds = c.environment.inside.devices.items in
+    let new = c.tick_device.new.device in
+    let x = c.index_mut-device.result.now in
+    let here = device_kept d x c.environment.view_is c.requires.there c.index_mut-device.ensures.value in
+    ticks _ _ d c.args.frames (kept_of c.args.environment.now c.args.slots.now) _ x new c.requires.bound c.requires.kept.orderly.later here c.tick_device.ensures.ticks
+    (λ s h. c.complete_due.ensures.step s
+    (subst (λ (qs : List KeptDeferral). StandsFor (kept_of (record { devices = slice_set ds d new; waits = qs }) c.args.slots.now) s) (sym c.pass.ensures)
+    (subst (λ (e : KeptEnvironment). StandsFor (passed_kept d c.args.frames new (kept_of e c.args.slots.now)) s) (sym c.environment.view_is) h)))

@@ -1,5 +1,5 @@
 use Rattle.std.proofs.Common.{rules}
-use Rattle.af_core.proofs.Turning.{capture_failed, emit_failed, emit_done}
+use Rattle.af_core.proofs.TurnLemmas.{capture_failed, emit_failed, emit_done}
 use Rattle.af_core.proofs.tick.tick_live.Goals as goal
 
 pub returns-then-not-came-clause-ticks : goal.returns-then-not-came-clause-ticks

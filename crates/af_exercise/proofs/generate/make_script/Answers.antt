@@ -1,4 +1,4 @@
-use Rattle.af_exercise.proofs.Exercising.{made, made_fit}
+use Rattle.af_exercise.proofs.GeneratedScriptLemmas.{made, made_fit}
 use Rattle.af_exercise.proofs.generate.make_script.Goals as goal
 
 pub returns-clause-script : goal.returns-clause-script

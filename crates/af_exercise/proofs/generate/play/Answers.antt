@@ -1,6 +1,6 @@
 use Rattle.std.proofs.Common.{◌+◌, ◌%◌, ◌^◌, ap, ◌∙◌}
 use Rattle.af_exercise.specs.Exercise.{repeated}
-use Rattle.af_exercise.proofs.Exercising.{play_is}
+use Rattle.af_exercise.proofs.GeneratedScriptLemmas.{play_is}
 use Rattle.af_exercise.proofs.generate.play.Goals as goal
 
 pub returns-clause-value : goal.returns-clause-value

@@ -1,6 +1,6 @@
 use Rattle.std.proofs.Common.{◌≡◌, ◌+◌, ◌++◌, suc, ap, ◌∙◌, length, length-append, arith}
 use Rattle.af_exercise.specs.Exercise.{repeated}
-use Rattle.af_exercise.proofs.Exercising.{repeated_more}
+use Rattle.af_exercise.proofs.GeneratedScriptLemmas.{repeated_more}
 use Rattle.af_exercise.proofs.generate.repeated.Goals as goal
 
 pub loop-round-preserved : goal.loop-round-preserved

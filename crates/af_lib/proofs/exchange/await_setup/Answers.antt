@@ -2,11 +2,11 @@ use Rattle.std.proofs.Common.{sym, subst, List, ℕ}
 use Rattle.std.specs.declared.option.Option.{Option}
 use Rattle.af_wire.specs.Front.{setup_bytes}
 use Rattle.af_lib.specs.Calls.{Sends}
-use Rattle.af_lib.proofs.Exchanges.{sends_all}
+use Rattle.af_lib.proofs.ExchangeLemmas.{sends_all}
 use Rattle.af_lib.proofs.exchange.await_setup.Goals as goal
 
 pub returns-in-Done-clause-sends : goal.returns-in-Done-clause-sends
 returns-in-Done-clause-sends g c =
     let all = sends_all c.await_answer.result (g.L.Link.sent c.args.link.now) setup_bytes (g.L.Link.sent c.write.new.self) c.in-Done.ensures.written in
     let P : Option (List ℕ) → Type 0 = λ sent. Sends c.await_answer.result (g.L.Link.sent c.args.link.now) setup_bytes sent in
-    subst P (sym c.await_answer.ensures.sends) all
+    subst P (sym c.await_answer.ensures.reads.sends) all

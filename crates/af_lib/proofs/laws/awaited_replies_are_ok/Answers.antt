@@ -1,4 +1,4 @@
-use Rattle.af_lib.proofs.Success.{called_succeeds}
+use Rattle.af_lib.proofs.SuccessLemmas.{called_succeeds}
 use Rattle.af_lib.proofs.laws.awaited_replies_are_ok.Goals as goal
 
 pub returns : goal.returns
@@ -7,5 +7,5 @@ returns g c = record {
   times = λ asked old new answer called. called_succeeds _ _ _ _ _ _ _ _ called;
   controls = λ asked old new answer called. called_succeeds _ _ _ _ _ _ _ _ called;
   phones = λ asked old new answer called. called_succeeds _ _ _ _ _ _ _ _ called;
-  records = λ asked old new blocking room answer called. called_succeeds _ _ _ _ _ _ _ _ called;
+  records = λ blocking room asked old new answer called. called_succeeds _ _ _ _ _ _ _ _ called;
 }

@@ -1,11 +1,12 @@
-use Rattle.std.proofs.Common.{rules, arith, ◌≡◌, ◌≢◌, ℕ, subst, sym, ◌∙◌}
+use Rattle.std.proofs.Common.{rules, arith, ◌≡◌, ◌≢◌, ℕ, subst, sym, refl, ◌∙◌}
 use Rattle.std.specs.Prelude.{Result, Ok, Err}
 use Rattle.af_lib.specs.declared.receive.Taken.{Taken}
 use Rattle.af_lib.specs.declared.fault.ConnFault.{ConnFault}
 use Rattle.af_lib.specs.declared.fault.ConnFault.TheVariants as fault
 use Rattle.af_lib.specs.Receive.{Takes, Awaits}
 use Rattle.af_lib.specs.Ring.{nothing_more, one_more, Gained, RingState}
-use Rattle.af_lib.proofs.Taking.{await_event, await_other, await_fault, await_flood}
+use Rattle.af_lib.proofs.OnlyReading.{read_on, read_where}
+use Rattle.af_lib.proofs.AwaitedMessageLemmas.{await_event, await_other, await_fault, await_flood}
 use Rattle.af_lib.proofs.receive.await_message.Goals as goal
 
 -- what was taken, which is no fault of the link
@@ -36,7 +37,7 @@ returns-in-Other-clause-awaits g c _ =
     (sound c.in_ok-event.field-0 _ (λ t. Takes (Ok t) c.take_message.new.input l1 l2) c.in-Other.is c.in_ok-event.ensures.takes)
 
 pub loop-allowed-init : goal.loop-allowed-init
-loop-allowed-init g c = search (rules, nothing_more)
+loop-allowed-init g c = (search rules, record { sends = refl; tells = λ told. told; counts = (omega arith, λ never. absurd never) }, nothing_more)
 
 pub loop-allowed-preserved : goal.loop-allowed-preserved
 loop-allowed-preserved g c =
@@ -46,17 +47,23 @@ loop-allowed-preserved g c =
     let i = c.loop-allowed.invariant in
     let told = await_event l0 l1 l2 4096 c.loop-allowed.allowed c.args.ring.now c.loop-allowed.ring i.0 c.in-Event.event (omega arith)
     (sound c.in_ok-event.field-0 _ (λ t. Takes (Ok t) c.take_message.new.input l1 l2) c.in-Event.is c.in_ok-event.ensures.takes) in
-    (rw c.note.ensures told, c.in_ok-event.ensures.sends ∙ i.1, omega (arith, i.2, c.in_ok-event.ensures.count), λ t. c.in_ok-event.ensures.tells (i.3 t), subst (λ (r : RingState). Gained c.args.ring.now r) (sym c.note.ensures) (one_more _ _ i.4))
+    (rw c.note.ensures told, read_on i.1 (read_where (λ never. absurd never) c.in_ok-event.ensures.reads), subst (λ (r : RingState). Gained c.args.ring.now r) (sym c.note.ensures) (one_more _ _ i.2))
 
 pub returns-clause-awaits : goal.returns-clause-awaits
 returns-clause-awaits g c _ =
     await_flood (g.L.Link.left c.args.link.now) (g.L.Link.left c.loop-allowed.link) 4096 c.loop-allowed.allowed c.args.ring.now c.loop-allowed.ring c.loop-allowed.invariant.0 (omega arith)
 
-pub returns-in_err-event-clause-tells : goal.returns-in_err-event-clause-tells
-returns-in_err-event-clause-tells g c told = c.in_err-event.ensures.tells (c.loop-allowed.invariant.3 told)
+-- the same fault of a call with another answer, the other way
+untag : {f f' : ConnFault} → (let r : Result ℕ ConnFault = Err f in r ≡ Err f') → (let r : Result Taken ConnFault = Err f in r ≡ Err f')
+untag e = cc
 
-pub returns-in-Other-clause-tells : goal.returns-in-Other-clause-tells
-returns-in-Other-clause-tells g c told = c.in_ok-event.ensures.tells (c.loop-allowed.invariant.3 told)
+pub returns-in_err-event-clause-reads : goal.returns-in_err-event-clause-reads
+returns-in_err-event-clause-reads g c =
+    let same : c.from_residual.result ≡ Err c.in_err-event.field-0.0 = search rules in
+    read_on c.loop-allowed.invariant.1 (read_where (λ e. untag (sym same ∙ e)) c.in_err-event.ensures.reads)
 
-pub returns-clause-tells : goal.returns-clause-tells
-returns-clause-tells g c told = c.loop-allowed.invariant.3 told
+pub returns-in-Other-clause-reads : goal.returns-in-Other-clause-reads
+returns-in-Other-clause-reads g c = read_on c.loop-allowed.invariant.1 (read_where (λ e. cc) c.in_ok-event.ensures.reads)
+
+pub returns-clause-reads : goal.returns-clause-reads
+returns-clause-reads g c = read_where (λ e. cc) c.loop-allowed.invariant.1

@@ -1,5 +1,5 @@
-use Rattle.std.proofs.Common.{◌≡◌, ◌≤◌, IsSome}
-use Rattle.af_lib.specs.Told.{BothTold}
+use Rattle.std.proofs.Common.{◌≡◌}
+use Rattle.af_lib.specs.Observed.{BothTold, OnlyRead}
 use Rattle.af_lib.specs.Incoming.{awaited}
 use Rattle.af_lib.specs.Ring.{Gained}
 use Rattle.af_lib.proofs.receive.await_message.Given as goal
@@ -7,9 +7,7 @@ use Rattle.af_lib.proofs.receive.await_message.Given as goal
 abbrev pub invariant-loop-allowed : goal.invariant-loop-allowed
 invariant-loop-allowed g l =
     BothTold (g.L.Link.left l.initial.link) (g.L.Link.left l.link) (λ before now. awaited 4096 l.initial.ring before ≡ awaited l.allowed l.ring now)
-    × (g.L.Link.sent l.link ≡ g.L.Link.sent l.initial.link)
-    × (g.L.Link.faults l.initial.link ≤ g.L.Link.faults l.link)
-    × (IsSome (g.L.Link.left l.initial.link) → IsSome (g.L.Link.left l.link))
+    × OnlyRead g.L.Link.left g.L.Link.sent g.L.Link.faults ⊥ l.initial.link l.link
     × Gained l.initial.ring l.ring
 
 abbrev pub decreases-loop-allowed : goal.decreases-loop-allowed

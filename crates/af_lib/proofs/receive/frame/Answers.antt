@@ -1,6 +1,6 @@
 use Rattle.std.proofs.Common.{rules, ◌++◌, length, drop, ◌-◌}
 use borrow.Rule.Slice.PartMut.{post_of}
-use Rattle.af_lib.proofs.Frames.{no_head, bad_head, head_alone, head_and_body, head_and_cut}
+use Rattle.af_lib.proofs.FrameLemmas.{no_head, bad_head, head_alone, head_and_body, head_and_cut}
 use Rattle.af_lib.proofs.receive.frame.Goals as goal
 
 pub returns-in-Ended-clause-frames : goal.returns-in-Ended-clause-frames

@@ -1,5 +1,5 @@
 use Rattle.std.proofs.Common.{arith}
-use Rattle.af_lib.proofs.Taking.{taken_whole, taken_bad, taken_cut}
+use Rattle.af_lib.proofs.AwaitedMessageLemmas.{taken_whole, taken_bad, taken_cut}
 use Rattle.af_lib.proofs.receive.take_message.Goals as goal
 
 pub returns-in-Message-clause-takes : goal.returns-in-Message-clause-takes

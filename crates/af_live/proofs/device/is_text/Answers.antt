@@ -1,5 +1,5 @@
 use Rattle.std.proofs.Common.{◌∙◌}
-use Rattle.af_live.proofs.Texts.{passes_text}
+use Rattle.af_live.proofs.Utf8Lemmas.{passes_text}
 use Rattle.af_live.proofs.device.is_text.Goals as goal
 
 pub returns : goal.returns

@@ -1,4 +1,4 @@
-use Rattle.af_outside.proofs.Silence.{silence-bytes_of}
+use Rattle.af_outside.proofs.SilenceLemmas.{silence-bytes_of}
 use Rattle.af_outside.proofs.laws.silence_is_zero.Goals as goal
 
 pub returns : goal.returns

@@ -1,11 +1,12 @@
 use Rattle.std.proofs.Common.{◌∙◌, ap, sym, rules}
 use Rattle.std.specs.declared.option.Option.TheVariants.{Some}
-use Rattle.af_kept.proofs.Devices.{device_at}
-use Rattle.af_perform.proofs.Requests.{record_completed, stands_here}
+use Rattle.af_state.proofs.DeviceLemmas.{device_at}
+use Rattle.af_perform.proofs.LinkRequestLemmas.{record_completes, stands_here}
 use Rattle.af_perform.proofs.complete.complete_record.Goals as goal
 
 pub returns-clause-step : goal.returns-clause-step
-returns-clause-step c = λ ks a s whole h there word near.
+returns-clause-step c = λ ks a s deferred h there word near.
+    let r = c.args.asked in
     let here = device_at c.args.devices.now _ _ c.index-devices-from.result c.from.ensures (search rules) ∙ ap (λ x. Some x) (sym c.index-devices-from.is) in
-    let stands = stands_here c.args.devices.now ks a c.args.number _ s h here there in
-    record_completed c.args.devices.now ks _ c.args.link.now _ c.args.context.now c.args.number c.args.start.0 c.args.frames a s whole here h there stands word near (c.give_frames.ensures.step s stands)
+    let stands = stands_here c.args.devices.now ks a c.args.device _ s h here there in
+    record_completes c.args.devices.now ks _ c.args.link.now _ r.context c.args.device r.start.0 r.frames a s deferred here h there stands word near (c.answer_record.ensures.step s stands)

@@ -1,6 +1,6 @@
 use Rattle.std.proofs.Common.{◌≡◌, ◌∙◌, sym, Ok, Err, to_z, of_z, subst, rules, to_z-of_z, w16}
 use Rattle.af_model.specs.ContextRequests.{named_gain}
-use Rattle.af_perform.proofs.Requests.{changed, change_in_use}
+use Rattle.af_perform.proofs.LinkRequestLemmas.{changed, change_in_use}
 use Rattle.af_perform.proofs.context_requests.change.Goals as goal
 
 pub returns-in-Ok-clause-step : goal.returns-in-Ok-clause-step

@@ -1,6 +1,6 @@
 use Rattle.std.proofs.Common.{◌∙◌, sym}
 use Rattle.af_model.specs.ContextRequests.{change, change_refusal}
-use Rattle.af_perform.proofs.Requests.{leads_refused, leads_passed}
+use Rattle.af_perform.proofs.LinkRequestLemmas.{leads_refused, leads_passed}
 use Rattle.af_perform.proofs.context_requests.change_ac.Goals as goal
 
 pub returns-in-Some-clause-step : goal.returns-in-Some-clause-step

@@ -1,8 +1,8 @@
 use Rattle.std.proofs.Common.{◌∙◌, sym, subst}
 use Rattle.af_context.specs.declared.Context.{Context}
 use Rattle.af_model.specs.ContextRequests.{create, creation_refusal, described}
-use Rattle.af_perform.specs.Places.{LeadsLink}
-use Rattle.af_perform.proofs.Requests.{counts_refused, counts_passed}
+use Rattle.af_state.specs.Environment.{ChangesLink}
+use Rattle.af_perform.proofs.LinkRequestLemmas.{counts_refused, counts_passed}
 use Rattle.af_perform.proofs.context_requests.create_ac.Goals as goal
 
 pub returns-in-Some-clause-step : goal.returns-in-Some-clause-step
@@ -18,4 +18,4 @@ returns-in-None-clause-step c = λ k ks.
     (λ n. creation_refusal n c.args.asked.device c.args.asked.ty c.args.asked.channels c.args.asked.preempt c.args.asked.play_gain c.args.asked.record_gain)
     (create (described c.args.asked.device c.args.asked.ac c.args.asked.ty c.args.asked.preempt c.args.asked.play_gain c.args.asked.record_gain))
     (sym c.creation_refusal.ensures ∙ c.in-None.is)
-    (subst (λ (x : Context). LeadsLink (create x) c.args.link.now c.create.new.link) c.described.ensures c.create.ensures.step)
+    (subst (λ (x : Context). ChangesLink (create x) c.args.link.now c.create.new.link) c.described.ensures c.create.ensures.step)

@@ -3,9 +3,9 @@ use Rattle.af_request.specs.Answer.{plain}
 use Rattle.af_model.specs.Reply.{replied}
 use Rattle.af_model.specs.DeviceRequests.{controlling, controls_refusal, with_named}
 use Rattle.af_model.specs.Play.{in_devices}
-use Rattle.af_kept.proofs.Devices.{device_at}
-use Rattle.af_perform.proofs.Requests.{at_passed, stands_here}
-use Rattle.af_perform.proofs.Controlling.{changed_replied, controlled}
+use Rattle.af_state.proofs.DeviceLemmas.{device_at}
+use Rattle.af_perform.proofs.LinkRequestLemmas.{at_passed, stands_here}
+use Rattle.af_perform.proofs.DeviceRequestLemmas.{changed_replied, controlled}
 use Rattle.af_perform.proofs.device_requests.control.Goals as goal
 
 pub returns-clause-step : goal.returns-clause-step

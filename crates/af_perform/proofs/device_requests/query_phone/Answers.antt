@@ -1,6 +1,6 @@
 use Rattle.std.proofs.Common.{◌∙◌, sym}
 use Rattle.af_model.specs.DeviceRequests.{tell_phone}
-use Rattle.af_perform.proofs.Controlling.{line_found, line_missing}
+use Rattle.af_perform.proofs.DeviceRequestLemmas.{line_found, line_missing}
 use Rattle.af_perform.proofs.device_requests.query_phone.Goals as goal
 
 pub returns-in-Ok-clause-step : goal.returns-in-Ok-clause-step

@@ -1,7 +1,7 @@
 use Rattle.std.proofs.Common.{◌∙◌, sym}
 use Rattle.af_model.specs.DeviceRequests.{select}
-use Rattle.af_perform.proofs.Requests.{leads_at}
-use Rattle.af_perform.proofs.Controlling.{line_found, line_missing}
+use Rattle.af_perform.proofs.LinkRequestLemmas.{leads_at}
+use Rattle.af_perform.proofs.DeviceRequestLemmas.{line_found, line_missing}
 use Rattle.af_perform.proofs.device_requests.select_events.Goals as goal
 
 pub returns-in-Ok-clause-step : goal.returns-in-Ok-clause-step

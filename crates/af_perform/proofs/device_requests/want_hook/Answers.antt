@@ -2,9 +2,9 @@ use Rattle.std.proofs.Common.{◌∙◌, ap, option_map, refl, rules}
 use Rattle.af_request.specs.Answer.{plain}
 use Rattle.af_phone.specs.Lines.{wanting}
 use Rattle.af_model.specs.DeviceRequests.{wanting_hook}
-use Rattle.af_kept.proofs.Devices.{device_at}
-use Rattle.af_perform.proofs.Requests.{stands_here}
-use Rattle.af_perform.proofs.Controlling.{changed_replied, relined}
+use Rattle.af_state.proofs.DeviceLemmas.{device_at}
+use Rattle.af_perform.proofs.LinkRequestLemmas.{stands_here}
+use Rattle.af_perform.proofs.DeviceRequestLemmas.{changed_replied, relined}
 use Rattle.af_perform.proofs.device_requests.want_hook.Goals as goal
 
 pub returns-clause-step : goal.returns-clause-step

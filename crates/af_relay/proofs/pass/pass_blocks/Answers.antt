@@ -1,10 +1,10 @@
 use Rattle.std.proofs.Common.{rules, arith, ◌≡◌, ◌-◌, [], refl, ◌∙◌}
 use Rattle.std.specs.Prelude.{Err}
-use Rattle.af_course.specs.Ends.{wire_of}
+use Rattle.af_tool.specs.Ends.{client_of}
 use Rattle.af_relay.specs.Pass.{passes, passes_block}
-use Rattle.af_outside.proofs.Growing.{grew_none}
-use Rattle.af_relay.proofs.Pairing.{both_stop, both_value, goes_both_same}
-use Rattle.af_relay.proofs.Passing.{left_to_pass, passes_next, passes_none, reached_both, reaches_both_on}
+use Rattle.af_io.proofs.AppendedLemmas.{appended_none}
+use Rattle.af_relay.proofs.RelayPartLemmas.{both_stop, both_value, goes_both_same}
+use Rattle.af_relay.proofs.PassedBlockLemmas.{left_to_pass, passes_next, passes_none, reached_both, reaches_both_on}
 use Rattle.af_relay.proofs.pass.pass_blocks.Goals as goal
 
 pub loop-left-init : goal.loop-left-init
@@ -17,7 +17,7 @@ loop-left-init g c = record {
   count_to = omega arith;
   size = refl;
   few = omega arith;
-  passing = λ v w told_from told_to. record { v = v; w = w; told_from = told_from; told_to = told_to; sends_from = []; sends_to = []; goes = λ next. refl; link_from = grew_none _; link_to = grew_none _ };
+  passing = λ v w told_from told_to. record { v = v; w = w; told_from = told_from; told_to = told_to; sends_from = []; sends_to = []; goes = λ next. refl; link_from = appended_none _; link_to = appended_none _ };
 }
 
 pub returns-in_err-passed-clause-goes : goal.returns-in_err-passed-clause-goes
@@ -27,8 +27,8 @@ returns-in_err-passed-clause-goes g c v w told_from told_to =
     let same : c.from_residual.result ≡ Err c.in_err-passed.field-0.0 = search rules in
     let job = c.args.job.now in
     let pace = c.args.pace in
-    let v1 = wire_of c.loop-left.from r.v in
-    let w1 = wire_of c.loop-left.to r.w in
+    let v1 = client_of c.loop-left.from r.v in
+    let w1 = client_of c.loop-left.to r.w in
     rw same (reached_both _ _ _ _ _ _ _ _ _ _ r _ _ _ _ _ _ _
     (goes_both_same (left_to_pass c.loop-left.left job pace c.loop-left.passed v1 w1) (λ next. passes_block job pace c.loop-left.passed v1 w1 (λ passed v w. passes (c.loop-left.left - 1) job pace passed v w next)) _ _ _ _ _ _ _ _ _
     (λ next. passes_next c.loop-left.left job pace c.loop-left.passed v1 w1 next (omega arith))
@@ -54,8 +54,8 @@ loop-left-preserved g c =
       few = omega arith;
       passing = λ v w told_from told_to.
           let r = i.passing v w told_from told_to in
-          let v1 = wire_of c.loop-left.from r.v in
-          let w1 = wire_of c.loop-left.to r.w in
+          let v1 = client_of c.loop-left.from r.v in
+          let w1 = client_of c.loop-left.to r.w in
           reaches_both_on _ _ _ _ _ _ _ _ _ _ r (passes_block job pace c.loop-left.passed v1 w1) (λ passed v w next. passes (c.loop-left.left - 1) job pace passed v w next) _ _ _ _ _ _ _
           (λ next. passes_next c.loop-left.left job pace c.loop-left.passed v1 w1 next (omega arith)) (e.goes r.v r.w r.told_from r.told_to);
     }
@@ -65,8 +65,8 @@ returns-clause-goes g c v w told_from told_to =
     let i = c.loop-left.invariant in
     let r = i.passing v w told_from told_to in
     let job = c.args.job.now in
-    let v1 = wire_of c.loop-left.from r.v in
-    let w1 = wire_of c.loop-left.to r.w in
+    let v1 = client_of c.loop-left.from r.v in
+    let w1 = client_of c.loop-left.to r.w in
     let none : c.loop-left.left ≡ 0 = omega arith in
     reached_both _ _ _ _ _ _ _ _ _ _ r _ _ _ _ _ _ _
     (both_value _ c.loop-left.passed r.v r.w _ _ _ _ _ _ r.told_from r.told_to

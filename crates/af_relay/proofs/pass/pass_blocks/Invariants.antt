@@ -1,7 +1,7 @@
 use Rattle.std.proofs.Common.{◌≡◌, ◌≤◌, ◌+◌, ℕ, List, length, IsSome}
 use Rattle.std.specs.declared.option.Option.TheVariants.{None, Some}
-use Rattle.af_course.specs.Ends.{wire_of}
-use Rattle.af_relay.proofs.Passing.{ReachesBoth, left_to_pass}
+use Rattle.af_tool.specs.Ends.{client_of}
+use Rattle.af_relay.proofs.PassedBlockLemmas.{ReachesBoth, left_to_pass}
 use Rattle.af_relay.proofs.pass.pass_blocks.Given as goal
 
 abbrev pub invariant-loop-left : goal.invariant-loop-left
@@ -15,8 +15,8 @@ invariant-loop-left g l = record {
   size : length l.block ≡ length l.initial.block;
   few : l.passed.resynced + l.left ≤ l.job.blocks;
   passing : (v w : List ℕ) → g.L.Link.left l.initial.from.link ≡ Some v → g.M.Link.left l.initial.to.link ≡ Some w →
-      ReachesBoth (left_to_pass l.job.blocks l.job l.pace l.initial.passed (wire_of l.initial.from v) (wire_of l.initial.to w)) (left_to_pass l.left l.job l.pace l.passed)
-      (g.L.Link.left l.from.link) (wire_of l.from) (g.L.Link.sent l.initial.from.link) (g.L.Link.sent l.from.link) (g.M.Link.left l.to.link) (wire_of l.to) (g.M.Link.sent l.initial.to.link) (g.M.Link.sent l.to.link);
+      ReachesBoth (left_to_pass l.job.blocks l.job l.pace l.initial.passed (client_of l.initial.from v) (client_of l.initial.to w)) (left_to_pass l.left l.job l.pace l.passed)
+      (g.L.Link.left l.from.link) (client_of l.from) (g.L.Link.sent l.initial.from.link) (g.L.Link.sent l.from.link) (g.M.Link.left l.to.link) (client_of l.to) (g.M.Link.sent l.initial.to.link) (g.M.Link.sent l.to.link);
 }
 
 abbrev pub decreases-loop-left : goal.decreases-loop-left

@@ -1,5 +1,5 @@
-use Rattle.af_request.proofs.ReplyTrips.{answer_again, length-body}
-use Rattle.af_request.proofs.Stating.{setup_stated}
+use Rattle.af_request.proofs.ReplyRoundTrips.{answer_again, length-body}
+use Rattle.af_request.proofs.SetupReplyLemmas.{setup_stated}
 use Rattle.af_request.proofs.laws.replies_round_trip.Goals as goal
 
 pub returns-clause-again : goal.returns-clause-again

@@ -1,4 +1,4 @@
-use Rattle.af_request.proofs.RequestTrips.{request_again, request_framed}
+use Rattle.af_request.proofs.RequestRoundTrips.{request_again, request_framed}
 use Rattle.af_request.proofs.laws.requests_round_trip.Goals as goal
 
 pub returns-clause-again : goal.returns-clause-again

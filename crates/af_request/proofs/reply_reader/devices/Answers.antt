@@ -1,7 +1,7 @@
 use Rattle.std.proofs.Common.{◌≡◌, ◌+◌, ◌-◌, ◌*◌, ◌∙◌, drop, ap, sym, rules}
 use Rattle.std.specs.Prelude.{Some, None, slice_range}
 use Rattle.af_request.specs.Replies.{device_in, devices_in}
-use Rattle.af_request.proofs.DeviceRun.{devices_more, devices_none, devices_onto}
+use Rattle.af_request.proofs.DeviceListLemmas.{devices_more, devices_none, devices_onto}
 use Rattle.af_request.proofs.reply_reader.devices.Goals as goal
 
 pub returns-in_err-device : goal.returns-in_err-device

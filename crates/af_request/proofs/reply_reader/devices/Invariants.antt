@@ -1,7 +1,7 @@
 use Rattle.std.proofs.Common.{◌≡◌, ◌-◌, ◌*◌, drop}
 use Rattle.arrayvec.specs.ArrayVec.{array_vec_len}
 use Rattle.af_request.specs.Replies.{devices_in}
-use Rattle.af_request.proofs.DeviceRun.{devices_onto}
+use Rattle.af_request.proofs.DeviceListLemmas.{devices_onto}
 use Rattle.af_request.proofs.reply_reader.devices.Given as goal
 
 abbrev pub invariant-loop-i : goal.invariant-loop-i

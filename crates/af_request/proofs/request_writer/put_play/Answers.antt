@@ -1,7 +1,7 @@
 use Rattle.std.proofs.Common.{◌≡◌, take, rules}
 use Rattle.af_request.specs.Asked.{play_run}
 use Rattle.af_request.specs.Requests.{request_bytes}
-use Rattle.af_request.proofs.RequestTrips.{spelled_again}
+use Rattle.af_request.proofs.RequestRoundTrips.{spelled_again}
 use Rattle.af_request.proofs.request_writer.put_play.Goals as goal
 
 pub returns-clause-again : goal.returns-clause-again

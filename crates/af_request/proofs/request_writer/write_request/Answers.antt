@@ -1,11 +1,11 @@
 use Rattle.std.proofs.Common.{◌≡◌, take, rules}
-use Rattle.af_request.specs.Asked.{meaning}
+use Rattle.af_request.specs.Asked.{request_meaning}
 use Rattle.af_request.specs.Requests.{request_bytes, IsWritable}
-use Rattle.af_request.proofs.RequestTrips.{spelled_again}
+use Rattle.af_request.proofs.RequestRoundTrips.{spelled_again}
 use Rattle.af_request.proofs.request_writer.write_request.Goals as goal
 
 pub returns-in-ChangeAc-clause-again : goal.returns-in-ChangeAc-clause-again
 returns-in-ChangeAc-clause-again c =
-    let bytes : take c.put_gains-in-ChangeAc.result c.put_gains-in-ChangeAc.new.out ≡ request_bytes (meaning c.args.request.now) = search rules in
-    let fits : IsWritable (meaning c.args.request.now) = rw c.in-ChangeAc.is (search rules, search rules, search rules) in
-    spelled_again (meaning c.args.request.now) _ bytes fits
+    let bytes : take c.put_gains-in-ChangeAc.result c.put_gains-in-ChangeAc.new.out ≡ request_bytes (request_meaning c.args.request.now) = search rules in
+    let fits : IsWritable (request_meaning c.args.request.now) = rw c.in-ChangeAc.is (search rules, search rules, search rules) in
+    spelled_again (request_meaning c.args.request.now) _ bytes fits

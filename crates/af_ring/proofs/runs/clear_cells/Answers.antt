@@ -1,5 +1,5 @@
 use Rattle.std.proofs.Common.{arith, refl}
-use Rattle.af_ring.proofs.Turning.{changes_more}
+use Rattle.af_ring.proofs.RingStepLemmas.{changes_more}
 use Rattle.af_ring.proofs.runs.clear_cells.Goals as goal
 
 pub loop-k-preserved : goal.loop-k-preserved

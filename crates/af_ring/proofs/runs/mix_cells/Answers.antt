@@ -1,6 +1,6 @@
 use Rattle.std.proofs.Common.{arith, refl}
 use Rattle.std.proofs.lemmas.Int.{to_z-of_z}
-use Rattle.af_ring.proofs.Turning.{changes_more}
+use Rattle.af_ring.proofs.RingStepLemmas.{changes_more}
 use Rattle.af_ring.proofs.runs.mix_cells.Goals as goal
 
 pub loop-k-preserved : goal.loop-k-preserved

@@ -1,6 +1,6 @@
 use Rattle.std.proofs.Common.{arith}
 use Rattle.std.proofs.lemmas.Int.{to_z-of_z}
-use Rattle.af_ring.proofs.Turning.{read_more}
+use Rattle.af_ring.proofs.RingStepLemmas.{read_more}
 use Rattle.af_ring.proofs.runs.read_cells.Goals as goal
 
 pub loop-k-preserved : goal.loop-k-preserved

@@ -1,6 +1,6 @@
 use Rattle.std.proofs.Common.{◌∙◌, ap, ℕ, ℤ}
 use Rattle.af_sample.specs.Gains.{gained, scaled}
-use Rattle.af_sample.proofs.Scaling.{quotient_is, sample_is, unity}
+use Rattle.af_sample.proofs.GainLemmas.{quotient_is, sample_is, unity}
 use Rattle.af_sample.proofs.decibels.gained.Goals as goal
 
 pub returns-clause-value : goal.returns-clause-value

@@ -1,8 +1,8 @@
 use Rattle.std.proofs.Common.{◌≡◌, ◌∙◌, ap, refl, true}
 use Rattle.af_sample.specs.declared.decibels.TheConstants.{MULTIPLIERS}
 use Rattle.af_sample.specs.Gains.{multiplier}
-use Rattle.af_sample.proofs.Tables.{all_from}
-use Rattle.af_sample.proofs.Multipliers.{is_entry, table_value, table_most}
+use Rattle.af_sample.proofs.TableLemmas.{all_from}
+use Rattle.af_sample.proofs.MultiplierLemmas.{is_entry, table_value, table_most}
 use Rattle.af_sample.proofs.decibels.multiplier_of.Goals as goal
 
 passes : all_from is_entry 0 MULTIPLIERS ≡ true

@@ -1,4 +1,4 @@
-use Rattle.af_sample.proofs.Multipliers.{within_multiplier, multiplier_above}
+use Rattle.af_sample.proofs.MultiplierLemmas.{within_multiplier, multiplier_above}
 use Rattle.af_sample.proofs.laws.greatest_multiplier.Goals as goal
 
 pub returns : goal.returns

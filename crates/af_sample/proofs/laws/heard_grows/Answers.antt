@@ -1,4 +1,4 @@
-use Rattle.af_sample.proofs.Hearing.{heard-push, heard-append}
+use Rattle.af_sample.proofs.HeardLemmas.{heard-push, heard-append}
 use Rattle.af_sample.proofs.laws.heard_grows.Goals as goal
 
 pub returns-clause-next : goal.returns-clause-next

@@ -1,4 +1,4 @@
-use Rattle.af_sample.proofs.Hearing.{recorded-append}
+use Rattle.af_sample.proofs.HeardLemmas.{recorded-append}
 use Rattle.af_sample.proofs.laws.recorded_stays.Goals as goal
 
 pub returns : goal.returns

@@ -1,5 +1,5 @@
 use Rattle.std.proofs.Common.{arith}
-use Rattle.af_script.proofs.Printing.{prints_failed, log_cut}
+use Rattle.af_script.proofs.PrintLemmas.{prints_failed, log_cut}
 use Rattle.af_script.proofs.print.print_all.Goals as goal
 
 pub returns-in_err-print_happening : goal.returns-in_err-print_happening

@@ -1,4 +1,4 @@
-use Rattle.af_script.proofs.Printing.{hex_start, hex_more, hex_cut, prints_failed}
+use Rattle.af_script.proofs.PrintLemmas.{hex_start, hex_more, hex_cut, prints_failed}
 use Rattle.af_script.proofs.print.print_hex.Goals as goal
 
 pub loop-rest-init : goal.loop-rest-init

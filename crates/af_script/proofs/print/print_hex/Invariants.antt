@@ -1,7 +1,7 @@
 use Rattle.std.proofs.Common.{length}
 use Rattle.hex.specs.Hex.{encode_lower}
 use Rattle.af_script.specs.Printing.{filled}
-use Rattle.af_script.proofs.Printing.{PrintedFront}
+use Rattle.af_script.proofs.PrintLemmas.{PrintedFront}
 use Rattle.af_script.proofs.print.print_hex.Given as goal
 
 abbrev pub invariant-loop-rest : goal.invariant-loop-rest

@@ -1,6 +1,6 @@
 use Rattle.std.proofs.Common.{◌<◌, length, arith, sym, ◌∙◌, subst}
 use Rattle.af_script.specs.Printing.{Prints, filled}
-use Rattle.af_script.proofs.Printing.{some_digit}
+use Rattle.af_script.proofs.PrintLemmas.{some_digit}
 use Rattle.af_script.proofs.print.print_number.Goals as goal
 
 pub put-requires : goal.put-requires

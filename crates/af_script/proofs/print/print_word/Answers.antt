@@ -1,4 +1,4 @@
-use Rattle.af_script.proofs.Printing.{added_on, cut_on, cut_more, prints_failed, prints_on}
+use Rattle.af_script.proofs.PrintLemmas.{added_on, cut_on, cut_more, prints_failed, prints_on}
 use Rattle.af_script.proofs.print.print_word.Goals as goal
 
 pub returns-in_err-print_head : goal.returns-in_err-print_head

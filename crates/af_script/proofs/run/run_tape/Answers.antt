@@ -1,5 +1,5 @@
 use Rattle.std.proofs.Common.{rules}
-use Rattle.af_script.proofs.Playing.{plays_start, wake_fits, plays_more, fewer_left, plays_end}
+use Rattle.af_script.proofs.TapeRunLemmas.{plays_start, wake_fits, plays_more, fewer_left, plays_end}
 use Rattle.af_script.proofs.run.run_tape.Goals as goal
 
 pub loop-wake-init : goal.loop-wake-init

@@ -1,5 +1,5 @@
 use Rattle.std.proofs.Common.{length}
-use Rattle.af_script.proofs.Playing.{Plays}
+use Rattle.af_script.proofs.TapeRunLemmas.{Plays}
 use Rattle.af_script.proofs.run.run_tape.Given as goal
 
 abbrev pub invariant-loop-wake : goal.invariant-loop-wake

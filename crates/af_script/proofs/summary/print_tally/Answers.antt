@@ -1,4 +1,4 @@
-use Rattle.af_script.proofs.Printing.{added_on, cut_on, cut_more, prints_failed, prints_on}
+use Rattle.af_script.proofs.PrintLemmas.{added_on, cut_on, cut_more, prints_failed, prints_on}
 use Rattle.af_script.proofs.summary.print_tally.Goals as goal
 
 pub returns-in_err-print_count : goal.returns-in_err-print_count

@@ -1,7 +1,7 @@
 use Rattle.std.proofs.Common.{◌==◌, rules, tests, ◌∙◌}
 use Rattle.std.proofs.lemmas.Iterator.{YieldsList-from_slice}
 use Rattle.std.proofs.lemmas.Iterator.Search.{position_from_yields_List}
-use Rattle.af_text.proofs.Splitting.{unwrap_or-position}
+use Rattle.af_text.proofs.LineSplitLemmas.{unwrap_or-position}
 use Rattle.af_text.proofs.lines.count_before.Goals as goal
 
 pub returns-clause-value : goal.returns-clause-value

@@ -1,7 +1,7 @@
 use Rattle.std.proofs.Common.{◌≡◌, ◌+◌, suc, ◌∷◌, take, drop, sym, ap, ◌∙◌, arith}
 use Rattle.std.proofs.lemmas.List.{take_rest, take_all, drop_all}
 use Rattle.af_text.specs.Lines.{lines}
-use Rattle.af_text.proofs.Splitting.{lines_first}
+use Rattle.af_text.proofs.LineSplitLemmas.{lines_first}
 use Rattle.af_text.proofs.lines.next_line.Goals as goal
 
 pub returns-then-end-text-clause-lines : goal.returns-then-end-text-clause-lines

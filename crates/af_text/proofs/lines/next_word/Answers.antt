@@ -1,7 +1,7 @@
 use Rattle.std.proofs.Common.{arith}
 use Rattle.std.proofs.lemmas.Bool.Decides.{nat_tests}
-use Rattle.af_text.proofs.Splitting.{words_none, words_some}
-use Rattle.af_text.proofs.Cutting.{word_text}
+use Rattle.af_text.proofs.LineSplitLemmas.{words_none, words_some}
+use Rattle.af_text.proofs.WordCutLemmas.{word_text}
 use Rattle.af_text.proofs.lines.next_word.Goals as goal
 
 pub returns-then-is_empty-clause-split : goal.returns-then-is_empty-clause-split

@@ -1,6 +1,6 @@
 use Rattle.std.proofs.Common.{subst, sym}
 use Rattle.af_time.specs.DeviceTime.{IsMeant}
-use Rattle.af_time.proofs.WholeTimes.{unwrap_meant, meant_unwrap}
+use Rattle.af_time.proofs.WholeTimeLemmas.{unwrap_meant, meant_unwrap}
 use Rattle.af_time.proofs.laws.one_whole_time.Goals as goal
 
 pub returns : goal.returns

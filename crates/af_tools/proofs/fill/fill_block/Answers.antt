@@ -1,7 +1,7 @@
 use Rattle.std.proofs.Common.{◌-◌, ◌+◌, ◌≤◌, [], ◌++◌, length, take, rules, arith, append-nil, length-take-le}
 use borrow.Rule.Slice.PartMut.{post_of, put_mid}
-use Rattle.af_lib.proofs.Bytes.{Gave-part}
-use Rattle.af_outside.proofs.Flowing.{gave_on}
+use Rattle.af_lib.proofs.LinkByteLemmas.{Consumed-part}
+use Rattle.af_io.proofs.ConsumedLemmas.{consumed_on}
 use Rattle.af_tools.proofs.fill.fill_block.Goals as goal
 
 pub loop-filled-preserved : goal.loop-filled-preserved
@@ -13,7 +13,7 @@ loop-filled-preserved g c =
     record {
       within = search rules;
       permitted = omega arith;
-      gave = Gave-part _ _ _ filled c.in-Bytes.count c.loop-filled.block c.read.new.into past i.within e.bound.1 i.gave e.gave;
+      consumed = Consumed-part _ _ _ filled c.in-Bytes.count c.loop-filled.block c.read.new.into past i.within e.bound.1 i.consumed e.consumed;
       count = omega arith;
     }
 
@@ -29,7 +29,7 @@ returns-then-filled-allowed-clause-long g c _ =
     let len = length-take-le (filled + c.in-Bytes.count) block size in
     record {
       bytes = take (filled + c.in-Bytes.count) block;
-      gave = Gave-part _ _ _ filled c.in-Bytes.count c.loop-filled.block c.read.new.into past i.within e.bound.1 i.gave e.gave;
+      consumed = Consumed-part _ _ _ filled c.in-Bytes.count c.loop-filled.block c.read.new.into past i.within e.bound.1 i.consumed e.consumed;
       beyond = omega arith;
       within = omega arith;
     }
@@ -40,6 +40,6 @@ returns-in-Failed-clause-cut g c _ =
     let len = length-take-le c.loop-filled.filled c.loop-filled.block i.within in
     record {
       bytes = take c.loop-filled.filled c.loop-filled.block ++ [];
-      gave = gave_on _ _ _ _ _ i.gave c.in-Failed.ensures.gave;
+      consumed = consumed_on _ _ _ _ _ i.consumed c.in-Failed.ensures.consumed;
       within = simp append-nil (omega arith);
     }

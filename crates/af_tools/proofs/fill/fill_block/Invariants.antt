@@ -1,12 +1,12 @@
 use Rattle.std.proofs.Common.{◌≤◌, ◌-◌, length, take}
-use Rattle.af_outside.specs.Told.{Gave}
+use Rattle.af_io.specs.Observed.{Consumed}
 use Rattle.af_tools.proofs.fill.fill_block.Given as goal
 
 abbrev pub invariant-loop-filled : goal.invariant-loop-filled
 invariant-loop-filled g l = record {
   within : l.filled ≤ length l.block;
   permitted : l.filled ≤ l.allowed;
-  gave : Gave (g.S.Source.left l.initial.source) (take l.filled l.block) (g.S.Source.left l.source);
+  consumed : Consumed (g.S.Source.left l.initial.source) (take l.filled l.block) (g.S.Source.left l.source);
   count : g.S.Source.faults l.initial.source ≤ g.S.Source.faults l.source;
 }
 

@@ -1,4 +1,4 @@
-use Rattle.af_tools.proofs.Intended.{heard_as_intended}
+use Rattle.af_tools.proofs.HeardAsIntendedLemmas.{heard_as_intended}
 use Rattle.af_tools.proofs.laws.heard_as_intended_law.Goals as goal
 
 pub returns : goal.returns

@@ -2,21 +2,21 @@ use Rattle.std.proofs.Common.{rules, arith, ◌≡◌, ◌≤◌, ◌<◌, ◌+�
 use Rattle.std.proofs.Math.Nat.{div-lt_iff_lt-mul, div-le_self, div-mul-le_self}
 use Rattle.std.specs.Prelude.{Result, Ok, Err}
 use Rattle.std.specs.declared.option.Option.{Option}
-use Rattle.af_outside.specs.Told.{Gave}
+use Rattle.af_io.specs.Observed.{Consumed}
 use Rattle.af_request.specs.Asked.{play_run}
 use Rattle.af_lib.specs.Calls.{as_time, ConnState}
-use Rattle.af_course.specs.declared.end.ToolEnd.{ToolEnd}
-use Rattle.af_course.specs.declared.end.ToolEnd.TheVariants as end
+use Rattle.af_tool.specs.declared.end.ToolEnd.{ToolEnd}
+use Rattle.af_tool.specs.declared.end.ToolEnd.TheVariants as end
 use Rattle.af_tools.specs.declared.fill.FillFault.{FillFault}
 use Rattle.af_tools.specs.declared.fill.FillFault.TheVariants as fill
-use Rattle.af_course.specs.Course.{fault_end}
-use Rattle.af_tools.specs.Fill.{fill_end, GaveAbove, GaveTooMuch, GaveUpTo}
+use Rattle.af_tool.specs.Trace.{fault_end}
+use Rattle.af_tools.specs.Fill.{fill_end, ConsumedAbove, ConsumedBeyondMost, ConsumedUpTo}
 use Rattle.af_tools.specs.Play.{blocks, most_bytes, plays}
-use Rattle.af_course.specs.Ends.{wire_of, Goes}
-use Rattle.af_outside.proofs.Flowing.{gave_none, gave_on, gave_told}
-use Rattle.af_course.proofs.Going.{asked_goes}
-use Rattle.af_tools.proofs.Playing.{GaveAll}
-use Rattle.af_tools.proofs.PlaySteps.{is_read, play_begin, play_done, play_on, play_over, play_refused, play_stopped, play_too_long, samples_of}
+use Rattle.af_tool.specs.Ends.{client_of, ObservedPart}
+use Rattle.af_io.proofs.ConsumedLemmas.{consumed_none, consumed_on, consumed_told}
+use Rattle.af_tool.proofs.TracePartLemmas.{asked_goes}
+use Rattle.af_tools.proofs.PlayBlockLemmas.{ConsumedAll}
+use Rattle.af_tools.proofs.PlayStepLemmas.{is_read, play_begin, play_done, play_on, play_over, play_refused, play_stopped, play_too_long, samples_of}
 use Rattle.af_tools.proofs.play.play_blocks.Goals as goal
 
 -- a fault of reading is one of two
@@ -25,29 +25,29 @@ fault_cases P fill.ReadFault long failed = failed refl
 fault_cases P fill.TooLong long failed = long refl
 
 -- what was given so far, and a block more
-given_on : (n given size : ℕ) (a b c : Option (List ℕ)) (block : List ℕ) → GaveAll given a b → Gave b (take n block) c → n ≤ length block → GaveAll (given + n) a c
-given_on n given size a b c block so_far gave fits = record {
+given_on : (n given size : ℕ) (a b c : Option (List ℕ)) (block : List ℕ) → ConsumedAll given a b → Consumed b (take n block) c → n ≤ length block → ConsumedAll (given + n) a c
+given_on n given size a b c block so_far consumed fits = record {
   bytes = so_far.bytes ++ take n block;
-  gave = gave_on a b c so_far.bytes (take n block) so_far.gave gave;
+  consumed = consumed_on a b c so_far.bytes (take n block) so_far.consumed consumed;
   all = (let all = so_far.all in let len = length-take-le n block fits in omega (arith, length-append so_far.bytes (take n block)));
 }
 
-given_up_to : (most given : ℕ) (a b c : Option (List ℕ)) → GaveAll given a b → given ≤ most → GaveUpTo (most - given) b c → GaveUpTo most a c
+given_up_to : (most given : ℕ) (a b c : Option (List ℕ)) → ConsumedAll given a b → given ≤ most → ConsumedUpTo (most - given) b c → ConsumedUpTo most a c
 given_up_to most given a b c so_far within more = record {
   bytes = so_far.bytes ++ more.bytes;
-  gave = gave_on a b c so_far.bytes more.bytes so_far.gave more.gave;
+  consumed = consumed_on a b c so_far.bytes more.bytes so_far.consumed more.consumed;
   within = (let all = so_far.all in let few = more.within in omega (arith, length-append so_far.bytes more.bytes));
 }
 
-given_too_much : (given room : ℕ) (a b c : Option (List ℕ)) → GaveAll given a b → given ≤ most_bytes → GaveAbove (most_bytes - given) room b c → GaveTooMuch a c
+given_too_much : (given room : ℕ) (a b c : Option (List ℕ)) → ConsumedAll given a b → given ≤ most_bytes → ConsumedAbove (most_bytes - given) room b c → ConsumedBeyondMost a c
 given_too_much given room a b c so_far within more = record {
   bytes = so_far.bytes ++ more.bytes;
-  gave = gave_on a b c so_far.bytes more.bytes so_far.gave more.gave;
+  consumed = consumed_on a b c so_far.bytes more.bytes so_far.consumed more.consumed;
   beyond = (let all = so_far.all in let many = more.beyond in omega (arith, length-append so_far.bytes more.bytes));
 }
 
-given_within : (most given : ℕ) (a b : Option (List ℕ)) → GaveAll given a b → given ≤ most → GaveUpTo most a b
-given_within most given a b all within = record { bytes = all.bytes; gave = all.gave; within = (let count = all.all in omega arith) }
+given_within : (most given : ℕ) (a b : Option (List ℕ)) → ConsumedAll given a b → given ≤ most → ConsumedUpTo most a b
+given_within most given a b all within = record { bytes = all.bytes; consumed = all.consumed; within = (let count = all.all in omega arith) }
 
 -- fewer bytes than a frame has
 short_of : (n width : ℕ) → 0 < width → n / width ≡ 0 → n < width
@@ -65,8 +65,8 @@ loop-filled-init g c = record {
   count = omega arith;
   permitted = omega arith;
   few = omega arith;
-  given = record { bytes = []; gave = gave_none _; all = refl };
-  playing = λ input bytes held told is tells. play_begin c.args.width c.args.start.0 (length c.args.room.now) bytes (wire_of c.args.conn.now input) input _ _ (wire_of c.args.conn.now) _ held is told refl;
+  given = record { bytes = []; consumed = consumed_none _; all = refl };
+  playing = λ input bytes held told is tells. play_begin c.args.width c.args.start.0 (length c.args.room.now) bytes (client_of c.args.conn.now input) input _ _ (client_of c.args.conn.now) _ held is told refl;
 }
 
 pub returns-in_err-filled-clause-goes : goal.returns-in_err-filled-clause-goes
@@ -74,18 +74,18 @@ returns-in_err-filled-clause-goes g c input bytes held told is tells =
     let i = c.loop-filled.invariant in
     let so_far = i.permitted in
     let same : c.from_residual.result ≡ Err (fill_end c.in_err-filled.field-0.0) = search rules in
-    let P : ToolEnd → Type 0 = λ how. Goes {X = ℕ} (plays c.args.width c.args.start.0 0 0 (blocks (length c.args.room.now) bytes) (wire_of c.args.conn.now input)) (Err how) (g.L.Link.left c.loop-filled.conn.link) (wire_of c.loop-filled.conn) (g.L.Link.sent c.args.conn.now.link) (g.L.Link.sent c.loop-filled.conn.link) held held in
+    let P : ToolEnd → Type 0 = λ how. ObservedPart {X = ℕ} (plays c.args.width c.args.start.0 0 0 (blocks (length c.args.room.now) bytes) (client_of c.args.conn.now input)) (Err how) (g.L.Link.left c.loop-filled.conn.link) (client_of c.loop-filled.conn) (g.L.Link.sent c.args.conn.now.link) (g.L.Link.sent c.loop-filled.conn.link) held held in
     let e = c.in_err-filled.ensures in
     rw same (fault_cases P c.in_err-filled.field-0.0
     (λ long.
     let above = e.long long in
-    let before = gave_told (g.S.Source.left c.loop-filled.source) (g.S.Source.left c.fill_block.new.source) above.bytes above.gave tells in
+    let before = consumed_told (g.S.Source.left c.loop-filled.source) (g.S.Source.left c.fill_block.new.source) above.bytes above.consumed tells in
     let fits = above.within in
     play_too_long _ _ _ _ _ _ _ _ _ _ _ _ _ (i.playing input bytes held told is before) (most_bytes - c.loop-filled.given) (g.S.Source.left c.fill_block.new.source) _ _ (omega arith) (omega arith)
-    (record { bytes = above.bytes; gave = above.gave; beyond = above.beyond; within = omega arith }) tells)
+    (record { bytes = above.bytes; consumed = above.consumed; beyond = above.beyond; within = omega arith }) tells)
     (λ failed.
     let cut = e.cut failed in
-    let before = gave_told (g.S.Source.left c.loop-filled.source) (g.S.Source.left c.fill_block.new.source) cut.bytes cut.gave tells in
+    let before = consumed_told (g.S.Source.left c.loop-filled.source) (g.S.Source.left c.fill_block.new.source) cut.bytes cut.consumed tells in
     play_stopped _ _ _ _ _ _ _ _ _ _ _ _ _ (i.playing input bytes held told is before) end.ReadFault _ _ refl))
 
 pub returns-in_err-filled-clause-long : goal.returns-in_err-filled-clause-long
@@ -94,7 +94,7 @@ returns-in_err-filled-clause-long g c =
     let so_far = i.permitted in
     let same : c.from_residual.result ≡ Err (fill_end c.in_err-filled.field-0.0) = search rules in
     let e = c.in_err-filled.ensures in
-    let P : ToolEnd → Type 0 = λ how. IsErrOf {T = ℕ} (Err how) end.TooLong → GaveTooMuch (g.S.Source.left c.args.source.now) (g.S.Source.left c.fill_block.new.source) in
+    let P : ToolEnd → Type 0 = λ how. IsErrOf {T = ℕ} (Err how) end.TooLong → ConsumedBeyondMost (g.S.Source.left c.args.source.now) (g.S.Source.left c.fill_block.new.source) in
     rw same (fault_cases P c.in_err-filled.field-0.0 (λ long _. given_too_much _ _ _ _ _ i.given (omega arith) (e.long long)) (λ failed bad. cc bad))
 
 pub returns-in_err-filled-clause-within : goal.returns-in_err-filled-clause-within
@@ -103,7 +103,7 @@ returns-in_err-filled-clause-within g c =
     let so_far = i.permitted in
     let same : c.from_residual.result ≡ Err (fill_end c.in_err-filled.field-0.0) = search rules in
     let e = c.in_err-filled.ensures in
-    let P : ToolEnd → Type 0 = λ how. ((let r : Result ℕ ToolEnd = Err how in r ≡ Err end.TooLong) → ⊥) → GaveUpTo most_bytes (g.S.Source.left c.args.source.now) (g.S.Source.left c.fill_block.new.source) in
+    let P : ToolEnd → Type 0 = λ how. ((let r : Result ℕ ToolEnd = Err how in r ≡ Err end.TooLong) → ⊥) → ConsumedUpTo most_bytes (g.S.Source.left c.args.source.now) (g.S.Source.left c.fill_block.new.source) in
     rw same (fault_cases P c.in_err-filled.field-0.0 (λ long no. absurd (no refl)) (λ failed _. given_up_to _ _ _ _ _ i.given (omega arith) (e.cut failed)))
 
 pub returns-then-count-eq0-clause-goes : goal.returns-then-count-eq0-clause-goes
@@ -111,7 +111,7 @@ returns-then-count-eq0-clause-goes g c input bytes held told is tells =
     let i = c.loop-filled.invariant in
     let so_far = i.permitted in
     let e = c.in_ok-filled.ensures in
-    let before = gave_told (g.S.Source.left c.loop-filled.source) (g.S.Source.left c.fill_block.new.source) _ e.given tells in
+    let before = consumed_told (g.S.Source.left c.loop-filled.source) (g.S.Source.left c.fill_block.new.source) _ e.given tells in
     let p = i.playing input bytes held told is before in
     let r = is_read (length c.args.room.now) c.in_ok-filled.filled c.fill_block.new.block p.rest _ _ p.is_left e.given tells e.within.0 (λ short. e.ended (omega arith)) in
     play_over _ _ _ _ _ _ _ _ _ _ _ _ _ p c.in_ok-filled.filled c.fill_block.new.block (g.S.Source.left c.fill_block.new.source) r (omega arith) (omega arith) (omega arith) (omega (arith, short_of _ _ (omega arith) c.if-count-eq0.true)) c.if-count-eq0.true
@@ -130,7 +130,7 @@ returns-in_err-play_run-clause-goes g c input bytes held told is tells =
     let e = c.in_ok-filled.ensures in
     let n = c.in_ok-filled.filled in
     let room = c.fill_block.new.block in
-    let before = gave_told (g.S.Source.left c.loop-filled.source) (g.S.Source.left c.fill_block.new.source) _ e.given tells in
+    let before = consumed_told (g.S.Source.left c.loop-filled.source) (g.S.Source.left c.fill_block.new.source) _ e.given tells in
     let p = i.playing input bytes held told is before in
     let r = is_read (length c.args.room.now) n room p.rest _ _ p.is_left e.given tells e.within.0 (λ short. e.ended (omega arith)) in
     let same : c.from_residual-in_err-play_run.result ≡ Err (fault_end c.in_err-play_run.field-0.0) = search rules in
@@ -153,7 +153,7 @@ returns-then-filled-room-clause-goes g c input bytes held told is tells =
     let e = c.in_ok-filled.ensures in
     let n = c.in_ok-filled.filled in
     let room = c.fill_block.new.block in
-    let before = gave_told (g.S.Source.left c.loop-filled.source) (g.S.Source.left c.fill_block.new.source) _ e.given tells in
+    let before = consumed_told (g.S.Source.left c.loop-filled.source) (g.S.Source.left c.fill_block.new.source) _ e.given tells in
     let p = i.playing input bytes held told is before in
     let r = is_read (length c.args.room.now) n room p.rest _ _ p.is_left e.given tells e.within.0 (λ short. e.ended (omega arith)) in
     let some : 0 < n / c.args.width = omega arith in
@@ -185,12 +185,12 @@ loop-filled-preserved g c =
       devices = ap (λ (conn : ConnState _). conn.devices) (a.keeps i.usable) ∙ i.devices;
       tells = λ t. a.tells (i.tells t);
       link_count = omega (arith, a.count, i.link_count);
-      count = omega (arith, i.count, e.count);
+      count = omega (arith, i.count, e.fault.0);
       permitted = omega arith;
       few = omega arith;
       given = given_on _ _ 0 _ _ _ _ i.given e.given e.within.0;
       playing = λ input bytes held told is tells.
-          let before = gave_told (g.S.Source.left c.loop-filled.source) (g.S.Source.left c.fill_block.new.source) _ e.given tells in
+          let before = consumed_told (g.S.Source.left c.loop-filled.source) (g.S.Source.left c.fill_block.new.source) _ e.given tells in
           let p = i.playing input bytes held told is before in
           let r = is_read (length c.args.room.now) n room p.rest _ _ p.is_left e.given tells e.within.0 (λ short. e.ended (omega arith)) in
           let some : 0 < n / c.args.width = omega arith in

@@ -1,8 +1,8 @@
 use Rattle.std.proofs.Common.{◌≡◌, ◌≤◌, ◌+◌, ◌-◌, ◌^◌, ℕ, List, length, IsSome}
 use Rattle.std.specs.declared.option.Option.{Option}
 use Rattle.std.specs.declared.option.Option.TheVariants.{None, Some}
-use Rattle.af_course.specs.Ends.{wire_of}
-use Rattle.af_tools.proofs.Playing.{GaveAll, IsPlaying}
+use Rattle.af_tool.specs.Ends.{client_of}
+use Rattle.af_tools.proofs.PlayBlockLemmas.{ConsumedAll, IsPlaying}
 use Rattle.af_tools.proofs.play.play_blocks.Given as goal
 
 abbrev pub invariant-loop-filled : goal.invariant-loop-filled
@@ -14,9 +14,9 @@ invariant-loop-filled g l = record {
   count : g.S.Source.faults l.initial.source ≤ g.S.Source.faults l.source;
   permitted : l.given ≤ 2 ^ 40;
   few : l.frames ≤ l.given;
-  given : GaveAll l.given (g.S.Source.left l.initial.source) (g.S.Source.left l.source);
+  given : ConsumedAll l.given (g.S.Source.left l.initial.source) (g.S.Source.left l.source);
   playing : (input bytes : List ℕ) (held : Option (List ℕ)) → g.L.Link.left l.initial.conn.link ≡ Some input → g.S.Source.left l.initial.source ≡ Some bytes → IsSome (g.S.Source.left l.source) →
-      IsPlaying l.width l.start.0 (length l.initial.room) l.frames l.given bytes (wire_of l.initial.conn input) (g.S.Source.left l.source) (g.L.Link.left l.conn.link) (wire_of l.conn) (g.L.Link.sent l.initial.conn.link) (g.L.Link.sent l.conn.link) held;
+      IsPlaying l.width l.start.0 (length l.initial.room) l.frames l.given bytes (client_of l.initial.conn input) (g.S.Source.left l.source) (g.L.Link.left l.conn.link) (client_of l.conn) (g.L.Link.sent l.initial.conn.link) (g.L.Link.sent l.conn.link) held;
 }
 
 abbrev pub decreases-loop-filled : goal.decreases-loop-filled

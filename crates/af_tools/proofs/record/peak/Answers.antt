@@ -4,8 +4,8 @@ use Rattle.std.proofs.lemmas.Int.{to_z-of_z}
 use Rattle.std.specs.List.{range_with_len}
 use Rattle.af_sample.specs.SampleTypes.{width_of}
 use Rattle.af_sample.specs.Samples.{decoded, piece}
-use Rattle.af_tools.specs.Record.{greatest}
-use Rattle.af_tools.proofs.Recording.{peak_more, peak_whole}
+use Rattle.af_tools.specs.Record.{greatest_of}
+use Rattle.af_tools.proofs.RecordBlockLemmas.{peak_more, peak_whole}
 use Rattle.af_tools.proofs.record.peak.Goals as goal
 
 pub loop-i-preserved : goal.loop-i-preserved
@@ -27,4 +27,4 @@ returns c =
     let block = c.args.block.now in
     let auto = c.loop-i.auto.i-end in
     let end : c.loop-i.i ≡ length block / width_of ty = (let e : c.loop-i.i ≡ length block / c.width-width.result = omega arith in e) ∙ ap (λ (w : ℕ). length block / w) c.width-width.ensures in
-    c.loop-i.invariant ∙ ap (λ (n : ℕ). greatest (map unsigned_abs (map (λ k. decoded ty (piece ty block k)) (range_with_len 0 n)))) end ∙ peak_whole ty block
+    c.loop-i.invariant ∙ ap (λ (n : ℕ). greatest_of (map unsigned_abs (map (λ k. decoded ty (piece ty block k)) (range_with_len 0 n)))) end ∙ peak_whole ty block

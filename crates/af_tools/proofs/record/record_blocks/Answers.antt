@@ -2,9 +2,9 @@ use Rattle.std.proofs.Common.{rules, arith, ◌≡◌, ◌≤◌, ◌*◌, ℕ, 
 use Rattle.std.specs.Prelude.{Err}
 use Rattle.std.proofs.lemmas.List.{take_at}
 use Rattle.af_sample.specs.SampleTypes.{width_of}
-use Rattle.af_course.specs.Ends.{wire_of}
+use Rattle.af_tool.specs.Ends.{client_of}
 use Rattle.af_tools.specs.Record.{peak}
-use Rattle.af_tools.proofs.Recording.{record_begin, record_done, record_on, record_quiet, record_stopped}
+use Rattle.af_tools.proofs.RecordBlockLemmas.{record_begin, record_done, record_on, record_quiet, record_stopped}
 use Rattle.af_tools.proofs.record.record_blocks.Goals as goal
 
 pub loop-left-init : goal.loop-left-init
@@ -15,7 +15,7 @@ loop-left-init g c = record {
   link_count = omega arith;
   count = omega arith;
   going = omega arith;
-  recording = λ input told. record_begin c.args.job.now c.args.ty c.args.start.0 (wire_of c.args.conn.now input) input _ (wire_of c.args.conn.now) _ _ told refl;
+  recording = λ input told. record_begin c.args.job.now c.args.ty c.args.start.0 (client_of c.args.conn.now input) input _ (client_of c.args.conn.now) _ _ told refl;
 }
 
 pub returns-in_err-record_block-clause-goes : goal.returns-in_err-record_block-clause-goes
@@ -53,7 +53,7 @@ loop-left-preserved g c =
       devices = e.holds.devices ∙ i.devices;
       tells = λ t. e.holds.tells (i.tells t);
       link_count = omega (arith, e.holds.count, i.link_count);
-      count = omega (arith, e.count, i.count);
+      count = omega (arith, e.fault.0, i.count);
       going = c.if-row-job.false;
       recording = λ input told.
           let r = i.recording input told in

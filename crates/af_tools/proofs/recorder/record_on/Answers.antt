@@ -1,11 +1,11 @@
 use Rattle.std.proofs.Common.{rules, ◌≡◌, unwrap_or}
 use Rattle.std.specs.Prelude.{Err}
-use Rattle.af_course.specs.Course.{begins}
-use Rattle.af_course.specs.Ends.{wire_of}
-use Rattle.af_course.proofs.Going.{goes_on, goes_stop}
+use Rattle.af_tool.specs.Trace.{begins}
+use Rattle.af_tool.specs.Ends.{client_of}
+use Rattle.af_tool.proofs.TracePartLemmas.{goes_on, goes_stop}
 use Rattle.af_tools.specs.Record.{record_context, recorded_on}
-use Rattle.af_tools.proofs.PlayTail.{begins_named}
-use Rattle.af_tools.proofs.RecordTail.{tail, tail_named, tail_on, tail_stop}
+use Rattle.af_tools.proofs.PlayTailLemmas.{begins_named}
+use Rattle.af_tools.proofs.RecordTailLemmas.{tail, tail_named, tail_on, tail_stop}
 use Rattle.af_tools.proofs.recorder.record_on.Goals as goal
 
 pub returns-in_err-now-clause-goes : goal.returns-in_err-now-clause-goes
@@ -15,7 +15,7 @@ returns-in_err-now-clause-goes g c input told =
     let device = c.args.device in
     let same : c.from_residual.result ≡ Err c.in_err-now.field-0.0 = search rules in
     let context = c.context_of-context.ensures in
-    rw same (goes_stop (begins (record_context job device) job.device (wire_of c.args.conn.now input)) (λ now w. tail job (unwrap_or job.ty device.ty) (unwrap_or job.time now.0) w) _ _ _ _ _ _ _ _ _
+    rw same (goes_stop (begins (record_context job device) job.device (client_of c.args.conn.now input)) (λ now w. tail job (unwrap_or job.ty device.ty) (unwrap_or job.time now.0) w) _ _ _ _ _ _ _ _ _
     (begins_named _ _ _ _ _ _ _ _ _ _ _ _ context.asked context.device (c.in_err-now.ensures.goes input (g.K.Sink.held c.args.sink.now) told)))
 
 pub returns-in_err-record_blocks-clause-goes : goal.returns-in_err-record_blocks-clause-goes
@@ -25,7 +25,7 @@ returns-in_err-record_blocks-clause-goes g c input told =
     let device = c.args.device in
     let same : c.from_residual-in_err-record_blocks.result ≡ Err c.in_err-record_blocks.field-0.0 = search rules in
     let context = c.context_of-context.ensures in
-    rw same (goes_on (begins (record_context job device) job.device (wire_of c.args.conn.now input)) (λ now w. tail job (unwrap_or job.ty device.ty) (unwrap_or job.time now.0) w) _ _ _ _ _ _ _ _ _ _ _ _
+    rw same (goes_on (begins (record_context job device) job.device (client_of c.args.conn.now input)) (λ now w. tail job (unwrap_or job.ty device.ty) (unwrap_or job.time now.0) w) _ _ _ _ _ _ _ _ _ _ _ _
     (begins_named _ _ _ _ _ _ _ _ _ _ _ _ context.asked context.device (c.in_ok-now.ensures.goes input (g.K.Sink.held c.args.sink.now) told))
     (λ i t. tail_named _ _ _ _ _ _ _ _ _ _ _ _ _ context.ty c.start_of-start.ensures (tail_stop _ _ _ _ _ _ _ _ _ _ _ (c.in_err-record_blocks.ensures.goes i t))))
 
@@ -35,6 +35,6 @@ returns-clause-goes g c input told =
     let job = c.args.job.now in
     let device = c.args.device in
     let context = c.context_of-context.ensures in
-    goes_on (begins (record_context job device) job.device (wire_of c.args.conn.now input)) (λ now w. tail job (unwrap_or job.ty device.ty) (unwrap_or job.time now.0) w) _ _ _ _ _ _ _ _ _ _ _ _
+    goes_on (begins (record_context job device) job.device (client_of c.args.conn.now input)) (λ now w. tail job (unwrap_or job.ty device.ty) (unwrap_or job.time now.0) w) _ _ _ _ _ _ _ _ _ _ _ _
     (begins_named _ _ _ _ _ _ _ _ _ _ _ _ context.asked context.device (c.in_ok-now.ensures.goes input (g.K.Sink.held c.args.sink.now) told))
     (λ i t. tail_named _ _ _ _ _ _ _ _ _ _ _ _ _ context.ty c.start_of-start.ensures (tail_on _ _ _ _ _ _ _ _ _ _ _ _ _ _ (c.in_ok-record_blocks.ensures.goes i t) (λ i' t'. c.finish.ensures.goes i' _ t')))

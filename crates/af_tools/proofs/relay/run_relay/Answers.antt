@@ -1,15 +1,15 @@
 use Rattle.std.proofs.Common.{◌≡◌, List, ℕ, [], ◌∷◌, inl, inr, refl, sym, ap, ◌∙◌, subst}
 use Rattle.std.specs.declared.option.Option.{Option}
 use Rattle.clap.specs.Words.{Text}
-use Rattle.af_outside.specs.Told.{Grew}
-use Rattle.af_outside.specs.Dial.{GrewBack, IsFirstOf, ToldLink}
-use Rattle.af_course.specs.declared.end.ToolEnd.TheVariants as end
-use Rattle.af_course.specs.Course.{fault_end}
-use Rattle.af_tools.specs.Run.{RanTo}
-use Rattle.af_jobs.specs.Words.{relay}
-use Rattle.af_outside.proofs.Growing.{grew_on}
-use Rattle.af_course.proofs.Endings.{fault_undone}
-use Rattle.af_tools.proofs.Relaying.{ran_none, ran_over_links, ran_refused_links, ran_unset_links}
+use Rattle.af_io.specs.Observed.{Appended}
+use Rattle.af_io.specs.Dial.{AppendedBack, IsFirstOf, ToldLink}
+use Rattle.af_tool.specs.declared.end.ToolEnd.TheVariants as end
+use Rattle.af_tool.specs.Trace.{fault_end}
+use Rattle.af_tools.specs.Run.{RelayRanTo}
+use Rattle.af_options.specs.Words.{relay}
+use Rattle.af_io.proofs.AppendedLemmas.{appended_on}
+use Rattle.af_tool.proofs.ToolEndLemmas.{fault_undone}
+use Rattle.af_tools.proofs.DialLemmas.{ran_none, ran_over_links, ran_refused_links, ran_unset_links}
 use Rattle.af_tools.proofs.relay.run_relay.Goals as goal
 
 pub returns-in-Ok-clause-ran : goal.returns-in-Ok-clause-ran
@@ -19,14 +19,14 @@ returns-in-Ok-clause-ran g c links bytes told =
     let conn = c.in-Ok.conn in
     let gives = subst (λ (l : Option (List ToldLink)). IsFirstOf g.D.Far.Link.left g.D.Far.Link.sent c.in-Far.far l (g.D.Dial.links c.dial.new.self)) told e.gives in
     ran_over_links g.D.Far.Link.left g.D.Far.Link.sent g.D.Far.Link.faults c.in-Far.far conn.link conn.ring conn.devices c.args.from.now c.args.to.now c.args.job.now bytes c.run_to.result links _ _ _ _ _ _ _ gives s.2 e.back
-    (λ rest a l t. subst (λ (n : ℕ). RanTo c.args.job.now conn.devices (record { sequence = n; ring = conn.ring; input = a }) c.run_to.result rest (g.D.Dial.links c.run_to.new.dial) (g.D.Far.Link.sent conn.link) (g.K.Sink.held c.args.sink.now) (g.K.Sink.held c.run_to.new.sink) (g.D.Dial.back c.dial.new.self) (g.D.Dial.back c.run_to.new.dial)) s.0
+    (λ rest a l t. subst (λ (n : ℕ). RelayRanTo c.args.job.now conn.devices (record { sequence = n; ring = conn.ring; input = a }) c.run_to.result rest (g.D.Dial.links c.run_to.new.dial) (g.D.Far.Link.sent conn.link) (g.K.Sink.held c.args.sink.now) (g.K.Sink.held c.run_to.new.sink) (g.D.Dial.back c.dial.new.self) (g.D.Dial.back c.run_to.new.dial)) s.0
     (c.run_to.ensures.ran a rest t l))
 
 pub returns-in-Ok-clause-asked : goal.returns-in-Ok-clause-asked
 returns-in-Ok-clause-asked g c =
     let from : List Text = c.args.from.now ∷ [] in
     let to : List Text = c.args.to.now ∷ [] in
-    record { named = c.args.from.now ∷ c.args.to.now ∷ []; others = []; whole = refl; grew = grew_on _ _ _ from to c.in-Far.ensures.asked c.run_to.ensures.asked; none = λ e. cc; all = λ e. refl }
+    record { named = c.args.from.now ∷ c.args.to.now ∷ []; others = []; whole = refl; appended = appended_on _ _ _ from to c.in-Far.ensures.asked c.run_to.ensures.asked; none = λ e. cc; all = λ e. refl }
 
 pub returns-in-Err-clause-ran : goal.returns-in-Err-clause-ran
 returns-in-Err-clause-ran g c links bytes told =
@@ -35,7 +35,7 @@ returns-in-Err-clause-ran g c links bytes told =
     elim (c.in-Err.ensures) [
       | inl none ↦
           let way : c.from.result ≡ end.OutOfMemory = c.from.ensures ∙ ap fault_end none.0 in
-          let entry = subst (λ (x : Option (List ℕ)). GrewBack (g.D.Dial.back c.dial.new.self) x (g.D.Dial.back c.hang_up.new.self)) (ap g.D.Far.Link.sent none.1) c.hang_up.ensures.back in
+          let entry = subst (λ (x : Option (List ℕ)). AppendedBack (g.D.Dial.back c.dial.new.self) x (g.D.Dial.back c.hang_up.new.self)) (ap g.D.Far.Link.sent none.1) c.hang_up.ensures.back in
           rw way (ran_unset_links g.D.Far.Link.left g.D.Far.Link.sent c.in-Far.far c.args.from.now c.args.to.now c.args.job.now bytes links _ _ _ _ _ _ gives e.back entry c.hang_up.ensures.gives)
       | inr setup ↦
           let way : c.from.result ≡ fault_end c.in-Err.fault = c.from.ensures in
@@ -49,7 +49,7 @@ returns-in-Err-clause-asked g c =
       named = c.args.from.now ∷ [];
       others = c.args.to.now ∷ [];
       whole = refl;
-      grew = subst (λ (x : Option (List Text)). Grew (g.D.Dial.asked c.args.dial.now) (c.args.from.now ∷ []) x) (sym c.hang_up.ensures.asked) c.in-Far.ensures.asked;
+      appended = subst (λ (x : Option (List Text)). Appended (g.D.Dial.asked c.args.dial.now) (c.args.from.now ∷ []) x) (sym c.hang_up.ensures.asked) c.in-Far.ensures.asked;
       none = λ e. cc;
       all = λ done. absurd (fault_undone c.in-Err.fault (sym way ∙ done));
     }
@@ -58,10 +58,10 @@ pub returns-in-Failed-clause-ran : goal.returns-in-Failed-clause-ran
 returns-in-Failed-clause-ran g c links bytes told = ran_none (relay c.args.from.now c.args.to.now c.args.job.now) bytes end.DialFault links _ _ _ _ refl (c.in-Failed.ensures.gives ∙ told) c.in-Failed.ensures.back
 
 pub returns-in-Failed-clause-asked : goal.returns-in-Failed-clause-asked
-returns-in-Failed-clause-asked g c = record { named = c.args.from.now ∷ []; others = c.args.to.now ∷ []; whole = refl; grew = c.in-Failed.ensures.asked; none = λ e. cc; all = λ e. absurd (let bad : end.DialFault ≡ end.Done = e in cc) }
+returns-in-Failed-clause-asked g c = record { named = c.args.from.now ∷ []; others = c.args.to.now ∷ []; whole = refl; appended = c.in-Failed.ensures.asked; none = λ e. cc; all = λ e. absurd (let bad : end.DialFault ≡ end.Done = e in cc) }
 
 pub returns-in-OutOfMemory-clause-ran : goal.returns-in-OutOfMemory-clause-ran
 returns-in-OutOfMemory-clause-ran g c links bytes told = ran_none (relay c.args.from.now c.args.to.now c.args.job.now) bytes end.OutOfMemory links _ _ _ _ refl (c.in-OutOfMemory.ensures.gives ∙ told) c.in-OutOfMemory.ensures.back
 
 pub returns-in-OutOfMemory-clause-asked : goal.returns-in-OutOfMemory-clause-asked
-returns-in-OutOfMemory-clause-asked g c = record { named = c.args.from.now ∷ []; others = c.args.to.now ∷ []; whole = refl; grew = c.in-OutOfMemory.ensures.asked; none = λ e. cc; all = λ e. absurd (let bad : end.OutOfMemory ≡ end.Done = e in cc) }
+returns-in-OutOfMemory-clause-asked g c = record { named = c.args.from.now ∷ []; others = c.args.to.now ∷ []; whole = refl; appended = c.in-OutOfMemory.ensures.asked; none = λ e. cc; all = λ e. absurd (let bad : end.OutOfMemory ≡ end.Done = e in cc) }

@@ -1,6 +1,6 @@
 use Rattle.std.proofs.Common.{◌<◌, List, ℕ, length, sym, subst, arith, length-append}
-use Rattle.af_course.specs.Course.{done, ends, writing}
-use Rattle.af_course.specs.Ends.{Followed}
+use Rattle.af_tool.specs.Trace.{done, ends, writing}
+use Rattle.af_tool.specs.Ends.{ObservedTrace}
 use Rattle.af_tools.specs.Play.{played}
 use Rattle.af_tools.proofs.report.report.Goals as goal
 
@@ -13,4 +13,4 @@ write_text-requires g c = subst (λ (l : List ℕ). 0 < length l) (sym c.write_l
 
 pub returns-clause-followed : goal.returns-clause-followed
 returns-clause-followed g c sent =
-    subst (λ (l : List ℕ). Followed (writing l (ends done)) c.write_text.result sent sent (g.K.Sink.held c.args.sink.now) (g.K.Sink.held c.write_text.new.sink)) c.write_line-length.ensures.bytes (c.write_text.ensures.followed sent)
+    subst (λ (l : List ℕ). ObservedTrace (writing l (ends done)) c.write_text.result sent sent (g.K.Sink.held c.args.sink.now) (g.K.Sink.held c.write_text.new.sink)) c.write_line-length.ensures.bytes (c.write_text.ensures.followed sent)

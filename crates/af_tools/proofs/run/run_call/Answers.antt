@@ -1,14 +1,8 @@
 use Rattle.std.proofs.Common.{rules, ◌≡◌, ◌∷◌, [], refl}
-use Rattle.af_jobs.specs.declared.call.Call.TheVariants as call
-use Rattle.af_tools.proofs.Relaying.{ran_one}
+use Rattle.af_options.specs.declared.call.Call.TheVariants as call
 use Rattle.af_tools.proofs.run.run_call.Goals as goal
-
-pub returns-in-One-clause-ran : goal.returns-in-One-clause-ran
-returns-in-One-clause-ran g c links bytes told is tells =
-    let one : c.args.call.now ≡ call.One c.in-One.server c.in-One.task = search rules in
-    rw one (ran_one _ _ _ _ _ _ _ _ _ _ (c.run_one.ensures.ran links bytes told is tells))
 
 pub returns-in-One-clause-asked : goal.returns-in-One-clause-asked
 returns-in-One-clause-asked g c =
     let one : c.args.call.now ≡ call.One c.in-One.server c.in-One.task = search rules in
-    rw one (record { named = c.in-One.server.now ∷ []; others = []; whole = refl; grew = c.run_one.ensures.asked; none = λ e. cc; all = λ e. refl })
+    rw one (record { named = c.in-One.server.now ∷ []; others = []; whole = refl; appended = c.run_one.ensures.asked; none = λ e. cc; all = λ e. refl })

@@ -1,24 +1,27 @@
 use Rattle.std.proofs.Common.{List, refl, ◌∙◌, subst}
 use Rattle.std.specs.declared.option.Option.{Option}
-use Rattle.af_outside.specs.Dial.{IsFirstOf, ToldLink}
-use Rattle.af_course.specs.declared.end.ToolEnd.TheVariants as end
-use Rattle.af_tools.specs.Run.{one_course, task_course}
-use Rattle.af_tools.proofs.Running.{ran_early, ran_over}
+use Rattle.af_io.specs.Dial.{IsFirstOf, ToldLink}
+use Rattle.af_tool.specs.declared.end.ToolEnd.TheVariants as end
+use Rattle.af_options.specs.Words.{one}
+use Rattle.af_tools.specs.Run.{task_trace}
+use Rattle.af_tools.proofs.DialLemmas.{ran_none, ran_one}
+use Rattle.af_tools.proofs.OneServerLemmas.{ran_over}
 use Rattle.af_tools.proofs.run.run_one.Goals as goal
 
 pub returns-in-Far-clause-ran : goal.returns-in-Far-clause-ran
 returns-in-Far-clause-ran g c links bytes told is tells =
     let e = c.in-Far.ensures in
     let first = subst (λ (l : Option (List ToldLink)). IsFirstOf g.D.Far.Link.left g.D.Far.Link.sent c.in-Far.far l (g.D.Dial.links c.dial.new.self)) told e.gives in
-    ran_over (λ devices w. task_course c.args.task.now devices bytes w) c.perform_over-end.result.0 (g.D.Dial.links c.dial.new.self) (g.D.Dial.links c.hang_up.new.self) _ _ _ _ _ _ _
-    g.D.Far.Link.left g.D.Far.Link.sent c.in-Far.far links first refl (λ input t. c.perform_over-end.ensures.followed input bytes t is tells) e.back c.hang_up.ensures.back c.hang_up.ensures.gives (λ none. (c.perform_over-end.ensures.memory none).0)
+    ran_one c.args.server.now c.args.task.now bytes c.perform_over-end.result.0 links _ _ _ _ _
+    (ran_over (λ devices w. task_trace c.args.task.now devices bytes w) c.perform_over-end.result.0 (g.D.Dial.links c.dial.new.self) (g.D.Dial.links c.hang_up.new.self) _ _ _ _ _ _ _
+    g.D.Far.Link.left g.D.Far.Link.sent c.in-Far.far links first refl (λ input t. c.perform_over-end.ensures.followed input bytes t is tells) e.back c.hang_up.ensures.back c.hang_up.ensures.gives (λ none. (c.perform_over-end.ensures.memory none).0))
 
 pub returns-in-Failed-clause-ran : goal.returns-in-Failed-clause-ran
 returns-in-Failed-clause-ran g c links bytes told is tells =
     let e = c.in-Failed.ensures in
-    ran_early (one_course c.args.task.now links bytes) end.DialFault links _ _ _ _ refl (e.gives ∙ told) e.back
+    ran_none (one c.args.server.now c.args.task.now) bytes end.DialFault links _ _ _ _ refl (e.gives ∙ told) e.back
 
 pub returns-in-OutOfMemory-clause-ran : goal.returns-in-OutOfMemory-clause-ran
 returns-in-OutOfMemory-clause-ran g c links bytes told is tells =
     let e = c.in-OutOfMemory.ensures in
-    ran_early (one_course c.args.task.now links bytes) end.OutOfMemory links _ _ _ _ refl (e.gives ∙ told) e.back
+    ran_none (one c.args.server.now c.args.task.now) bytes end.OutOfMemory links _ _ _ _ refl (e.gives ∙ told) e.back

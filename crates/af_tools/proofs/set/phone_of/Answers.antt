@@ -3,12 +3,12 @@ use Rattle.std.specs.Prelude.{Ok, Err}
 use Rattle.std.specs.declared.option.Option.TheVariants.{None}
 use Rattle.af_request.specs.Asked.{query_phone}
 use Rattle.af_lib.specs.Calls.{as_phone}
-use Rattle.af_course.specs.Course.{fault_end}
-use Rattle.af_course.specs.Ends.{wire_of}
-use Rattle.af_course.proofs.Going.{asked_goes}
+use Rattle.af_tool.specs.Trace.{fault_end}
+use Rattle.af_tool.specs.Ends.{client_of}
+use Rattle.af_tool.proofs.TracePartLemmas.{asked_goes}
 use Rattle.af_tools.specs.Set.{asks_line}
-use Rattle.af_tools.proofs.Reaching.{goes_value}
-use Rattle.af_tools.proofs.Setting.{line_refused, line_told}
+use Rattle.af_tools.proofs.PartProgressLemmas.{goes_value}
+use Rattle.af_tools.proofs.SetRequestLemmas.{line_refused, line_told}
 use Rattle.af_tools.proofs.set.phone_of.Goals as goal
 
 pub returns-in_err-query_phone-clause-goes : goal.returns-in_err-query_phone-clause-goes
@@ -27,4 +27,4 @@ returns-in_ok-query_phone-clause-goes g c input held told =
 pub returns-else-line-clause-goes : goal.returns-else-line-clause-goes
 returns-else-line-clause-goes g c input held told =
     let line : c.args.line ≡ false = c.if-line.false in
-    rw line (goes_value (asks_line false c.args.number (wire_of c.args.conn.now input)) None input _ _ _ _ told (λ next. refl))
+    rw line (goes_value (asks_line false c.args.number (client_of c.args.conn.now input)) None input _ _ _ _ told (λ next. refl))

@@ -4,11 +4,11 @@ use Rattle.std.specs.declared.option.Option.TheVariants.{None, Some}
 use Rattle.af_request.specs.Asked.{hook_switch}
 use Rattle.af_request.specs.Fields.{flag_byte}
 use Rattle.af_lib.specs.Calls.{as_done}
-use Rattle.af_course.specs.Course.{fault_end}
-use Rattle.af_course.specs.Ends.{wire_of}
-use Rattle.af_course.proofs.Going.{asked_goes}
+use Rattle.af_tool.specs.Trace.{fault_end}
+use Rattle.af_tool.specs.Ends.{client_of}
+use Rattle.af_tool.proofs.TracePartLemmas.{asked_goes}
 use Rattle.af_tools.specs.Set.{hooks}
-use Rattle.af_tools.proofs.Reaching.{goes_value}
+use Rattle.af_tools.proofs.PartProgressLemmas.{goes_value}
 use Rattle.af_tools.proofs.set.set_hook.Goals as goal
 
 pub returns-in_err-hook-clause-goes : goal.returns-in_err-hook-clause-goes
@@ -27,4 +27,4 @@ returns-in_ok-hook-clause-goes g c input held told =
 pub returns-in_default-clause-goes : goal.returns-in_default-clause-goes
 returns-in_default-clause-goes g c input held told =
     let unstated : c.args.job.now.hook_off ≡ None = search rules in
-    rw unstated (goes_value (hooks c.args.job.now.device None (wire_of c.args.conn.now input)) tt input _ _ _ _ told (λ next. refl))
+    rw unstated (goes_value (hooks c.args.job.now.device None (client_of c.args.conn.now input)) tt input _ _ _ _ told (λ next. refl))

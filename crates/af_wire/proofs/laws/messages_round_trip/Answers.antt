@@ -1,4 +1,4 @@
-use Rattle.af_wire.proofs.MessageTrips.{head_framed, event_framed, event_again}
+use Rattle.af_wire.proofs.MessageRoundTrips.{head_framed, event_framed, event_again}
 use Rattle.af_wire.proofs.laws.messages_round_trip.Goals as goal
 
 pub returns : goal.returns

@@ -1,5 +1,5 @@
 use Rattle.std.proofs.Common.{length, ap, arith}
-use Rattle.afd_script.proofs.Exercising.{exercise_length}
+use Rattle.afd_script.proofs.ExerciseStepLemmas.{exercise_length}
 use Rattle.afd_script.proofs.script.exercise.Goals as goal
 
 pub overflow_cast-steps : goal.overflow_cast-steps

@@ -1,14 +1,11 @@
 use Rattle.std.proofs.Common.{rules, ◌≡◌, arith}
-use Rattle.afd_serve.proofs.Rounds.{runs_start, runs_more, runs_done, runs_failed, runs_spent}
+use Rattle.afd_serve.proofs.ServeRoundLemmas.{runs_start, runs_more, runs_done, runs_failed, runs_spent}
 use Rattle.afd_serve.proofs.serve.serve.Goals as goal
 
 pub loop-number-init : goal.loop-number-init
 loop-number-init g c = record {
   runs = λ config stands. runs_start config _ _ _ stands;
-  links = search rules;
-  devices = search rules;
-  listens = search rules;
-  waits = search rules;
+  world = search rules;
 }
 
 pub returns-in-Failed-clause-served : goal.returns-in-Failed-clause-served
@@ -29,10 +26,20 @@ loop-number-preserved g c =
     let leads = c.take_turn.ensures.leads in
     record {
       runs = λ config stands. runs_more config _ _ _ _ _ _ _ _ _ _ _ _ _ (runs config stands) c.more-more.ensures.shows c.in_default.not-Stop c.wait.ensures.log c.in-Woke.ensures.outer c.take_turn.ensures.turns (g.met.W.Live.outer_apart _ _ leads);
-      links = let before = c.loop-number.invariant.links in let wait = c.wait.ensures.link_count in let turn = g.met.W.World.link_faults_stay _ _ leads in omega (arith, before, wait, turn);
-      devices = let before = c.loop-number.invariant.devices in let wait = c.wait.ensures.device_count in let turn = g.met.W.World.device_faults_stay _ _ leads in omega (arith, before, wait, turn);
-      listens = let before = c.loop-number.invariant.listens in let wait = c.wait.ensures.listen_count in let turn = g.met.W.Live.listen_faults_apart _ _ leads in omega (arith, before, wait, turn);
-      waits = let before = c.loop-number.invariant.waits in let wait = c.wait.ensures.wait_count in let turn = g.met.W.Live.wait_faults_apart _ _ leads in omega (arith, before, wait, turn);
+      world =
+          let before = c.loop-number.invariant.world in
+          let wait = c.wait.ensures in
+          let links = g.met.W.World.link_faults_stay _ _ leads in
+          let devices = g.met.W.World.device_faults_stay _ _ leads in
+          let listens = g.met.W.Live.listen_faults_apart _ _ leads in
+          let waits = g.met.W.Live.wait_faults_apart _ _ leads in
+          record {
+            links = omega (arith, before.links, wait.link_count, links);
+            devices = omega (arith, before.devices, wait.device_count, devices);
+            attach = λ d h. absurd h;
+            listen = (omega (arith, before.listen.0, wait.listen_count, listens), λ h. absurd h);
+            wait = (omega (arith, before.wait.0, wait.wait_count, waits), λ h. absurd h);
+          };
     }
 
 pub returns-clause-served : goal.returns-clause-served

@@ -1,11 +1,11 @@
 use Rattle.std.proofs.Common.{rules, length, ap, ◌∙◌, arith}
-use Rattle.af_outside.proofs.Growing.{stays_stays, grew_by_none}
-use Rattle.afd_serve.proofs.Starting.{attached_more, attached_all, attached_in_part, stated_at}
+use Rattle.af_io.proofs.AppendedLemmas.{stays_stays, appended_by_none}
+use Rattle.afd_serve.proofs.StartLemmas.{attached_more, attached_all, attached_in_part, stated_at}
 use Rattle.afd_serve.proofs.start.attach_devices.Goals as goal
 
 pub returns-in-OutOfMemory-clause-some : goal.returns-in-OutOfMemory-clause-some
 returns-in-OutOfMemory-clause-some g c =
-    attached_in_part c.args.setting.now _ _ c.loop-number.number (grew_by_none _ _ _ _ c.loop-number.invariant.below c.in-OutOfMemory.ensures.outer)
+    attached_in_part c.args.setting.now _ _ c.loop-number.number (appended_by_none _ _ _ _ c.loop-number.invariant.below c.in-OutOfMemory.ensures.outer)
 
 pub loop-number-preserved : goal.loop-number-preserved
 loop-number-preserved g c =
@@ -14,10 +14,7 @@ loop-number-preserved g c =
     record {
       log = stays_stays _ _ _ c.loop-number.invariant.log c.attach.ensures.log;
       below = attached_more c.args.setting.now _ _ c.loop-number.number below _ _ _ (stated_at _ _ c.loop-number.number _ same c.loop-number-test.true) c.kind.ensures c.in-Done.ensures.outer;
-      links = search rules;
-      devices = search rules;
-      listens = search rules;
-      waits = search rules;
+      world = search rules;
     }
 
 pub returns-clause-all : goal.returns-clause-all

@@ -1,4 +1,4 @@
-use Rattle.afd_serve.proofs.Starting.{listened_alone, started_until}
+use Rattle.afd_serve.proofs.StartLemmas.{listened_alone, started_until}
 use Rattle.afd_serve.proofs.start.start.Goals as goal
 
 pub returns-in_default-clause-part : goal.returns-in_default-clause-part

@@ -1,7 +1,7 @@
 use Rattle.std.proofs.Common.{◌≡◌, ◌<◌, ◌^◌, subst, arith, rules, refl}
 use Rattle.af_buffers.specs.PlayBuffer.{Next, frames_beyond}
-use Rattle.af_buffers.proofs.Rooms.{horizon_within}
-use Rattle.af_buffers.proofs.Playing.{is_late, not_late, ahead_by, length-next_of}
+use Rattle.af_buffers.proofs.HorizonLemmas.{horizon_within}
+use Rattle.af_buffers.proofs.PlayRingLemmas.{is_late, not_late, ahead_by, length-next_of}
 use Rattle.af_buffers.proofs.play.PlayBuffer.frames_beyond.Goals as goal
 
 pub returns-then-is_before : goal.returns-then-is_before

@@ -1,6 +1,6 @@
 use Rattle.std.proofs.Common.{◌≡◌, ◌+◌, ◌-◌, ◌%◌, ◌<◌, ◌^◌, subst, arith, rules, refl}
 use Rattle.af_buffers.specs.PlayBuffer.{Next, frames_within}
-use Rattle.af_buffers.proofs.Playing.{is_late, not_late, late_by, ahead_by, length-next_of}
+use Rattle.af_buffers.proofs.PlayRingLemmas.{is_late, not_late, late_by, ahead_by, length-next_of}
 use Rattle.af_buffers.proofs.play.PlayBuffer.frames_within.Goals as goal
 
 pub returns-then-is_before : goal.returns-then-is_before

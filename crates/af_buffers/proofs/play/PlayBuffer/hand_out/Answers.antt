@@ -1,6 +1,6 @@
 use Rattle.std.proofs.Common.{subst, sym, arith}
 use Rattle.af_buffers.specs.PlayBuffer.{Next, next_of, HandsOut, IsRingOf}
-use Rattle.af_buffers.proofs.Playing.{hands_out, ring_of_hand_out}
+use Rattle.af_buffers.proofs.PlayRingLemmas.{hands_out, ring_of_hand_out}
 use Rattle.af_buffers.proofs.play.PlayBuffer.hand_out.Goals as goal
 
 pub invariant_of-self : goal.invariant_of-self

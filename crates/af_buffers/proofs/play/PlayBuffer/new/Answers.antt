@@ -1,4 +1,4 @@
-use Rattle.af_buffers.proofs.Playing.{next_of-silence}
+use Rattle.af_buffers.proofs.PlayRingLemmas.{next_of-silence}
 use Rattle.af_buffers.proofs.play.PlayBuffer.new.Goals as goal
 
 pub returns-clause-next : goal.returns-clause-next

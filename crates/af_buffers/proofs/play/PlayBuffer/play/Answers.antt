@@ -2,56 +2,56 @@ use Rattle.std.proofs.Common.{◌<◌, ◌+◌, ◌-◌, ◌%◌, ◌^◌, subst
 use Rattle.std.proofs.lemmas.Grind.{common_steps}
 use Rattle.af_buffers.specs.Horizons.{whole_time}
 use Rattle.af_buffers.specs.PlayBuffer.{Next, next_of, accepted_at, accepted_by, Plays, ChangesCovered}
-use Rattle.af_buffers.proofs.Playing.{LaysOver, lays_ahead, lays_rest, lays_nothing, plays, changes_covered, ring_of_play, within_of, word_of_start, is_late, not_late, late_by}
-use Rattle.af_buffers.proofs.Rooms.{horizon_within}
+use Rattle.af_buffers.proofs.PlayRingLemmas.{LaysOver, lays_ahead, lays_rest, lays_nothing, plays, changes_covered, ring_of_play, within_of, word_of_start, is_late, not_late, late_by}
+use Rattle.af_buffers.proofs.HorizonLemmas.{horizon_within}
 use Rattle.af_buffers.proofs.play.PlayBuffer.play.Goals as goal
 
-ahead : (c : goal.After-lay-else-is_before) → LaysOver c.self.inside.ring c.lay-else-is_before.new.ring c.self.inside.time.0 (accepted_at (whole_time c.self.inside.time.0) c.args.start.0 c.args.samples.now c.args.preempt)
+ahead : (c : goal.After-overlay-else-is_before) → LaysOver c.self.inside.ring c.overlay-else-is_before.new.ring c.self.inside.time.0 (accepted_at (whole_time c.self.inside.time.0) c.args.start.0 c.args.samples.now c.args.preempt)
 ahead c =
     let word : c.self.inside.time.0 < 2 ^ 32 = search rules in
     let word' : c.args.start.0 < 2 ^ 32 = search rules in
     let within = within_of c.self.inside.ring c.self.inside.time.0 c.self.inside.horizon c.args.start.0 (length c.args.samples.now) c.args.self.now c.self.view_is c.requires.within in
-    lays_ahead c.self.inside.ring c.lay-else-is_before.new.ring c.args.samples.now c.self.inside.time.0 c.args.start.0 c.args.preempt c.self.invariant.room.power
+    lays_ahead c.self.inside.ring c.overlay-else-is_before.new.ring c.args.samples.now c.self.inside.time.0 c.args.start.0 c.args.preempt c.self.invariant.room.power
     (word_of_start c.self.inside.time.0 c.args.start.0 word')
     (not_late c.self.inside.time.0 c.args.start.0 c.is_before.result word word' c.is_before.ensures.whole c.if-is_before.false)
-    (omega arith) c.lay-else-is_before.ensures
+    (omega arith) c.overlay-else-is_before.ensures
 
-late : (c : goal.After-lay) → LaysOver c.self.inside.ring c.lay.new.ring c.self.inside.time.0 (accepted_at (whole_time c.self.inside.time.0) c.args.start.0 c.args.samples.now c.args.preempt)
+late : (c : goal.After-overlay) → LaysOver c.self.inside.ring c.overlay.new.ring c.self.inside.time.0 (accepted_at (whole_time c.self.inside.time.0) c.args.start.0 c.args.samples.now c.args.preempt)
 late c =
     let word : c.self.inside.time.0 < 2 ^ 32 = search rules in
     let word' : c.args.start.0 < 2 ^ 32 = search rules in
     let bounds = horizon_within c.self.inside.horizon c.self.invariant.horizon in
     let enough = c.self.invariant.room.enough in
-    lays_rest c.self.inside.ring c.lay.new.ring c.args.samples.now _ c.self.inside.time.0 c.args.start.0 ((c.self.inside.time.0 + (2 ^ 32 - c.args.start.0)) % 2 ^ 32) c.args.preempt c.self.invariant.room.power
+    lays_rest c.self.inside.ring c.overlay.new.ring c.args.samples.now _ c.self.inside.time.0 c.args.start.0 ((c.self.inside.time.0 + (2 ^ 32 - c.args.start.0)) % 2 ^ 32) c.args.preempt c.self.invariant.room.power
     (late_by c.self.inside.time.0 c.args.start.0 ((c.self.inside.time.0 + (2 ^ 32 - c.args.start.0)) % 2 ^ 32) word word'
     (is_late c.self.inside.time.0 c.args.start.0 c.is_before.result word word' c.is_before.ensures.whole c.if-is_before.true) refl)
-    (omega arith) (omega arith) (grind (arith, common_steps)) c.lay.ensures
+    (omega arith) (omega arith) (grind (arith, common_steps)) c.overlay.ensures
 
 pub invariant_of-self-else-is_before : goal.invariant_of-self-else-is_before
 invariant_of-self-else-is_before c =
-    ring_of_play c.self.inside.ring c.lay-else-is_before.new.ring c.self.inside.time.0 c.self.inside.horizon (accepted_at (whole_time c.self.inside.time.0) c.args.start.0 c.args.samples.now c.args.preempt) c.self.invariant
+    ring_of_play c.self.inside.ring c.overlay-else-is_before.new.ring c.self.inside.time.0 c.self.inside.horizon (accepted_at (whole_time c.self.inside.time.0) c.args.start.0 c.args.samples.now c.args.preempt) c.self.invariant
     (within_of c.self.inside.ring c.self.inside.time.0 c.self.inside.horizon c.args.start.0 (length c.args.samples.now) c.args.self.now c.self.view_is c.requires.within)
     (ahead c)
 
 pub returns-else-is_before-clause-next : goal.returns-else-is_before-clause-next
 returns-else-is_before-clause-next c =
-    subst (λ (v : Next). Plays v (next_of c.lay-else-is_before.new.ring c.self.inside.time.0 c.self.inside.horizon) (accepted_by v c.args.start.0 c.args.samples.now c.args.preempt)) c.self.view_is
-    (plays c.self.inside.ring c.lay-else-is_before.new.ring c.self.inside.time.0 c.self.inside.horizon _ c.self.invariant.room.enough (ahead c))
+    subst (λ (v : Next). Plays v (next_of c.overlay-else-is_before.new.ring c.self.inside.time.0 c.self.inside.horizon) (accepted_by v c.args.start.0 c.args.samples.now c.args.preempt)) c.self.view_is
+    (plays c.self.inside.ring c.overlay-else-is_before.new.ring c.self.inside.time.0 c.self.inside.horizon _ c.self.invariant.room.enough (ahead c))
 
 pub returns-else-is_before-clause-ring : goal.returns-else-is_before-clause-ring
 returns-else-is_before-clause-ring c =
-    subst (λ (v : Next). ChangesCovered v (next_of c.lay-else-is_before.new.ring c.self.inside.time.0 c.self.inside.horizon) (accepted_by v c.args.start.0 c.args.samples.now c.args.preempt)) c.self.view_is
-    (changes_covered c.self.inside.ring c.lay-else-is_before.new.ring c.self.inside.time.0 c.self.inside.horizon _ (ahead c))
+    subst (λ (v : Next). ChangesCovered v (next_of c.overlay-else-is_before.new.ring c.self.inside.time.0 c.self.inside.horizon) (accepted_by v c.args.start.0 c.args.samples.now c.args.preempt)) c.self.view_is
+    (changes_covered c.self.inside.ring c.overlay-else-is_before.new.ring c.self.inside.time.0 c.self.inside.horizon _ (ahead c))
 
 pub returns-then-late-samples-clause-next : goal.returns-then-late-samples-clause-next
 returns-then-late-samples-clause-next c =
-    subst (λ (v : Next). Plays v (next_of c.lay.new.ring c.self.inside.time.0 c.self.inside.horizon) (accepted_by v c.args.start.0 c.args.samples.now c.args.preempt)) c.self.view_is
-    (plays c.self.inside.ring c.lay.new.ring c.self.inside.time.0 c.self.inside.horizon _ c.self.invariant.room.enough (late c))
+    subst (λ (v : Next). Plays v (next_of c.overlay.new.ring c.self.inside.time.0 c.self.inside.horizon) (accepted_by v c.args.start.0 c.args.samples.now c.args.preempt)) c.self.view_is
+    (plays c.self.inside.ring c.overlay.new.ring c.self.inside.time.0 c.self.inside.horizon _ c.self.invariant.room.enough (late c))
 
 pub returns-then-late-samples-clause-ring : goal.returns-then-late-samples-clause-ring
 returns-then-late-samples-clause-ring c =
-    subst (λ (v : Next). ChangesCovered v (next_of c.lay.new.ring c.self.inside.time.0 c.self.inside.horizon) (accepted_by v c.args.start.0 c.args.samples.now c.args.preempt)) c.self.view_is
-    (changes_covered c.self.inside.ring c.lay.new.ring c.self.inside.time.0 c.self.inside.horizon _ (late c))
+    subst (λ (v : Next). ChangesCovered v (next_of c.overlay.new.ring c.self.inside.time.0 c.self.inside.horizon) (accepted_by v c.args.start.0 c.args.samples.now c.args.preempt)) c.self.view_is
+    (changes_covered c.self.inside.ring c.overlay.new.ring c.self.inside.time.0 c.self.inside.horizon _ (late c))
 
 pub returns-else-late-samples-clause-next : goal.returns-else-late-samples-clause-next
 returns-else-late-samples-clause-next c =

@@ -1,6 +1,6 @@
 use Rattle.std.proofs.Common.{subst}
 use Rattle.af_buffers.specs.PlayBuffer.{HoldsNext}
-use Rattle.af_buffers.proofs.Playing.{holds_next}
+use Rattle.af_buffers.proofs.PlayRingLemmas.{holds_next}
 use Rattle.af_buffers.proofs.play.PlayBuffer.ring.Goals as goal
 
 pub returns-clause-held : goal.returns-clause-held

@@ -1,6 +1,6 @@
 use Rattle.std.proofs.Common.{subst, sym}
 use Rattle.af_buffers.specs.RecordBuffer.{Last, last_of, Captures}
-use Rattle.af_buffers.proofs.Recording.{captures}
+use Rattle.af_buffers.proofs.RecordRingLemmas.{captures}
 use Rattle.af_buffers.proofs.record.RecordBuffer.capture.Goals as goal
 
 pub returns-clause-last : goal.returns-clause-last

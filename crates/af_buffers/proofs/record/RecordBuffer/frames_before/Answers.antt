@@ -2,7 +2,7 @@ use Rattle.std.proofs.Common.{◌≡◌, ◌+◌, ◌-◌, ◌%◌, ◌<◌, ◌
 use Rattle.af_time.specs.DeviceTime.{unwrap}
 use Rattle.af_buffers.specs.Horizons.{whole_time}
 use Rattle.af_buffers.specs.RecordBuffer.{Last, frames_before}
-use Rattle.af_buffers.proofs.Playing.{is_late, not_late, late_by}
+use Rattle.af_buffers.proofs.PlayRingLemmas.{is_late, not_late, late_by}
 use Rattle.af_buffers.proofs.record.RecordBuffer.frames_before.Goals as goal
 
 pub returns-then-is_before : goal.returns-then-is_before

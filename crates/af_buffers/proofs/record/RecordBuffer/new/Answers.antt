@@ -1,4 +1,4 @@
-use Rattle.af_buffers.proofs.Recording.{last_of-silence}
+use Rattle.af_buffers.proofs.RecordRingLemmas.{last_of-silence}
 use Rattle.af_buffers.proofs.record.RecordBuffer.new.Goals as goal
 
 pub returns-clause-last : goal.returns-clause-last

@@ -1,6 +1,6 @@
 use Rattle.std.proofs.Common.{◌≡◌, subst, arith, rules, length, refl}
 use Rattle.af_buffers.specs.RecordBuffer.{Last, samples_from}
-use Rattle.af_buffers.proofs.Recording.{reads}
+use Rattle.af_buffers.proofs.RecordRingLemmas.{reads}
 use Rattle.af_buffers.proofs.record.RecordBuffer.read.Goals as goal
 
 pub returns : goal.returns

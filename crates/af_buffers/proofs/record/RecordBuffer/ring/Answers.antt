@@ -1,6 +1,6 @@
 use Rattle.std.proofs.Common.{subst}
 use Rattle.af_buffers.specs.RecordBuffer.{HoldsLast}
-use Rattle.af_buffers.proofs.Recording.{holds_last}
+use Rattle.af_buffers.proofs.RecordRingLemmas.{holds_last}
 use Rattle.af_buffers.proofs.record.RecordBuffer.ring.Goals as goal
 
 pub returns-clause-held : goal.returns-clause-held

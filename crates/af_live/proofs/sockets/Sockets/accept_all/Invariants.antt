@@ -1,4 +1,4 @@
-use Rattle.af_live.specs.Holding.{KeepsOpen}
+use Rattle.af_live.specs.LinkTable.{KeepsOpen}
 use Rattle.af_live.proofs.sockets.Sockets.accept_all.Given as goal
 
 abbrev pub invariant-loop : goal.invariant-loop

@@ -1,5 +1,5 @@
 use Rattle.std.proofs.Common.{rules}
-use Rattle.af_outside.proofs.Tapes.{faults_after-rises}
+use Rattle.af_outside.proofs.TapeLemmas.{faults_after-rises}
 use Rattle.af_outside.proofs.outer_book.OuterBook.wait_fails.Goals as goal
 
 pub returns-clause-rises : goal.returns-clause-rises

@@ -4,8 +4,8 @@ use Rattle.std.proofs.lemmas.List.{with_items_is}
 use Rattle.std.specs.Vec.{with_items}
 use Rattle.std.specs.declared.option.Option.TheVariants.{Some}
 use Rattle.af_outside.specs.Outside.{TapeState, TakesStep}
-use Rattle.af_outside.specs.Tape.{outside_of, stations_of}
-use Rattle.af_outside.proofs.Tapes.{drop-next, HasRoom-first, TakesStep-first}
+use Rattle.af_outside.specs.Tape.{outside_of, devices_of}
+use Rattle.af_outside.proofs.TapeLemmas.{drop-next, HasRoomForSteps-first, TakesStep-first}
 use Rattle.af_outside.proofs.tape.Tape.step.Goals as goal
 
 pub take_step-wake-requires : goal.take_step-wake-requires
@@ -15,33 +15,33 @@ take_step-wake-requires c =
     let read : slice_get c.deref.result.now tape.taken ≡ Some c.in_ok-step.step.now = slice_get_read c.deref.result.now _ tape.taken c.in_ok-step.step.now refl looked.3.0 looked.1 in
     let at = rw c.deref.ensures.value at read in
     let room = rw (drop-next tape.steps.items tape.taken c.in_ok-step.step.now at) at c.self.invariant.1 in
-    rw c.deref_mut.ensures.value (HasRoom-first tape.far_ends.items c.in_ok-step.step.now (drop (tape.taken + 1) tape.steps.items) room)
+    rw c.deref_mut.ensures.value (HasRoomForSteps-first tape.links.items c.in_ok-step.step.now (drop (tape.taken + 1) tape.steps.items) room)
 
 pub returns : goal.returns
 returns c =
     let tape = c.self.inside in
     let looked = c.in_ok-step.ensures.lookup in
     let step = c.in_ok-step.step.now in
-    let far_ends = with_items tape.far_ends c.take_step-wake.new.far_ends in
-    let stations = with_items tape.stations c.take_step-wake.new.stations in
-    let far_ends_kept : far_ends.items ≡ c.take_step-wake.new.far_ends = with_items_is tape.far_ends c.take_step-wake.new.far_ends (search rules) in
-    let stations_kept : stations.items ≡ c.take_step-wake.new.stations = with_items_is tape.stations c.take_step-wake.new.stations (search rules) in
+    let links = with_items tape.links c.take_step-wake.new.links in
+    let devices = with_items tape.devices c.take_step-wake.new.devices in
+    let links_kept : links.items ≡ c.take_step-wake.new.links = with_items_is tape.links c.take_step-wake.new.links (search rules) in
+    let devices_kept : devices.items ≡ c.take_step-wake.new.devices = with_items_is tape.devices c.take_step-wake.new.devices (search rules) in
     let read : slice_get c.deref.result.now tape.taken ≡ Some step = slice_get_read c.deref.result.now _ tape.taken step refl looked.3.0 looked.1 in
     let at = rw c.deref.ensures.value at read in
-    let woken = rw c.deref_mut.ensures.value at c.take_step-wake.ensures.wake (stations_of tape.steps.items tape.stations.items) in
+    let woken = rw c.deref_mut.ensures.value at c.take_step-wake.ensures.wake (devices_of tape.steps.items tape.devices.items) in
     let changed = rw (c.deref_mut.ensures.value, c.deref_mut-2.ensures.value) at c.take_step-wake.ensures.outside tape.steps.items at in
     let old : TapeState = record {
       config = tape.config.items;
       left = drop tape.taken tape.steps.items;
       log = tape.logbook;
-      outside = outside_of tape.far_ends.items (stations_of tape.steps.items tape.stations.items);
+      outside = outside_of tape.links.items (devices_of tape.steps.items tape.devices.items);
       link_faults = tape.link_faults;
       device_faults = tape.device_faults;
       outer = tape.outer;
     } in
     let left = drop (tape.taken + 1) tape.steps.items in
-    let outside = outside_of far_ends.items (stations_of tape.steps.items stations.items) in
+    let outside = outside_of links.items (devices_of tape.steps.items devices.items) in
     subst (λ (t : TapeState). TakesStep t t.left (Some c.take_step-wake.result) (record old { left = left; outside = outside })) c.self.view_is
     (TakesStep-first old step left c.take_step-wake.result outside (drop-next tape.steps.items tape.taken step at) woken
-    (ap (λ ends. outside_of ends (stations_of tape.steps.items stations.items)) far_ends_kept
-    ∙ ap (λ kept. outside_of c.take_step-wake.new.far_ends (stations_of tape.steps.items kept)) stations_kept ∙ changed))
+    (ap (λ ends. outside_of ends (devices_of tape.steps.items devices.items)) links_kept
+    ∙ ap (λ kept. outside_of c.take_step-wake.new.links (devices_of tape.steps.items kept)) devices_kept ∙ changed))

@@ -5,32 +5,30 @@ use Rattle.std.specs.Vec.{with_items}
 use Rattle.std.specs.declared.option.Option.TheVariants.{Some}
 use Rattle.std.specs.declared.result.Result.TheVariants.{Ok}
 use Rattle.af_outside.specs.declared.happening.Happening.TheVariants.{Closed}
-use Rattle.af_outside.specs.Tape.{outside_of, stations_of}
-use Rattle.af_outside.proofs.Tapes.{Answered-noted}
+use Rattle.af_outside.specs.Outside.{answered_as_stated, Outside}
+use Rattle.af_outside.specs.Tape.{outside_of, devices_of}
+use Rattle.af_outside.proofs.TapeLemmas.{TapeLeadsTo-noted}
 use Rattle.af_outside.proofs.tape.TapeWorld.close.Goals as goal
+
+abbrev old_outside : goal.After-note → Outside
+old_outside c = outside_of c.self.inside.links.items (devices_of c.self.inside.steps.items c.self.inside.devices.items)
+
+abbrev new_outside : goal.After-note → Outside
+new_outside c = outside_of (with_items c.self.inside.links c.close.new.links).items (devices_of c.self.inside.steps.items c.self.inside.devices.items)
+
+answered_here : (c : goal.After-note) → answered_as_stated (old_outside c) (Closed c.args.link c.args.why) ≡ Some (new_outside c)
+answered_here c =
+    let tape = c.self.inside in
+    let devices = devices_of tape.steps.items tape.devices.items in
+    let kept : (with_items tape.links c.close.new.links).items ≡ c.close.new.links = with_items_is tape.links c.close.new.links (search rules) in
+    (rw c.deref_mut.ensures.value at c.close.ensures.answered devices) ∙ ap (λ ends. Some (outside_of ends devices)) (sym kept)
 
 pub returns-clause-leads : goal.returns-clause-leads
 returns-clause-leads c =
     let tape = c.self.inside in
-    let far_ends = with_items tape.far_ends c.close.new.far_ends in
-    let stations = stations_of tape.steps.items tape.stations.items in
-    let kept : far_ends.items ≡ c.close.new.far_ends = with_items_is tape.far_ends c.close.new.far_ends (search rules) in
-    let leads = rw c.deref_mut.ensures.value at c.close.ensures.answered stations in
-    rw (← c.self.view_is) (record {
-      config = refl;
-      left = refl;
-      link_faults = le_refl tape.link_faults;
-      device_faults = le_refl tape.device_faults;
-      outer = refl;
-      answered = Answered-noted tape.logbook (Ok (Closed c.args.link c.args.why)) c.note.new.self (Closed c.args.link c.args.why)
-          (outside_of tape.far_ends.items stations) (outside_of far_ends.items stations) c.note.ensures refl (leads ∙ ap (λ ends. Some (outside_of ends stations)) (sym kept));
-    })
+    rw (← c.self.view_is)
+    (TapeLeadsTo-noted _ (Ok (Closed c.args.link c.args.why)) _ (Closed c.args.link c.args.why) _ _ _ c.note.ensures refl (answered_here c)
+    (le_refl tape.link_faults) (le_refl tape.device_faults))
 
 pub returns-clause-answered : goal.returns-clause-answered
-returns-clause-answered c =
-    let tape = c.self.inside in
-    let far_ends = with_items tape.far_ends c.close.new.far_ends in
-    let stations = stations_of tape.steps.items tape.stations.items in
-    let kept : far_ends.items ≡ c.close.new.far_ends = with_items_is tape.far_ends c.close.new.far_ends (search rules) in
-    let leads = rw c.deref_mut.ensures.value at c.close.ensures.answered stations in
-    rw (← c.self.view_is) (leads ∙ ap (λ ends. Some (outside_of ends stations)) (sym kept))
+returns-clause-answered c = rw (← c.self.view_is) (answered_here c)

@@ -1,6 +1,6 @@
 use Rattle.std.proofs.Common.{arith}
 use Rattle.std.proofs.lemmas.Grind.{common_steps}
-use Rattle.af_ring.proofs.Turning.{size_of}
+use Rattle.af_ring.proofs.RingStepLemmas.{size_of}
 use Rattle.af_ring.proofs.time_ring.TimeRing.new.Goals as goal
 
 pub invariant_of-result : goal.invariant_of-result

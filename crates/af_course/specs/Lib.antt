@@ -1,4 +1,0 @@
-pub mod Course
-pub mod Ends
-pub mod Device
-pub mod Talk

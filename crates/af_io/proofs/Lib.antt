@@ -1,0 +1,3 @@
+pub mod ConsumedLemmas
+pub mod AppendedLemmas
+pub mod KnownBytesLemmas

@@ -1,0 +1,45 @@
+// The calls of what is in memory, of which those fail whose numbers are listed.
+ghost use Rattle.std.specs.Prelude.{◌≡◌, ◌↔◌, Contains, IsTrue};
+ghost use Rattle.af_io.specs.Observed.{counted, faults_after};
+
+use crate::faults::faults_after;
+
+/// The number of the next call, and how many calls have failed. Both stand still at 2^64 - 1.
+#[derive(Clone, Copy)]
+pub(crate) struct Calls {
+    pub(crate) number: u64,
+    pub(crate) faults: u64,
+}
+
+impl Calls {
+    /// No call was made.
+    pub(crate) fn new() -> Calls
+        ensures number { result.number ≡ 0 }
+        ensures faults { result.faults ≡ 0 }
+    {
+        Calls {
+            number: 0,
+            faults: 0,
+        }
+    }
+
+    /// Counts a call, and says whether it fails, since its number is listed.
+    pub(crate) fn next_fails(&mut self, fails: &[u64]) -> bool
+        ensures fails { IsTrue result ↔ Contains fails.now self.old.number }
+        ensures number { self.new.number ≡ counted self.old.number }
+        ensures faults { self.new.faults ≡ faults_after self.old.faults result }
+    {
+        let fails = fails.contains(&self.number);
+        self.number = self.number.saturating_add(1);
+        self.faults = faults_after(self.faults, fails);
+        fails
+    }
+
+    /// The call that was counted last fails, though its number is not listed.
+    pub(crate) fn fail(&mut self)
+        ensures number { self.new.number ≡ self.old.number }
+        ensures faults { self.new.faults ≡ counted self.old.faults }
+    {
+        self.faults = faults_after(self.faults, true);
+    }
+}

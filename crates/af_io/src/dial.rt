@@ -1,0 +1,55 @@
+// Dialling a server.
+ghost use Rattle.std.specs.Prelude.{◌≡◌, ◌≤◌, ℕ, List, [], ◌∷◌, length};
+ghost use Rattle.std.specs.declared.option.Option.{Option};
+
+use crate::Link;
+
+/// What a dial gave: a link, or none.
+#[derive(Drop)]
+pub enum Dialed<F: Drop> {
+    Far(F),
+    Failed,
+    OutOfMemory,
+}
+
+/// Links to servers, by address. A link that was dialled is given back in the end.
+pub trait Dial {
+    ghost use Rattle.af_io.specs.Observed.{Appended, FaultCounted};
+    ghost use Rattle.af_io.specs.Dial.{CountsHurt, GivesNext, AppendedBack, IsUnhurt, ToldLink};
+
+    type Far: Link + Drop;
+
+    /// How often a dial has failed.
+    ghost faults: { Self → ℕ };
+
+    /// How many of the links that were given back had failed.
+    ghost hurt: { Self → ℕ };
+
+    /// The addresses of all dials, in order, if they are observed.
+    ghost asked: { Self → Option (List (List ℕ)) };
+
+    /// What each link that was given back had been sent, in order, if it is observed.
+    ghost back: { Self → Option (List (List ℕ)) };
+
+    /// The links that it will give, in order, if they are observed.
+    ghost links: { Self → Option (List ToldLink) };
+
+    /// Dials an address of 1 to 64 bytes. The link has not failed yet.
+    fn dial(&mut self, address: &str) -> Dialed<Self::Far>
+        requires { (1 ≤ length address.now) × (length address.now ≤ 64) }
+        ensures count { faults self.old ≤ faults self.new }
+        ensures cause { result ≡ Dialed.Failed → FaultCounted (faults self.old) (faults self.new) }
+        ensures fresh { IsUnhurt Self.Far.Link.faults result }
+        ensures hurt { hurt self.new ≡ hurt self.old }
+        ensures asked { Appended (asked self.old) (address.now ∷ []) (asked self.new) }
+        ensures back { back self.new ≡ back self.old }
+        ensures gives { GivesNext Self.Far.Link.left Self.Far.Link.sent result (links self.old) (links self.new) };
+
+    /// Takes a link back.
+    fn hang_up(&mut self, far: Self::Far)
+        ensures count { faults self.new ≡ faults self.old }
+        ensures hurt { CountsHurt (Self.Far.Link.faults far) (hurt self.old) (hurt self.new) }
+        ensures asked { asked self.new ≡ asked self.old }
+        ensures back { AppendedBack (back self.old) (Self.Far.Link.sent far) (back self.new) }
+        ensures gives { links self.new ≡ links self.old };
+}

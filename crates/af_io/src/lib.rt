@@ -1,0 +1,29 @@
+//! What programs read from and write to: words, bytes, sources, sinks and links, in memory, over std and over TCP.
+#![tactic(auto)]
+
+mod args;
+mod bytes;
+mod calls;
+mod dial;
+mod faults;
+mod flow;
+mod link;
+mod mem_dial;
+mod mem_link;
+mod memory;
+mod real;
+mod tcp;
+mod text;
+
+pub use args::{Args, WordsFault, program_words};
+pub use bytes::{Bytes, copy_first};
+pub use dial::{Dial, Dialed};
+pub use faults::faults_after;
+pub use flow::{Got, Put, Sink, Source};
+pub use link::Link;
+pub use mem_dial::MemDial;
+pub use mem_link::MemLink;
+pub use memory::{MemSink, MemSource};
+pub use real::{StdSink, StdSource};
+pub use tcp::{TcpDial, TcpLink};
+pub use text::{TextFault, read_text};

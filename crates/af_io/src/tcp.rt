@@ -1,0 +1,130 @@
+// Links over TCP, which tell no content, pass on what their streams give and take, and count their faults.
+ghost use Rattle.std.specs.Prelude.{◌≡◌, ◌≤◌, ◌<◌, ℕ, ◌∷◌, [], length, IsSome};
+ghost use Rattle.std.specs.declared.option.Option.TheVariants.{None};
+ghost use Rattle.af_io.specs.Observed.{Consumed, Appended, CountsOneFault, counted};
+ghost use Rattle.af_io.specs.Flow.{given_of, GotFits, Written};
+ghost use Rattle.af_io.specs.Real.{ReadsOn, WritesOn};
+ghost use Rattle.af_io.specs.Dial.{CountsHurt, GivesNext, AppendedBack, IsUnhurt};
+
+use crate::faults::faults_after;
+use crate::real::{read_some, write_whole};
+use crate::{Dial, Dialed, Got, Link, Put};
+use std::io::{ErrorKind, Read, Write};
+use std::marker::Model;
+use std::net::{Net, OpenStream, TcpStream};
+
+/// A link over any stream. An interrupted call is made again, at most 1000 times, and then it is a fault, as every other
+/// error is, and a write that takes nothing. The count of faults stands still at 2^64 - 1.
+#[derive(Drop)]
+pub struct TcpLink<S: Read + Write + Drop> {
+    stream: S,
+    faults: u64,
+}
+
+impl<S: Read + Write + Drop> Model for TcpLink<S> {
+    ghost use Rattle.af_io.specs.Real.{StreamState};
+
+    ghost Value = { StreamState };
+
+    ghost view = { λ a. record { remaining = S.Read.remaining a.stream; contents = S.Write.contents a.stream; faults = a.faults } };
+}
+
+impl<S: Read + Write + Drop> Link for TcpLink<S> {
+    ghost left = { λ _. None };
+
+    ghost sent = { λ _. None };
+
+    ghost faults = { λ link. link.faults };
+
+    fn read(&mut self, into: &mut [u8]) -> Got
+        requires { 0 < length into.old }
+        ensures bound { GotFits result (length into.new) None }
+        ensures reads { ReadsOn result self.old.remaining into.new self.new.remaining }
+        ensures faults { CountsOneFault (result ≡ Got.Failed) self.old.faults self.new.faults }
+    {
+        let got = read_some(&mut self.stream, into);
+        self.faults = faults_after(self.faults, got == Got::Failed);
+        got
+    }
+
+    fn write(&mut self, piece: &[u8]) -> Put
+        requires { 0 < length piece.now }
+        ensures writes { WritesOn result self.old.contents piece.now self.new.contents }
+        ensures faults { CountsOneFault (result ≡ Put.Failed) self.old.faults self.new.faults }
+    {
+        let put = write_whole(&mut self.stream, piece);
+        self.faults = faults_after(self.faults, put == Put::Failed);
+        put
+    }
+}
+
+/// Dials over TCP, by an address as `127.0.0.1:47113` or `localhost:47113`. A link that is given back is closed. The counts
+/// stand still at 2^64 - 1.
+#[derive(Drop)]
+pub struct TcpDial<R: Net + Drop> {
+    rt: R,
+    faults: u64,
+    hurt: u64,
+}
+
+impl<R: Net + Drop> Model for TcpDial<R> {
+    ghost use Rattle.af_io.specs.Dial.{DialCounts};
+
+    ghost Value = { DialCounts };
+
+    ghost view = { λ a. record { faults = a.faults; hurt = a.hurt } };
+}
+
+impl<R: Net + Drop> TcpDial<R> {
+    /// A dial over the sockets of this runtime.
+    pub fn new(rt: R) -> TcpDial<R>
+        ensures { result ≡ record { faults = 0; hurt = 0 } }
+    {
+        TcpDial {
+            rt,
+            faults: 0,
+            hurt: 0,
+        }
+    }
+}
+
+impl<R: Net + Drop> Dial for TcpDial<R> {
+    type Far = TcpLink<R::Stream>;
+
+    ghost faults = { λ dial. dial.faults };
+
+    ghost hurt = { λ dial. dial.hurt };
+
+    ghost asked = { λ _. None };
+
+    ghost back = { λ _. None };
+
+    ghost links = { λ _. None };
+
+    fn dial(&mut self, address: &str) -> Dialed<TcpLink<R::Stream>>
+        requires { (1 ≤ length address.now) × (length address.now ≤ 64) }
+        ensures faults { CountsOneFault (result ≡ Dialed.Failed) self.old.faults self.new.faults }
+        ensures fresh { IsUnhurt (λ link. link.faults) result }
+        ensures hurt { self.new.hurt ≡ self.old.hurt }
+    {
+        match TcpStream::connect(&self.rt, address) {
+            Ok(stream) => {
+                // A request is to leave at once. Where the system refuses that, it leaves later.
+                let _ = stream.set_nodelay(true);
+                Dialed::Far(TcpLink { stream, faults: 0 })
+            }
+            Err(e) if e.kind() == ErrorKind::OutOfMemory => Dialed::OutOfMemory,
+            Err(_) => {
+                self.faults = faults_after(self.faults, true);
+                Dialed::Failed
+            }
+        }
+    }
+
+    fn hang_up(&mut self, far: TcpLink<R::Stream>)
+        ensures count { self.new.faults ≡ self.old.faults }
+        ensures hurt { CountsHurt far.faults self.old.hurt self.new.hurt }
+    {
+        self.hurt = faults_after(self.hurt, far.faults > 0);
+    }
+}

@@ -1,5 +1,0 @@
-use Rattle.std.proofs.Common.{◌≡◌, ℕ, ◌<◌, get_or, pos}
-use Rattle.af_kept.proofs.level.silence.Given as goal
-
-abbrev pub invariant-loop-x : goal.invariant-loop-x
-invariant-loop-x l = (k : ℕ) → k < l.x-index → get_or l.samples k (pos 0) ≡ pos 0

@@ -1,0 +1,48 @@
+-- Replies that are written, as messages.
+use Rattle.std.proofs.Common.{◌≡◌, ◌<◌, ◌≤◌, ◌+◌, ◌*◌, ◌^◌, ◌⊎◌, inl, inr, ℕ, List, ◌++◌, length, arith}
+use Rattle.std.proofs.lemmas.Bool.Decides.{nat_tests}
+use Rattle.std.specs.Prelude.{IsTrue}
+use Rattle.af_wire.specs.declared.message_front.MessageFront.TheVariants.{Message}
+use Rattle.af_wire.specs.MessageFront.{is_head, message_front}
+use Rattle.af_wire.proofs.MessageRoundTrips.{head_framed}
+use Rattle.af_request.specs.Answer.{Answer, setup, plain, time, played, recorded, controls, phone}
+use Rattle.af_request.specs.Replies.{body_bytes, body_words, is_plain, reply_bytes, IsReplyTo}
+use Rattle.af_request.proofs.ReplyRoundTrips.{length-body}
+
+-- the opcode of a reply that a client takes
+IsOpcode : ℕ → Type 0
+IsOpcode opcode = (opcode ≡ 0) ⊎ ((2 ≤ opcode) × (opcode ≤ 12))
+
+good_by : (opcode words : ℕ) → IsOpcode opcode → words ≤ 4002 → IsTrue (is_head 1 opcode words)
+unfolding IsOpcode
+good_by opcode words (inl zero) few = grind (arith, nat_tests)
+good_by opcode words (inr within) few = grind (arith, nat_tests)
+
+plain_within : (opcode : ℕ) → IsTrue (is_plain opcode) → (2 ≤ opcode) × (opcode ≤ 12)
+plain_within opcode is = (grind (arith, nat_tests), grind (arith, nat_tests))
+
+opcode_within : (opcode : ℕ) (a : Answer) → IsReplyTo opcode a → IsOpcode opcode
+unfolding IsOpcode
+opcode_within opcode (setup devices) is = inl is.0
+opcode_within opcode plain is = inr (plain_within opcode is)
+opcode_within opcode (time now) is = let e : opcode ≡ 2 = is.0 in inr (omega arith, omega arith)
+opcode_within opcode (played now) is = let e : opcode ≡ 6 = is.0 in inr (omega arith, omega arith)
+opcode_within opcode (recorded now samples) is = let e : opcode ≡ 7 = is.0 in inr (omega arith, omega arith)
+opcode_within opcode (controls c) is = let e : opcode ≡ 10 = is.0 in inr (omega arith, omega arith)
+opcode_within opcode (phone p) is = let e : opcode ≡ 12 = is in inr (omega arith, omega arith)
+
+few_words : (opcode : ℕ) (a : Answer) → IsReplyTo opcode a → body_words a ≤ 4002
+few_words opcode (setup devices) is = let few : length devices ≤ 8 = is.2 in omega arith
+few_words opcode plain is = omega arith
+few_words opcode (time now) is = omega arith
+few_words opcode (played now) is = omega arith
+few_words opcode (recorded now samples) is = let few : length samples ≤ 16000 = is.2 in omega arith
+few_words opcode (controls c) is = omega arith
+few_words opcode (phone p) is = omega arith
+
+-- a reply is one message, whatever follows it
+pub reply_framed : (opcode : ℕ) (a : Answer) (sequence : ℕ) (rest : List ℕ) → IsReplyTo opcode a → sequence < 2 ^ 16 →
+    message_front (reply_bytes opcode a sequence ++ rest) ≡ Message 1 opcode sequence (8 + 4 * body_words a)
+reply_framed opcode a sequence rest is low =
+    let few = few_words opcode a is in
+    head_framed 1 opcode sequence (body_words a) (body_bytes a) rest (good_by opcode (body_words a) (opcode_within opcode a is) few) low (omega arith) (length-body a)

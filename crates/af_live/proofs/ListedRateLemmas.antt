@@ -1,0 +1,40 @@
+-- The devices so far have listed rates, and each has something behind it.
+use Rattle.std.proofs.Common.{◌≡◌, ◌<◌, ◌≤◌, List, [], ◌∷◌, ◌++◌, length, sym, ap, subst, arith, length-append}
+use Rattle.std.specs.Prelude.{All, Option, Some, IfSome}
+use Rattle.std.proofs.lemmas.List.Elements.{All-nil, All-push}
+use Rattle.af_sample.specs.Rates.{IsListedRate}
+use Rattle.af_outside.specs.declared.script.DeviceSpec.{DeviceSpec}
+use Rattle.af_live.specs.Stating.{Configured, Settings}
+use Rattle.af_live.specs.Configuration.{most_configured}
+use Rattle.af_live.specs.Reading.{with_configured, IsSound}
+
+-- the rates of all these devices are listed
+abbrev pub AreListed : List DeviceSpec → Type 0
+AreListed config = All (λ device. IsListedRate device.rate) config
+
+-- no devices
+pub none_sound : (s : Settings) → s.config ≡ [] → s.kinds ≡ [] → IsSound s
+none_sound s none no_kind =
+    let devices = ap length none in
+    let kinds = ap length no_kind in
+    record { few = omega (arith, devices); kinds = omega (arith, devices, kinds); rates = subst AreListed (sym none) (All-nil (λ device. IsListedRate device.rate)) }
+
+-- with one more device of a listed rate
+pub listed_more : {A : Type 0} (spec : A → DeviceSpec) (stated : Option A) (device : A) (config more : List DeviceSpec) → stated ≡ Some device → IfSome stated (λ d. IsListedRate (spec d).rate) → more ≡ config ++ spec device ∷ [] → AreListed config → AreListed more
+listed_more spec stated device config more is listed grown all =
+    let rate : IsListedRate (spec device).rate = subst (λ o. IfSome o (λ d. IsListedRate (spec d).rate)) is listed in
+    subst AreListed (sym grown) (All-push (λ d. IsListedRate d.rate) config (spec device) all rate)
+
+module _ (s : Settings) (device : Configured) (more : Settings) (grown : more ≡ with_configured s device) where
+  -- there was room for one more device
+  pub few_more : length s.config < most_configured → length more.config ≤ most_configured
+  few_more room =
+      let devices = length-append s.config (device.spec ∷ []) in
+      subst (λ (t : Settings). length t.config ≤ most_configured) (sym grown) (omega (arith, devices))
+
+  -- and something stands behind it
+  pub as_many : length s.kinds ≡ length s.config → length more.kinds ≡ length more.config
+  as_many same =
+      let kinds = length-append s.kinds (device.kind ∷ []) in
+      let devices = length-append s.config (device.spec ∷ []) in
+      subst (λ (t : Settings). length t.kinds ≡ length t.config) (sym grown) (omega (arith, kinds, devices))

@@ -1,0 +1,130 @@
+-- Links that are held by number, and what is given first of what is ready of them.
+use Rattle.std.specs.Prelude.{◌≡◌, ◌≢◌, ◌⊎◌, ℕ, ◌<◌, Bool, true, false, ◌||◌, not, List, length, slice_index_or, slice_set, if◌then◌else◌}
+use Rattle.std.specs.declared.option.Option.{Option}
+use Rattle.std.specs.declared.option.Option.TheVariants.{None, Some}
+use Rattle.af_outside.specs.declared.happening.Wake.{Wake}
+use Rattle.af_outside.specs.declared.happening.Wake.TheVariants as wake
+use Rattle.af_outside.specs.declared.world.LinkGot.{LinkGot}
+use Rattle.af_outside.specs.declared.world.LinkGot.TheVariants as got
+use Rattle.af_outside.specs.declared.world.LinkTook.{LinkTook}
+use Rattle.af_outside.specs.declared.world.LinkTook.TheVariants as took
+use Rattle.af_live.specs.declared.link_table.LinkEntry.{LinkEntry}
+
+-- no link has the number
+abbrev pub free_entry : Option LinkEntry
+free_entry = None
+
+abbrev pub is_free : Option LinkEntry → Bool
+is_free None = true
+is_free (Some link) = false
+
+-- the link with a number
+abbrev pub link_at : List (Option LinkEntry) → ℕ → Option LinkEntry
+link_at links k = slice_index_or links k free_entry
+
+-- a link that is held is open as soon as its opening was given
+abbrev pub is_open : Option LinkEntry → Bool
+is_open None = false
+is_open (Some link) = not link.opened
+
+-- something of the link is ready and was not given yet
+abbrev pub something_ready : Option LinkEntry → Bool
+something_ready None = false
+something_ready (Some link) = link.opened || link.readable || link.writable
+
+-- what is given first of a link: that it is new, then that it can be read, then that it can be written
+abbrev pub entry_wake : LinkEntry → ℕ → Wake
+entry_wake link k = if link.opened then wake.Opened k else if link.readable then wake.Readable k else if link.writable then wake.Writable k else wake.Idle
+
+abbrev pub wake_at : Option LinkEntry → ℕ → Wake
+wake_at None k = wake.Idle
+wake_at (Some link) k = entry_wake link k
+
+-- what is ready behind that
+abbrev pub rest_of : LinkEntry → LinkEntry
+rest_of link = if link.opened then record link { opened = false } else if link.readable then record link { readable = false } else record link { writable = false }
+
+abbrev pub without_first_ready : Option LinkEntry → Option LinkEntry
+without_first_ready None = None
+without_first_ready (Some link) = Some (rest_of link)
+
+-- the least number that no link has, among the first so many
+abbrev pub IsLeastFree : List (Option LinkEntry) → Option ℕ → Type 0
+IsLeastFree links None = (k : ℕ) → k < length links → is_free (link_at links k) ≡ false
+IsLeastFree links (Some n) = (n < length links) × (is_free (link_at links n) ≡ true) × ((k : ℕ) → k < n → is_free (link_at links k) ≡ false)
+
+-- the first link of which something is ready
+abbrev pub IsFirstReady : List (Option LinkEntry) → Option ℕ → Type 0
+IsFirstReady links None = (k : ℕ) → k < length links → something_ready (link_at links k) ≡ false
+IsFirstReady links (Some n) = (n < length links) × (something_ready (link_at links n) ≡ true) × ((k : ℕ) → k < n → something_ready (link_at links k) ≡ false)
+
+-- the number of the link that a wake is about
+abbrev pub link_of_wake : Wake → ℕ
+link_of_wake (wake.Opened k) = k
+link_of_wake (wake.Readable k) = k
+link_of_wake (wake.Writable k) = k
+link_of_wake (wake.Ticked d n) = 0
+link_of_wake (wake.Line d change) = 0
+link_of_wake wake.Idle = 0
+link_of_wake wake.Stop = 0
+
+-- Of the first link of which something is ready, the first of that is given, and nothing else changes.
+abbrev pub GivesOf : List (Option LinkEntry) → ℕ → Wake → List (Option LinkEntry) → Type 0
+GivesOf old n w new = IsFirstReady old (Some n) × (w ≡ wake_at (link_at old n) n) × (new ≡ slice_set old n (without_first_ready (link_at old n)))
+
+abbrev pub GivesFirst : List (Option LinkEntry) → Option Wake → List (Option LinkEntry) → Type 0
+GivesFirst old None new = IsFirstReady old None × (new ≡ old)
+GivesFirst old (Some w) new = GivesOf old (link_of_wake w) w new
+
+-- a link that is new
+abbrev pub new_link : ℕ → LinkEntry
+new_link key = record { key = key; opened = true; readable = false; writable = false }
+
+-- a new link is held under the least number that is free, or none is
+abbrev pub TakesIn : List (Option LinkEntry) → List (Option LinkEntry) → Type 0
+TakesIn old new = (new ≡ old) ⊎ ((n : ℕ) × (key : ℕ) × IsLeastFree old (Some n) × (new ≡ slice_set old n (Some (new_link key))))
+
+-- a wake of a link opens one that is not open, or names one that is
+abbrev pub LinkWakeFits : List (Option LinkEntry) → Wake → Type 0
+LinkWakeFits links (wake.Opened k) = (k < 32) × (is_open (link_at links k) ≡ false)
+LinkWakeFits links (wake.Readable k) = (k < 32) × (is_open (link_at links k) ≡ true)
+LinkWakeFits links (wake.Writable k) = (k < 32) × (is_open (link_at links k) ≡ true)
+LinkWakeFits links wake.Idle = Unit {0}
+LinkWakeFits links (wake.Ticked d n) = ⊥
+LinkWakeFits links (wake.Line d change) = ⊥
+LinkWakeFits links wake.Stop = ⊥
+
+-- which links are open stays
+abbrev pub KeepsOpen : List (Option LinkEntry) → List (Option LinkEntry) → Type 0
+KeepsOpen old new = (k : ℕ) → is_open (link_at new k) ≡ is_open (link_at old k)
+
+-- a link is open then, and of all others it stays
+abbrev pub OpensOne : ℕ → List (Option LinkEntry) → List (Option LinkEntry) → Type 0
+OpensOne n old new = (is_open (link_at new n) ≡ true) × ((k : ℕ) → k ≢ n → is_open (link_at new k) ≡ is_open (link_at old k))
+
+-- a wake that opens a link opens it, and no other wake opens or closes one
+abbrev pub Opens : Wake → List (Option LinkEntry) → List (Option LinkEntry) → Type 0
+Opens (wake.Opened n) old new = OpensOne n old new
+Opens _ old new = KeepsOpen old new
+
+-- no link has the number any longer, and nothing else changes
+abbrev pub ClosesOne : ℕ → List (Option LinkEntry) → List (Option LinkEntry) → Type 0
+ClosesOne k old new = new ≡ slice_set old k free_entry
+
+-- Behind a read that gave nothing so far a link may be ready for another at once; nothing else changes.
+abbrev pub to_read : Option LinkEntry → Option LinkEntry
+to_read None = None
+to_read (Some link) = Some (record link { readable = true })
+
+abbrev pub AfterRead : ℕ → LinkGot → List (Option LinkEntry) → List (Option LinkEntry) → Type 0
+AfterRead k got.NotYet old new = (new ≡ old) ⊎ (new ≡ slice_set old k (to_read (link_at old k)))
+AfterRead k _ old new = new ≡ old
+
+-- Behind a write that took nothing a link may be ready for another at once; nothing else changes.
+abbrev pub to_write : Option LinkEntry → Option LinkEntry
+to_write None = None
+to_write (Some link) = Some (record link { writable = true })
+
+abbrev pub AfterWrite : ℕ → LinkTook → List (Option LinkEntry) → List (Option LinkEntry) → Type 0
+AfterWrite k took.Failed old new = new ≡ old
+AfterWrite k (took.Took n) old new = (new ≡ old) ⊎ ((n ≡ 0) × (new ≡ slice_set old k (to_write (link_at old k))))

@@ -1,0 +1,254 @@
+-- What serving the links makes of a state, and the part of a log that it takes off.
+use Rattle.std.proofs.Common.{◌≡◌, ℕ, zero, suc, ◌+◌, ◌==◌, Bool, true, false, not, cond, ◌&&◌, List, [], ◌∷◌, ◌++◌, take, drop, length, slice_get, slice_set, refl, sym, ap, ◌∙◌, subst, eqb-true}
+use Rattle.std.proofs.lemmas.Bool.{eqb-false}
+use Rattle.std.proofs.lemmas.List.{take-append-drop}
+use Rattle.std.proofs.lemmas.List.Sums.{fold-append}
+use Rattle.std.specs.List.{fold}
+use Rattle.std.specs.declared.option.Option.{Option}
+use Rattle.std.specs.declared.option.Option.TheVariants.{None, Some}
+use Rattle.af_outside.specs.declared.happening.Happening.{Happening}
+use Rattle.af_outside.specs.declared.happening.Happening.TheVariants.{Woke, Read, Wrote, Closed, Captured, Emitted, Hooked}
+use Rattle.af_outside.specs.declared.happening.ReadGot.{ReadGot}
+use Rattle.af_outside.specs.declared.happening.ReadGot.TheVariants.{Given, NotYet, Ended, Failed}
+use Rattle.af_outside.specs.declared.happening.Why.TheVariants as why
+use Rattle.af_outside.specs.Log.{Log}
+use Rattle.af_outside.specs.Outside.{same_bytes}
+use Rattle.af_model.specs.State.{State, SlotState, LinkState, OpenLink, SlotLink, link_in_slot, slot_link_at, open_link, slot_at, some_slot, with_slot_link}
+use Rattle.af_model.specs.Waiting.{has_deferral}
+use Rattle.af_model.specs.Advance.{advance, absorb, takes_more}
+use Rattle.af_model.specs.Tick.{enter}
+use Rattle.af_model.specs.Events.{dropped}
+use Rattle.af_model.specs.Turn.{parsed, parse_then, wants_read, read_phase, after_read, wants_write, sent, write_by, write_offered, write_taken, write_phase, after_write, close_phase, serve_link, serve_open, serve_at, serve_from}
+use Rattle.af_model.specs.Prefix.{took_at}
+use Rattle.af_model.proofs.BoolTestLemmas.{both-true, cond-some, none_some, same_bytes-true, some_is}
+use Rattle.af_model.proofs.ListLemmas.{get-set_other, get-set_same}
+use Rattle.af_model.proofs.DeviceHistoryLemmas.{Laters, laters_refl, laters_trans}
+use Rattle.af_model.proofs.LinkInvariantLemmas.{advance_keeps, absorb_keeps, takes_more_open}
+use Rattle.af_model.proofs.OwedBytesLemmas.{Moved, moved_dropped, OwingAt, QueuedSlot, OwingLink, moved_of, queued_taken, queueing_fewer, same_number, sending_undropped}
+use Rattle.af_model.proofs.PhasePartLemmas.{Takes, close_takes, read_takes, takes_chain, takes_nothing, takes_then, write_takes}
+
+-- A happening within a turn, behind its wake and its emit
+
+abbrev pub is_inner : Happening → Bool
+is_inner (Woke wake) = false
+is_inner (Emitted d sound done) = false
+is_inner _ = true
+
+abbrev pub inner : Log → Bool
+inner [] = true
+inner (h ∷ log) = is_inner h && inner log
+
+pub inner-append : (p q : Log) → inner p ≡ true → inner q ≡ true → inner (p ++ q) ≡ true
+inner-append [] q a b = b
+inner-append (h ∷ p) q a b = let both = both-true (is_inner h) (inner p) a in ap (λ t. t && inner (p ++ q)) both.0 ∙ inner-append p q both.1 b
+
+-- One link
+
+-- What serving link j makes of it and its environment, and of the bytes that were taken: what is queued for it behind them stays so,
+-- and of other links nothing is taken and none begins to wait.
+pub record Served (j : ℕ) (d : SlotLink) (part : Log) (e : SlotLink) : Type 0 where
+  pub inside : inner part ≡ true
+  pub devices : Laters d.environment.devices e.environment.devices
+  pub own : (took : List ℕ) → QueuedSlot j took d → QueuedSlot j (fold (took_at j) took part) e
+  pub others : (k : ℕ) → (j == k) ≡ false → (took : List ℕ) → fold (took_at k) took part ≡ took
+  pub fewer : (k : ℕ) → (j == k) ≡ false → has_deferral d.environment.waiting k ≡ false → has_deferral e.environment.waiting k ≡ false
+
+served_moved : (j : ℕ) (d e : SlotLink) (part : Log) → inner part ≡ true → ((k : ℕ) (took : List ℕ) → fold (took_at k) took part ≡ took) → Moved j d e → Served j d part e
+served_moved j d e part inside none m = record {
+  inside = inside;
+  devices = m.devices;
+  own = λ took h. subst (λ t. QueuedSlot j t e) (sym (none j took)) (m.own took h);
+  others = λ k other took. none k took;
+  fewer = m.fewer;
+}
+
+moved_refl : (j : ℕ) (d : SlotLink) → Moved j d d
+moved_refl j d = record { devices = laters_refl d.environment.devices; own = λ took h. h; fewer = λ k other e. e }
+
+served_trans : (j : ℕ) (a : SlotLink) (p : Log) (b : SlotLink) (q : Log) (c : SlotLink) → Served j a p b → Served j b q c → Served j a (p ++ q) c
+served_trans j a p b q c s t = record {
+  inside = inner-append p q s.inside t.inside;
+  devices = laters_trans a.environment.devices b.environment.devices c.environment.devices s.devices t.devices;
+  own = λ took h. subst (λ x. QueuedSlot j x c) (sym (fold-append (took_at j) took p q)) (t.own (fold (took_at j) took p) (s.own took h));
+  others = λ k other took. fold-append (took_at k) took p q ∙ t.others k other (fold (took_at k) took p) ∙ s.others k other took;
+  fewer = λ k other e. t.fewer k other (s.fewer k other e);
+}
+
+-- a link that is read is not closing
+read_open : (k : ℕ) (p : OpenLink) → wants_read (has_deferral p.environment.waiting k) p.link ≡ true → p.link.closing ≡ None
+read_open k p w = takes_more_open (has_deferral p.environment.waiting k) p.link (both-true p.link.is_ready (takes_more (has_deferral p.environment.waiting k) p.link) w).1
+
+moved_read : (k : ℕ) (p : OpenLink) (got : ReadGot) → wants_read (has_deferral p.environment.waiting k) p.link ≡ true → Moved k (enter p) (enter (after_read k got p))
+moved_read k p (Given bytes) w = moved_of k p (absorb k bytes p) (λ May I kept h. absorb_keeps k May I kept bytes p h)
+moved_read k p NotYet w =
+    let none = read_open k p w in
+    moved_of k p (after_read k NotYet p) (λ May I kept h. kept.link p (after_read k NotYet p).link none none refl h)
+moved_read k p Ended w =
+    let none = read_open k p w in
+    let q = open_link p.environment (record p.link { is_ready = false }) in
+    moved_of k p (after_read k Ended p) (λ May I kept h. kept.stops q why.Ended none refl (kept.link p q.link none none refl h))
+moved_read k p Failed w = moved_dropped k p why.LinkFault refl
+
+served_read : (k : ℕ) (p : OpenLink) → Takes (read_phase k p) (λ part q. Served k (enter p) part (enter q))
+served_read k p =
+    read_takes k p (λ part q. Served k (enter p) part (enter q)) (λ w. served_moved k (enter p) (enter p) [] refl (λ k took. refl) (moved_refl k (enter p)))
+    (λ w got r. served_moved k (enter p) (enter (after_read k got p)) (Read k got ∷ []) refl (λ k took. refl) (moved_read k p got w))
+
+-- bytes that are the first of others, and those behind them
+front_back : (xs ys : List ℕ) → same_bytes xs (take (length xs) ys) ≡ true → ys ≡ xs ++ drop (length xs) ys
+front_back xs ys e = sym (take-append-drop (length xs) ys) ∙ ap (λ z. z ++ drop (length xs) ys) (sym (same_bytes-true xs (take (length xs) ys) e))
+
+-- a write that took something, and what follows it
+served_wrote : (k : ℕ) (p : OpenLink) (offered : ℕ) (bytes : List ℕ) (part : Log) (r : SlotLink) → wants_write p.link ≡ true → same_bytes bytes (take (length bytes) p.link.pending) ≡ true →
+    Served k (enter (after_write k bytes p)) part r → Served k (enter p) (Wrote k offered (Some bytes) ∷ part) r
+served_wrote k p offered bytes part r w front s =
+    let left : OpenLink = open_link p.environment (sent (length bytes) p.link) in
+    let m : Moved k (enter left) (enter (advance k left)) = moved_of k left (advance k left) (λ May I kept h. advance_keeps k May I kept left h) in
+    let some = (both-true (not (length p.link.pending == 0)) (not p.link.is_stuck) w).0 in
+    record {
+      inside = s.inside;
+      devices = laters_trans p.environment.devices (advance k left).environment.devices r.environment.devices m.devices s.devices;
+      own = λ took h.
+          let undropped = sending_undropped k took p.environment.said p.link p.environment.waiting some h in
+          subst (λ t. QueuedSlot k (fold (took_at k) (cond t (took ++ bytes) took) part) r) (sym (same_number k)) (s.own (took ++ bytes) (m.own (took ++ bytes) (queued_taken k took bytes p left.link undropped refl (front_back bytes p.link.pending front) h)));
+      others = λ j other took. ap (λ t. fold (took_at j) (cond t (took ++ bytes) took) part) other ∙ s.others j other took;
+      fewer = λ j other e. s.fewer j other (m.fewer j other e);
+    }
+
+-- a write that failed, and what follows it
+served_failed : (k : ℕ) (p : OpenLink) (offered : ℕ) (part : Log) (r : SlotLink) → Served k (enter (dropped k why.LinkFault p)) part r → Served k (enter p) (Wrote k offered None ∷ part) r
+served_failed k p offered part r s =
+    let m = moved_dropped k p why.LinkFault refl in
+    record {
+      inside = s.inside;
+      devices = s.devices;
+      own = λ took h. subst (λ t. QueuedSlot k (fold (took_at k) (cond t took took) part) r) (sym (same_number k)) (s.own took (m.own took h));
+      others = λ j other took. ap (λ t. fold (took_at j) (cond t took took) part) other ∙ s.others j other took;
+      fewer = λ j other e. s.fewer j other (m.fewer j other e);
+    }
+
+served_one : (k : ℕ) (p q : OpenLink) (h : Happening) → wants_write p.link ≡ true → write_by k p h ≡ Some q → (part : Log) (r : OpenLink) → Served k (enter q) part (enter r) → Served k (enter p) (h ∷ part) (enter r)
+served_one k p q (Woke wake) w e part r s = absurd (none_some e)
+served_one k p q (Read j got) w e part r s = absurd (none_some e)
+served_one k p q (Closed j why) w e part r s = absurd (none_some e)
+served_one k p q (Captured d n got) w e part r s = absurd (none_some e)
+served_one k p q (Emitted d out done) w e part r s = absurd (none_some e)
+served_one k p q (Hooked d off done) w e part r s = absurd (none_some e)
+served_one k p q (Wrote j offered took) w e part r s =
+    let i = cond-some (j == k) (write_offered k offered took p) q e in
+    let t = cond-some (offered == length p.link.pending) (write_taken k took p) q i.1 in
+    subst (λ n. Served k (enter p) (Wrote n offered took ∷ part) (enter r)) (sym (eqb-true j k i.0)) (wrote took t.1)
+  where
+    wrote : (took : Option (List ℕ)) → write_taken k took p ≡ Some q → Served k (enter p) (Wrote k offered took ∷ part) (enter r)
+    wrote None e = served_failed k p offered part (enter r) (subst (λ x. Served k (enter x) part (enter r)) (sym (some_is e)) s)
+    wrote (Some bytes) e =
+        let t = cond-some (same_bytes bytes (take (length bytes) p.link.pending)) (Some (after_write k bytes p)) q e in
+        served_wrote k p offered bytes part (enter r) w t.0 (subst (λ x. Served k (enter x) part (enter r)) (sym (some_is t.1)) s)
+
+served_write : (k : ℕ) (p : OpenLink) → Takes (write_phase k p) (λ part q. Served k (enter p) part (enter q))
+served_write k p log b e =
+    write_takes k (λ p part q. Served k (enter p) part (enter q)) (λ p. served_moved k (enter p) (enter p) [] refl (λ k took. refl) (moved_refl k (enter p)))
+    (λ p q h w e part r s. served_one k p q h w e part r s) log p b e
+
+served_close : (k : ℕ) (p : OpenLink) → Takes (close_phase k p) (λ part d. Served k (enter p) part d)
+served_close k p =
+    close_takes k p (λ part d. Served k (enter p) part d) (served_moved k (enter p) (enter p) [] refl (λ k took. refl) (moved_refl k (enter p)))
+    (λ j why. served_moved k (enter p) (link_in_slot p.environment None) (Closed j why ∷ []) refl (λ k took. refl) (record { devices = laters_refl p.environment.devices; own = λ took h. (h.rest, h.whole); fewer = λ k other e. e }))
+
+served_link : (k : ℕ) (p : OpenLink) → Takes (serve_link k p) (λ part d. Served k (enter p) part d)
+unfolding serve_link
+served_link k p =
+    takes_chain (read_phase k) (λ p log. parse_then (write_phase k p log) (close_phase k)) (λ p part q. Served k (enter p) part (enter q)) (λ p part d. Served k (enter p) part d) (λ p part d. Served k (enter p) part d)
+    (λ p x q y d s t. served_trans k (enter p) x (enter q) y d s t) (served_read k)
+    (takes_chain (write_phase k) (close_phase k) (λ p part q. Served k (enter p) part (enter q)) (λ p part d. Served k (enter p) part d) (λ p part d. Served k (enter p) part d)
+    (λ p x q y d s t. served_trans k (enter p) x (enter q) y d s t) (served_write k) (served_close k)) p
+
+-- A state
+
+-- what a part of a log makes of a state: devices become later, and what is queued for each link behind what it took stays so
+pub record Goes (s : State) (part : Log) (t : State) : Type 0 where
+  pub devices : Laters s.devices t.devices
+  pub queued : (k : ℕ) (took : List ℕ) → OwingAt k took s → OwingAt k (fold (took_at k) took part) t
+
+pub goes_refl : (s : State) → Goes s [] s
+goes_refl s = record { devices = laters_refl s.devices; queued = λ k took h. h }
+
+pub goes_trans : (s : State) (p : Log) (t : State) (q : Log) (u : State) → Goes s p t → Goes t q u → Goes s (p ++ q) u
+goes_trans s p t q u a b = record {
+  devices = laters_trans s.devices t.devices u.devices a.devices b.devices;
+  queued = λ k took h. subst (λ x. OwingAt k x u) (sym (fold-append (took_at k) took p q)) (b.queued k (fold (took_at k) took p) (a.queued k took h));
+}
+
+-- the slot of an open link is there, and holds what is written to it
+slot_own : (slots : List SlotState) (k : ℕ) (l : LinkState) (x : SlotState) → (some_slot (slice_get slots k)).link ≡ Some l → some_slot (slice_get (slice_set slots k x) k) ≡ x
+slot_own slots k l x e =
+    elim (slice_get slots k) as (λ o. slice_get slots k ≡ o → (some_slot o).link ≡ Some l → some_slot (slice_get (slice_set slots k x) k) ≡ x) [
+      | None ↦ λ there e. absurd (none_some e)
+      | Some y ↦ λ there e. ap some_slot (get-set_same slots k y x there)
+    ] refl e
+
+pub slot_other : (slots : List SlotState) (j k : ℕ) (x : SlotState) → (j == k) ≡ false → some_slot (slice_get (slice_set slots j x) k) ≡ some_slot (slice_get slots k)
+slot_other slots j k x e = ap some_slot (get-set_other slots j k x (λ same. eqb-false j k e (sym same)))
+
+-- a slot is put back as it was
+slot_same : (slots : List SlotState) (k : ℕ) → slice_set slots k (some_slot (slice_get slots k)) ≡ slots
+slot_same [] k = refl
+slot_same (y ∷ slots) zero = refl
+slot_same (y ∷ slots) (suc k) = ap (λ l. y ∷ l) (slot_same slots k)
+
+pub same_door : (k : ℕ) (s : State) → with_slot_link k s (slot_link_at k s) ≡ s
+same_door k s = ap (λ slots. record s { slots = slots }) (slot_same s.slots k)
+
+-- another door of an open link
+pub put_goes : (j : ℕ) (s : State) (l : LinkState) (d : SlotLink) (part : Log) → (slot_at j s).link ≡ Some l → Laters s.devices d.environment.devices → ((took : List ℕ) → OwingAt j took s → QueuedSlot j (fold (took_at j) took part) d) →
+    ((k : ℕ) → (j == k) ≡ false → (took : List ℕ) → fold (took_at k) took part ≡ took) → ((k : ℕ) → (j == k) ≡ false → has_deferral s.waiting k ≡ false → has_deferral d.environment.waiting k ≡ false) → Goes s part (with_slot_link j s d)
+put_goes j s l d part is devices own others fewer =
+    let slot : SlotState = record { link = d.link; said = d.environment.said } in
+    record {
+      devices = devices;
+      queued = λ k took h. elim (j == k) as (λ t. (j == k) ≡ t → OwingAt k (fold (took_at k) took part) (with_slot_link j s d)) [
+        | true ↦ λ e.
+            let at : OwingAt j took s = subst (λ n. OwingAt n took s) (sym (eqb-true j k e)) h in
+            subst (λ n. OwingAt n (fold (took_at n) took part) (with_slot_link j s d)) (eqb-true j k e)
+            (subst (λ (x : SlotState). OwingLink j (fold (took_at j) took part) x.said x.link d.environment.waiting) (sym (slot_own s.slots j l slot is)) (own took at))
+        | false ↦ λ e.
+            subst (λ x. OwingAt k x (with_slot_link j s d)) (sym (others k e took))
+            (subst (λ (x : SlotState). OwingLink k took x.said x.link d.environment.waiting) (sym (slot_other s.slots j k slot e))
+            (queueing_fewer k took (slot_at k s).said (slot_at k s).link s.waiting d.environment.waiting (fewer k e) h))
+      ] refl;
+    }
+
+-- the same within a turn
+pub record Within (s : State) (part : Log) (t : State) : Type 0 where
+  pub inside : inner part ≡ true
+  pub goes : Goes s part t
+
+pub within_refl : (s : State) → Within s [] s
+within_refl s = record { inside = refl; goes = goes_refl s }
+
+pub within_trans : (s : State) (p : Log) (t : State) (q : Log) (u : State) → Within s p t → Within t q u → Within s (p ++ q) u
+within_trans s p t q u a b = record { inside = inner-append p q a.inside b.inside; goes = goes_trans s p t q u a.goes b.goes }
+
+served_at : (k : ℕ) (s : State) → Takes (serve_at k s) (Within s)
+served_at k s =
+    let a = (slot_link_at k s).environment in
+    elim (slot_at k s).link as (λ o. (slot_at k s).link ≡ o → Takes (λ log. parse_then (serve_open k a o log) (λ d log. parsed (with_slot_link k s d) log)) (Within s)) [
+      | None ↦ λ is.
+          takes_then (λ log. parsed (link_in_slot a None) log) (λ d log. parsed (with_slot_link k s d) log) (λ part d. (part ≡ []) × (d ≡ link_in_slot a None)) (Within s) (takes_nothing (link_in_slot a None) (λ part d. (part ≡ []) × (d ≡ link_in_slot a None)) (refl, refl))
+          (λ part d h. takes_nothing (with_slot_link k s d) (λ more t. Within s (part ++ more) t)
+          (let back : with_slot_link k s d ≡ s = ap (with_slot_link k s) (h.1 ∙ ap (link_in_slot a) (sym is)) ∙ same_door k s in
+          subst (λ l. Within s (l ++ []) (with_slot_link k s d)) (sym h.0) (subst (Within s []) (sym back) (within_refl s))))
+      | Some l ↦ λ is.
+          takes_then (serve_link k (open_link a l)) (λ d log. parsed (with_slot_link k s d) log) (λ part d. Served k (enter (open_link a l)) part d) (Within s) (served_link k (open_link a l))
+          (λ part d h. takes_nothing (with_slot_link k s d) (λ more t. Within s (part ++ more) t)
+          (within_trans s part (with_slot_link k s d) [] (with_slot_link k s d)
+          (record {
+            inside = h.inside;
+            goes = put_goes k s l d part is h.devices (λ took queueing. h.own took (subst (λ o. OwingLink k took a.said o s.waiting) is queueing)) h.others h.fewer;
+          }) (within_refl (with_slot_link k s d))))
+    ] refl
+
+pub served_from : (n k : ℕ) (s : State) → Takes (serve_from n k s) (Within s)
+unfolding serve_from
+served_from zero k s = takes_nothing s (Within s) (within_refl s)
+served_from (suc n) k s = takes_chain (serve_at k) (serve_from n (k + 1)) Within Within Within within_trans (served_at k) (served_from n (k + 1)) s

@@ -1,0 +1,330 @@
+-- What a wake makes of a state, and a whole turn.
+use Rattle.std.proofs.Common.{◌≡◌, ℕ, zero, suc, ◌+◌, ◌*◌, ◌≤◌, ◌==◌, ◌⊎◌, inl, inr, Bool, true, false, not, cond, ℤ, List, [], ◌∷◌, ◌++◌, length, map, find, is_some, option_map, option_and_then, slice_get, slice_set, refl, sym, ap, ◌∙◌, subst, eqb-true, arith, IfSome, nat_le}
+use Rattle.std.specs.declared.option.Option.{Option}
+use Rattle.std.specs.declared.option.Option.TheVariants.{None, Some}
+use Rattle.af_sample.specs.SampleTypes.{width_of}
+use Rattle.af_sample.proofs.RunLemmas.{length-samples}
+use Rattle.af_wire.specs.declared.event.Event.{Event}
+use Rattle.af_wire.specs.declared.event.EventKind.{EventKind}
+use Rattle.af_wire.specs.declared.event.EventKind.TheVariants as kind
+use Rattle.af_wire.specs.Event.{event_bytes}
+use Rattle.af_request.specs.declared.reply.Phone.{Phone}
+use Rattle.af_phone.specs.declared.line.LineChange.{LineChange}
+use Rattle.af_phone.specs.Lines.{changed, flag_value, hooked, event_kind_of, selects, value_of}
+use Rattle.af_outside.specs.declared.happening.Happening.TheVariants.{Woke, Read, Wrote, Closed, Captured, Emitted, Hooked}
+use Rattle.af_outside.specs.declared.happening.Why.TheVariants as why
+use Rattle.af_outside.specs.declared.happening.Wake.{Wake}
+use Rattle.af_outside.specs.declared.happening.Wake.TheVariants.{Opened, Readable, Writable, Ticked, Line, Idle, Stop}
+use Rattle.af_outside.specs.Log.{Log}
+use Rattle.af_wait.specs.Waits.{without_first}
+use Rattle.af_model.specs.State.{State, DeviceState, SlotState, LinkState, OpenLink, SlotLink, Deferral, link_in_slot, slot_link_at, lines_of, links_of, opened, outline, open_link, say, slot_at, some_slot, with_slot_link, with_device, with_slot, device_set}
+use Rattle.af_model.specs.Waiting.{falls_due, has_deferral}
+use Rattle.af_model.specs.Advance.{or_else}
+use Rattle.af_model.specs.Tick.{captured_samples, complete, complete_at, complete_by, complete_due, complete_first, complete_for, complete_step, enter, later, sound, tick}
+use Rattle.af_model.specs.Events.{dropped, event_at, hook_given, hook_refused, line_becomes, line_changes, mask_of, tell, tell_at, tell_from, tell_link, tell_open, tell_selected}
+use Rattle.af_model.specs.Turn.{Parsed, parsed, parse_then, parse_one, capture_by, after_capture, tick_phase, line_phase, wake_phase, ready, writable, in_open, in_slot, is_closed_at, fits, hook_at, hook_from, hook_all, serve_all, serve_and_hook, turn}
+use Rattle.af_model.specs.Prefix.{is_dropped, took_at}
+use Rattle.af_model.proofs.BoolTestLemmas.{cond-some, none_some}
+use Rattle.af_model.proofs.ListLemmas.{get-set_same}
+use Rattle.af_model.proofs.DeviceHistoryLemmas.{Later, Laters, later_passed, later_line, later_trans, laters_get, laters_lines, laters_refl, laters_with}
+use Rattle.af_model.proofs.LinkInvariantLemmas.{complete_keeps}
+use Rattle.af_model.proofs.OwedBytesLemmas.{Moved, Owed, moved_dropped, OwingAt, OwingLink, Owing, fewer_keeps, found_waits, grows_keeps, queueing_fewer, queueing_keeps, selects_undropped, waiting_undropped, waits_left}
+use Rattle.af_model.proofs.PhasePartLemmas.{Takes, hook_takes, live_takes, takes_chain, takes_map, takes_nothing, takes_then}
+use Rattle.af_model.proofs.ServeLemmas.{Goes, Within, goes_refl, goes_trans, inner, put_goes, same_door, served_from, slot_other, within_refl, within_trans}
+
+-- Devices change
+
+becomes_goes : (d : ℕ) (f : DeviceState → DeviceState) (s : State) → ((device : DeviceState) → Later device (f device)) → Goes s [] (record s { devices = with_device d f s.devices })
+becomes_goes d f s l = record { devices = laters_with d f s.devices (λ device there. l device); queued = λ k took h. h }
+
+-- Completions
+
+-- the first that is due leaves the list, and completes
+completed : (passes : Deferral → Bool) (s : State) (w : Deferral) → find passes s.waiting ≡ Some w → Goes s [] (complete w (record s { waiting = without_first passes s.waiting }))
+completed passes s w found =
+    let fewer : State = record s { waiting = without_first passes s.waiting } in
+    let a = (slot_link_at w.link fewer).environment in
+    let k = w.link in
+    elim (slot_at k s).link as (λ o. (slot_at k s).link ≡ o → Goes s [] (with_slot_link k fewer (complete_at w a o))) [
+      | None ↦ λ is.
+          let back : with_slot_link k fewer (link_in_slot a None) ≡ fewer = ap (λ o. with_slot_link k fewer (link_in_slot a o)) (sym is) ∙ same_door k fewer in
+          subst (Goes s []) (sym back) (record { devices = laters_refl s.devices; queued = λ j took h. queueing_fewer j took (slot_at j s).said (slot_at j s).link s.waiting fewer.waiting (waits_left passes s.waiting j) h })
+      | Some l ↦ λ is.
+          let p = open_link a l in
+          let device = slice_get s.devices w.device in
+          put_goes k s l (enter (complete_for w device p)) [] is
+          (complete_keeps k (λ closing. Unit {0}) (λ q. Laters s.devices q.environment.devices) (grows_keeps k s.devices) w.device w.deferred device p refl tt (laters_refl s.devices))
+          (λ took h.
+          let here : OwingLink k took a.said (Some l) s.waiting = subst (λ o. OwingLink k took a.said o s.waiting) is h in
+          let undropped = waiting_undropped k took a.said l s.waiting (found_waits passes s.waiting w found) here in
+          complete_keeps k (λ closing. is_dropped closing ≡ false) (Owing k took) (queueing_keeps k took) w.device w.deferred device p refl undropped
+          (queueing_fewer k took a.said (Some l) s.waiting fewer.waiting (waits_left passes s.waiting k) here))
+          (λ j other took. refl)
+          (λ j other. complete_keeps k (λ closing. Unit {0}) (λ q. has_deferral s.waiting j ≡ false → has_deferral q.environment.waiting j ≡ false) (fewer_keeps j k s.waiting other) w.device w.deferred device p refl tt (waits_left passes s.waiting j))
+    ] refl
+
+abbrev GoesTo : State → Option State → Type 0
+GoesTo s o = IfSome o (λ t. Goes s [] t)
+
+first_goes : (d : ℕ) (s : State) (device : DeviceState) → GoesTo s (complete_first d s device)
+first_goes d s device =
+    elim (find (falls_due d device) s.waiting) as (λ o. find (falls_due d device) s.waiting ≡ o → GoesTo s (option_map (λ w. complete w (record s { waiting = without_first (falls_due d device) s.waiting })) o)) [
+      | None ↦ λ found. tt
+      | Some w ↦ λ found. completed (falls_due d device) s w found
+    ] refl
+
+step_goes : (d : ℕ) (s : State) → GoesTo s (complete_step d s)
+step_goes d s = elim (slice_get s.devices d) as (λ o. GoesTo s (option_and_then (complete_first d s) o)) [ None ↦ tt | Some device ↦ first_goes d s device ]
+
+by_goes : (n d : ℕ) (s : State) → Goes s [] (complete_by n d s)
+by_goes zero d s = goes_refl s
+by_goes (suc n) d s =
+    elim (complete_step d s) as (λ o. GoesTo s o → Goes s [] (or_else s (complete_by n d) o)) [
+      | None ↦ λ h. goes_refl s
+      | Some t ↦ λ h. goes_trans s [] t [] (complete_by n d t) h (by_goes n d t)
+    ] (step_goes d s)
+
+due_goes : (d : ℕ) (s : State) → Goes s [] (complete_due d s)
+unfolding complete_due
+due_goes d s = by_goes (length s.waiting) d s
+
+tick_goes : (d : ℕ) (captured : List ℤ) (is_dead : Bool) (s : State) → Goes s [] (tick d captured is_dead s)
+tick_goes d captured is_dead s =
+    let t : State = record s { devices = with_device d (later captured is_dead) s.devices } in
+    goes_trans s [] t [] (complete_due d t) (becomes_goes d (later captured is_dead) s (λ device. later_passed device captured is_dead)) (due_goes d t)
+
+-- Events
+
+told : (k : ℕ) (e : Event) (p : OpenLink) → Moved k (enter p) (enter (tell_link k e p))
+told k e p =
+    elim (selects (mask_of p.link e.device) e.kind) as (λ t. selects (mask_of p.link e.device) e.kind ≡ t → Moved k (enter p) (enter (cond t (tell_selected k e p) p))) [
+      | true ↦ λ t. elim (nat_le (length p.link.pending + 20) 49152) as (λ u. Moved k (enter p) (enter (cond u (say p (event_bytes e p.link.sequence)) (dropped k why.Overrun p)))) [
+        | true ↦ record {
+          devices = laters_refl p.environment.devices;
+          own = λ took h. (queueing_keeps k took).says p (event_bytes e p.link.sequence) (selects_undropped k e.device e.kind took p t h) h;
+          fewer = λ j other h. h;
+        }
+        | false ↦ moved_dropped k p why.Overrun refl
+      ]
+      | false ↦ λ t. record { devices = laters_refl p.environment.devices; own = λ took h. h; fewer = λ j other h. h }
+    ] refl
+
+-- an open link moves, and nothing is taken
+moves_goes : (k : ℕ) (s : State) (l : LinkState) (d : SlotLink) → (slot_at k s).link ≡ Some l → Moved k (enter (open_link (slot_link_at k s).environment l)) d → Goes s [] (with_slot_link k s d)
+moves_goes k s l d is m =
+    put_goes k s l d [] is m.devices (λ took h. m.own took (subst (λ o. OwingLink k took (slot_at k s).said o s.waiting) is h)) (λ j other took. refl) m.fewer
+
+tell_at-goes : (k : ℕ) (e : Event) (s : State) → Goes s [] (tell_at k e s)
+tell_at-goes k e s =
+    let a = (slot_link_at k s).environment in
+    elim (slot_at k s).link as (λ o. (slot_at k s).link ≡ o → Goes s [] (with_slot_link k s (tell_open k e a o))) [
+      | None ↦ λ is. subst (Goes s []) (sym (ap (λ o. with_slot_link k s (link_in_slot a o)) (sym is) ∙ same_door k s)) (goes_refl s)
+      | Some l ↦ λ is. moves_goes k s l (enter (tell_link k e (open_link a l))) is (told k e (open_link a l))
+    ] refl
+
+tell_from-goes : (n k : ℕ) (e : Event) (s : State) → Goes s [] (tell_from n k e s)
+tell_from-goes zero k e s = goes_refl s
+tell_from-goes (suc n) k e s = goes_trans s [] (tell_at k e s) [] (tell_from n (k + 1) e (tell_at k e s)) (tell_at-goes k e s) (tell_from-goes n (k + 1) e (tell_at k e s))
+
+becomes_told : (f : Phone → Phone) (kind : EventKind) (value d : ℕ) (device : DeviceState) (s : State) → Goes s [] (line_becomes f kind value d device s)
+unfolding tell
+becomes_told f kind value d device s =
+    let t : State = record s { devices = with_device d (λ device. record device { line = option_map f device.line }) s.devices } in
+    goes_trans s [] t [] (tell_from (length s.slots) 0 (event_at kind d device value) t)
+    (becomes_goes d (λ device. record device { line = option_map f device.line }) s (later_line f)) (tell_from-goes (length s.slots) 0 (event_at kind d device value) t)
+
+-- Hooks
+
+hook_goes : (d : ℕ) (off done : Bool) (device : DeviceState) (s : State) → Goes s [] (cond done (hook_given off d device s) (hook_refused d s))
+hook_goes d off true device s = becomes_told (hooked true) kind.Hook (flag_value off) d device s
+hook_goes d off false device s = becomes_goes d (λ device. record device { line = option_map (hooked false) device.line }) s (later_line (hooked false))
+
+hooked_at : (d : ℕ) (o : Option DeviceState) (s : State) → Takes (hook_at d o s) (Within s)
+hooked_at d None s = takes_nothing s (Within s) (within_refl s)
+hooked_at d (Some device) s =
+    hook_takes d device s (Within s) (within_refl s) (λ j wanted off done. let g = hook_goes d off done device s in record { inside = refl; goes = record { devices = g.devices; queued = g.queued } })
+
+hooked_from : (n d : ℕ) (s : State) → Takes (hook_from n d s) (Within s)
+unfolding hook_from
+hooked_from zero d s = takes_nothing s (Within s) (within_refl s)
+hooked_from (suc n) d s = takes_chain (λ s log. hook_at d (slice_get s.devices d) s log) (hook_from n (d + 1)) Within Within Within within_trans (λ s. hooked_at d (slice_get s.devices d) s) (hooked_from n (d + 1)) s
+
+-- what follows a wake
+after_wake : (s : State) → Takes (serve_and_hook s) (Within s)
+after_wake s = takes_chain serve_all hook_all Within Within Within within_trans (λ s. served_from (length s.slots) 0 s) (λ s. hooked_from (length s.devices) 0 s) s
+
+-- Wakes
+
+-- What a device handed out: the sound of the frames from its time on. Behind it the device has the same accepted plays, and those
+-- that may have come since, at its time then or later, which is behind all that it handed out.
+pub record HandedOut (s : State) (d frames : ℕ) (sent : List ℕ) (t : State) : Type 0 where
+  pub device : DeviceState
+  pub there : slice_get s.devices d ≡ Some device
+  pub same : sent ≡ sound device frames
+  pub after : DeviceState
+  pub accepted : after.accepted ≡ device.accepted
+  pub past : device.now + frames ≤ after.now
+  pub last : DeviceState
+  pub stands : slice_get t.devices d ≡ Some last
+  pub becomes : Later after last
+
+-- a part that hands out
+pub record Hands (s : State) (w : Wake) (part : Log) (t : State) : Type 0 where
+  pub d : ℕ
+  pub frames : ℕ
+  pub captured : List ℕ
+  pub sent : List ℕ
+  pub done : Bool
+  pub wake : w ≡ Ticked d frames
+  pub is : part ≡ Captured d frames (Some captured) ∷ Emitted d sent done ∷ []
+  pub out : HandedOut s d frames sent t
+
+-- what a wake makes of a state, and of the part that it takes: it hands something out, or has no emit
+pub record Woken (s : State) (w : Wake) (part : Log) (t : State) : Type 0 where
+  pub goes : Goes s (Woke w ∷ part) t
+  pub emits : (inner part ≡ true) ⊎ Hands s w part t
+
+get_device : (devices : List DeviceState) (d : ℕ) (f : DeviceState → DeviceState) (x : DeviceState) → slice_get devices d ≡ Some x → slice_get (with_device d f devices) d ≡ Some (f x)
+get_device devices d f x e = ap (λ o. slice_get (device_set d f devices o) d) e ∙ get-set_same devices d x (f x) e
+
+ticked : (d n : ℕ) (device : DeviceState) (s : State) (bytes : List ℕ) (done : Bool) → slice_get s.devices d ≡ Some device → length bytes ≡ n * width_of device.ty →
+    HandedOut s d n (sound device n) (tick d (captured_samples device.ty n (Some bytes)) (not done) s)
+ticked d n device s bytes done there size =
+    let captured = captured_samples device.ty n (Some bytes) in
+    let after : DeviceState = later captured (not done) device in
+    let t : State = record s { devices = with_device d (later captured (not done)) s.devices } in
+    let long : length captured ≡ n = length-samples device.ty bytes n size in
+    let got = laters_get t.devices (complete_due d t).devices d after (due_goes d t).devices (get_device s.devices d (later captured (not done)) device there) in
+    record { device = device; there = there; same = refl; after = after; accepted = refl; past = omega (arith, long); last = got.0; stands = got.1; becomes = got.2 }
+
+woken_ticked : (d n : ℕ) (o : Option DeviceState) (s : State) → slice_get s.devices d ≡ o → Takes (tick_phase d n o s) (Woken s (Ticked d n))
+woken_ticked d n None s there = λ log b e. absurd (none_some e)
+woken_ticked d n (Some device) s there =
+    let dead = tick_goes d (captured_samples device.ty n None) true s in
+    elim device.is_dead as (λ t. Takes (λ log. cond t (parsed (tick d (captured_samples device.ty n None) true s) log) (parse_then (parse_one (capture_by d n device) log) (after_capture d n device s))) (Woken s (Ticked d n))) [
+      | true ↦ takes_nothing (tick d (captured_samples device.ty n None) true s) (Woken s (Ticked d n)) (record { goes = record { devices = dead.devices; queued = dead.queued }; emits = inl refl })
+      | false ↦ live_takes d n device s (Woken s (Ticked d n)) (record { goes = record { devices = dead.devices; queued = dead.queued }; emits = inl refl })
+          (λ bytes done size.
+          let g = tick_goes d (captured_samples device.ty n (Some bytes)) (not done) s in
+          record {
+            goes = record { devices = g.devices; queued = g.queued };
+            emits = inr (record { d = d; frames = n; captured = bytes; sent = sound device n; done = done; wake = refl; is = refl; out = ticked d n device s bytes done there size });
+          })
+    ]
+
+-- the slot of a link that may be opened is there
+slot_opened : (slots : List SlotState) (k : ℕ) (x : SlotState) → is_closed_at (slice_get (map {A = Option LinkState} {B = Bool} is_some (links_of slots)) k) ≡ true → some_slot (slice_get (slice_set slots k x) k) ≡ x
+slot_opened [] k x e = absurd cc
+slot_opened (y ∷ slots) zero x e = refl
+slot_opened (y ∷ slots) (suc k) x e = slot_opened slots k x e
+
+-- a link is opened: nothing was said to it since
+opened_goes : (k : ℕ) (s : State) → fits (outline s) (Opened k) ≡ true → Goes s (Woke (Opened k) ∷ []) (with_slot k (record { link = Some opened; said = [] }) s)
+opened_goes j s fit =
+    let slot : SlotState = record { link = Some opened; said = [] } in
+    record {
+      devices = laters_refl s.devices;
+      queued = λ k took h. elim (j == k) as (λ t. (j == k) ≡ t → OwingAt k (cond t [] took) (with_slot j slot s)) [
+        | true ↦ λ e.
+            subst (λ n. OwingAt n [] (with_slot j slot s)) (eqb-true j k e) (subst (λ (x : SlotState). OwingLink j [] x.said x.link s.waiting) (sym (slot_opened s.slots j slot fit))
+            (record { rest = []; whole = refl; queued = λ e. refl; sends = λ e. refl; waits = λ e. absurd cc; wants = λ e. refl }))
+        | false ↦ λ e. subst (λ (x : SlotState). OwingLink k took x.said x.link s.waiting) (sym (slot_other s.slots j k slot e)) h
+      ] refl;
+    }
+
+-- something of an open link changes, but nothing that is queued for it
+opens_goes : (f : LinkState → LinkState) (k : ℕ) (s : State) → ((took said : List ℕ) (l : LinkState) (waiting : List Deferral) → Owed k took said l waiting → Owed k took said (f l) waiting) → Goes s [] (with_slot k (in_slot f (slot_at k s)) s)
+opens_goes f k s queued =
+    let a = (slot_link_at k s).environment in
+    elim (slot_at k s).link as (λ o. (slot_at k s).link ≡ o → Goes s [] (with_slot_link k s (link_in_slot a (in_open f o)))) [
+      | None ↦ λ is. subst (Goes s []) (sym (ap (λ o. with_slot_link k s (link_in_slot a o)) (sym is) ∙ same_door k s)) (goes_refl s)
+      | Some l ↦ λ is. moves_goes k s l (link_in_slot a (Some (f l))) is (record { devices = laters_refl s.devices; own = λ took h. queued took a.said l s.waiting h; fewer = λ j other h. h })
+    ] refl
+
+-- a wake that no link is opened by, and that takes nothing off
+woken_quiet : (w : Wake) (s t : State) → ((k : ℕ) (took : List ℕ) → took_at k took (Woke w) ≡ took) → Goes s [] t → Takes (λ log. parsed t log) (Woken s w)
+woken_quiet w s t still g =
+    takes_nothing t (Woken s w) (record { goes = record { devices = g.devices; queued = λ k took h. subst (λ x. OwingAt k x t) (sym (still k took)) (g.queued k took h) }; emits = inl refl })
+
+woken_line : (change : LineChange) (d : ℕ) (o : Option DeviceState) (s : State) → Takes (line_phase change d o s) (Woken s (Line d change))
+woken_line change d None s = λ log b e. absurd (none_some e)
+woken_line change d (Some device) s =
+    woken_quiet (Line d change) s (line_changes change d device s) (λ k took. refl) (becomes_told (changed change) (event_kind_of change) (value_of change) d device s)
+
+woken : (w : Wake) (s : State) → fits (outline s) w ≡ true → Takes (wake_phase w s) (Woken s w)
+unfolding wake_phase
+woken (Opened k) s fit = takes_nothing (with_slot k (record { link = Some opened; said = [] }) s) (Woken s (Opened k)) (record { goes = opened_goes k s fit; emits = inl refl })
+woken (Readable k) s fit =
+    woken_quiet (Readable k) s (with_slot k (in_slot ready (slot_at k s)) s) (λ k took. refl)
+    (opens_goes ready k s (λ took said l waiting h. record { rest = h.rest; whole = h.whole; queued = h.queued; sends = h.sends; waits = h.waits; wants = h.wants }))
+woken (Writable k) s fit =
+    woken_quiet (Writable k) s (with_slot k (in_slot writable (slot_at k s)) s) (λ k took. refl)
+    (opens_goes writable k s (λ took said l waiting h. record { rest = h.rest; whole = h.whole; queued = h.queued; sends = h.sends; waits = h.waits; wants = h.wants }))
+woken (Ticked d n) s fit = woken_ticked d n (slice_get s.devices d) s refl
+woken (Line d change) s fit = woken_line change d (slice_get s.devices d) s
+woken Idle s fit = woken_quiet Idle s s (λ k took. refl) (goes_refl s)
+woken Stop s fit = woken_quiet Stop s s (λ k took. refl) (goes_refl s)
+
+-- A whole turn: its wake, a part that may hand something out, and a part without a wake or an emit.
+pub record Turned (s : State) (part : Log) (t : State) : Type 0 where
+  pub wake : Wake
+  pub first : Log
+  pub second : Log
+  pub is : part ≡ Woke wake ∷ (first ++ second)
+  pub goes : Goes s part t
+  pub emits : (inner first ≡ true) ⊎ Hands s wake first t
+  pub inside : inner second ≡ true
+
+-- what was handed out within a turn, the turn has handed out
+later_emits : (s t u : State) (w : Wake) (part : Log) → Laters t.devices u.devices → (inner part ≡ true) ⊎ Hands s w part t → (inner part ≡ true) ⊎ Hands s w part u
+later_emits s t u w part l (inl inside) = inl inside
+later_emits s t u w part l (inr h) =
+    let o = h.out in
+    let got = laters_get t.devices u.devices h.d o.last l o.stands in
+    inr (record {
+      d = h.d;
+      frames = h.frames;
+      captured = h.captured;
+      sent = h.sent;
+      done = h.done;
+      wake = h.wake;
+      is = h.is;
+      out = record { device = o.device; there = o.there; same = o.same; after = o.after; accepted = o.accepted; past = o.past; last = got.0; stands = got.1; becomes = later_trans o.after o.last got.0 o.becomes got.2 };
+    })
+
+turned_then : (s : State) (w : Wake) (p : Log) (t : State) (q : Log) (u : State) → Woken s w p t → Within t q u → Turned s (Woke w ∷ (p ++ q)) u
+turned_then s w p t q u a b = record {
+  wake = w;
+  first = p;
+  second = q;
+  is = refl;
+  goes = goes_trans s (Woke w ∷ p) t q u a.goes b.goes;
+  emits = later_emits s t u w p b.goes.devices a.emits;
+  inside = b.inside;
+}
+
+pub turned : (s : State) → Takes (turn s) (Turned s)
+unfolding turn
+turned s [] b e = absurd (none_some e)
+turned s (Read k got ∷ log) b e = absurd (none_some e)
+turned s (Wrote k offered took ∷ log) b e = absurd (none_some e)
+turned s (Closed k why ∷ log) b e = absurd (none_some e)
+turned s (Captured d n got ∷ log) b e = absurd (none_some e)
+turned s (Emitted d out done ∷ log) b e = absurd (none_some e)
+turned s (Hooked d off done ∷ log) b e = absurd (none_some e)
+turned s (Woke w ∷ log) b e =
+    let i = cond-some (fits (outline s) w) (parse_then (wake_phase w s log) serve_and_hook) b e in
+    let all : Takes (λ log. parse_then (wake_phase w s log) serve_and_hook) (λ part u. Turned s (Woke w ∷ part) u) =
+    takes_then (wake_phase w s) serve_and_hook (Woken s w) (λ part u. Turned s (Woke w ∷ part) u) (woken w s i.0)
+    (λ part t a. takes_map (serve_and_hook t) (Within t) (λ more u. Turned s (Woke w ∷ (part ++ more)) u) (λ more u h. turned_then s w part t more u a h) (after_wake t)) in
+    let a = all log b i.1 in
+    record {
+      part = Woke w ∷ a.part;
+      whole = ap (λ l. Woke w ∷ l) a.whole;
+      again = λ more. ap (λ t. cond t (parse_then (wake_phase w s (a.part ++ more)) serve_and_hook) None) i.0 ∙ a.again more;
+      holds = a.holds;
+    }
+
+-- a turn leaves the devices their lines
+pub turn_lines : (s : State) (log : Log) (b : Parsed State) → turn s log ≡ Some b → lines_of b.state.devices ≡ lines_of s.devices
+turn_lines s log b e = laters_lines s.devices b.state.devices (turned s log b e).holds.goes.devices

@@ -1,0 +1,2 @@
+pub mod ParsedWordLemmas
+pub mod ToolNameLemmas

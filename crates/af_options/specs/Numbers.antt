@@ -1,0 +1,28 @@
+-- The values of words: numbers, gains and switches.
+use Rattle.std.specs.Prelude.{Bool, true, false, ℕ, ℤ, pos, neg_ℤ, nat_le, ◌==◌, ◌&&◌, List, [], ◌∷◌, length, Option, Some, None, option_map, if◌then◌else◌}
+use Rattle.std.specs.Str.{all_ascii_digits, bytes_eq}
+use Rattle.std.specs.Str.Parse.{digits_value}
+
+-- the number of some decimal digits, where it lies between these two
+abbrev pub number_in : ℕ → ℕ → List ℕ → Option ℕ
+number_in low high text =
+    if nat_le 1 (length text) && all_ascii_digits text && nat_le low (digits_value 10 text) && nat_le (digits_value 10 text) high then Some (digits_value 10 text) else None
+
+-- a gain of -30 to 30 decibels, of which a minus sign may stand before the digits
+abbrev pub gain_in : List ℕ → Option ℤ
+gain_in [] = None
+gain_in (c ∷ text) = if c == 45 then option_map (λ n. neg_ℤ (pos n)) (number_in 0 30 text) else option_map (λ n. pos n) (number_in 0 30 (c ∷ text))
+
+-- a switch, by the word for it and the word against it
+abbrev pub switch_in : (when otherwise : List ℕ) → List ℕ → Option Bool
+switch_in when otherwise text = if bytes_eq text when then Some true else if bytes_eq text otherwise then Some false else None
+
+-- a value that need not be there
+abbrev pub if_there : {X : Type 0} → (List ℕ → Option X) → Option (List ℕ) → Option (Option X)
+if_there value_in None = Some None
+if_there value_in (Some text) = option_map (λ x. Some x) (value_in text)
+
+-- a value with a default
+abbrev pub or_default : {X : Type 0} → X → (List ℕ → Option X) → Option (List ℕ) → Option X
+or_default default value_in None = Some default
+or_default default value_in (Some text) = value_in text

@@ -1,0 +1,82 @@
+// What a tool is asked to do.
+use af_sample::{Gain, SampleType};
+
+/// To play what a source gives.
+#[derive(Clone, Copy, Debug, PartialEq, Eq)]
+pub struct PlayJob {
+    /// The number of the device, 0..7.
+    pub device: u8,
+    /// The type of the samples, or that of the device.
+    pub ty: Option<SampleType>,
+    pub gain: Gain,
+    /// The frames of a block, 1..4000.
+    pub block: u32,
+    /// The milliseconds from the device's time to the start, 0..60000.
+    pub lead: u32,
+    /// The start, if it is stated.
+    pub time: Option<u32>,
+    /// Whether what others play is replaced.
+    pub preempt: bool,
+}
+
+/// To record n frames.
+#[derive(Clone, Copy, Debug, PartialEq, Eq)]
+pub struct RecordJob {
+    /// The number of the device, 0..7.
+    pub device: u8,
+    /// The type of the samples, or that of the device.
+    pub ty: Option<SampleType>,
+    pub gain: Gain,
+    /// The frames of a block, 1..4000.
+    pub block: u32,
+    /// The start, if it is stated, or else the device's time.
+    pub time: Option<u32>,
+    /// How many frames, 1..2147483647.
+    pub frames: u32,
+    /// A block whose peak is below this is quiet, 0..32768.
+    pub stop_peak: u32,
+    /// So many quiet blocks in a row end the recording, 1..1000000.
+    pub stop_blocks: u32,
+}
+
+/// To set the controls of a device, and its hook. What is not stated stays.
+#[derive(Clone, Copy, Debug, PartialEq, Eq)]
+pub struct SetJob {
+    /// The number of the device, 0..7.
+    pub device: u8,
+    pub input_gain: Option<Gain>,
+    pub output_gain: Option<Gain>,
+    pub input_on: Option<bool>,
+    pub output_on: Option<bool>,
+    /// Whether the hook is to be off.
+    pub hook_off: Option<bool>,
+}
+
+/// To pass blocks from a device of one server to a device of another.
+#[derive(Clone, Copy, Debug, PartialEq, Eq)]
+pub struct PassJob {
+    /// The number of the device that is recorded, 0..7.
+    pub from_device: u8,
+    /// The number of the device that is played to, 0..7.
+    pub to_device: u8,
+    /// The type of the samples, or that of the device that is recorded.
+    pub ty: Option<SampleType>,
+    /// By how much what is recorded is made louder.
+    pub gain: Gain,
+    /// How many blocks, 1..1000000.
+    pub blocks: u32,
+    /// The frames of a block, 1..4000.
+    pub block: u32,
+    /// The milliseconds from the other server's time to where a block is played, 0..3000.
+    pub delay: u32,
+    /// By how many milliseconds the relay may drift from that, 0..3000.
+    pub slack: u32,
+}
+
+/// What a tool is asked to do.
+#[derive(Clone, Copy, Debug, PartialEq, Eq)]
+pub enum Task {
+    Play(PlayJob),
+    Record(RecordJob),
+    Set(SetJob),
+}

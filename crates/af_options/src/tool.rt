@@ -1,0 +1,29 @@
+// The tools by name.
+ghost use Rattle.std.specs.Prelude.{◌≡◌};
+ghost use Rattle.af_options.specs.Words.{tool_named};
+
+/// A tool.
+#[derive(Clone, Copy, Debug, PartialEq, Eq)]
+pub enum Tool {
+    Play,
+    Record,
+    Set,
+    Pass,
+}
+
+/// The tool with a name.
+pub fn tool_named(name: &str) -> Option<Tool>
+    ensures { result ≡ tool_named name.now }
+{
+    if name == "aplay" {
+        Some(Tool::Play)
+    } else if name == "arecord" {
+        Some(Tool::Record)
+    } else if name == "aset" {
+        Some(Tool::Set)
+    } else if name == "apass" {
+        Some(Tool::Pass)
+    } else {
+        None
+    }
+}

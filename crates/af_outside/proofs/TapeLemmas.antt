@@ -1,0 +1,87 @@
+-- What steps and happenings do to a tape.
+use Rattle.std.proofs.Common.{◌≡◌, ℕ, suc, ◌+◌, ◌<◌, ◌≤◌, ◌^◌, List, [], ◌∷◌, drop, slice_get, map, replicate, refl, ap, sym, ◌∙◌, subst, arith, Bool, true, false}
+use Rattle.std.proofs.Math.Seq.{drop-cons}
+use Rattle.std.proofs.lemmas.List.Sums.{sum_by-cons}
+use Rattle.std.proofs.lemmas.Option.{slice_get_within, get_or_from_slice_get}
+use Rattle.std.specs.Prelude.{IfOk}
+use Rattle.std.specs.declared.option.Option.{Option}
+use Rattle.std.specs.declared.option.Option.TheVariants.{None, Some}
+use Rattle.std.specs.declared.result.Result.{Result}
+use Rattle.std.specs.declared.result.Result.TheVariants.{Ok, Err}
+use Rattle.af_time.specs.declared.OutOfMemory.{OutOfMemory}
+use Rattle.af_outside.specs.declared.happening.Happening.{Happening}
+use Rattle.af_outside.specs.declared.happening.Wake.{Wake}
+use Rattle.af_outside.specs.declared.script.DeviceSpec.{DeviceSpec}
+use Rattle.af_outside.specs.declared.script.Step.{Step}
+use Rattle.af_outside.specs.declared.scripted_device.KeptScriptedDevice.{KeptScriptedDevice}
+use Rattle.af_outside.specs.declared.outer.OuterFaults.{OuterFaults}
+use Rattle.af_io.specs.Observed.{faults_after}
+use Rattle.af_outside.specs.Log.{Log}
+use Rattle.af_outside.specs.Outer.{OuterState, outer_start}
+use Rattle.af_outside.specs.Outside.{Outside, TapeState, TapeLeadsTo, TakesStep, Answered, answered_as_stated, made, scripted_of, stepped, then_outside, wake_of}
+use Rattle.af_outside.specs.Tape.{KeptClient, HasRoomForSteps, Noted, kept_scripted_of, outside_of, clients_of, sent_by, devices_of}
+use Rattle.af_outside.proofs.ScriptedDeviceLemmas.{devices_of-start}
+
+-- a happening whose answer leads from one outside to another, if it is noted
+pub Answered-noted : (before : Option Log) (happened : Result Happening OutOfMemory) (after : Option Log) (h : Happening) (o o' : Outside) → Noted before happened after →
+    IfOk happened (λ x. x ≡ h) → answered_as_stated o h ≡ Some o' → Answered before o after o'
+Answered-noted before (Err e) after h o o' noted made leads = subst (λ (a : Option Log). Answered before o a o') (sym noted) tt
+Answered-noted before (Ok x) None h o o' noted made leads = tt
+Answered-noted None (Ok x) (Some after) h o o' noted made leads = absurd noted
+Answered-noted (Some before) (Ok x) (Some after) h o o' noted made leads = (
+  x ∷ [],
+  noted,
+  ap (λ x. then_outside (answered_as_stated o x) (λ o. Some o)) made ∙ ap (λ a. then_outside a (λ o. Some o)) leads,
+)
+
+-- a call that is answered as stated, and noted, leads a tape on
+pub TapeLeadsTo-noted : (old : TapeState) (happened : Result Happening OutOfMemory) (log : Option Log) (h : Happening) (o : Outside) (link_faults device_faults : ℕ) → Noted old.log happened log →
+    IfOk happened (λ x. x ≡ h) → answered_as_stated old.outside h ≡ Some o → old.link_faults ≤ link_faults → old.device_faults ≤ device_faults →
+    TapeLeadsTo old (record old { log = log; outside = o; link_faults = link_faults; device_faults = device_faults })
+TapeLeadsTo-noted old happened log h o link_faults device_faults noted made answers links given = record {
+  config = refl;
+  left = refl;
+  link_faults = links;
+  device_faults = given;
+  outer = refl;
+  answered = Answered-noted old.log happened log h old.outside o noted made answers;
+}
+
+-- no answer moves a count of faults down
+pub faults_after-rises : (faults : ℕ) (failed : Bool) → faults < 2 ^ 64 → faults ≤ faults_after faults failed
+faults_after-rises faults false fits = omega arith
+faults_after-rises faults true fits = omega arith
+
+-- the step with a number comes before those after it
+pub drop-next : (steps : List Step) (number : ℕ) (step : Step) → slice_get steps number ≡ Some step → drop number steps ≡ step ∷ drop (number + 1) steps
+drop-next steps number step at =
+    drop-cons steps number step (slice_get_within steps number step at)
+    ∙ ap (λ s. s ∷ drop (suc number) steps) (get_or_from_slice_get steps number step step at)
+    ∙ (let next : suc number ≡ number + 1 = omega arith in ap (λ n. step ∷ drop n steps) next)
+
+-- room for the steps that are left is room for the first
+pub HasRoomForSteps-first : (links : List KeptClient) (step : Step) (steps : List Step) → HasRoomForSteps links (step ∷ steps) → HasRoomForSteps links (step ∷ [])
+HasRoomForSteps-first links step steps room = record {
+  each = λ k scripted_link at.
+      let fits = room.each k scripted_link at in
+      let all = sum_by-cons (sent_by k) step steps in
+      let one = sum_by-cons (sent_by k) step [] in
+      omega arith;
+}
+
+-- the first step that is left is taken
+pub TakesStep-first : (old : TapeState) (step : Step) (left : List Step) (wake : Wake) (o : Outside) → old.left ≡ step ∷ left → wake ≡ wake_of old.outside step →
+    o ≡ stepped old.outside step → TakesStep old old.left (Some wake) (record old { left = left; outside = o })
+TakesStep-first old step left wake o first woken changed =
+    subst (λ steps. TakesStep old steps (Some wake) (record old { left = left; outside = o })) (sym first)
+    (woken, ap (λ o. record old { left = left; outside = o }) changed)
+
+-- what makes up a tape of which nothing was asked yet
+pub fresh-parts : (config config' : List DeviceSpec) (steps steps' : List Step) (log : Option Log) (links : List KeptClient) (kept : List KeptScriptedDevice) (faults : OuterFaults) (outer : OuterState) → config' ≡ config → steps' ≡ steps →
+    log ≡ Some [] → clients_of links ≡ replicate 32 None → kept ≡ map (λ d. kept_scripted_of d.ty) config → outer ≡ outer_start faults →
+    (let tape : TapeState = record { config = config'; left = steps'; log = log; outside = outside_of links (devices_of steps' kept); link_faults = 0; device_faults = 0; outer = outer } in tape) ≡ made config steps faults
+fresh-parts config config' steps steps' log links kept faults outer given left told closed start begun =
+    let devices : devices_of steps kept ≡ map (λ d. scripted_of d.ty) config = ap (devices_of steps) start ∙ devices_of-start steps config in
+    rw (given, left, told, begun)
+    (ap (λ clients. (let tape : TapeState = record { config = config; left = steps; log = Some []; outside = record { clients = clients; devices = devices_of steps kept }; link_faults = 0; device_faults = 0; outer = outer_start faults } in tape)) closed
+    ∙ ap (λ devices. (let tape : TapeState = record { config = config; left = steps; log = Some []; outside = record { clients = replicate 32 None; devices = devices }; link_faults = 0; device_faults = 0; outer = outer_start faults } in tape)) devices)

@@ -1,0 +1,7 @@
+-- What happened.
+use Rattle.std.specs.Prelude.{List}
+use Rattle.af_outside.specs.declared.happening.Happening.{Happening}
+
+-- all that happened to the server, in order
+abbrev pub Log : Type 0
+Log = List Happening

@@ -1,0 +1,202 @@
+// A scripted device of a tape: what it captures, and which of its calls are to fail.
+ghost use Rattle.std.specs.Prelude.{◌≡◌, List, length, map, option_map, slice_get, slice_set, IfOk};
+ghost use Rattle.std.specs.declared.option.Option.TheVariants.{Some};
+ghost use Rattle.af_outside.specs.declared.script.Step.{Step};
+ghost use Rattle.af_outside.specs.World.{captured_of, is_done};
+ghost use Rattle.af_outside.specs.Outside.{capture_answered, captured, emit_answered, hook_answered, silent_byte, some_scripted, scripted_at, with_scripted};
+ghost use Rattle.af_outside.specs.Tape.{KeptClient, failing, outside_of, kept_at, kept_scripted_of, devices_of, stated_at, capture_stated_by};
+
+use crate::{Config, Put, Step};
+use af_sample::SampleType;
+use af_time::OutOfMemory;
+use std::alloc::Global;
+
+/// A call on a device, which a script may state to fail.
+#[derive(Clone, Copy)]
+pub(crate) enum DeviceCall {
+    Capture,
+    Emit,
+    Hook,
+}
+
+/// A scripted device. What its last tick states is captured stays in that step of the script.
+#[derive(Clone, Copy)]
+pub(crate) struct KeptScriptedDevice {
+    ty: SampleType,
+    /// The number of the step that is its last tick.
+    tick: Option<usize>,
+    fails_capture: bool,
+    fails_emit: bool,
+    fails_hook: bool,
+}
+
+impl KeptScriptedDevice {
+    /// A device that nothing was stated of.
+    fn new(ty: SampleType) -> KeptScriptedDevice
+        ensures { result ≡ kept_scripted_of ty }
+    {
+        KeptScriptedDevice {
+            ty,
+            tick: None,
+            fails_capture: false,
+            fails_emit: false,
+            fails_hook: false,
+        }
+    }
+
+    /// The same device, whose next such call is to fail.
+    fn failing(mut self, call: DeviceCall) -> KeptScriptedDevice
+        ensures { (steps : List Step) → kept_at steps result ≡ failing call (kept_at steps self) }
+    {
+        match call {
+            DeviceCall::Capture => self.fails_capture = true,
+            DeviceCall::Emit => self.fails_emit = true,
+            DeviceCall::Hook => self.fails_hook = true,
+        }
+        self
+    }
+
+    /// Captures what the last tick states, if that is as many bytes, and else silence.
+    fn fill(self, steps: &[Step], into: &mut [u8])
+        ensures { into.new ≡ captured (kept_at steps.now self) (length into.old) }
+    {
+        match stated(steps, self.tick) {
+            Some(bytes) if bytes.len() == into.len() => into.copy_from_slice(bytes),
+            _ => into.fill(silent_byte(self.ty)),
+        }
+    }
+}
+
+/// The scripted devices of a configuration, of which nothing was stated.
+pub(crate) fn new_devices(
+    alloc: Global,
+    config: &Config,
+) -> Result<Vec<KeptScriptedDevice>, OutOfMemory>
+    ensures { IfOk result (λ devices. devices.items ≡ map (λ d. kept_scripted_of d.ty) config.now.items) }
+{
+    let given = config.as_slice();
+    let mut devices = Vec::with_capacity(alloc, given.len())?;
+    for device in given {
+        devices.push(KeptScriptedDevice::new(device.ty))?;
+    }
+    Ok(devices)
+}
+
+/// A tick of a device, which is the step with this number.
+pub(crate) fn tick(devices: &mut [KeptScriptedDevice], device: u8, number: usize)
+    ensures { (links : List KeptClient) (steps : List Step)
+        → let old = outside_of links (devices_of steps devices.old) in
+        outside_of links (devices_of steps devices.new)
+        ≡ with_scripted old device (record (scripted_at old device) { states = capture_stated_by (slice_get steps number) }) }
+{
+    let mut scripted = scripted_at(devices, device);
+    scripted.tick = Some(number);
+    put_scripted(devices, device, scripted);
+}
+
+/// The next such call on a device is to fail.
+pub(crate) fn fail(devices: &mut [KeptScriptedDevice], device: u8, call: DeviceCall)
+    ensures { (links : List KeptClient) (steps : List Step)
+        → let old = outside_of links (devices_of steps devices.old) in
+        outside_of links (devices_of steps devices.new)
+        ≡ with_scripted old device (failing call (scripted_at old device)) }
+{
+    let scripted = scripted_at(devices, device).failing(call);
+    put_scripted(devices, device, scripted);
+}
+
+/// Captures of a device as many bytes as there is room for.
+pub(crate) fn capture(
+    devices: &mut [KeptScriptedDevice],
+    steps: &[Step],
+    device: u8,
+    into: &mut [u8],
+) -> Put
+    ensures { (links : List KeptClient)
+        → let old = outside_of links (devices_of steps.now devices.old) in
+        capture_answered old device (scripted_at old device) (captured_of result into.new)
+        ≡ Some (outside_of links (devices_of steps.now devices.new)) }
+{
+    let mut scripted = scripted_at(devices, device);
+    if scripted.fails_capture {
+        scripted.fails_capture = false;
+        put_scripted(devices, device, scripted);
+        return Put::Failed;
+    }
+    scripted.fill(steps, into);
+    Put::Done
+}
+
+/// Whether a device takes its next sound.
+pub(crate) fn emit(devices: &mut [KeptScriptedDevice], device: u8) -> Put
+    ensures { (links : List KeptClient) (steps : List Step)
+        → let old = outside_of links (devices_of steps devices.old) in
+        emit_answered old device (scripted_at old device) (is_done result)
+        ≡ Some (outside_of links (devices_of steps devices.new)) }
+{
+    let mut scripted = scripted_at(devices, device);
+    if scripted.fails_emit {
+        scripted.fails_emit = false;
+        put_scripted(devices, device, scripted);
+        return Put::Failed;
+    }
+    Put::Done
+}
+
+/// Whether the line of a device takes its next hook.
+pub(crate) fn hook(devices: &mut [KeptScriptedDevice], device: u8) -> Put
+    ensures { (links : List KeptClient) (steps : List Step)
+        → let old = outside_of links (devices_of steps devices.old) in
+        hook_answered old device (scripted_at old device) (is_done result)
+        ≡ Some (outside_of links (devices_of steps devices.new)) }
+{
+    let mut scripted = scripted_at(devices, device);
+    if scripted.fails_hook {
+        scripted.fails_hook = false;
+        put_scripted(devices, device, scripted);
+        return Put::Failed;
+    }
+    Put::Done
+}
+
+// The scripted device at a number. Of one that is not there nothing was stated.
+fn scripted_at(devices: &[KeptScriptedDevice], device: u8) -> KeptScriptedDevice
+    ensures { (steps : List Step)
+        → kept_at steps result ≡ some_scripted (slice_get (devices_of steps devices.now) device) }
+{
+    match devices.get(device as usize) {
+        Some(scripted) => *scripted,
+        None => KeptScriptedDevice::new(SampleType::Lin16),
+    }
+}
+
+// The scripted device at a number is this one from now on, if the device is there.
+fn put_scripted(devices: &mut [KeptScriptedDevice], device: u8, scripted: KeptScriptedDevice)
+    ensures { devices.new ≡ slice_set devices.old device scripted }
+{
+    let place = device as usize;
+    if place < devices.len() {
+        devices[place] = scripted;
+    }
+}
+
+// What the step with a number states that a device captures.
+fn stated(steps: &[Step], number: Option<usize>) -> Option<&[u8]>
+    ensures { option_map (λ bytes. bytes.now) result ≡ stated_at steps.now number }
+{
+    match steps.get(number?)? {
+        Step::Tick(_, _, Some(bytes)) => Some(bytes.as_slice()),
+        _ => None,
+    }
+}
+
+/// The byte that silence has in each sample type.
+pub fn silent_byte(ty: SampleType) -> u8
+    ensures { result ≡ silent_byte ty }
+{
+    match ty {
+        SampleType::Mu255 => 0xFF,
+        SampleType::Alaw => 0xD5,
+        SampleType::Lin16 | SampleType::Lin32 => 0,
+    }
+}

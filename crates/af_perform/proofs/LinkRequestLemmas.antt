@@ -1,0 +1,288 @@
+-- Requests of a link, at whatever place it is.
+use Rattle.std.proofs.Common.{◌≡◌, ℕ, ℤ, Bool, true, false, not, nat_lt, nat_le, ◌&&◌, cond, min, Ok, Err, [], ◌∷◌, ◌+◌, ◌-◌, ◌*◌, ◌%◌, ◌^◌, ◌<◌, ◌≤◌, List, ◌++◌, length, slice_get, slice_set, refl, sym, ap, ◌∙◌, subst, arith}
+use Rattle.std.proofs.lemmas.Bool.Decides.{nat_tests}
+use Rattle.std.specs.declared.option.Option.{Option}
+use Rattle.std.specs.declared.option.Option.TheVariants.{None, Some}
+use Rattle.af_time.specs.DeviceTime.{unwrap}
+use Rattle.af_sample.specs.Heard.{AcceptedPlay}
+use Rattle.af_context.specs.declared.Context.{Context}
+use Rattle.af_context.specs.declared.ContextFault.TheVariants.{BadAc as BadAc'}
+use Rattle.af_context.specs.Contexts.{is_in_use, reference, with_changed, with_settings}
+use Rattle.af_wire.specs.Message.{error}
+use Rattle.af_request.specs.Answer.{plain, time, played, recorded}
+use Rattle.af_buffers.specs.PlayBuffer.{accepted_at, frames_beyond as play_beyond, frames_within}
+use Rattle.af_buffers.specs.RecordBuffer.{frames_before, frames_until_past as record_beyond}
+use Rattle.af_model.specs.declared.refusal.RefusalCause.TheVariants.{BadAc, BadValue}
+use Rattle.af_model.specs.declared.refusal.Refusal.{Refusal}
+use Rattle.af_model.specs.State.{DeviceState, Deferred, deferred_play, deferred_record, LinkState, EnvironmentState, OpenLink, open_link, with_device, device_set}
+use Rattle.af_model.specs.Reply.{code_of_cause, reply_message}
+use Rattle.af_model.specs.Checks.{check, check_gain, where_named, refused_or, in_device}
+use Rattle.af_model.specs.ContextRequests.{change, change_refusal, named_gain, named_preempt}
+use Rattle.af_model.specs.Waiting.{wait}
+use Rattle.af_model.specs.Play.{accepting, entry_now, frames_of, in_devices, sent_sound, start_play, tell_played}
+use Rattle.af_model.specs.Record.{give_record, given_frames, recorded_bytes, start_record}
+use Rattle.af_model.specs.Tick.{answer_deferred, completing}
+use Rattle.af_model.specs.Perform.{tell_time}
+use Rattle.af_model.proofs.BoolTestLemmas.{both-true}
+use Rattle.af_state.specs.Kept.{KeptDevice, StandsForDevice, StandForDevices}
+use Rattle.af_state.specs.Deferrals.{KeptDeferral, IsNear, StandsForDeferral, StandForDeferrals, worded}
+use Rattle.af_state.specs.Environment.{StandsForEnvironment, StandsForLink, ChangesLinkIn, ChangesLink, kept}
+use Rattle.af_state.proofs.DeviceLemmas.{Found, found, not_found, same_set, state_there, stands_length, stands_set}
+use Rattle.af_state.proofs.PlayLemmas.{before-same, within-same, play_beyond-same, record_beyond-same, near_start, start_meant, horizon_bounds, completes}
+use Rattle.af_state.proofs.DeferredRequestLemmas.{play_is, record_is}
+use Rattle.af_state.proofs.DeferralLemmas.{waits_push, waits_set}
+use Rattle.af_perform.proofs.CheckLemmas.{pass_first, not_false}
+
+-- what leads a link, leads it at each place
+pub leads_at : (ds : List KeptDevice) (ks : List KeptDeferral) (l l' : LinkState) (f : OpenLink → OpenLink) (a : EnvironmentState) → ChangesLinkIn a f l l' → StandsForEnvironment (kept ds ks) a → StandsForLink (kept ds ks) l' (f (open_link a l))
+leads_at ds ks l l' f a leads h =
+    ((subst (StandForDevices ds) (sym leads.1) h.0, subst (λ ws. StandForDeferrals (f (open_link a l)).environment.devices ks ws) (sym leads.2) (subst (λ devices. StandForDeferrals devices ks a.waiting) (sym leads.1) h.1)), leads.0)
+
+-- a link that is refused
+abbrev pub with_error : ℕ → Refusal → LinkState → LinkState
+with_error opcode r l = record l { pending = l.pending ++ error (code_of_cause r.cause) r.value opcode l.sequence }
+
+pub leads_refused : (l l' : LinkState) (opcode : ℕ) (o : Option Refusal) (r : Refusal) (f : OpenLink → OpenLink) → o ≡ Some r → l' ≡ with_error opcode r l → ChangesLink (refused_or opcode o f) l l'
+leads_refused l l' opcode o r f is e = subst (λ o. ChangesLink (refused_or opcode o f) l l') (sym is) (λ a. (sym e, refl, refl))
+
+pub leads_passed : (l l' : LinkState) (opcode : ℕ) (o : Option Refusal) (f : OpenLink → OpenLink) → o ≡ None → ChangesLink f l l' → ChangesLink (refused_or opcode o f) l l'
+leads_passed l l' opcode o f is leads = subst (λ o. ChangesLink (refused_or opcode o f) l l') (sym is) leads
+
+-- the same of checks that look at how many devices there are
+pub counts_refused : (ds : List KeptDevice) (ks : List KeptDeferral) (l l' : LinkState) (opcode : ℕ) (check : ℕ → Option Refusal) (r : Refusal) (f : OpenLink → OpenLink) → check (length ds) ≡ Some r → l' ≡ with_error opcode r l →
+    (a : EnvironmentState) → StandsForEnvironment (kept ds ks) a → StandsForLink (kept ds ks) l' (refused_or opcode (check (length a.devices)) f (open_link a l))
+counts_refused ds ks l l' opcode check r f is e a h =
+    leads_at ds ks l l' (refused_or opcode (check (length a.devices)) f) a (leads_refused l l' opcode (check (length a.devices)) r f (ap check (stands_length ds a.devices h.0) ∙ is) e a) h
+
+pub counts_passed : (ds : List KeptDevice) (ks : List KeptDeferral) (l l' : LinkState) (opcode : ℕ) (check : ℕ → Option Refusal) (f : OpenLink → OpenLink) → check (length ds) ≡ None → ChangesLink f l l' →
+    (a : EnvironmentState) → StandsForEnvironment (kept ds ks) a → StandsForLink (kept ds ks) l' (refused_or opcode (check (length a.devices)) f (open_link a l))
+counts_passed ds ks l l' opcode check f is leads a h =
+    leads_at ds ks l l' (refused_or opcode (check (length a.devices)) f) a (leads_passed l l' opcode (check (length a.devices)) f (ap check (stands_length ds a.devices h.0) ∙ is) leads a) h
+
+-- a request that names a device
+
+pub device_missing : (ds : List KeptDevice) (ks : List KeptDeferral) (l l' : LinkState) (opcode d value : ℕ) (f : DeviceState → OpenLink → OpenLink) → length ds ≤ d → value ≡ d → l' ≡ record l { pending = l.pending ++ error 3 value opcode l.sequence } →
+    (a : EnvironmentState) → StandsForEnvironment (kept ds ks) a → StandsForLink (kept ds ks) l' (in_device opcode d f (slice_get a.devices d) (open_link a l))
+device_missing ds ks l l' opcode d value f past v e a h =
+    let refused : ℕ → LinkState = λ t. record l { pending = l.pending ++ error 3 t opcode l.sequence } in
+    subst (λ o. StandsForLink (kept ds ks) l' (in_device opcode d f o (open_link a l))) (sym (not_found ds a.devices d past h.0)) (h, ap refused (sym v) ∙ sym e)
+
+pub device_found : (ds ds' : List KeptDevice) (ks ks' : List KeptDeferral) (l l' : LinkState) (opcode d : ℕ) (x : KeptDevice) (f : DeviceState → OpenLink → OpenLink) → slice_get ds d ≡ Some x →
+    ((a : EnvironmentState) (s : DeviceState) → StandsForEnvironment (kept ds ks) a → slice_get a.devices d ≡ Some s → StandsForDevice x s → StandsForLink (kept ds' ks') l' (f s (open_link a l))) →
+    (a : EnvironmentState) → StandsForEnvironment (kept ds ks) a → StandsForLink (kept ds' ks') l' (in_device opcode d f (slice_get a.devices d) (open_link a l))
+device_found ds ds' ks ks' l l' opcode d x f here step a h =
+    let r : Found a.devices d x = found ds a.devices d x here h.0 in
+    subst (λ o. StandsForLink (kept ds' ks') l' (in_device opcode d f o (open_link a l))) (sym r.here) (step a r.state h r.here r.stands)
+
+-- what a device at a number stands for
+pub stands_here : (ds : List KeptDevice) (ks : List KeptDeferral) (a : EnvironmentState) (d : ℕ) (x : KeptDevice) (s : DeviceState) → StandsForEnvironment (kept ds ks) a → slice_get ds d ≡ Some x → slice_get a.devices d ≡ Some s → StandsForDevice x s
+stands_here ds ks a d x s h here there =
+    let r : Found a.devices d x = found ds a.devices d x here h.0 in
+    let same : r.state ≡ s = let both : Some r.state ≡ Some s = sym r.here ∙ there in cc in
+    subst (StandsForDevice x) same r.stands
+
+-- a device that is there
+pub any_device : (ds ds' : List KeptDevice) (ks ks' : List KeptDeferral) (l l' : LinkState) (opcode d : ℕ) (f : DeviceState → OpenLink → OpenLink) → d < length ds →
+    ((a : EnvironmentState) (s : DeviceState) → StandsForEnvironment (kept ds ks) a → slice_get a.devices d ≡ Some s → StandsForLink (kept ds' ks') l' (f s (open_link a l))) →
+    (a : EnvironmentState) → StandsForEnvironment (kept ds ks) a → StandsForLink (kept ds' ks') l' (in_device opcode d f (slice_get a.devices d) (open_link a l))
+any_device ds ds' ks ks' l l' opcode d f there step a h =
+    let r = state_there ds a.devices d there h.0 in
+    subst (λ o. StandsForLink (kept ds' ks') l' (in_device opcode d f o (open_link a l))) (sym r.1) (step a r.0 h r.1)
+
+-- the time that is kept is the time that is told
+pub time_told : (l l' : LinkState) (x : KeptDevice) (t : ℕ) → t ≡ x.next.time → l' ≡ record l { pending = l.pending ++ reply_message 2 (time t) l.sequence } →
+    (s : DeviceState) → StandsForDevice x s → ChangesLink (tell_time s) l l'
+time_told l l' x t is e s h a =
+    let said : ℕ → LinkState = λ t. record l { pending = l.pending ++ reply_message 2 (time t) l.sequence } in
+    (ap said (sym h.hears.time ∙ sym is) ∙ sym e, refl, refl)
+
+-- ChangeAC
+
+pub changed : (l l1 l2 : LinkState) (mask ac preempt : ℕ) (play_gain record_gain : ℤ) (p r : Option ℤ) (b : Option Bool) → p ≡ named_gain mask 1 play_gain → r ≡ named_gain mask 2 record_gain → b ≡ named_preempt mask preempt →
+    l1 ≡ record l { contexts = with_changed l.contexts ac (with_settings p r b) } → l2 ≡ record l1 { pending = l1.pending ++ reply_message 4 plain l1.sequence } → ChangesLink (change mask ac preempt play_gain record_gain) l l2
+changed l l1 l2 mask ac preempt play_gain record_gain p r b e1 e2 e3 e4 e5 a =
+    let told : LinkState → LinkState = λ m. record m { pending = m.pending ++ reply_message 4 plain m.sequence } in
+    let set : Option ℤ → Option ℤ → Option Bool → LinkState = λ p r b. record l { contexts = with_changed l.contexts ac (with_settings p r b) } in
+    (sym (e5 ∙ ap told (e4 ∙ ap (λ p. set p r b) e1 ∙ ap (λ r. set (named_gain mask 1 play_gain) r b) e2 ∙ ap (set (named_gain mask 1 play_gain) (named_gain mask 2 record_gain)) e3)), refl, refl)
+
+-- a context that is changed is in use
+pub change_in_use : (contexts : List Context) (mask ac preempt : ℕ) (play_gain record_gain : ℤ) → change_refusal contexts mask ac preempt play_gain record_gain ≡ None → reference contexts ac ≡ Ok tt
+unfolding change_refusal
+change_in_use contexts mask ac preempt play_gain record_gain e =
+    let one = pass_first (not (is_in_use contexts ac)) BadAc ac (check (not (is_in_use contexts ac)) BadAc ac)
+    (where_named mask 1 (check_gain play_gain) ∷ where_named mask 2 (check_gain record_gain) ∷ where_named mask 4 (check (nat_lt 1 preempt) BadValue preempt) ∷ []) refl e in
+    ap (λ b. cond b (Ok tt) (Err BadAc')) (not_false (is_in_use contexts ac) one.0)
+
+-- A request that is refused, or is done where its checks pass
+
+pub at_refused : (ds : List KeptDevice) (ks : List KeptDeferral) (l l' : LinkState) (opcode : ℕ) (o : Option Refusal) (r : Refusal) (f : OpenLink → OpenLink) (a : EnvironmentState) → o ≡ Some r → l' ≡ with_error opcode r l → StandsForEnvironment (kept ds ks) a →
+    StandsForLink (kept ds ks) l' (refused_or opcode o f (open_link a l))
+at_refused ds ks l l' opcode o r f a is e h = leads_at ds ks l l' (refused_or opcode o f) a (leads_refused l l' opcode o r f is e a) h
+
+pub at_passed : (ds : List KeptDevice) (ks : List KeptDeferral) (l l' : LinkState) (opcode : ℕ) (o : Option Refusal) (f : OpenLink → OpenLink) (a : EnvironmentState) → o ≡ None → StandsForLink (kept ds ks) l' (f (open_link a l)) → StandsForLink (kept ds ks) l' (refused_or opcode o f (open_link a l))
+at_passed ds ks l l' opcode o f a is at = subst (λ o. StandsForLink (kept ds ks) l' (refused_or opcode o f (open_link a l))) (sym is) at
+
+pub either_at : (ds : List KeptDevice) (ks : List KeptDeferral) (l : LinkState) (test b : Bool) (p q : OpenLink) → test ≡ b → StandsForLink (kept ds ks) l (cond b p q) → StandsForLink (kept ds ks) l (cond test p q)
+either_at ds ks l test b p q is at = subst (λ t. StandsForLink (kept ds ks) l (cond t p q)) (sym is) at
+
+-- Plays
+
+-- what a play that is accepted is told
+told_at : (ds : List KeptDevice) (ks : List KeptDeferral) (a : EnvironmentState) (l l' : LinkState) (quiet : Bool) (s : DeviceState) (t : ℕ) → StandsForEnvironment (kept ds ks) a → t ≡ s.now % 2 ^ 32 →
+    l' ≡ cond quiet l (record l { pending = l.pending ++ reply_message 6 (played t) l.sequence }) → StandsForLink (kept ds ks) l' (tell_played quiet s (open_link a l))
+told_at ds ks a l l' true s t h is e = (h, sym e)
+told_at ds ks a l l' false s t h is e = (h, ap (λ t. record l { pending = l.pending ++ reply_message 6 (played t) l.sequence }) (sym is) ∙ sym e)
+
+-- one device changes, but not its time and its rate
+pub device_changes : (ds : List KeptDevice) (ks : List KeptDeferral) (d : ℕ) (x' : KeptDevice) (a : EnvironmentState) (s : DeviceState) (f : DeviceState → DeviceState) → StandsForEnvironment (kept ds ks) a → slice_get a.devices d ≡ Some s →
+    StandsForDevice x' (f s) → (f s).now ≡ s.now → (f s).rate ≡ s.rate → StandForDevices (slice_set ds d x') (with_device d f a.devices) × StandForDeferrals (with_device d f a.devices) ks a.waiting
+device_changes ds ks d x' a s f h there stands now rate =
+    subst (λ o. StandForDevices (slice_set ds d x') (device_set d f a.devices o) × StandForDeferrals (device_set d f a.devices o) ks a.waiting) (sym there)
+    (stands_set ds a.devices d x' (f s) h.0 stands, waits_set a.devices d s (f s) ks a.waiting there now rate h.1)
+
+-- a device that changed in answer to a play, of which the link is told
+pub play_told : (ds : List KeptDevice) (ks : List KeptDeferral) (i : ℕ) (x' : KeptDevice) (l l' : LinkState) (quiet : Bool) (d t : ℕ) (f : DeviceState → DeviceState) (a : EnvironmentState) (s : DeviceState) → i ≡ d → StandsForEnvironment (kept ds ks) a →
+    slice_get a.devices d ≡ Some s → StandsForDevice x' (f s) → (f s).now ≡ s.now → (f s).rate ≡ s.rate → t ≡ x'.next.time → l' ≡ cond quiet l (record l { pending = l.pending ++ reply_message 6 (played t) l.sequence }) →
+    StandsForLink (kept (slice_set ds i x') ks) l' (tell_played quiet s (in_devices d f (open_link a l)))
+play_told ds ks i x' l l' quiet d t f a s number h there stands now rate is e =
+    let time : t ≡ s.now % 2 ^ 32 = is ∙ stands.hears.time ∙ ap (λ n. n % 2 ^ 32) now in
+    subst (λ i. StandsForLink (kept (slice_set ds i x') ks) l' (tell_played quiet s (in_devices d f (open_link a l)))) (sym number)
+    (told_at (slice_set ds d x') ks (in_devices d f (open_link a l)).environment l l' quiet s t (device_changes ds ks d x' a s f h there stands now rate) time e)
+
+-- a play that ends within the horizon is accepted
+pub play_started : (ds ds' : List KeptDevice) (ks : List KeptDeferral) (x : KeptDevice) (l l' : LinkState) (k : ℕ) (quiet : Bool) (c : Context) (start : ℕ) (bytes : List ℕ) (sound : List ℤ) (a : EnvironmentState) (s : DeviceState) → start < 2 ^ 32 → StandsForDevice x s →
+    sound ≡ sent_sound c bytes → length sound ≡ frames_of c (length bytes) → length sound ≤ frames_within x.next start →
+    StandsForLink (kept ds' ks) l' (tell_played quiet s (in_devices c.device (accepting (accepted_at s.now start sound c.preempt)) (open_link a l))) → StandsForLink (kept ds' ks) l' (start_play k quiet c start bytes s (open_link a l))
+play_started ds ds' ks x l l' k quiet c start bytes sound a s word h is size within at =
+    let same = within-same x s start word h in
+    let test : nat_le (frames_of c (length bytes)) (s.now + s.rate * 4 - unwrap s.now start) ≡ true = grind (arith, nat_tests) in
+    either_at ds' ks l' (nat_le (frames_of c (length bytes)) (s.now + s.rate * 4 - unwrap s.now start)) true (tell_played quiet s (in_devices c.device (accepting (entry_now c s start bytes)) (open_link a l)))
+    (wait k c.device (deferred_play quiet (unwrap s.now start) (sent_sound c bytes) c.preempt) (open_link a l)) test
+    (subst (λ xs. StandsForLink (kept ds' ks) l' (tell_played quiet s (in_devices c.device (accepting (accepted_at s.now start xs c.preempt)) (open_link a l)))) is at)
+
+-- and any other waits
+pub play_waits : (ds : List KeptDevice) (ks ks' : List KeptDeferral) (x : KeptDevice) (l : LinkState) (k : ℕ) (quiet : Bool) (c : Context) (start : ℕ) (bytes : List ℕ) (sound : List ℤ) (left : ℕ) (a : EnvironmentState) (s : DeviceState) → start < 2 ^ 32 → StandsForEnvironment (kept ds ks) a →
+    slice_get a.devices c.device ≡ Some s → StandsForDevice x s → sound ≡ sent_sound c bytes → length sound ≡ frames_of c (length bytes) → length sound ≤ 16368 → frames_within x.next start < length sound → left ≡ play_beyond x.next start (length sound) →
+    ks' ≡ ks ++ record { wait = record { link = k; device = c.device; left = left }; deferred = deferred_play quiet start sound c.preempt } ∷ [] → StandsForLink (kept ds ks') l (start_play k quiet c start bytes s (open_link a l))
+play_waits ds ks ks' x l k quiet c start bytes sound left a s word h there stands is size few past count e =
+    let same = within-same x s start word stands in
+    let meant = start_meant x s start word stands in
+    let bounds = horizon_bounds s x stands in
+    let far = bounds.0 in
+    let late = meant.late in
+    let beyond = play_beyond-same x s start (length sound) word stands in
+    let test : nat_le (frames_of c (length bytes)) (s.now + s.rate * 4 - unwrap s.now start) ≡ false = grind (arith, nat_tests) in
+    let deferred : ℕ → List ℤ → Deferred = λ w xs. deferred_play quiet w xs c.preempt in
+    let one : StandsForDeferral a.devices (record { wait = record { link = k; device = c.device; left = left }; deferred = deferred_play quiet start sound c.preempt }) (record { link = k; device = c.device; deferred = deferred_play quiet (unwrap s.now start) sound c.preempt }) = record {
+      link = refl;
+      device = refl;
+      deferred = ap (λ w. deferred w sound) (sym meant.word);
+      state = s;
+      here = there;
+      left = omega arith;
+      near = (omega arith, late, few);
+    } in
+    either_at ds ks' l (nat_le (frames_of c (length bytes)) (s.now + s.rate * 4 - unwrap s.now start)) false (tell_played quiet s (in_devices c.device (accepting (entry_now c s start bytes)) (open_link a l)))
+    (wait k c.device (deferred_play quiet (unwrap s.now start) (sent_sound c bytes) c.preempt) (open_link a l)) test
+    (subst (λ xs. StandsForLink (kept ds ks') l (wait k c.device (deferred_play quiet (unwrap s.now start) xs c.preempt) (open_link a l))) is
+    (subst (λ qs. StandsForLink (kept ds qs) l (wait k c.device (deferred_play quiet (unwrap s.now start) sound c.preempt) (open_link a l))) (sym e)
+    ((h.0, waits_push a.devices ks a.waiting (record { wait = record { link = k; device = c.device; left = left }; deferred = deferred_play quiet start sound c.preempt }) (record { link = k; device = c.device; deferred = deferred_play quiet (unwrap s.now start) sound c.preempt }) h.1 one), refl)))
+
+-- a play that had waited
+play_completed : (ds : List KeptDevice) (ks : List KeptDeferral) (i : ℕ) (x' : KeptDevice) (x : KeptDevice) (l l' : LinkState) (quiet : Bool) (d start t : ℕ) (sound : List ℤ) (preempt : Bool) (a : EnvironmentState) (s : DeviceState) (whole : ℕ) → i ≡ d → StandsForEnvironment (kept ds ks) a →
+    slice_get a.devices d ≡ Some s → StandsForDevice x s → start ≡ whole % 2 ^ 32 → IsNear (s.rate * 4) s.now (deferred_play quiet whole sound preempt) → StandsForDevice x' (accepting (accepted_at s.now start sound preempt) s) → t ≡ x'.next.time →
+    l' ≡ cond quiet l (record l { pending = l.pending ++ reply_message 6 (played t) l.sequence }) → StandsForLink (kept (slice_set ds i x') ks) l' (answer_deferred (deferred_play quiet whole sound preempt) s (in_devices d (completing (deferred_play quiet whole sound preempt)) (open_link a l)))
+play_completed ds ks i x' x l l' quiet d start t sound preempt a s whole number h there stands word near accepted is e =
+    let deferred : Deferred = deferred_play quiet whole sound preempt in
+    let early = near.0 in
+    let means : unwrap s.now start ≡ whole = near_start x s start whole stands word (omega arith) near.1 in
+    let entry : ℕ → AcceptedPlay = λ w. record { start = w; samples = sound; preempt = preempt; at = s.now } in
+    play_told ds ks i x' l l' quiet d t (completing deferred) a s number h there
+    (completes x' s deferred (subst (λ w. StandsForDevice x' (accepting (entry w) s)) means accepted) early) refl refl is e
+
+pub play_completes : (ds : List KeptDevice) (ks : List KeptDeferral) (i : ℕ) (x' : KeptDevice) (x : KeptDevice) (l l' : LinkState) (quiet : Bool) (d start t : ℕ) (sound : List ℤ) (preempt : Bool) (a : EnvironmentState) (s : DeviceState) (deferred : Deferred) → i ≡ d → StandsForEnvironment (kept ds ks) a →
+    slice_get a.devices d ≡ Some s → StandsForDevice x s → deferred_play quiet start sound preempt ≡ worded deferred → IsNear (s.rate * 4) s.now deferred → StandsForDevice x' (accepting (accepted_at s.now start sound preempt) s) → t ≡ x'.next.time →
+    l' ≡ cond quiet l (record l { pending = l.pending ++ reply_message 6 (played t) l.sequence }) → StandsForLink (kept (slice_set ds i x') ks) l' (answer_deferred deferred s (in_devices d (completing deferred) (open_link a l)))
+play_completes ds ks i x' x l l' quiet d start t sound preempt a s deferred number h there stands word near accepted is e =
+    let r = play_is deferred quiet start sound preempt word in
+    subst (λ (y : Deferred). StandsForLink (kept (slice_set ds i x') ks) l' (answer_deferred y s (in_devices d (completing y) (open_link a l)))) (sym r.1)
+    (play_completed ds ks i x' x l l' quiet d start t sound preempt a s r.0 number h there stands r.2 (subst (IsNear (s.rate * 4) s.now) r.1 near) accepted is e)
+
+-- Records
+
+pub frames_given : (l l' : LinkState) (c : Context) (start : ℕ) (x : KeptDevice) (t n : ℕ) (given : List ℕ) → t ≡ x.next.time → ((s : DeviceState) → StandsForDevice x s → given ≡ recorded_bytes c s (unwrap s.now start) n) →
+    l' ≡ record l { pending = l.pending ++ reply_message 7 (recorded t given) l.sequence } → (s : DeviceState) → StandsForDevice x s → ChangesLink (give_record c (unwrap s.now start) n s) l l'
+frames_given l l' c start x t n given is gives e s h a =
+    let said : ℕ → List ℕ → LinkState = λ t given. record l { pending = l.pending ++ reply_message 7 (recorded t given) l.sequence } in
+    (sym (e ∙ ap (λ t. said t given) (is ∙ h.hears.time) ∙ ap (said (s.now % 2 ^ 32)) (gives s h)), refl, refl)
+
+pub record_given : (l l' : LinkState) (blocking : Bool) (c : Context) (start frames : ℕ) (x : KeptDevice) (n : ℕ) → start < 2 ^ 32 → n ≡ cond blocking frames (min (frames_before x.last start) frames) →
+    ((s : DeviceState) → StandsForDevice x s → ChangesLink (give_record c (unwrap s.now start) n s) l l') → (s : DeviceState) → StandsForDevice x s → ChangesLink (give_record c (unwrap s.now start) (given_frames blocking s start frames) s) l l'
+record_given l l' blocking c start frames x n word few leads s h =
+    let count : n ≡ cond blocking frames (min (s.now - unwrap s.now start) frames) = few ∙ ap (λ m. cond blocking frames (min m frames)) (before-same x s start word h) in
+    subst (λ m. ChangesLink (give_record c (unwrap s.now start) m s) l l') count (leads s h)
+
+-- a record that is answered now
+pub record_started : (ds : List KeptDevice) (ks : List KeptDeferral) (x : KeptDevice) (l l' : LinkState) (k : ℕ) (blocking : Bool) (c : Context) (start bytes frames : ℕ) (a : EnvironmentState) (s : DeviceState) → start < 2 ^ 32 → StandsForEnvironment (kept ds ks) a → StandsForDevice x s →
+    frames ≡ frames_of c bytes → (blocking && nat_lt (frames_before x.last start) frames) ≡ false → ChangesLink (give_record c (unwrap s.now start) (given_frames blocking s start (frames_of c bytes)) s) l l' →
+    StandsForLink (kept ds ks) l' (start_record k blocking c start bytes s (open_link a l))
+record_started ds ks x l l' k blocking c start bytes frames a s word h stands all now leads =
+    let test : (blocking && nat_lt (s.now - unwrap s.now start) (frames_of c bytes)) ≡ false =
+    sym (ap (λ m. blocking && nat_lt m frames) (before-same x s start word stands) ∙ ap (λ m. blocking && nat_lt (s.now - unwrap s.now start) m) all) ∙ now in
+    either_at ds ks l' (blocking && nat_lt (s.now - unwrap s.now start) (frames_of c bytes)) false (wait k c.device (deferred_record c (unwrap s.now start) (frames_of c bytes)) (open_link a l))
+    (give_record c (unwrap s.now start) (given_frames blocking s start (frames_of c bytes)) s (open_link a l)) test
+    (leads_at ds ks l l' (give_record c (unwrap s.now start) (given_frames blocking s start (frames_of c bytes)) s) a (leads a) h)
+
+-- and one that waits
+pub record_waits : (ds : List KeptDevice) (ks ks' : List KeptDeferral) (x : KeptDevice) (l : LinkState) (k : ℕ) (blocking : Bool) (c : Context) (start bytes frames left : ℕ) (a : EnvironmentState) (s : DeviceState) → start < 2 ^ 32 → StandsForEnvironment (kept ds ks) a →
+    slice_get a.devices c.device ≡ Some s → StandsForDevice x s → frames ≡ frames_of c bytes → frames ≤ 16000 → (blocking && nat_lt (frames_before x.last start) frames) ≡ true → left ≡ record_beyond x.last start frames →
+    ks' ≡ ks ++ record { wait = record { link = k; device = c.device; left = left }; deferred = deferred_record c start frames } ∷ [] → StandsForLink (kept ds ks') l (start_record k blocking c start bytes s (open_link a l))
+record_waits ds ks ks' x l k blocking c start bytes frames left a s word h there stands all few waits count e =
+    let before = before-same x s start word stands in
+    let test : (blocking && nat_lt (s.now - unwrap s.now start) (frames_of c bytes)) ≡ true =
+    sym (ap (λ m. blocking && nat_lt m frames) before ∙ ap (λ m. blocking && nat_lt (s.now - unwrap s.now start) m) all) ∙ waits in
+    let past : nat_lt (frames_before x.last start) frames ≡ true = (both-true blocking (nat_lt (frames_before x.last start) frames) waits).1 in
+    let meant = start_meant x s start word stands in
+    let late = meant.late in
+    let bounds = horizon_bounds s x stands in
+    let far = bounds.0 in
+    let beyond = record_beyond-same x s start frames word stands in
+    let not_before : s.now < unwrap s.now start + frames = let lt : frames_before x.last start < frames = grind (arith, nat_tests) in omega (arith, lt, before) in
+    let one : StandsForDeferral a.devices (record { wait = record { link = k; device = c.device; left = left }; deferred = deferred_record c start frames }) (record { link = k; device = c.device; deferred = deferred_record c (unwrap s.now start) frames }) = record {
+      link = refl;
+      device = refl;
+      deferred = ap (λ w. deferred_record c w frames) (sym meant.word);
+      state = s;
+      here = there;
+      left = count ∙ beyond;
+      near = (omega arith, late, few);
+    } in
+    either_at ds ks' l (blocking && nat_lt (s.now - unwrap s.now start) (frames_of c bytes)) true (wait k c.device (deferred_record c (unwrap s.now start) (frames_of c bytes)) (open_link a l))
+    (give_record c (unwrap s.now start) (given_frames blocking s start (frames_of c bytes)) s (open_link a l)) test
+    (subst (λ m. StandsForLink (kept ds ks') l (wait k c.device (deferred_record c (unwrap s.now start) m) (open_link a l))) all
+    (subst (λ qs. StandsForLink (kept ds qs) l (wait k c.device (deferred_record c (unwrap s.now start) frames) (open_link a l))) (sym e)
+    ((h.0, waits_push a.devices ks a.waiting (record { wait = record { link = k; device = c.device; left = left }; deferred = deferred_record c start frames }) (record { link = k; device = c.device; deferred = deferred_record c (unwrap s.now start) frames }) h.1 one), refl)))
+
+-- a record that had waited
+record_completed : (ds : List KeptDevice) (ks : List KeptDeferral) (x : KeptDevice) (l l' : LinkState) (c : Context) (d start frames : ℕ) (a : EnvironmentState) (s : DeviceState) (whole : ℕ) → slice_get ds d ≡ Some x → StandsForEnvironment (kept ds ks) a →
+    slice_get a.devices d ≡ Some s → StandsForDevice x s → start ≡ whole % 2 ^ 32 → IsNear (s.rate * 4) s.now (deferred_record c whole frames) → ChangesLink (give_record c (unwrap s.now start) frames s) l l' →
+    StandsForLink (kept ds ks) l' (answer_deferred (deferred_record c whole frames) s (in_devices d (completing (deferred_record c whole frames)) (open_link a l)))
+record_completed ds ks x l l' c d start frames a s whole here h there stands word near leads =
+    let deferred : Deferred = deferred_record c whole frames in
+    let bounds = horizon_bounds s x stands in
+    let wide = bounds.1 in
+    let early = near.0 in
+    let means : unwrap s.now start ≡ whole = near_start x s start whole stands word (omega arith) near.1 in
+    let environment = (in_devices d (completing deferred) (open_link a l)).environment in
+    let gives : ChangesLink (give_record c whole frames s) l l' = subst (λ w. ChangesLink (give_record c w frames s) l l') means leads in
+    let changed = device_changes ds ks d x a s (completing deferred) h there (completes x s deferred stands early) refl refl in
+    leads_at ds ks l l' (give_record c whole frames s) environment (gives environment)
+    (subst (λ xs. StandForDevices xs environment.devices × StandForDeferrals environment.devices ks a.waiting) (same_set ds d x here) changed)
+
+pub record_completes : (ds : List KeptDevice) (ks : List KeptDeferral) (x : KeptDevice) (l l' : LinkState) (c : Context) (d start frames : ℕ) (a : EnvironmentState) (s : DeviceState) (deferred : Deferred) → slice_get ds d ≡ Some x → StandsForEnvironment (kept ds ks) a →
+    slice_get a.devices d ≡ Some s → StandsForDevice x s → deferred_record c start frames ≡ worded deferred → IsNear (s.rate * 4) s.now deferred → ChangesLink (give_record c (unwrap s.now start) frames s) l l' →
+    StandsForLink (kept ds ks) l' (answer_deferred deferred s (in_devices d (completing deferred) (open_link a l)))
+record_completes ds ks x l l' c d start frames a s deferred here h there stands word near leads =
+    let r = record_is deferred c start frames word in
+    subst (λ (y : Deferred). StandsForLink (kept ds ks) l' (answer_deferred y s (in_devices d (completing y) (open_link a l)))) (sym r.1)
+    (record_completed ds ks x l l' c d start frames a s r.0 here h there stands r.2 (subst (IsNear (s.rate * 4) s.now) r.1 near) leads)

@@ -1,8 +1,0 @@
-use Rattle.std.proofs.Common.{◌∙◌, ap, sym, List}
-use Rattle.af_wait.specs.Waits.{is_waiting}
-use Rattle.af_perform.specs.Waits.{KeptWait, has_waiting}
-use Rattle.af_perform.proofs.Holding.{waits_of-kept}
-use Rattle.af_perform.proofs.waits.Waits.is_waiting.Goals as goal
-
-pub returns : goal.returns
-returns c = c.is_waiting.ensures ∙ ap (λ ws. is_waiting ws c.args.link) (sym (waits_of-kept c.self.inside.held.items c.self.inside.order)) ∙ ap (λ (ks : List KeptWait). has_waiting ks c.args.link) c.self.view_is

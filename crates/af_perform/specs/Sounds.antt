@@ -1,0 +1,53 @@
+-- What plays and records lead to, and those that waited.
+use Rattle.std.specs.Prelude.{◌≡◌, ℕ, List, length, slice_get}
+use Rattle.std.specs.declared.option.Option.TheVariants.{Some}
+use Rattle.af_context.specs.declared.Context.{Context}
+use Rattle.af_buffers.specs.PlayBuffer.{accepted_at}
+use Rattle.af_model.specs.State.{EnvironmentState, DeviceState, Deferred, LinkState, OpenLink, open_link}
+use Rattle.af_model.specs.Reply.{horizon_of}
+use Rattle.af_model.specs.Checks.{in_device}
+use Rattle.af_model.specs.Play.{accepting, frames_of, in_devices, play, sent_sound, start_play, tell_played}
+use Rattle.af_model.specs.Record.{record_sound}
+use Rattle.af_model.specs.Tick.{answer_deferred, completing}
+use Rattle.af_state.specs.declared.deferred_request.Play.{Play}
+use Rattle.af_state.specs.Kept.{KeptDevice}
+use Rattle.af_state.specs.Deferrals.{IsNear, KeptDeferral, worded}
+use Rattle.af_perform.specs.declared.play.ContextPlay.{ContextPlay}
+use Rattle.af_perform.specs.declared.record.ContextRecord.{ContextRecord}
+use Rattle.af_state.specs.Environment.{StandsForLink, StepsLinkFor, StandsForEnvironment, kept}
+
+-- a play is the sound that a client sends by a context in these bytes
+pub record IsSoundOf (p : Play) (c : Context) (bytes : List ℕ) : Type 0 where
+  pub device : p.device ≡ c.device
+  pub preempt : p.preempt ≡ c.preempt
+  pub sound : p.sound.now ≡ sent_sound c bytes
+  pub frames : length p.sound.now ≡ frames_of c (length bytes)
+
+-- a request that names a device is done with it, if it is there
+abbrev pub with_named_device : ℕ → ℕ → (DeviceState → OpenLink → OpenLink) → OpenLink → OpenLink
+with_named_device opcode d f p = in_device opcode d f (slice_get p.environment.devices d) p
+
+-- a play and a record whose context is found
+abbrev pub play_by_context : ℕ → ContextPlay → DeviceState → OpenLink → OpenLink
+play_by_context k p = play k p.quiet p.context p.start.0 p.bytes.now
+
+abbrev pub start_play_of : ℕ → ContextPlay → DeviceState → OpenLink → OpenLink
+start_play_of k p = start_play k p.quiet p.context p.start.0 p.bytes.now
+
+abbrev pub record_by_context : ℕ → ContextRecord → DeviceState → OpenLink → OpenLink
+record_by_context k r = record_sound k r.blocking r.context r.start.0 r.bytes
+
+-- a device accepts a play, and the link is replied to
+abbrev pub accept_now : Play → DeviceState → OpenLink → OpenLink
+accept_now play s p = tell_played play.quiet s
+    (in_devices play.device (accepting (accepted_at s.now play.start.0 play.sound.now play.preempt)) p)
+
+abbrev pub AcceptsPlay : Play → List KeptDevice → LinkState → List KeptDevice → LinkState → Type 0
+AcceptsPlay play ds l ds' l' = (ks : List KeptDeferral) → StepsLinkFor play.device (accept_now play) (kept ds ks) l (kept ds' ks) l'
+
+-- a request that waited for a device completes, whatever whole start its word means
+abbrev pub CompletesDeferred : Deferred → ℕ → List KeptDevice → LinkState → List KeptDevice → LinkState → Type 0
+CompletesDeferred word d ds l ds' l' =
+    (ks : List KeptDeferral) (a : EnvironmentState) (s : DeviceState) (deferred : Deferred) → StandsForEnvironment (kept ds ks) a →
+    slice_get a.devices d ≡ Some s → word ≡ worded deferred → IsNear (horizon_of s) s.now deferred →
+    StandsForLink (kept ds' ks) l' (answer_deferred deferred s (in_devices d (completing deferred) (open_link a l)))

@@ -1,0 +1,4 @@
+pub mod DeviceLemmas
+pub mod DeferredRequestLemmas
+pub mod DeferralLemmas
+pub mod PlayLemmas

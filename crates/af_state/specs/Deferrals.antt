@@ -1,0 +1,101 @@
+-- The requests that wait, as the server keeps them.
+use Rattle.std.specs.Prelude.{◌≡◌, ◌≢◌, ℕ, ◌+◌, ◌-◌, ◌%◌, ◌^◌, ◌<◌, ◌≤◌, ◌==◌, Bool, false, List, [], ◌∷◌, ◌++◌, length, map, filter, not, slice_get, slice_index_or}
+use Rattle.std.specs.declared.option.Option.TheVariants.{Some}
+use Rattle.af_wait.specs.declared.Wait.{Wait}
+use Rattle.af_wait.specs.Waits.{is_due, is_waiting, passed}
+use Rattle.af_model.specs.State.{DeviceState, Deferred, deferred_play, deferred_record, Deferral}
+use Rattle.af_model.specs.Reply.{horizon_of}
+use Rattle.af_model.specs.Waiting.{due}
+use Rattle.af_buffers.specs.PlayBuffer.{frames_within}
+use Rattle.af_state.specs.Kept.{KeptDevice}
+
+-- a link that waits: how long it has to, and for what; of the start only the 32-bit word is kept
+pub record KeptDeferral : Type 0 where
+  pub wait : Wait
+  pub deferred : Deferred
+
+-- a link waits for n frames of a device with a request
+abbrev pub waiting : ℕ → ℕ → ℕ → Deferred → KeptDeferral
+waiting link device left deferred = record { wait = record { link = link; device = device; left = left }; deferred = deferred }
+
+-- a wait with what the room of its link holds
+abbrev pub kept_deferral : List Deferred → Wait → KeptDeferral
+kept_deferral room w = record { wait = w; deferred = slice_index_or room w.link (deferred_play false 0 [] false) }
+
+abbrev pub waits_of : List KeptDeferral → List Wait
+waits_of ks = map (λ k. k.wait) ks
+
+-- whether a link waits
+abbrev pub has_waiting : List KeptDeferral → ℕ → Bool
+has_waiting ks link = is_waiting (waits_of ks) link
+
+-- whether a link waits for a device, and is due
+abbrev pub kept_due : ℕ → KeptDeferral → Bool
+kept_due device k = is_due device k.wait
+
+-- when n frames of a device have passed
+abbrev pub kept_passed : ℕ → ℕ → KeptDeferral → KeptDeferral
+kept_passed device n k = record k { wait = passed device n k.wait }
+
+-- the links that wait, without one of them
+abbrev pub kept_without : ℕ → List KeptDeferral → List KeptDeferral
+kept_without link ks = filter (λ k. not (k.wait.link == link)) ks
+
+-- each waits a frame or more still
+abbrev pub AreLater : List KeptDeferral → Type 0
+AreLater [] = Unit {0}
+AreLater (k ∷ ks) = (0 < k.wait.left) × AreLater ks
+
+-- each does that is not due of a device
+abbrev pub AreLaterBut : ℕ → List KeptDeferral → Type 0
+AreLaterBut device [] = Unit {0}
+AreLaterBut device (k ∷ ks) = (kept_due device k ≡ false → 0 < k.wait.left) × AreLaterBut device ks
+
+-- each is of a link, and waits a frame or more
+abbrev pub AreNew : ℕ → List KeptDeferral → Type 0
+AreNew link [] = Unit {0}
+AreNew link (k ∷ ks) = (k.wait.link ≡ link) × (0 < k.wait.left) × AreNew link ks
+
+-- only one link may have begun to wait, behind all others, for a frame or more
+pub record OnlyQueues (link : ℕ) (old new : List KeptDeferral) : Type 0 where
+  pub more : List KeptDeferral
+  pub is : new ≡ old ++ more
+  pub are_new : AreNew link more
+
+-- no other link began to wait or ended it, and each that waits does for a frame or more where each did
+pub record LeavesOthers (link : ℕ) (old new : List KeptDeferral) : Type 0 where
+  pub later : AreLater old → AreLater new
+  pub others : (j : ℕ) → j ≢ link → has_waiting new j ≡ has_waiting old j
+
+-- a request with the word of its start
+abbrev pub worded : Deferred → Deferred
+worded (deferred_play quiet start sound preempt) = deferred_play quiet (start % 2 ^ 32) sound preempt
+worded (deferred_record c start frames) = deferred_record c (start % 2 ^ 32) frames
+
+-- A request is near a time: completed then it loses nothing, its word means its start, and it has no more than a play or a record
+-- may.
+abbrev pub IsNear : ℕ → ℕ → Deferred → Type 0
+IsNear horizon now (deferred_play quiet start sound preempt) = (now ≤ start) × (start < now + 2 ^ 31) × (length sound ≤ 16368)
+IsNear horizon now (deferred_record c start frames) = (now ≤ start + horizon) × (start < now + 2 ^ 31) × (frames ≤ 16000)
+
+-- a play ends within a device's horizon
+abbrev pub DeferredEndsWithin : KeptDevice → Deferred → Type 0
+DeferredEndsWithin d (deferred_play quiet start sound preempt) = length sound ≤ frames_within d.next start
+DeferredEndsWithin d (deferred_record c start frames) = Unit {0}
+
+-- What is kept of a link that waits stands for it: the frames that are left are the due time less now.
+pub record StandsForDeferral (devices : List DeviceState) (k : KeptDeferral) (w : Deferral) : Type 0 where
+  pub link : k.wait.link ≡ w.link
+  pub device : k.wait.device ≡ w.device
+  pub deferred : k.deferred ≡ worded w.deferred
+  pub state : DeviceState
+  pub here : slice_get devices w.device ≡ Some state
+  pub left : k.wait.left ≡ due (horizon_of state) w.deferred - state.now
+  pub near : IsNear (horizon_of state) state.now w.deferred
+
+-- they stand for those that wait one by one
+abbrev pub StandForDeferrals : List DeviceState → List KeptDeferral → List Deferral → Type 0
+StandForDeferrals devices [] [] = Unit {0}
+StandForDeferrals devices [] (w ∷ ws) = ⊥
+StandForDeferrals devices (k ∷ ks) [] = ⊥
+StandForDeferrals devices (k ∷ ks) (w ∷ ws) = StandsForDeferral devices k w × StandForDeferrals devices ks ws

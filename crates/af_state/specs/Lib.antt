@@ -1,0 +1,5 @@
+pub mod Deferred
+pub mod Kept
+pub mod Environment
+pub mod Deferrals
+pub mod Lending

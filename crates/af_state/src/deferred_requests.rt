@@ -1,0 +1,146 @@
+// The requests that wait, each with what it will do.
+// How they lie: `order` lists who waits, oldest first, each with its device and the frames that are left; `deferred` has a place for
+// each of 32 links, by number: the request, and room for the samples of a play, all taken once. A link that begins to wait fills
+// its place and goes to the end of the list. One that ends leaves the list alone: no sample is moved, and what stands in its
+// place means nothing any more. Contracts see one list: each that waits, in order, joined with what its place holds.
+ghost use Rattle.std.specs.Prelude.{◌≡◌, ◌<◌, ◌≤◌, ◌*◌, false, [], ◌∷◌, ◌++◌, length, map, find, option_map, IfOk, IfSome};
+ghost use Rattle.std.specs.List.{All};
+ghost use Rattle.af_sample.specs.SampleTypes.{width_of};
+ghost use Rattle.af_wait.specs.Waits.{without_first};
+ghost use Rattle.af_state.specs.Deferred.{deferred_of_play, deferred_of_record};
+ghost use Rattle.af_state.specs.Deferrals.{has_waiting, kept_due, kept_passed, kept_without, waiting, waits_of};
+
+use crate::deferred_request::{DeferredRequest, Play, Record};
+use af_time::OutOfMemory;
+use af_wait::Waiting;
+use std::alloc::Global;
+use std::marker::Model;
+
+/// The requests that wait, in the order in which they began to. All their memory is taken here: there is room for one request of
+/// each of 32 links.
+#[derive(Drop)]
+pub struct DeferredRequests {
+    order: Waiting,
+    // by the numbers of the links
+    deferred: Vec<DeferredRequest>,
+}
+
+impl Model for DeferredRequests {
+    ghost use Rattle.std.specs.Prelude.{◌≡◌, List, length, map};
+    ghost use Rattle.af_state.specs.Deferrals.{kept_deferral, KeptDeferral};
+
+    ghost Value = { List KeptDeferral };
+
+    ghost view = { λ a. map (kept_deferral a.deferred.items) a.order };
+
+    ghost invariant = { λ a. length a.deferred.items ≡ 32 };
+}
+
+// Room for the requests of 32 links.
+fn make_room(alloc: Global) -> Result<Vec<DeferredRequest>, OutOfMemory>
+    ensures { IfOk result (λ room. length room.items ≡ 32) }
+{
+    let mut room = Vec::with_capacity(alloc, 32)?;
+    for _number in 0..32u8 {
+        let deferred = DeferredRequest::new(alloc)?;
+        room.push(deferred)?;
+    }
+    Ok(room)
+}
+
+impl DeferredRequests {
+    /// Nothing waits.
+    pub fn new(alloc: Global) -> Result<DeferredRequests, OutOfMemory>
+        ensures { IfOk result (λ waits. waits ≡ []) }
+    {
+        let deferred = make_room(alloc)?;
+        Ok(DeferredRequests {
+            order: Waiting::new(),
+            deferred,
+        })
+    }
+
+    /// How many wait.
+    pub fn len(&self) -> usize
+        ensures { result ≡ length self.now }
+    {
+        self.order.len()
+    }
+
+    /// Whether a link waits.
+    pub fn is_waiting(&self, link: u8) -> bool
+        ensures { result ≡ has_waiting self.now link }
+    {
+        self.order.is_waiting(link)
+    }
+
+    /// The links that wait, with the frames that are left.
+    pub fn order(&self) -> &Waiting
+        ensures { result.now ≡ waits_of self.now }
+    {
+        &self.order
+    }
+
+    /// Link 0..31 begins to wait with a play, until `left` frames of its device have passed, at least 1. It may not wait already.
+    pub fn begin_play(&mut self, link: u8, left: u32, play: &Play<'_>)
+        requires link { link < 32 }
+        requires apart { has_waiting self.old link ≡ false }
+        requires later { 0 < left }
+        requires few { length play.now.sound.now ≤ 16368 }
+        ensures { self.new ≡ self.old ++ waiting link play.now.device left (deferred_of_play play.now) ∷ [] }
+    {
+        self.order.add(link, play.device, left);
+        self.deferred[usize::from(link)].defer_play(play);
+    }
+
+    /// Link 0..31 begins to wait with a record, in the same way.
+    pub fn begin_record(&mut self, link: u8, left: u32, asked: Record)
+        requires link { link < 32 }
+        requires apart { has_waiting self.old link ≡ false }
+        requires later { 0 < left }
+        requires few { asked.frames * width_of asked.context.ty ≤ 16000 }
+        ensures { self.new ≡ self.old ++ waiting link asked.context.device left (deferred_of_record asked) ∷ [] }
+    {
+        self.order.add(link, asked.context.device, left);
+        self.deferred[usize::from(link)].defer_record(asked);
+    }
+
+    /// n frames of a device have passed.
+    pub fn pass(&mut self, device: u8, n: u32)
+        ensures { self.new ≡ map (kept_passed device n) self.old }
+    {
+        self.order.pass(device, n);
+    }
+
+    /// The link of the earliest of the requests that wait for a device and are due. None where none is due.
+    pub fn first_due(&self, device: u8) -> Option<u8>
+        ensures earliest { result ≡ option_map (λ k. k.wait.link) (find (kept_due device) self.now) }
+        ensures bound { IfSome result (λ link. link < 32) }
+    {
+        self.order.first_due(device)
+    }
+
+    /// The request of a link that waits.
+    pub fn deferred(&self, link: u8) -> &DeferredRequest
+        requires { link < 32 }
+        ensures { All (λ k. k.wait.link ≡ link → result.now ≡ k.deferred) self.now }
+    {
+        &self.deferred[usize::from(link)]
+    }
+
+    /// A link waits no more.
+    pub fn drop_link(&mut self, link: u8)
+        ensures { self.new ≡ kept_without link self.old }
+    {
+        self.order.drop_link(link);
+    }
+
+    /// The earliest of the requests that wait for a device and are due waits no more.
+    pub fn take_due(&mut self, device: u8)
+        ensures rest { self.new ≡ without_first (kept_due device) self.old }
+        ensures free { IfSome (option_map (λ k. k.wait.link) (find (kept_due device) self.old))
+            (λ link. has_waiting self.new link ≡ false) }
+    {
+        let _ = self.order.next_due(device);
+    }
+}

@@ -1,0 +1,23 @@
+// What all links share.
+
+use crate::deferred_requests::DeferredRequests;
+use crate::device::Device;
+use std::marker::Model;
+
+/// What all links share: the devices, of which there are at most 8, and the requests that wait for them.
+#[derive(Drop)]
+pub struct Environment {
+    pub devices: Vec<Device>,
+    pub waits: DeferredRequests,
+}
+
+impl Model for Environment {
+    ghost use Rattle.std.specs.Prelude.{◌≤◌, length};
+    ghost use Rattle.af_state.specs.Environment.{KeptEnvironment};
+
+    ghost Value = { KeptEnvironment };
+
+    ghost view = { λ a. record { devices = a.devices.items; waits = a.waits } };
+
+    ghost invariant = { λ a. length a.devices.items ≤ 8 };
+}

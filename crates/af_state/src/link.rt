@@ -1,0 +1,385 @@
+// A link, as the core keeps it. There is one small method for each thing that becomes of a link.
+// How it lies: the bytes are a session, whose memory is taken once; all else lies in the struct itself, and the next link of the
+// same number uses it again. The 16 contexts are in order of creation. The masks of the events that it selects stand by the
+// numbers of the devices. That it waits with a request is not noted here, but in the list of those that wait, so `wants_read` and
+// `takes_more` are told. Contracts see the link of the abstract server, field by field.
+ghost use Rattle.std.specs.Prelude.{◌≡◌, ◌+◌, ◌≤◌, nat_le, [], ◌∷◌, ◌++◌, length, drop, take, slice_set, true, false, IfOk, OnOk, OnErr};
+ghost use Rattle.std.specs.declared.option.Option.TheVariants.{Some};
+ghost use Rattle.std.specs.Borrow.{sem};
+ghost use Rattle.af_context.specs.Contexts.{context_of, creation, is_in_use, reference, with_changed, with_settings, without_context};
+ghost use Rattle.af_request.specs.Answer.{reply_meaning};
+ghost use Rattle.af_request.specs.Replies.{FitsMessage};
+ghost use Rattle.af_wire.specs.Message.{error};
+ghost use Rattle.af_wire.specs.Event.{event_bytes};
+ghost use Rattle.af_phone.specs.Lines.{selects};
+ghost use Rattle.af_model.specs.State.{none_selected, opened, stopped};
+ghost use Rattle.af_model.specs.Events.{mask_of};
+ghost use Rattle.af_model.specs.Reply.{code_of_cause, reply_message};
+ghost use Rattle.af_model.specs.Perform.{request_counted};
+ghost use Rattle.af_model.specs.Advance.{takes_more, without_front};
+ghost use Rattle.af_model.specs.More.{wants_turn};
+ghost use Rattle.af_model.specs.Turn.{wants_read, wants_write, close_due, ready, sent, writable};
+ghost use Rattle.af_state.specs.Kept.{IsBounded};
+
+use af_context::{Context, ContextFault, Contexts};
+use af_model::Refusal;
+use af_outside::Why;
+use af_phone::event_for;
+use af_request::{Reply, write_reply};
+use af_sample::Gain;
+use af_session::Session;
+use af_time::OutOfMemory;
+use af_wire::{Event, EventKind, write_error, write_event};
+use std::alloc::Global;
+use std::marker::Model;
+
+/// The most devices.
+const DEVICES: usize = 8;
+
+/// A link with more than this to send has no more of its requests performed until some of it is sent.
+const MOST_TO_SEND: usize = 16384;
+
+/// A link that would have more than this to send with one more event is dropped.
+const EVENT_LIMIT: usize = 49152;
+
+/// The length of an event.
+const EVENT: usize = 20;
+
+/// A link: its bytes, its flags, its contexts and what it selects. Its memory is taken when it is made.
+#[derive(Drop)]
+pub struct ServedLink {
+    is_set_up: bool,
+    session: Session,
+    is_ready: bool,
+    is_stuck: bool,
+    closing: Option<Why>,
+    sequence: u16,
+    contexts: Contexts,
+    // the masks of the events that it selects, by the numbers of the devices
+    selections: [u32; DEVICES],
+}
+
+impl Model for ServedLink {
+    ghost use Rattle.std.specs.Prelude.{◌≤◌, length};
+    ghost use Rattle.af_model.specs.State.{LinkState};
+
+    ghost Value = { LinkState };
+
+    ghost invariant = { λ a. length a.session.pending ≤ 65168 };
+
+    ghost view = { λ a. record { is_set_up = a.is_set_up; rest = a.session.rest; pending = a.session.pending; is_ready = a.is_ready; is_stuck = a.is_stuck; closing = a.closing; sequence = a.sequence; contexts = a.contexts; selections = a.selections } };
+}
+
+impl ServedLink {
+    ghost use Rattle.af_state.specs.Lending.{keeps};
+
+    pub fn new(alloc: Global) -> Result<ServedLink, OutOfMemory>
+        ensures { IfOk result (λ l. l ≡ opened) }
+    {
+        let session = Session::new(alloc)?;
+        Ok(ServedLink {
+            is_set_up: false,
+            session,
+            is_ready: false,
+            is_stuck: false,
+            closing: None,
+            sequence: 0,
+            contexts: Contexts::new(),
+            selections: [0; DEVICES],
+        })
+    }
+
+    pub fn is_set_up(&self) -> bool
+        ensures { result ≡ self.now.is_set_up }
+    {
+        self.is_set_up
+    }
+
+    /// The input that was not read yet.
+    pub fn rest(&self) -> &[u8]
+        ensures bytes { result.now ≡ self.now.rest }
+        ensures bound { length self.now.rest ≤ 32768 }
+    {
+        self.session.rest()
+    }
+
+    /// The session: the input that was not read yet, and the output that was not sent yet.
+    pub fn session(&self) -> &Session
+        ensures { (result.now.rest ≡ self.now.rest) × (result.now.pending ≡ self.now.pending) }
+    {
+        &self.session
+    }
+
+    /// Whether it is to be read, where it waits or not.
+    pub fn wants_read(&self, waits: bool) -> bool
+        ensures { result ≡ wants_read waits self.now }
+    {
+        self.is_ready && self.takes_more(waits)
+    }
+
+    pub fn wants_write(&self) -> bool
+        ensures { result ≡ wants_write self.now }
+    {
+        self.session.pending_len() != 0 && !self.is_stuck
+    }
+
+    /// Whether more of its input is taken off, where it waits or not.
+    pub fn takes_more(&self, waits: bool) -> bool
+        ensures takes { result ≡ takes_more waits self.now }
+        ensures bounds { IsBounded self.now }
+    {
+        let pending = self.session.pending_len();
+        !waits && self.closing.is_none() && pending <= MOST_TO_SEND
+    }
+
+    /// The cause of a link that is to be closed now.
+    pub fn close_due(&self) -> Option<Why>
+        ensures { result ≡ close_due self.now }
+    {
+        if self.session.pending_len() == 0 {
+            self.closing
+        } else {
+            None
+        }
+    }
+
+    /// Whether it is to be read, written or closed.
+    pub fn wants_turn(&self, waits: bool) -> bool
+        ensures { result ≡ wants_turn waits self.now }
+    {
+        self.wants_read(waits) || self.wants_write() || self.close_due().is_some()
+    }
+
+    /// The link is to be closed.
+    pub fn stop(&mut self, cause: Why)
+        ensures { self.new ≡ stopped cause self.old }
+    {
+        self.session.drop_front(self.session.rest().len());
+        self.closing = Some(cause);
+        self.selections = [0; DEVICES];
+    }
+
+    /// The setup at the front of the input is taken off.
+    pub fn set_up(&mut self)
+        requires { 8 ≤ length self.old.rest }
+        ensures { self.new ≡ record (without_front 8 self.old) { is_set_up = true } }
+    {
+        self.session.drop_front(8);
+        self.is_set_up = true;
+    }
+
+    /// The first bytes of the input are taken off, and come to stand in `front`.
+    pub fn take_front(&mut self, front: &mut [u8])
+        requires { length front.old ≤ length self.old.rest }
+        ensures link { self.new ≡ without_front (length front.old) self.old }
+        ensures front { front.new ≡ take (length front.old) self.old.rest }
+    {
+        let n = front.len();
+        front.copy_from_slice(&self.session.rest()[..n]);
+        self.session.drop_front(n);
+    }
+
+    /// More input comes.
+    pub fn take_in(&mut self, bytes: &[u8])
+        requires { length self.old.rest + length bytes.now ≤ 32768 }
+        ensures { self.new ≡ record self.old { rest = self.old.rest ++ bytes.now } }
+    {
+        self.session.take_in(bytes);
+    }
+
+    /// Bytes are to be sent.
+    pub fn push(&mut self, bytes: &[u8])
+        requires { length self.old.pending + length bytes.now ≤ 49152 + 16016 }
+        ensures { self.new ≡ record self.old { pending = self.old.pending ++ bytes.now } }
+    {
+        self.session.push_out(bytes);
+    }
+
+    /// One more request is made.
+    pub fn count(&mut self)
+        ensures { self.new ≡ request_counted self.old }
+    {
+        self.sequence = self.sequence.wrapping_add(1);
+    }
+
+    /// The request with this opcode is replied to. The message comes to stand in `message`.
+    pub fn reply(&mut self, opcode: u8, reply: &Reply<'_>, message: &mut [u8])
+        requires room { length self.old.pending ≤ 49152 }
+        requires samples { FitsMessage (reply_meaning reply.now) }
+        requires size { length message.old ≡ 16016 }
+        ensures { self.new ≡
+            record self.old { pending = self.old.pending ++ reply_message opcode (reply_meaning reply.now) self.old.sequence } }
+    {
+        let n = write_reply(opcode, reply, self.sequence, message);
+        self.session.push_out(&message[..n]);
+    }
+
+    /// The request with this opcode is refused.
+    pub fn refuse(&mut self, opcode: u8, refusal: Refusal)
+        requires { length self.old.pending ≤ 49152 }
+        ensures { self.new ≡
+            record self.old { pending = self.old.pending ++ error (code_of_cause refusal.cause) refusal.value opcode self.old.sequence } }
+    {
+        let mut message = [0; 16];
+        write_error(
+            refusal.cause.code(),
+            refusal.value,
+            opcode,
+            self.sequence,
+            &mut message,
+        );
+        self.session.push_out(&message);
+    }
+
+    /// The contexts.
+    pub fn contexts(&self) -> &Contexts
+        ensures { result.now ≡ self.now.contexts }
+    {
+        &self.contexts
+    }
+
+    /// The context of a number, if it is in use.
+    pub fn context(&self, ac: u32) -> Option<Context>
+        ensures { result ≡ context_of self.now.contexts ac }
+    {
+        self.contexts.get(ac)
+    }
+
+    /// Whether a context has this number.
+    pub fn has_context(&self, ac: u32) -> bool
+        ensures { result ≡ is_in_use self.now.contexts ac }
+    {
+        self.contexts.get(ac).is_some()
+    }
+
+    /// One context more.
+    pub fn create(&mut self, context: Context) -> Result<(), ContextFault>
+        ensures answer { result ≡ creation self.old.contexts context.ac }
+        ensures done { OnOk result (self.new ≡ record self.old { contexts = self.old.contexts ++ context ∷ [] }) }
+        ensures refused { OnErr result (self.new ≡ self.old) }
+    {
+        self.contexts.create(context)
+    }
+
+    /// Changes the settings that are stated of the context of a number.
+    pub fn change(
+        &mut self,
+        ac: u32,
+        play: Option<Gain>,
+        record_to: Option<Gain>,
+        preempt: Option<bool>,
+    ) -> Result<(), ContextFault>
+        ensures answer { result ≡ reference self.old.contexts ac }
+        ensures done { OnOk result (self.new ≡
+            record self.old { contexts = with_changed self.old.contexts ac (with_settings play record_to preempt) }) }
+        ensures refused { OnErr result (self.new ≡ self.old) }
+    {
+        self.contexts.change(ac, play, record_to, preempt)
+    }
+
+    /// The context of a number is no more.
+    pub fn free(&mut self, ac: u32) -> Result<(), ContextFault>
+        ensures answer { result ≡ reference self.old.contexts ac }
+        ensures done { OnOk result (self.new ≡ record self.old { contexts = without_context self.old.contexts ac }) }
+        ensures refused { OnErr result (self.new ≡ self.old) }
+    {
+        self.contexts.free(ac)
+    }
+
+    /// The mask of the events of a device that it selects is replaced.
+    pub fn select(&mut self, device: u8, mask: u32)
+        ensures { self.new ≡ record self.old { selections = slice_set self.old.selections device mask } }
+    {
+        if usize::from(device) < DEVICES {
+            self.selections[usize::from(device)] = mask;
+        }
+    }
+
+    /// Whether it selects events of a kind of a device.
+    pub fn selects(&self, device: u8, kind: EventKind) -> bool
+        ensures { result ≡ selects (mask_of self.now device) kind }
+    {
+        match self.selections.get(usize::from(device)) {
+            Some(mask) => event_for(*mask, kind),
+            None => false,
+        }
+    }
+
+    /// Whether an event still fits behind what waits to be sent.
+    pub fn has_room(&self) -> bool
+        ensures { result ≡ nat_le (length self.now.pending + 20) 49152 }
+    {
+        self.session.pending_len() + EVENT <= EVENT_LIMIT
+    }
+
+    /// An event is told.
+    pub fn tell(&mut self, event: Event)
+        requires { length self.old.pending ≤ 49152 }
+        ensures told { self.new ≡ record self.old { pending = self.old.pending ++ event_bytes event self.old.sequence } }
+        ensures size { length self.new.pending ≡ length self.old.pending + 20 }
+    {
+        let mut message = [0; 20];
+        write_event(event, self.sequence, &mut message);
+        self.session.push_out(&message);
+    }
+
+    /// The link is dropped: it is to be closed, and nothing of it is read or sent any more.
+    pub fn abort(&mut self, cause: Why)
+        ensures { self.new ≡ record self.old { rest = []; pending = []; closing = Some cause; selections = none_selected } }
+    {
+        self.stop(cause);
+        self.session.took(self.session.pending_len());
+    }
+
+    /// There is nothing to read.
+    pub fn wait_for_bytes(&mut self)
+        ensures { self.new ≡ record self.old { is_ready = false } }
+    {
+        self.is_ready = false;
+    }
+
+    /// There may be something to read.
+    pub fn set_ready(&mut self)
+        ensures { self.new ≡ ready self.old }
+    {
+        self.is_ready = true;
+    }
+
+    /// All of its output, in one piece.
+    pub fn pending(&mut self) -> &[u8]
+        ensures* kept { sem 𝓛 (keeps self.entry) }
+        ensures pending { result.now ≡ self.old.pending }
+    {
+        self.session.pending()
+    }
+
+    /// The first n bytes of the output were sent. If they were not all, the link is stuck.
+    pub fn took(&mut self, n: usize)
+        requires { n ≤ length self.old.pending }
+        ensures { self.new ≡ sent n self.old }
+    {
+        self.is_stuck = n < self.session.pending_len();
+        self.session.took(n);
+    }
+
+    /// It may take something again.
+    pub fn set_writable(&mut self)
+        ensures { self.new ≡ writable self.old }
+    {
+        self.is_stuck = false;
+    }
+
+    /// The link is opened again.
+    pub fn reset(&mut self)
+        ensures { self.new ≡ opened }
+    {
+        self.is_set_up = false;
+        self.session.clear();
+        self.is_ready = false;
+        self.is_stuck = false;
+        self.closing = None;
+        self.sequence = 0;
+        self.contexts.clear();
+        self.selections = [0; DEVICES];
+    }
+}

@@ -1,0 +1,2 @@
+pub mod TracePartLemmas
+pub mod ToolEndLemmas

@@ -1,0 +1,101 @@
+-- How a tool ends, by its trace.
+use Rattle.std.proofs.Common.{◌≡◌, ℕ, true, false, List, sym, ap, ◌∙◌, refl, inl, inr, ◌⊎◌}
+use Rattle.std.specs.declared.option.Option.{Option}
+use Rattle.af_lib.specs.declared.fault.ConnFault.{ConnFault}
+use Rattle.af_lib.specs.declared.fault.ConnFault.TheVariants as fault
+use Rattle.af_tool.specs.declared.end.ToolEnd.{ToolEnd}
+use Rattle.af_tool.specs.declared.end.ToolEnd.TheVariants as end
+use Rattle.af_tool.specs.Trace.{Trace, Finish, done, tool_end, fault_end, mismatch, no_device, not_dialled, refused, too_long}
+use Rattle.af_tool.specs.Ends.{MatchesTrace, EndsByReply, ObservedTrace, IsAnswered, is_of_reply, is_outer}
+
+-- the finish that an end of a reply tells of
+abbrev told_by : ToolEnd → Finish
+told_by end.LinkEnded = refused fault.LinkEnded
+told_by (end.Refused code value) = refused (fault.ServerError code value)
+told_by (end.BadReply header first) = refused (fault.BadReply header first)
+told_by end.EventFlood = refused fault.EventFlood
+told_by _ = done
+
+finish_told : (finish : Finish) → is_of_reply (tool_end finish) ≡ true → finish ≡ told_by (tool_end finish)
+finish_told done is = cc
+finish_told not_dialled is = cc
+finish_told (no_device devices) is = cc
+finish_told (mismatch from to) is = cc
+finish_told too_long is = cc
+finish_told (refused fault.LinkFault) is = cc
+finish_told (refused fault.LinkEnded) is = refl
+finish_told (refused (fault.ServerError code value)) is = refl
+finish_told (refused (fault.BadReply header first)) is = refl
+finish_told (refused fault.OutOfMemory) is = cc
+finish_told (refused fault.EventFlood) is = refl
+finish_told (refused (fault.Spent first)) is = cc
+
+inner_reply : (how : ToolEnd) → is_of_reply how ≡ true → is_outer how ≡ false
+inner_reply end.Done is = cc
+inner_reply end.Usage is = cc
+inner_reply end.DialFault is = cc
+inner_reply end.LinkFault is = cc
+inner_reply end.LinkEnded is = refl
+inner_reply (end.NoDevice devices) is = cc
+inner_reply (end.RateMismatch from to) is = cc
+inner_reply (end.Refused code value) is = refl
+inner_reply (end.BadReply header first) is = refl
+inner_reply end.EventFlood is = refl
+inner_reply end.ReadFault is = cc
+inner_reply end.TooLong is = cc
+inner_reply end.SinkFault is = cc
+inner_reply end.OutOfMemory is = cc
+
+-- an end of a reply is that of the trace, and of no other
+pub reply_of : (trace : Trace) (how : ToolEnd) (sends output : List ℕ) → MatchesTrace trace how sends output → EndsByReply trace how
+reply_of trace how sends output e = record {
+  only = λ fault is same.
+      let reply : is_of_reply how ≡ true = ap is_of_reply same ∙ is in
+      let way : how ≡ tool_end trace.finish = (e.whole (inner_reply how reply)).0 in
+      let mine : is_of_reply (tool_end trace.finish) ≡ true = ap is_of_reply (sym way) ∙ reply in
+      finish_told trace.finish mine ∙ ap told_by (sym way ∙ same) ∙ sym (finish_told (refused fault) is);
+  always = λ fault is. elim (is_outer how) as (λ b. is_outer how ≡ b → (how ≡ fault_end fault) ⊎ (is_outer how ≡ true)) [
+    | true ↦ λ outer. inr outer
+    | false ↦ λ inner. inl ((e.whole inner).0 ∙ ap tool_end is)
+  ] refl;
+}
+
+pub ends_by_reply : (trace : Trace) (how : ToolEnd) (s s' h h' : Option (List ℕ)) → ObservedTrace trace how s s' h h' → EndsByReply trace how
+ends_by_reply trace how s s' h h' f = reply_of trace how f.sends f.output f.ended
+
+-- a trace whose device is there, and which is not too long, is done where each request gets its reply
+abbrev pub IsDoneOrRefused : Finish → Type 0
+IsDoneOrRefused finish = (finish ≡ done) ⊎ ((f : ConnFault) × (finish ≡ refused f))
+
+-- a tool whose trace is done ends so, unless something from outside ends it
+pub done_unless_outer : (trace : Trace) (how : ToolEnd) (sends output : List ℕ) → MatchesTrace trace how sends output → trace.finish ≡ done → (how ≡ end.Done) ⊎ (is_outer how ≡ true)
+done_unless_outer trace how sends output e is = elim (is_outer how) as (λ b. is_outer how ≡ b → (how ≡ end.Done) ⊎ (is_outer how ≡ true)) [
+  | true ↦ λ outer. inr outer
+  | false ↦ λ inner. inl ((e.whole inner).0 ∙ ap tool_end is)
+] refl
+
+-- the same where each request gets the reply that it awaits
+pub done_where_answered : (trace : Trace) (how : ToolEnd) (sends output : List ℕ) → MatchesTrace trace how sends output → IsDoneOrRefused trace.finish → IsAnswered trace → (how ≡ end.Done) ⊎ (is_outer how ≡ true)
+done_where_answered trace how sends output e finish answered = elim finish [
+  | inl is ↦ done_unless_outer trace how sends output e is
+  | inr r ↦ absurd (answered r.0 r.1)
+]
+
+-- no fault is done
+pub fault_undone : (f : ConnFault) → fault_end f ≡ end.Done → ⊥
+fault_undone fault.LinkFault is = cc
+fault_undone fault.LinkEnded is = cc
+fault_undone (fault.Spent first) is = cc
+fault_undone (fault.ServerError code value) is = cc
+fault_undone (fault.BadReply header first) is = cc
+fault_undone fault.OutOfMemory is = cc
+fault_undone fault.EventFlood is = cc
+
+-- only a trace that is done to its end is told as done
+pub finish_done : (f : Finish) → tool_end f ≡ end.Done → f ≡ done
+finish_done done is = refl
+finish_done not_dialled is = absurd (cc)
+finish_done (no_device devices) is = absurd (cc)
+finish_done (mismatch from to) is = absurd (cc)
+finish_done too_long is = absurd (cc)
+finish_done (refused f) is = absurd (fault_undone f is)

@@ -1,0 +1,183 @@
+-- Parts of a tool, one behind the other.
+use Rattle.std.proofs.Common.{◌≡◌, ◌≢◌, ℕ, true, false, List, [], ◌++◌, sym, ap, ap₂, ◌∙◌, append_assoc, append-nil, refl}
+use Rattle.std.specs.Prelude.{Result, Ok, Err}
+use Rattle.std.specs.declared.option.Option.{Option}
+use Rattle.std.specs.declared.option.Option.TheVariants.{None, Some}
+use Rattle.af_io.specs.Observed.{Appended}
+use Rattle.af_io.specs.Flow.{AppendedPrefix}
+use Rattle.af_request.specs.Asked.{Asked}
+use Rattle.af_request.specs.Answer.{Answer}
+use Rattle.af_request.specs.Requests.{request_bytes}
+use Rattle.af_lib.specs.declared.fault.ConnFault.{ConnFault}
+use Rattle.af_lib.specs.declared.fault.ConnFault.TheVariants as fault
+use Rattle.af_lib.specs.Ring.{RingState}
+use Rattle.af_lib.specs.Calls.{Called, ConnState, Sends, following}
+use Rattle.af_tool.specs.declared.end.ToolEnd.{ToolEnd}
+use Rattle.af_tool.specs.declared.end.ToolEnd.TheVariants as end
+use Rattle.af_tool.specs.Trace.{Trace, ClientState, answer_on, answered_by, asks, after_reply, tool_end, ends, fault_end, next_message, refused, sending}
+use Rattle.af_tool.specs.Ends.{PartMatches, MatchesTrace, ObservedPart, TracePart, PartCompletes, is_outer, client_of}
+use Rattle.af_io.proofs.AppendedLemmas.{appended_none, appended_on}
+use Rattle.af_lib.proofs.LinkByteLemmas.{told_both}
+
+-- an answer of a connection, as that of a tool's part
+abbrev pub ended : {X : Type 0} → Result X ConnFault → Result X ToolEnd
+ended (Ok x) = Ok x
+ended (Err f) = Err (fault_end f)
+
+-- what is sent and written before a trace goes on
+abbrev pub doing : List ℕ → List ℕ → Trace → Trace
+doing sends output c = record { sends = sends ++ c.sends; output = output ++ c.output; finish = c.finish }
+
+-- the whole trace, when it ends behind what was done
+pub ended_behind : (c d : Trace) (how : ToolEnd) (s o s' o' : List ℕ) → d ≡ doing s o c → MatchesTrace c how s' o' → MatchesTrace d how (s ++ s') (o ++ o')
+ended_behind c d how s o s' o' is e =
+    let bytes : d.sends ≡ s ++ c.sends = ap (λ (x : Trace). x.sends) is in
+    let text : d.output ≡ o ++ c.output = ap (λ (x : Trace). x.output) is in
+    let way : d.finish ≡ c.finish = ap (λ (x : Trace). x.finish) is in
+    record {
+      unsent = e.unsent;
+      unwritten = e.unwritten;
+      sent = bytes ∙ ap (λ l. s ++ l) e.sent ∙ sym (append_assoc s s' e.unsent);
+      wrote = text ∙ ap (λ l. o ++ l) e.wrote ∙ sym (append_assoc o o' e.unwritten);
+      whole = λ inner. let w = e.whole inner in (w.0 ∙ ap tool_end (sym way), w.1, w.2);
+    }
+
+-- a trace that ends at once
+pub ended_at_once : (c : Trace) (how : ToolEnd) (s o : List ℕ) → c.sends ≡ s → c.output ≡ o → how ≡ tool_end c.finish → MatchesTrace c how s o
+ended_at_once c how s o sent wrote is = record {
+  unsent = [];
+  unwritten = [];
+  sent = sent ∙ sym (append-nil s);
+  wrote = wrote ∙ sym (append-nil o);
+  whole = λ inner. (is, refl, refl);
+}
+
+-- a trace that something from outside ended
+pub ended_early : (c : Trace) (how : ToolEnd) (s o s' o' : List ℕ) → is_outer how ≡ true → c.sends ≡ s ++ s' → c.output ≡ o ++ o' → MatchesTrace c how s o
+ended_early c how s o s' o' outer sent wrote = record { unsent = s'; unwritten = o'; sent = sent; wrote = wrote; whole = λ inner. absurd (let bad : true ≡ false = sym outer ∙ inner in cc bad) }
+
+-- an end within the first of two parts
+pub goes_stop : {X Y : Type 0} (first : TracePart X) (second : X → ClientState → TracePart Y) (how : ToolEnd) (left left' : Option (List ℕ)) (wire wire' : List ℕ → ClientState) (s s' h h' : Option (List ℕ)) →
+    ObservedPart {X = X} first (Err how) left wire s s' h h' → ObservedPart {X = Y} (λ next. first (λ x w. second x w next)) (Err how) left' wire' s s' h h'
+goes_stop first second how left left' wire wire' s s' h h' g =
+    record { sends = g.sends; output = g.output; came = λ next. g.came (λ x w. second x w next); link = g.link; sink = g.sink }
+
+-- two parts, how the second went
+came_on : {X Y : Type 0} (first : TracePart X) (second : X → ClientState → TracePart Y) (x : X) (w : ClientState) (r : Result Y ToolEnd) (left : Option (List ℕ)) (wire : List ℕ → ClientState) (s o s' o' : List ℕ) →
+    PartCompletes first x w s o → PartMatches (second x w) r left wire s' o' → PartMatches (λ next. first (λ x w. second x w next)) r left wire (s ++ s') (o ++ o')
+came_on {X} {Y} first second x w (Ok y) left wire s o s' o' passed came = (
+  came.0,
+  came.1,
+  λ next.
+      let a : first (λ x w. second x w next) ≡ doing s o (second x w next) = passed (λ x w. second x w next) in
+      let b : second x w next ≡ doing s' o' (next y (wire came.0)) = came.2 next in
+      let n = next y (wire came.0) in
+      a ∙ ap (doing s o) b ∙ ap₂ (λ (p q : List ℕ). (let c : Trace = record { sends = p; output = q; finish = n.finish } in c)) (sym (append_assoc s s' n.sends)) (sym (append_assoc o o' n.output)),
+)
+came_on first second x w (Err how) left wire s o s' o' passed came = λ next. ended_behind (second x w next) _ how s o s' o' (passed (λ x w. second x w next)) (came next)
+
+pub goes_on : {X Y : Type 0} (first : TracePart X) (second : X → ClientState → TracePart Y) (x : X) (r : Result Y ToolEnd) (left left' : Option (List ℕ)) (wire wire' : List ℕ → ClientState) (s s' s'' h h' h'' : Option (List ℕ)) →
+    ObservedPart first (Ok x) left wire s s' h h' → ((input : List ℕ) → left ≡ Some input → ObservedPart (second x (wire input)) r left' wire' s' s'' h' h'') →
+    ObservedPart (λ next. first (λ x w. second x w next)) r left' wire' s s'' h h''
+goes_on first second x r left left' wire wire' s s' s'' h h' h'' g rest =
+    let more = rest g.came.0 g.came.1 in
+    record {
+      sends = g.sends ++ more.sends;
+      output = g.output ++ more.output;
+      came = came_on first second x (wire g.came.0) r left' wire' g.sends g.output more.sends more.output g.came.2 more.came;
+      link = appended_on s s' s'' g.sends more.sends g.link more.link;
+      sink = appended_on h h' h'' g.output more.output g.sink more.sink;
+    }
+
+-- a client behind an answer
+wire_behind : {L : Type 0} (old new : ConnState L) (input a : List ℕ) → new.sequence ≡ following old.sequence → new.ring ≡ (next_message (client_of old input)).ring → a ≡ (next_message (client_of old input)).rest →
+    client_of new a ≡ after_reply (client_of old input)
+wire_behind old new input a sequence ring rest =
+    ap₂ (λ (s : ℕ) (r : RingState). (let w : ClientState = record { sequence = s; ring = r; input = a } in w)) sequence ring
+    ∙ ap (λ (i : List ℕ). (let w : ClientState = record { sequence = following old.sequence; ring = (next_message (client_of old input)).ring; input = i } in w)) rest
+
+-- what is known of an answer, if the link did not fail
+abbrev pub Known : {X : Type 0} → Result X ConnFault → ClientState → Option (List ℕ) → (List ℕ → ClientState) → Result X ConnFault → Type 0
+Known answer after left wire result = result ≢ Err fault.LinkFault → (a : List ℕ) × (left ≡ Some a) × (result ≡ answer) × (wire a ≡ after)
+
+-- a message is sent, and what follows goes by its answer
+module _ {X : Type 0} (part : TracePart X) (bytes : List ℕ) (answer : Result X ConnFault) (after : ClientState) (is : (next : X → ClientState → Trace) → part next ≡ sending bytes (answered_by answer after next))
+    (left' : Option (List ℕ)) (wire : List ℕ → ClientState) (sent sent' held : Option (List ℕ)) where
+  -- a fault of the link ends the tool early
+  exchange_failed : AppendedPrefix sent bytes sent' → ObservedPart {X = X} part (Err end.LinkFault) left' wire sent sent' held held
+  exchange_failed front = record {
+    sends = front.front;
+    output = [];
+    came = λ next.
+        let more = answered_by answer after next in
+        let whole : (part next).sends ≡ bytes ++ more.sends = ap (λ (c : Trace). c.sends) (is next) in
+        let text : (part next).output ≡ more.output = ap (λ (c : Trace). c.output) (is next) in
+        ended_early (part next) end.LinkFault front.front [] (front.rest ++ more.sends) more.output refl
+        (whole ∙ ap (λ l. l ++ more.sends) front.whole ∙ append_assoc front.front front.rest more.sends) text;
+    link = front.appended;
+    sink = appended_none held;
+  }
+
+  -- another fault is that of the answer
+  exchange_refused : (f : ConnFault) → Appended sent bytes sent' → (let r : Result X ConnFault = Err f in r ≡ answer) → ObservedPart {X = X} part (Err (fault_end f)) left' wire sent sent' held held
+  exchange_refused f appended same = record {
+    sends = bytes;
+    output = [];
+    came = λ next.
+        let all : part next ≡ sending bytes (ends (refused f)) = is next ∙ ap (λ (r : Result X ConnFault). sending bytes (answered_by r after next)) (sym same) in
+        ended_at_once _ (fault_end f) bytes [] (ap (λ (c : Trace). c.sends) all ∙ append-nil bytes) (ap (λ (c : Trace). c.output) all) (ap (λ (c : Trace). tool_end c.finish) (sym all));
+    link = appended;
+    sink = appended_none held;
+  }
+
+  exchange_answered : (x : X) → Appended sent bytes sent' → (let r : Result X ConnFault = Ok x in r ≡ answer) → (a : List ℕ) → left' ≡ Some a → wire a ≡ after → ObservedPart part (Ok x) left' wire sent sent' held held
+  exchange_answered x appended same a told place = record {
+    sends = bytes;
+    output = [];
+    came = (
+      a,
+      told,
+      λ next.
+          is next ∙ ap (λ (r : Result X ConnFault). sending bytes (answered_by r after next)) (sym same) ∙ ap (λ (v : ClientState). sending bytes (next x v)) (sym place),
+    );
+    link = appended;
+    sink = appended_none held;
+  }
+
+  abbrev IsKnown : Result X ConnFault → Type 0
+  IsKnown result = Known answer after left' wire result
+
+  refused_by : (f : ConnFault) → Sends {X = X} (Err f) sent bytes sent' → IsKnown (Err f) → (let r : Result X ConnFault = Err f in r ≢ Err fault.LinkFault) → ObservedPart {X = X} part (Err (fault_end f)) left' wire sent sent' held held
+  refused_by f sends known sound = exchange_refused f (sends.whole sound) (known sound).2
+
+  pub exchange_goes : (result : Result X ConnFault) → Sends result sent bytes sent' → IsKnown result → ObservedPart {X = X} part (ended result) left' wire sent sent' held held
+  exchange_goes (Ok x) sends known = let k = known (λ e. cc e) in exchange_answered x (sends.whole (λ e. cc e)) k.2 k.0 k.1 k.3
+  exchange_goes (Err fault.LinkFault) sends known = exchange_failed sends.part
+  exchange_goes (Err fault.LinkEnded) sends known = refused_by fault.LinkEnded sends known (λ e. cc e)
+  exchange_goes (Err (fault.ServerError code value)) sends known = refused_by (fault.ServerError code value) sends known (λ e. cc e)
+  exchange_goes (Err (fault.BadReply header first)) sends known = refused_by (fault.BadReply header first) sends known (λ e. cc e)
+  exchange_goes (Err fault.OutOfMemory) sends known = refused_by fault.OutOfMemory sends known (λ e. cc e)
+  exchange_goes (Err fault.EventFlood) sends known = refused_by fault.EventFlood sends known (λ e. cc e)
+  exchange_goes (Err (fault.Spent first)) sends known = refused_by (fault.Spent first) sends known (λ e. cc e)
+
+asks_is : {X : Type 0} (asked : Asked) (value_of : Answer → Option X) (w : ClientState) (next : X → ClientState → Trace) → asks asked value_of w next ≡ sending (request_bytes asked) (answered_by (answer_on asked value_of w) (after_reply w) next)
+unfolding asks
+asks_is asked value_of w next = refl
+
+pub asked_known : {L X : Type 0} (left sent : L → Option (List ℕ)) (faults : L → ℕ) (asked : Asked) (value_of : Answer → Option X) (old new : ConnState L) (input : List ℕ) (result : Result X ConnFault) →
+    Called left sent faults asked value_of old new result → old.cause ≡ None → left old.link ≡ Some input →
+    Known (answer_on asked value_of (client_of old input)) (after_reply (client_of old input)) (left new.link) (client_of new) result
+asked_known left sent faults asked value_of old new input result called usable told = λ sound.
+    let both = told_both (left old.link) (left new.link) input _ told called.tells (called.answers usable sound) in
+    let facts = both.2 in
+    let kept = called.keeps usable in
+    (both.0, both.1, facts.0, wire_behind old new input both.0 (ap (λ (c : ConnState _). c.sequence) kept) facts.1 facts.2)
+
+-- a request and its answer are a part of a tool
+pub asked_goes : {L X : Type 0} (left sent : L → Option (List ℕ)) (faults : L → ℕ) (asked : Asked) (value_of : Answer → Option X) (old new : ConnState L) (input : List ℕ) (held : Option (List ℕ)) (result : Result X ConnFault) →
+    Called left sent faults asked value_of old new result → old.cause ≡ None → left old.link ≡ Some input →
+    ObservedPart {X = X} (asks asked value_of (client_of old input)) (ended result) (left new.link) (client_of new) (sent old.link) (sent new.link) held held
+asked_goes left sent faults asked value_of old new input held result called usable told =
+    let w = client_of old input in
+    exchange_goes (asks asked value_of w) (request_bytes asked) (answer_on asked value_of w) (after_reply w) (asks_is asked value_of w) (left new.link) (client_of new) (sent old.link) (sent new.link) held result (called.sends usable)
+    (asked_known left sent faults asked value_of old new input result called usable told)

@@ -1,0 +1,112 @@
+-- How far a tool came in its trace, and why it ended.
+use Rattle.std.specs.Prelude.{◌≡◌, ◌≢◌, ◌≤◌, ◌⊎◌, ℕ, Bool, true, false, List, [], ◌++◌, Result, Ok, Err, IsOk, IsSome}
+use Rattle.std.specs.declared.option.Option.{Option}
+use Rattle.std.specs.declared.option.Option.TheVariants.{None, Some}
+use Rattle.af_io.specs.Observed.{Appended, FaultCounted}
+use Rattle.af_lib.specs.declared.fault.ConnFault.{ConnFault}
+use Rattle.af_lib.specs.Calls.{ConnState}
+use Rattle.af_tool.specs.declared.end.ToolEnd.{ToolEnd}
+use Rattle.af_tool.specs.declared.end.ToolEnd.TheVariants as end
+use Rattle.af_tool.specs.Trace.{Trace, ClientState, done, tool_end, ends, fault_end, refused, writing}
+
+-- the ends that come from outside: no list of bytes decides that they come
+abbrev pub is_outer : ToolEnd → Bool
+is_outer end.DialFault = true
+is_outer end.LinkFault = true
+is_outer end.ReadFault = true
+is_outer end.SinkFault = true
+is_outer end.OutOfMemory = true
+is_outer _ = false
+
+-- A tool ended, having sent and written this: prefixes of what its trace has; and if nothing from outside ended it, all of
+-- that, and as its trace does.
+pub record MatchesTrace (trace : Trace) (how : ToolEnd) (sends output : List ℕ) : Type 0 where
+  pub unsent : List ℕ
+  pub unwritten : List ℕ
+  pub sent : trace.sends ≡ sends ++ unsent
+  pub wrote : trace.output ≡ output ++ unwritten
+  pub whole : is_outer how ≡ false → (how ≡ tool_end trace.finish) × (unsent ≡ []) × (unwritten ≡ [])
+
+-- the same by what a link was sent and what a sink holds, before and after
+pub record ObservedTrace (trace : Trace) (how : ToolEnd) (sent sent' held held' : Option (List ℕ)) : Type 0 where
+  pub sends : List ℕ
+  pub output : List ℕ
+  pub ended : MatchesTrace trace how sends output
+  pub link : Appended sent sends sent'
+  pub sink : Appended held output held'
+
+-- a tool wrote a text, the last that it does
+abbrev pub Reports : {K : Type 0} → (held : K → Option (List ℕ)) → List ℕ → ToolEnd → (sink sink' : K) → Type 0
+Reports held text how sink sink' = (sent : Option (List ℕ)) → ObservedTrace (writing text (ends done)) how sent sent (held sink) (held sink')
+
+-- a connection whose link gives these bytes
+abbrev pub client_of : {L : Type 0} → ConnState L → List ℕ → ClientState
+client_of conn input = record { sequence = conn.sequence; ring = conn.ring; input = input }
+
+-- the faults of a reply: it is cut off, an error, none, or does not come
+abbrev pub is_of_reply : ToolEnd → Bool
+is_of_reply end.LinkEnded = true
+is_of_reply (end.Refused code value) = true
+is_of_reply (end.BadReply header first) = true
+is_of_reply end.EventFlood = true
+is_of_reply _ = false
+
+-- the ends of a part that only sends requests and takes their replies
+abbrev pub is_of_link : ToolEnd → Bool
+is_of_link end.LinkFault = true
+is_of_link end.LinkEnded = true
+is_of_link (end.Refused code value) = true
+is_of_link (end.BadReply header first) = true
+is_of_link end.EventFlood = true
+is_of_link _ = false
+
+-- the ends of writing
+abbrev pub is_of_report : ToolEnd → Bool
+is_of_report end.Done = true
+is_of_report end.SinkFault = true
+is_of_report _ = false
+
+-- Where a request is answered with a fault, the tool ends with it, unless something from outside has ended it; and it ends so
+-- only there.
+pub record EndsByReply (trace : Trace) (how : ToolEnd) : Type 0 where
+  pub only : (fault : ConnFault) → is_of_reply (fault_end fault) ≡ true → how ≡ fault_end fault → trace.finish ≡ refused fault
+  pub always : (fault : ConnFault) → trace.finish ≡ refused fault → (how ≡ fault_end fault) ⊎ (is_outer how ≡ true)
+
+-- each request gets the reply that it awaits
+abbrev pub IsAnswered : Trace → Type 0
+IsAnswered trace = (fault : ConnFault) → trace.finish ≢ refused fault
+
+-- A part of a trace is a trace with what follows it left open.
+abbrev pub TracePart : Type 0 → Type 0
+TracePart X = (X → ClientState → Trace) → Trace
+
+-- a part came to a value, having sent and written this, and what follows goes on from there
+abbrev pub PartCompletes : {X : Type 0} → TracePart X → X → ClientState → List ℕ → List ℕ → Type 0
+PartCompletes {X} part x w sends output = (next : X → ClientState → Trace) →
+    part next ≡ record { sends = sends ++ (next x w).sends; output = output ++ (next x w).output; finish = (next x w).finish }
+
+-- how a part went, whatever follows it
+abbrev pub PartMatches : {X : Type 0} → TracePart X → Result X ToolEnd → Option (List ℕ) → (List ℕ → ClientState) → List ℕ → List ℕ → Type 0
+PartMatches part (Ok x) left wire sends output = (input : List ℕ) × (left ≡ Some input) × PartCompletes part x (wire input) sends output
+PartMatches {X} part (Err how) left wire sends output = (next : X → ClientState → Trace) → MatchesTrace (part next) how sends output
+
+-- the same by what the link was sent and the sink holds, before and after
+pub record ObservedPart {X : Type 0} (part : TracePart X) (result : Result X ToolEnd) (left : Option (List ℕ)) (wire : List ℕ → ClientState) (sent sent' held held' : Option (List ℕ)) : Type 0 where
+  pub sends : List ℕ
+  pub output : List ℕ
+  pub came : PartMatches part result left wire sends output
+  pub link : Appended sent sends sent'
+  pub sink : Appended held output held'
+
+-- The same over a connection whose link tells what it gives: the part begins where the connection stands, and writes nothing.
+abbrev pub ObservedPartOver : {L X : Type 0} → (left sent : L → Option (List ℕ)) → (old new : ConnState L) → (ClientState → TracePart X) → Result X ToolEnd → Type 0
+ObservedPartOver left sent old new part result = (input : List ℕ) (held : Option (List ℕ)) → left old.link ≡ Some input →
+    ObservedPart (part (client_of old input)) result (left new.link) (client_of new) (sent old.link) (sent new.link) held held
+
+-- What a part does to its connection, whatever the link tells.
+pub record KeepsConnection {L X : Type 0} (left : L → Option (List ℕ)) (faults : L → ℕ) (old new : ConnState L) (result : Result X ToolEnd) : Type 0 where
+  pub devices : new.devices ≡ old.devices
+  pub usable : IsOk result → new.cause ≡ None
+  pub tells : IsSome (left old.link) → IsSome (left new.link)
+  pub count : faults old.link ≤ faults new.link
+  pub failed : result ≡ Err end.LinkFault → FaultCounted (faults old.link) (faults new.link)

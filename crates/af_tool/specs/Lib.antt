@@ -1,0 +1,4 @@
+pub mod Trace
+pub mod Ends
+pub mod Device
+pub mod Talk

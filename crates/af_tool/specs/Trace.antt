@@ -1,0 +1,124 @@
+-- The trace of a tool: what it sends on its link, what it writes, and why it ends, by what the link gives. A tool sends each
+-- request when the reply to the one before it was read, so a trace goes on from reply to reply.
+use Rattle.std.specs.Prelude.{ℕ, List, [], ◌∷◌, ◌++◌, length, slice_get, Result, Ok, Err}
+use Rattle.std.specs.declared.option.Option.{Option}
+use Rattle.std.specs.declared.option.Option.TheVariants.{None, Some}
+use Rattle.af_request.specs.declared.reply.DeviceInfo.{DeviceInfo}
+use Rattle.af_time.specs.declared.DevTime.{DevTime}
+use Rattle.af_request.specs.Asked.{Asked, get_time}
+use Rattle.af_request.specs.Answer.{Answer}
+use Rattle.af_request.specs.Requests.{request_bytes}
+use Rattle.af_lib.specs.declared.fault.ConnFault.{ConnFault}
+use Rattle.af_lib.specs.declared.fault.ConnFault.TheVariants as fault
+use Rattle.af_lib.specs.Ring.{RingState}
+use Rattle.af_lib.specs.Incoming.{Awaited, awaited}
+use Rattle.af_wire.specs.Front.{setup_bytes}
+use Rattle.af_lib.specs.Calls.{answered, as_devices, as_done, as_time, following, opcode_of}
+use Rattle.af_io.specs.Dial.{ToldLink}
+use Rattle.af_tool.specs.declared.end.ToolEnd.{ToolEnd}
+use Rattle.af_tool.specs.declared.end.ToolEnd.TheVariants as end
+
+-- how far a client has come with what its link gives: the number of its last request, its ring of events, and the bytes that
+-- it has not taken
+pub record ClientState : Type 0 where
+  pub sequence : ℕ
+  pub ring : RingState
+  pub input : List ℕ
+
+-- why a tool ends
+pub data Finish : Type 0 where
+  done : Finish
+  not_dialled : Finish
+  no_device : (devices : ℕ) → Finish
+  -- two devices have these different rates
+  mismatch : (from to : ℕ) → Finish
+  too_long : Finish
+  -- a request was answered with this fault
+  refused : (fault : ConnFault) → Finish
+
+pub record Trace : Type 0 where
+  pub sends : List ℕ
+  pub output : List ℕ
+  pub finish : Finish
+
+-- nothing more is sent or written
+abbrev pub ends : Finish → Trace
+ends finish = record { sends = []; output = []; finish = finish }
+
+-- these bytes are sent first
+abbrev pub sending : List ℕ → Trace → Trace
+sending bytes c = record { sends = bytes ++ c.sends; output = c.output; finish = c.finish }
+
+-- these bytes are written first
+abbrev pub writing : List ℕ → Trace → Trace
+writing bytes c = record { sends = c.sends; output = bytes ++ c.output; finish = c.finish }
+
+-- what follows an answer: a fault ends the tool
+abbrev pub answered_by : {X : Type 0} → Result X ConnFault → ClientState → (X → ClientState → Trace) → Trace
+answered_by (Ok x) w next = next x w
+answered_by (Err fault) w next = ends (refused fault)
+
+-- the message that a client awaits next
+abbrev pub next_message : ClientState → Awaited
+next_message w = awaited 4096 w.ring w.input
+
+-- a client that has sent a request and taken its answer
+abbrev pub after_reply : ClientState → ClientState
+after_reply w = record { sequence = following w.sequence; ring = (next_message w).ring; input = (next_message w).rest }
+
+-- what the link answers to a request
+abbrev pub answer_on : {X : Type 0} → Asked → (Answer → Option X) → ClientState → Result X ConnFault
+answer_on asked value_of w = answered value_of (opcode_of asked) (following w.sequence) (next_message w).found
+
+-- a request is sent, and what follows goes by its answer
+unfoldable pub asks : {X : Type 0} → Asked → (Answer → Option X) → ClientState → (X → ClientState → Trace) → Trace
+asks asked value_of w next = sending (request_bytes asked) (answered_by (answer_on asked value_of w) (after_reply w) next)
+
+-- a context is made, and the time of its device asked
+abbrev pub begins : Asked → ℕ → ClientState → (DevTime → ClientState → Trace) → Trace
+begins context device w next = asks context as_done w (λ _ v. asks (get_time device) as_time v next)
+
+-- a tool is about the device with this number, which is to be there
+abbrev pub on_device : Option DeviceInfo → ℕ → (DeviceInfo → Trace) → Trace
+on_device (Some device) devices next = next device
+on_device None devices next = ends (no_device devices)
+
+abbrev pub with_job_device : ℕ → List DeviceInfo → (DeviceInfo → Trace) → Trace
+with_job_device number devices next = on_device (slice_get devices number) (length devices) next
+
+-- a client whose link gives these bytes, before its setup
+abbrev pub unused : List ℕ → ClientState
+unused input = record { sequence = 0; ring = record { events = []; lost = 0 }; input = input }
+
+-- a client that has taken the answer to its setup
+abbrev pub set_up : List ℕ → ClientState
+set_up input = record { sequence = 0; ring = (next_message (unused input)).ring; input = (next_message (unused input)).rest }
+
+-- the setup is sent, and what follows goes by the devices of its answer
+unfoldable pub connects : List ℕ → (List DeviceInfo → ClientState → Trace) → Trace
+connects input next =
+    sending setup_bytes (answered_by (answered as_devices 0 0 (next_message (unused input)).found) (set_up input) next)
+
+-- the first link that a dial gives is set up
+abbrev pub dials : List ToldLink → (List DeviceInfo → ClientState → Trace) → Trace
+dials [] next = ends not_dialled
+dials (link ∷ links) next = connects link.gives next
+
+-- how a tool ends at a fault of its connection
+abbrev pub fault_end : ConnFault → ToolEnd
+fault_end fault.LinkFault = end.LinkFault
+fault_end fault.LinkEnded = end.LinkEnded
+fault_end (fault.Spent first) = end.LinkFault
+fault_end (fault.ServerError code value) = end.Refused code value
+fault_end (fault.BadReply header first) = end.BadReply header first
+fault_end fault.OutOfMemory = end.OutOfMemory
+fault_end fault.EventFlood = end.EventFlood
+
+-- how a tool ends
+abbrev pub tool_end : Finish → ToolEnd
+tool_end done = end.Done
+tool_end not_dialled = end.DialFault
+tool_end (no_device devices) = end.NoDevice devices
+tool_end (mismatch from to) = end.RateMismatch from to
+tool_end too_long = end.TooLong
+tool_end (refused fault) = fault_end fault

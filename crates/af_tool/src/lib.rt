@@ -1,0 +1,14 @@
+//! How a tool ends, and how it follows its trace over a connection: what all tools have in common.
+#![tactic(auto)]
+
+mod device;
+mod end;
+mod talk;
+mod text;
+mod time;
+
+pub use device::device_with;
+pub use end::ToolEnd;
+pub use talk::{CONTEXT, ToolContext, begin, finish};
+pub use text::{put, put_gain, put_number, write_text};
+pub use time::time_behind;

@@ -1,0 +1,56 @@
+// Requests that the tools have in common.
+ghost use Rattle.std.specs.Prelude.{◌≡◌, true, IfErr};
+ghost use Rattle.std.specs.declared.option.Option.TheVariants.{None};
+ghost use Rattle.af_request.specs.Asked.{free_ac};
+ghost use Rattle.af_lib.specs.Calls.{as_done};
+ghost use Rattle.af_tool.specs.Trace.{asks, begins};
+ghost use Rattle.af_tool.specs.Talk.{creates};
+ghost use Rattle.af_tool.specs.Ends.{is_of_link, ObservedPartOver, KeepsConnection};
+
+use crate::end::ToolEnd;
+use af_io::Link;
+use af_lib::Conn;
+use af_sample::{Gain, SampleType};
+use af_time::DevTime;
+
+/// The number of a tool's context.
+pub const CONTEXT: u32 = 1;
+
+/// What a tool's context is to be.
+#[derive(Clone, Copy)]
+pub struct ToolContext {
+    pub device: u8,
+    pub ty: SampleType,
+    pub play: Gain,
+    pub record_by: Gain,
+    pub preempt: bool,
+}
+
+/// Creates the context, and asks for the device's time.
+pub fn begin<L: Link + Drop>(conn: &mut Conn<L>, context: ToolContext) -> Result<DevTime, ToolEnd>
+    requires { conn.old.cause ≡ None }
+    ensures goes { ObservedPartOver L.left L.sent conn.old conn.new (λ w. begins (creates context) context.device w) result }
+    ensures holds { KeepsConnection L.left L.faults conn.old conn.new result }
+    ensures end { IfErr result (λ how. is_of_link how ≡ true) }
+{
+    conn.create_ac(
+        CONTEXT,
+        context.device,
+        context.ty,
+        context.play,
+        context.record_by,
+        context.preempt,
+    )?;
+    Ok(conn.get_time(context.device)?)
+}
+
+/// Frees the context.
+pub fn finish<L: Link + Drop>(conn: &mut Conn<L>) -> Result<(), ToolEnd>
+    requires { conn.old.cause ≡ None }
+    ensures goes { ObservedPartOver L.left L.sent conn.old conn.new (λ w. asks (free_ac 1) as_done w) result }
+    ensures holds { KeepsConnection L.left L.faults conn.old conn.new result }
+    ensures end { IfErr result (λ how. is_of_link how ≡ true) }
+{
+    conn.free_ac(CONTEXT)?;
+    Ok(())
+}

@@ -1,0 +1,167 @@
+-- A tool that dials its server.
+use Rattle.std.proofs.Common.{◌≡◌, ◌≢◌, ℕ, ◌≤◌, ◌⊎◌, inl, inr, true, false, List, [], ◌∷◌, ◌++◌, length, slice_get, sym, ap, ap₂, ◌∙◌, subst, refl, arith, length-append}
+use Rattle.std.specs.Prelude.{Result, Ok, Err}
+use Rattle.std.specs.declared.option.Option.{Option}
+use Rattle.std.specs.declared.option.Option.TheVariants.{None, Some}
+use Rattle.af_io.specs.Observed.{Appended}
+use Rattle.af_io.specs.Dial.{AppendedBack, IsFirstOf, ToldLink}
+use Rattle.af_request.specs.declared.reply.DeviceInfo.{DeviceInfo}
+use Rattle.af_lib.specs.declared.fault.ConnFault.{ConnFault}
+use Rattle.af_lib.specs.declared.fault.ConnFault.TheVariants as fault
+use Rattle.af_lib.specs.Calls.{answered, as_devices}
+use Rattle.af_tool.specs.declared.end.ToolEnd.{ToolEnd}
+use Rattle.af_tool.specs.declared.end.ToolEnd.TheVariants as end
+use Rattle.af_options.specs.declared.job.Task.{Task}
+use Rattle.af_options.specs.declared.job.Task.TheVariants as task
+use Rattle.af_tool.specs.Trace.{Trace, Finish, ClientState, answered_by, connects, dials, done, tool_end, ends, mismatch, no_device, not_dialled, on_device, next_message, refused, set_up, too_long, unused, writing}
+use Rattle.af_tools.specs.Play.{aplay_trace, most_bytes, played}
+use Rattle.af_tools.specs.Record.{arecord_trace}
+use Rattle.af_tools.specs.Set.{aset_trace, standing_text}
+use Rattle.af_tools.specs.Run.{EndsByDevice, EndsByRates, RanOne, one_trace, task_trace}
+use Rattle.af_tool.specs.Ends.{MatchesTrace, ObservedTrace, is_outer}
+use Rattle.af_io.proofs.AppendedLemmas.{appended_none}
+use Rattle.af_tool.proofs.TracePartLemmas.{ended_early}
+use Rattle.af_tool.proofs.ToolEndLemmas.{IsDoneOrRefused}
+use Rattle.af_tools.proofs.TraceEndLemmas.{played_finish, recorded_finish, set_finish}
+
+-- what a link was sent in all is its entry
+pub consumed_entry : (back back' : Option (List (List ℕ))) (before after : Option (List ℕ)) (first sends : List ℕ) → before ≡ Some first → Appended before sends after → AppendedBack back after back' → Appended back ((first ++ sends) ∷ []) back'
+consumed_entry back back' before None first sends is appended entry = subst (λ (b : Option (List (List ℕ))). Appended back ((first ++ sends) ∷ []) b) (sym entry) tt
+consumed_entry back back' None (Some all) first sends is appended entry = cc is
+consumed_entry back back' (Some x) (Some all) first sends is appended entry =
+    let same : x ≡ first = cc in
+    let whole : all ≡ first ++ sends = appended ∙ ap (λ (l : List ℕ). l ++ sends) same in
+    subst (λ (e : List ℕ). Appended back (e ∷ []) back') whole entry
+
+none_of : (xs : List ℕ) → length xs ≡ 0 → xs ≡ []
+none_of [] none = refl
+none_of (x ∷ xs) none = absurd (omega (arith, none))
+
+-- a list that stays has grown by nothing
+appended_nothing : (before after : Option (List ℕ)) (first sends : List ℕ) → before ≡ Some first → Appended before sends after → after ≡ before → sends ≡ []
+appended_nothing before after first sends is appended same =
+    let whole : first ≡ first ++ sends = subst (λ (b : Option (List ℕ)). Appended b sends (Some first)) is (subst (λ (a : Option (List ℕ)). Appended before sends a) (same ∙ is) appended) in
+    let len = ap length whole in
+    none_of sends (omega (arith, length-append first sends))
+
+module _ (next : List DeviceInfo → ClientState → Trace) (how : ToolEnd) (links' links'' : Option (List ToldLink)) (before after held held' : Option (List ℕ)) (back back' back'' : Option (List (List ℕ))) where
+  first_ran : (link : ToldLink) (rest : List ToldLink) → before ≡ Some link.sent → links' ≡ Some rest → ObservedTrace (connects link.gives next) how before after held held' → back' ≡ back → AppendedBack back' after back'' → links'' ≡ links' → (how ≡ end.OutOfMemory → after ≡ before) →
+      RanOne (dials (link ∷ rest) next) how (link ∷ rest) links'' held held' back back''
+  first_ran link rest is_sent is_rest f is_back entry is_links memory = record {
+    sends = f.sends;
+    output = f.output;
+    ended = f.ended;
+    sink = f.sink;
+    link = inr (link, rest, refl, is_links ∙ is_rest, consumed_entry back back'' before after link.sent f.sends is_sent f.link (subst (λ (b : Option (List (List ℕ))). AppendedBack b after back'') is_back entry));
+    early = λ none. appended_nothing before after link.sent f.sends is_sent f.link (memory none);
+  }
+
+  -- the first link was dialled, used, and given back
+  pub ran_over : {F : Type 0} (left_of sent_of : F → Option (List ℕ)) (far : F) (links : List ToldLink) → IsFirstOf left_of sent_of far (Some links) links' → sent_of far ≡ before →
+      ((input : List ℕ) → left_of far ≡ Some input → ObservedTrace (connects input next) how before after held held') → back' ≡ back → AppendedBack back' after back'' → links'' ≡ links' → (how ≡ end.OutOfMemory → after ≡ before) →
+      RanOne (dials links next) how links links'' held held' back back''
+  ran_over left_of sent_of far [] first sent follows is_back entry is_links memory = absurd first
+  ran_over left_of sent_of far (link ∷ rest) first sent follows is_back entry is_links memory = first_ran link rest (sym sent ∙ first.1) first.2 (follows link.gives first.0) is_back entry is_links memory
+
+-- nothing was dialled, or no link was had
+pub ran_early : (trace : Trace) (how : ToolEnd) (links : List ToldLink) (links' : Option (List ToldLink)) (held : Option (List ℕ)) (back back' : Option (List (List ℕ))) → is_outer how ≡ true → links' ≡ Some links → back' ≡ back → RanOne trace how links links' held held back back'
+ran_early trace how links links' held back back' outer same is = record {
+  sends = [];
+  output = [];
+  ended = ended_early trace how [] [] trace.sends trace.output outer refl refl;
+  sink = appended_none held;
+  link = inl (refl, same, is);
+  early = λ none. refl;
+}
+
+-- the finish of a trace whose source gives no more than it may
+abbrev pub IsShort : Finish → Type 0
+IsShort finish = finish ≢ too_long
+
+pub short_of : (finish : Finish) → IsDoneOrRefused finish → IsShort finish
+short_of finish (inl is) e = let bad : done ≡ too_long = sym is ∙ e in cc
+short_of finish (inr r) e = let bad : refused r.0 ≡ too_long = sym r.1 ∙ e in cc
+
+device_short : (o : Option DeviceInfo) (n : ℕ) (next : DeviceInfo → Trace) → ((d : DeviceInfo) → IsDoneOrRefused (next d).finish) → IsShort (on_device o n next).finish
+device_short None n next more e = cc
+device_short (Some d) n next more e = short_of (next d).finish (more d) e
+
+task_short : (t : Task) (devices : List DeviceInfo) (bytes : List ℕ) (w : ClientState) → length bytes ≤ most_bytes → IsShort (task_trace t devices bytes w).finish
+unfolding aplay_trace arecord_trace aset_trace
+task_short (task.Play job) devices bytes w few =
+    device_short (slice_get devices job.device) (length devices) _ (λ d. played_finish job d bytes w (λ frames start _. writing (played frames start) (ends done)) few (λ frames start v. inl refl))
+task_short (task.Record job) devices bytes w few =
+    device_short (slice_get devices job.device) (length devices) _ (λ d. recorded_finish job d w (λ _. ends done) (λ v. inl refl))
+task_short (task.Set job) devices bytes w few =
+    device_short (slice_get devices job.device) (length devices) _ (λ d. set_finish job d w (λ standing _. writing (standing_text standing) (ends done)) (λ s v. inl refl))
+
+setup_short : (r : Result (List DeviceInfo) ConnFault) (w : ClientState) (next : List DeviceInfo → ClientState → Trace) → ((devices : List DeviceInfo) (v : ClientState) → IsShort (next devices v).finish) → IsShort (answered_by r w next).finish
+setup_short (Ok devices) w next more = more devices w
+setup_short (Err f) w next more = λ e. cc
+
+pub one_short : (t : Task) (links : List ToldLink) (bytes : List ℕ) → length bytes ≤ most_bytes → IsShort (one_trace t links bytes).finish
+unfolding connects
+one_short t [] bytes few = λ e. cc
+one_short t (link ∷ links) bytes few = setup_short (answered as_devices 0 0 (next_message (unused link.gives)).found) (set_up link.gives) _ (λ devices v. task_short t devices bytes v few)
+
+pub served_done : (finish : Finish) → finish ≢ not_dialled → ((n : ℕ) → finish ≢ no_device n) → ((a b : ℕ) → finish ≢ mismatch a b) → ((f : ConnFault) → finish ≢ refused f) → IsShort finish → finish ≡ done
+served_done done dialled there even answered short = refl
+served_done not_dialled dialled there even answered short = absurd (dialled refl)
+served_done (no_device n) dialled there even answered short = absurd (there n refl)
+served_done (mismatch a b) dialled there even answered short = absurd (even a b refl)
+served_done too_long dialled there even answered short = absurd (short refl)
+served_done (refused f) dialled there even answered short = absurd (answered f refl)
+
+device_told : (finish : Finish) (n : ℕ) → end.NoDevice n ≡ tool_end finish → finish ≡ no_device n
+device_told done n e = cc
+device_told not_dialled n e = cc
+device_told (no_device m) n e = let same : n ≡ m = cc in ap (λ (k : ℕ). no_device k) (sym same)
+device_told (mismatch from to) n e = cc
+device_told too_long n e = cc
+device_told (refused fault.LinkFault) n e = cc
+device_told (refused fault.LinkEnded) n e = cc
+device_told (refused (fault.ServerError code value)) n e = cc
+device_told (refused (fault.BadReply header first)) n e = cc
+device_told (refused fault.OutOfMemory) n e = cc
+device_told (refused fault.EventFlood) n e = cc
+device_told (refused (fault.Spent first)) n e = cc
+
+inner_device : (how : ToolEnd) (n : ℕ) → how ≡ end.NoDevice n → is_outer how ≡ false
+inner_device how n is = ap is_outer is
+
+-- an end for want of the device is that of the trace, and of no other
+pub device_of : (trace : Trace) (how : ToolEnd) (sends output : List ℕ) → MatchesTrace trace how sends output → EndsByDevice trace how
+device_of trace how sends output e = record {
+  only = λ n is. device_told trace.finish n (sym is ∙ (e.whole (inner_device how n is)).0);
+  always = λ n is. elim (is_outer how) as (λ b. is_outer how ≡ b → (how ≡ end.NoDevice n) ⊎ (is_outer how ≡ true)) [
+    | true ↦ λ outer. inr outer
+    | false ↦ λ inner. inl ((e.whole inner).0 ∙ ap tool_end is)
+  ] refl;
+}
+
+rates_told : (finish : Finish) (a b : ℕ) → end.RateMismatch a b ≡ tool_end finish → finish ≡ mismatch a b
+rates_told done a b e = cc
+rates_told not_dialled a b e = cc
+rates_told (no_device m) a b e = cc
+rates_told (mismatch x y) a b e = let one : a ≡ x = cc in let other : b ≡ y = cc in ap₂ (λ (k l : ℕ). mismatch k l) (sym one) (sym other)
+rates_told too_long a b e = cc
+rates_told (refused fault.LinkFault) a b e = cc
+rates_told (refused fault.LinkEnded) a b e = cc
+rates_told (refused (fault.ServerError code value)) a b e = cc
+rates_told (refused (fault.BadReply header first)) a b e = cc
+rates_told (refused fault.OutOfMemory) a b e = cc
+rates_told (refused fault.EventFlood) a b e = cc
+rates_told (refused (fault.Spent first)) a b e = cc
+
+inner_rates : (how : ToolEnd) (a b : ℕ) → how ≡ end.RateMismatch a b → is_outer how ≡ false
+inner_rates how a b is = ap is_outer is
+
+-- an end for two rates is that of the trace, and of no other
+pub rates_of : (trace : Trace) (how : ToolEnd) (sends output : List ℕ) → MatchesTrace trace how sends output → EndsByRates trace how
+rates_of trace how sends output e = record {
+  only = λ a b is. rates_told trace.finish a b (sym is ∙ (e.whole (inner_rates how a b is)).0);
+  always = λ a b is. elim (is_outer how) as (λ t. is_outer how ≡ t → (how ≡ end.RateMismatch a b) ⊎ (is_outer how ≡ true)) [
+    | true ↦ λ outer. inr outer
+    | false ↦ λ inner. inl ((e.whole inner).0 ∙ ap tool_end is)
+  ] refl;
+}

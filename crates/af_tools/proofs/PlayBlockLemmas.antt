@@ -1,0 +1,128 @@
+-- Blocks that are played, one behind the other.
+use Rattle.std.proofs.Common.{◌≡◌, ℕ, zero, suc, ◌+◌, ◌-◌, ◌/◌, ◌%◌, ◌^◌, ◌<◌, ◌≤◌, nat_lt, true, false, List, [], ◌∷◌, ◌++◌, length, take, drop, sym, ap, ap₂, ◌∙◌, append-nil, refl, arith, inl, inr, length-append, length-drop, length-take}
+use Rattle.std.proofs.lemmas.Bool.Decides.{nat_tests}
+use Rattle.std.proofs.lemmas.List.{take_at, drop_at, take_all, drop_all}
+use Rattle.std.proofs.lemmas.Bool.{cases_lt}
+use Rattle.std.proofs.Math.Nat.{zero-div}
+use Rattle.std.specs.declared.option.Option.{Option}
+use Rattle.std.specs.declared.option.Option.TheVariants.{Some}
+use Rattle.af_io.specs.Observed.{Consumed}
+use Rattle.af_request.specs.Asked.{play_run}
+use Rattle.af_lib.specs.Calls.{as_time}
+use Rattle.af_tool.specs.Trace.{Trace, ClientState, asks, ends, too_long}
+use Rattle.af_tools.specs.Play.{blocks, cut, frames_in, most_bytes, plays, whole_frames}
+use Rattle.af_tools.proofs.PartProgressLemmas.{Reaches}
+
+-- a source gave exactly n bytes
+pub record ConsumedAll (count : ℕ) (before after : Option (List ℕ)) : Type 0 where
+  pub bytes : List ℕ
+  pub consumed : Consumed before bytes after
+  pub all : length bytes ≡ count
+
+-- So many frames of a source's bytes were played: the trace goes on with the blocks of those that are left.
+pub record IsPlaying (width start size frames given : ℕ) (bytes : List ℕ) (first : ClientState) (left told : Option (List ℕ)) (wire : List ℕ → ClientState) (sent sent' held : Option (List ℕ)) : Type 0 where
+  pub rest : List ℕ
+  pub input : List ℕ
+  pub is_left : left ≡ Some rest
+  pub is_told : told ≡ Some input
+  pub reaches : Reaches (plays width start 0 0 (blocks size bytes) first) (plays width start frames given (blocks size rest) (wire input)) sent sent' held held
+
+-- enough steps to cut a list are as good as more
+cut_enough : (n m size : ℕ) (bytes : List ℕ) → 0 < size → length bytes ≤ n → length bytes ≤ m → cut n size bytes ≡ cut m size bytes
+cut_enough zero zero size bytes some few less = refl
+cut_enough zero (suc m) size [] some few less = refl
+cut_enough zero (suc m) size (b ∷ bytes) some few less = absurd (omega arith)
+cut_enough (suc n) zero size [] some few less = refl
+cut_enough (suc n) zero size (b ∷ bytes) some few less = absurd (omega arith)
+cut_enough (suc n) (suc m) size [] some few less = refl
+cut_enough (suc n) (suc m) size (b ∷ bytes) some few less =
+    let len : length (drop size (b ∷ bytes)) ≡ suc (length bytes) - size = length-drop size (b ∷ bytes) in
+    ap (λ more. take size (b ∷ bytes) ∷ more) (cut_enough n m size (drop size (b ∷ bytes)) some (omega arith) (omega arith))
+
+pub blocks_none : (size : ℕ) → blocks size [] ≡ []
+unfolding blocks
+blocks_none size = refl
+
+-- the first block, and those of the rest
+pub blocks_some : (size : ℕ) (bytes : List ℕ) → 0 < size → 0 < length bytes → blocks size bytes ≡ take size bytes ∷ blocks size (drop size bytes)
+unfolding blocks
+blocks_some size [] some more = absurd (omega arith)
+blocks_some size (b ∷ bytes) some more =
+    let len : length (drop size (b ∷ bytes)) ≡ suc (length bytes) - size = length-drop size (b ∷ bytes) in
+    ap (λ more. take size (b ∷ bytes) ∷ more) (cut_enough (length bytes) (length (drop size (b ∷ bytes))) size (drop size (b ∷ bytes)) some (omega arith) (omega arith))
+
+-- the first block of a list whose bytes were read so far
+front_read : (size : ℕ) (block behind : List ℕ) → length block ≤ size → (length block < size → behind ≡ []) → (take size (block ++ behind) ≡ block) × (drop size (block ++ behind) ≡ behind)
+front_read size block behind fits ended = elim (cases_lt (length block) size) [
+  | inl short ↦
+      let none = ended short in
+      let same : block ++ behind ≡ block = ap (λ b. block ++ b) none ∙ append-nil block in
+      (ap (take size) same ∙ take_all size block fits, ap (drop size) same ∙ drop_all size block fits ∙ sym none)
+  | inr long ↦ let full : length block ≡ size = omega arith in (take_at block behind size full, drop_at block behind size full)
+]
+
+-- the block that was read, and those of the rest
+blocks_read : (size : ℕ) (rest block behind : List ℕ) → 0 < size → 0 < length block → length block ≤ size → rest ≡ block ++ behind → (length block < size → behind ≡ []) →
+    blocks size rest ≡ block ∷ blocks size behind
+blocks_read size rest block behind some more fits is ended =
+    let len : length rest ≡ length block + length behind = ap length is ∙ length-append block behind in
+    let parts = front_read size block behind fits ended in
+    blocks_some size rest some (omega arith)
+    ∙ ap₂ (λ (a b : List ℕ). a ∷ blocks size b) (ap (take size) is ∙ parts.0) (ap (drop size) is ∙ parts.1)
+
+some_of : (n width : ℕ) → 0 < n / width → 0 < n
+some_of zero width some = absurd (let none : 0 / width ≡ 0 = zero-div width in omega arith)
+some_of (suc n) width some = omega arith
+
+blocks_empty : (size : ℕ) (rest : List ℕ) → length rest ≡ 0 → blocks size rest ≡ []
+blocks_empty size [] none = blocks_none size
+blocks_empty size (x ∷ rest) none = absurd (omega arith)
+
+module _ (width start frames given : ℕ) (w : ClientState) (next : ℕ → ClientState → Trace) where
+  pub plays_block : (block : List ℕ) (more : List (List ℕ)) → given + length block ≤ most_bytes → 0 < length block / width →
+      plays width start frames given (block ∷ more) w next
+      ≡ asks (play_run false 1 ((start + frames) % 2 ^ 32) (whole_frames width block)) as_time w (λ _ v. plays width start (frames + frames_in width block) (given + length block) more v next)
+  unfolding plays
+  plays_block block more within some =
+      let fits : nat_lt most_bytes (given + length block) ≡ false = grind (arith, nat_tests) in
+      let whole : nat_lt 0 (length block / width) ≡ true = grind (arith, nat_tests) in
+      rw (fits, whole) refl
+
+  pub plays_last : (block : List ℕ) (more : List (List ℕ)) → given + length block ≤ most_bytes → length block / width ≡ 0 → plays width start frames given (block ∷ more) w next ≡ next frames w
+  unfolding plays
+  plays_last block more within none =
+      let fits : nat_lt most_bytes (given + length block) ≡ false = grind (arith, nat_tests) in
+      let whole : nat_lt 0 (length block / width) ≡ false = grind (arith, nat_tests) in
+      rw (fits, whole) refl
+
+  pub plays_long : (block : List ℕ) (more : List (List ℕ)) → most_bytes < given + length block → plays width start frames given (block ∷ more) w next ≡ ends too_long
+  unfolding plays
+  plays_long block more beyond =
+      let long : nat_lt most_bytes (given + length block) ≡ true = grind (arith, nat_tests) in
+      rw long refl
+
+  pub plays_none : plays width start frames given [] w next ≡ next frames w
+  unfolding plays
+  plays_none = refl
+
+  -- the block that was read is played
+  pub plays_next : (size : ℕ) (rest block behind : List ℕ) → 0 < size → length block ≤ size → rest ≡ block ++ behind → (length block < size → behind ≡ []) → given + length block ≤ most_bytes → 0 < length block / width →
+      plays width start frames given (blocks size rest) w next
+      ≡ asks (play_run false 1 ((start + frames) % 2 ^ 32) (whole_frames width block)) as_time w (λ _ v. plays width start (frames + frames_in width block) (given + length block) (blocks size behind) v next)
+  plays_next size rest block behind some fits is ended within whole =
+      let more : 0 < length block = some_of (length block) width whole in
+      ap (λ b. plays width start frames given b w next) (blocks_read size rest block behind some more fits is ended) ∙ plays_block block (blocks size behind) within whole
+
+  -- fewer bytes than a frame has are left
+  pub plays_over : (size : ℕ) (rest : List ℕ) → 0 < size → length rest ≤ size → given + length rest ≤ most_bytes → length rest / width ≡ 0 → plays width start frames given (blocks size rest) w next ≡ next frames w
+  plays_over size rest some fits within none = elim (cases_lt 0 (length rest)) [
+    | inl more ↦ ap (λ b. plays width start frames given b w next) (blocks_read size rest rest [] some more fits (sym (append-nil rest)) (λ _. refl)) ∙ plays_last rest (blocks size []) within none
+    | inr no_more ↦ ap (λ b. plays width start frames given b w next) (blocks_empty size rest (omega arith)) ∙ plays_none
+  ]
+
+  -- a block that goes beyond what is allowed
+  pub plays_beyond : (size : ℕ) (rest part behind : List ℕ) → 0 < size → rest ≡ part ++ behind → length part ≤ size → most_bytes < given + length part → given ≤ most_bytes → plays width start frames given (blocks size rest) w next ≡ ends too_long
+  plays_beyond size rest part behind some is fits beyond so_far =
+      let len : length rest ≡ length part + length behind = ap length is ∙ length-append part behind in
+      let first : length part ≤ length (take size rest) = omega (arith, length-take size rest) in
+      ap (λ b. plays width start frames given b w next) (blocks_some size rest some (omega arith)) ∙ plays_long (take size rest) (blocks size (drop size rest)) (omega arith)

@@ -1,0 +1,93 @@
+-- The trace of each tool ends in being done or refused, if its device is there and its source gives not too much.
+use Rattle.std.proofs.Common.{◌≡◌, ℕ, zero, suc, ◌+◌, ◌*◌, ◌/◌, ◌%◌, ◌^◌, ◌≤◌, nat_lt, Bool, true, false, List, [], ◌∷◌, length, take, drop, refl, arith, inr, if◌then◌else◌, length-take, length-drop}
+use Rattle.std.specs.Prelude.{Result, Ok, Err}
+use Rattle.std.proofs.lemmas.Bool.Decides.{nat_tests}
+use Rattle.std.specs.declared.option.Option.{Option}
+use Rattle.std.specs.declared.option.Option.TheVariants.{None, Some}
+use Rattle.af_sample.specs.declared.sample_type.SampleType.{SampleType}
+use Rattle.af_request.specs.declared.reply.DeviceInfo.{DeviceInfo}
+use Rattle.af_request.specs.declared.reply.Phone.{Phone}
+use Rattle.af_request.specs.Asked.{Asked, free_ac, get_time, play_run, query_controls}
+use Rattle.af_request.specs.Answer.{Answer}
+use Rattle.af_lib.specs.declared.fault.ConnFault.{ConnFault}
+use Rattle.af_lib.specs.Calls.{as_controls, as_done, as_phone, as_time}
+use Rattle.af_options.specs.declared.job.PlayJob.{PlayJob}
+use Rattle.af_options.specs.declared.job.RecordJob.{RecordJob}
+use Rattle.af_options.specs.declared.job.SetJob.{SetJob}
+use Rattle.af_tool.specs.Trace.{Trace, ClientState, answer_on, answered_by, asks, after_reply}
+use Rattle.af_tool.proofs.ToolEndLemmas.{IsDoneOrRefused}
+use Rattle.af_tools.specs.declared.standing.Standing.{Standing}
+use Rattle.af_tools.specs.Play.{blocks, cut, most_bytes, play_context, played_on, plays}
+use Rattle.af_tools.specs.Record.{block_lengths, ends_row, peak, record_context, recorded_on, records}
+use Rattle.af_tools.specs.Set.{asks_line, asks_where, control_request, hooks, set_on, states_controls}
+
+answer_finish : {X : Type 0} (r : Result X ConnFault) (w : ClientState) (next : X → ClientState → Trace) → ((x : X) (v : ClientState) → IsDoneOrRefused (next x v).finish) → IsDoneOrRefused (answered_by r w next).finish
+answer_finish (Ok x) w next more = more x w
+answer_finish (Err f) w next more = inr (f, refl)
+
+asked_finish : {X : Type 0} (asked : Asked) (value_of : Answer → Option X) (w : ClientState) (next : X → ClientState → Trace) → ((x : X) (v : ClientState) → IsDoneOrRefused (next x v).finish) → IsDoneOrRefused (asks asked value_of w next).finish
+unfolding asks
+asked_finish asked value_of w next more = answer_finish (answer_on asked value_of w) (after_reply w) next more
+
+if_finish : (b : Bool) (c d : Trace) → IsDoneOrRefused c.finish → IsDoneOrRefused d.finish → IsDoneOrRefused (if b then c else d).finish
+if_finish true c d p q = p
+if_finish false c d p q = q
+
+plays_finish : (width start : ℕ) (n size sent given : ℕ) (bytes : List ℕ) (w : ClientState) (next : ℕ → ClientState → Trace) → given + length bytes ≤ most_bytes → ((frames : ℕ) (v : ClientState) → IsDoneOrRefused (next frames v).finish) →
+    IsDoneOrRefused (plays width start sent given (cut n size bytes) w next).finish
+unfolding plays
+plays_finish width start zero size sent given bytes w next within more = more sent w
+plays_finish width start (suc n) size sent given [] w next within more = more sent w
+plays_finish width start (suc n) size sent given (b ∷ bytes) w next within more =
+    let block = take size (b ∷ bytes) in
+    let rest = drop size (b ∷ bytes) in
+    let len = length-take size (b ∷ bytes) in
+    let left = length-drop size (b ∷ bytes) in
+    let fits : nat_lt most_bytes (given + length block) ≡ false = grind (arith, nat_tests) in
+    rw fits (if_finish (nat_lt 0 (length block / width)) _ (next sent w)
+    (asked_finish (play_run false 1 ((start + sent) % 2 ^ 32) (take (length block / width * width) block)) as_time w (λ _ v. plays width start (sent + length block / width) (given + length block) (cut n size rest) v next)
+    (λ _ v. plays_finish width start n size (sent + length block / width) (given + length block) rest v next (omega arith) more)) (more sent w))
+
+pub played_finish : (job : PlayJob) (device : DeviceInfo) (bytes : List ℕ) (w : ClientState) (next : ℕ → ℕ → ClientState → Trace) → length bytes ≤ most_bytes → ((frames start : ℕ) (v : ClientState) → IsDoneOrRefused (next frames start v).finish) →
+    IsDoneOrRefused (played_on job device bytes w next).finish
+unfolding played_on blocks
+played_finish job device bytes w next within more =
+    asked_finish (play_context job device) as_done w _ (λ _ v.
+    asked_finish (get_time job.device) as_time v _ (λ now v.
+    plays_finish _ _ (length bytes) _ 0 0 bytes v _ (omega arith) (λ frames v.
+    asked_finish (free_ac 1) as_done v _ (λ _ v. more frames _ v))))
+
+records_finish : (job : RecordJob) (ty : SampleType) (at : ℕ) (peaks lengths : List ℕ) (w : ClientState) (next : ClientState → Trace) → ((v : ClientState) → IsDoneOrRefused (next v).finish) → IsDoneOrRefused (records job ty at peaks lengths w next).finish
+unfolding records
+records_finish job ty at peaks [] w next more = more w
+records_finish job ty at peaks (n ∷ lengths) w next more =
+    asked_finish _ _ w _ (λ r v. if_finish (ends_row job (peak ty r.samples ∷ peaks)) (next v) _ (more v)
+    (records_finish job ty ((at + n) % 2 ^ 32) (peak ty r.samples ∷ peaks) lengths v next more))
+
+pub recorded_finish : (job : RecordJob) (device : DeviceInfo) (w : ClientState) (next : ClientState → Trace) → ((v : ClientState) → IsDoneOrRefused (next v).finish) → IsDoneOrRefused (recorded_on job device w next).finish
+unfolding recorded_on
+recorded_finish job device w next more =
+    asked_finish (record_context job device) as_done w _ (λ _ v.
+    asked_finish (get_time job.device) as_time v _ (λ now v.
+    records_finish job _ _ [] (block_lengths job.block job.frames) v _ (λ v.
+    asked_finish (free_ac 1) as_done v _ (λ _ v. more v))))
+
+where_finish : (b : Bool) (asked : Asked) (w : ClientState) (next : Unit {0} → ClientState → Trace) → ((x : Unit {0}) (v : ClientState) → IsDoneOrRefused (next x v).finish) → IsDoneOrRefused (asks_where b asked w next).finish
+where_finish true asked w next more = asked_finish asked as_done w next more
+where_finish false asked w next more = more tt w
+
+hook_finish : (device : ℕ) (off : Option Bool) (w : ClientState) (next : Unit {0} → ClientState → Trace) → ((x : Unit {0}) (v : ClientState) → IsDoneOrRefused (next x v).finish) → IsDoneOrRefused (hooks device off w next).finish
+hook_finish device (Some off) w next more = asked_finish _ as_done w next more
+hook_finish device None w next more = more tt w
+
+line_finish : (b : Bool) (device : ℕ) (w : ClientState) (next : Option Phone → ClientState → Trace) → ((x : Option Phone) (v : ClientState) → IsDoneOrRefused (next x v).finish) → IsDoneOrRefused (asks_line b device w next).finish
+line_finish true device w next more = asked_finish _ as_phone w _ (λ phone v. more (Some phone) v)
+line_finish false device w next more = more None w
+
+pub set_finish : (job : SetJob) (device : DeviceInfo) (w : ClientState) (next : Standing → ClientState → Trace) → ((s : Standing) (v : ClientState) → IsDoneOrRefused (next s v).finish) → IsDoneOrRefused (set_on job device w next).finish
+unfolding set_on
+set_finish job device w next more =
+    where_finish (states_controls job) (control_request job) w _ (λ _ v.
+    hook_finish job.device job.hook_off v _ (λ _ v.
+    asked_finish (query_controls job.device) as_controls v _ (λ controls v.
+    line_finish device.line job.device v _ (λ phone v. more _ v))))

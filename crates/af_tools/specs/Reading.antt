@@ -1,0 +1,42 @@
+-- What a tool makes of its source.
+use Rattle.std.specs.Prelude.{◌≡◌, ◌≢◌, ℕ, Bool, true, false, List, Result, IsSome}
+use Rattle.std.specs.declared.option.Option.{Option}
+use Rattle.std.specs.declared.option.Option.TheVariants.{Some}
+use Rattle.af_io.specs.Observed.{CountsFault}
+use Rattle.af_io.specs.Flow.{IsSpent}
+use Rattle.af_lib.specs.Calls.{ConnState}
+use Rattle.af_tool.specs.declared.end.ToolEnd.{ToolEnd}
+use Rattle.af_tool.specs.declared.end.ToolEnd.TheVariants as end
+use Rattle.af_tool.specs.Trace.{Trace, ClientState}
+use Rattle.af_tool.specs.Ends.{client_of, ObservedTrace, ObservedPart, TracePart}
+use Rattle.af_tools.specs.Fill.{ConsumedBeyondMost, ConsumedWithinMost}
+
+-- Only a tool that reads its source touches it, and not where memory ran out; if it is done it has read it to its end. The source gave
+-- more than a tool takes exactly where that ends as too long, and a read failed only where the count of its faults rose.
+pub record UsesSource {S : Type 0} (left : S → Option (List ℕ)) (faults : S → ℕ) (reads : Bool) (how : ToolEnd) (source source' : S) : Type 0 where
+  pub untouched : reads ≡ false → source' ≡ source
+  pub memory : how ≡ end.OutOfMemory → source' ≡ source
+  pub spent : how ≡ end.Done → reads ≡ true → IsSpent (left source')
+  pub long : how ≡ end.TooLong → ConsumedBeyondMost (left source) (left source')
+  pub within : how ≢ end.TooLong → ConsumedWithinMost (left source) (left source')
+  pub failed : CountsFault (how ≡ end.ReadFault) (faults source) (faults source')
+
+-- how a part went that also reads, over a link and a source that tell what they give; the source still tells it afterwards
+abbrev pub ObservedPartReading : {L S X : Type 0} → (left sent : L → Option (List ℕ)) → (gives : S → Option (List ℕ)) →
+    (conn conn' : ConnState L) → (source source' : S) → (List ℕ → ClientState → TracePart X) → Result X ToolEnd → Type 0
+ObservedPartReading left sent gives conn conn' source source' part result =
+    (input bytes : List ℕ) (held : Option (List ℕ)) → left conn.link ≡ Some input → gives source ≡ Some bytes → IsSome (gives source') →
+    ObservedPart (part bytes (client_of conn input)) result (left conn'.link) (client_of conn') (sent conn.link) (sent conn'.link) held held
+
+-- how a part went that also writes, over a link that tells what it gives
+abbrev pub ObservedPartWriting : {L K X : Type 0} → (left sent : L → Option (List ℕ)) → (held : K → Option (List ℕ)) →
+    (conn conn' : ConnState L) → (sink sink' : K) → (ClientState → TracePart X) → Result X ToolEnd → Type 0
+ObservedPartWriting left sent held conn conn' sink sink' part result = (input : List ℕ) → left conn.link ≡ Some input →
+    ObservedPart (part (client_of conn input)) result (left conn'.link) (client_of conn') (sent conn.link) (sent conn'.link) (held sink) (held sink')
+
+-- how a tool followed its trace, over a link and a source that tell what they give; the source still tells it afterwards
+abbrev pub FollowsTrace : {L S K : Type 0} → (left sent : L → Option (List ℕ)) → (gives : S → Option (List ℕ)) → (held : K → Option (List ℕ)) →
+    ToolEnd → (link link' : L) → (source source' : S) → (sink sink' : K) → (List ℕ → List ℕ → Trace) → Type 0
+FollowsTrace left sent gives held how link link' source source' sink sink' trace =
+    (input bytes : List ℕ) → left link ≡ Some input → gives source ≡ Some bytes → IsSome (gives source') →
+    ObservedTrace (trace input bytes) how (sent link) (sent link') (held sink) (held sink')

@@ -1,0 +1,59 @@
+-- Messages that are written and read again.
+use Rattle.std.proofs.Common.{◌≡◌, ◌<◌, ◌≤◌, ◌+◌, ◌*◌, ◌^◌, ◌∙◌, ℕ, Bool, true, false, List, ◌++◌, length, drop, refl, ap, arith, nat_lt}
+use Rattle.std.specs.Prelude.{IsTrue, if◌then◌else◌, Some}
+use Rattle.std.specs.Int.{w32, from_be_bytes, to_be_bytes}
+use Rattle.std.proofs.lemmas.Bool.Decides.{nat_tests}
+use Rattle.std.proofs.lemmas.Nat.{from_be_bytes-to_be_bytes_2, from_be_bytes-to_be_bytes_4}
+use Rattle.std.proofs.lemmas.List.{length-append}
+use Rattle.af_wire.specs.declared.event.Event.{Event}
+use Rattle.af_wire.specs.declared.event.EventKind.{EventKind}
+use Rattle.af_wire.specs.declared.event.EventKind.TheVariants as kind
+use Rattle.af_wire.specs.declared.message_front.MessageFront.TheVariants.{NeedMore, Message, BadMessage}
+use Rattle.af_wire.specs.Event.{detail_of, event_bytes, event_in, event_from, is_value, kind_of_code, IsEvent}
+use Rattle.af_wire.specs.Message.{head}
+use Rattle.af_wire.specs.MessageFront.{is_head, message_front, message_with}
+
+-- the front of a good head, behind which its body is there
+good_front : (t : Bool) (k d s m there : ℕ) → IsTrue t → m ≤ there → (if t then (if nat_lt there m then NeedMore m else Message k d s m) else BadMessage) ≡ Message k d s m
+good_front true k d s m there good fits = grind (arith, nat_tests)
+good_front false k d s m there good fits = absurd cc
+
+-- a good head with its body is one message
+pub head_framed : (kind detail sequence words : ℕ) (body rest : List ℕ) → IsTrue (is_head kind detail words) → sequence < 2 ^ 16 → words < 2 ^ 32 → length body ≡ 4 * words →
+    message_front (head kind detail sequence words ++ body ++ rest) ≡ Message kind detail sequence (8 + 4 * words)
+unfolding head
+head_framed kind detail sequence words body rest good low few whole =
+    let there : ℕ = length (head kind detail sequence words ++ body ++ rest) in
+    let sum : there ≡ 8 + length (body ++ rest) = omega arith in
+    let fits : 8 + 4 * words ≤ there = omega (arith, length-append body rest) in
+    ap (λ (s : ℕ). message_with kind detail s (from_be_bytes w32 (to_be_bytes w32 words)) there) (from_be_bytes-to_be_bytes_2 sequence low)
+    ∙ ap (λ (w : ℕ). message_with kind detail sequence w there) (from_be_bytes-to_be_bytes_4 words few)
+    ∙ good_front (is_head kind detail words) kind detail sequence (8 + 4 * words) there good fits
+
+event_head : (k : EventKind) → IsTrue (is_head 2 (detail_of k) 3)
+event_head kind.Ring = refl
+event_head kind.Hook = refl
+event_head kind.Current = refl
+event_head kind.Digit = refl
+
+-- an event is one message
+pub event_framed : (e : Event) (sequence : ℕ) (rest : List ℕ) → sequence < 2 ^ 16 → message_front (event_bytes e sequence ++ rest) ≡ Message 2 (detail_of e.kind) sequence 20
+unfolding event_bytes
+event_framed e sequence rest low =
+    head_framed 2 (detail_of e.kind) sequence 3 (to_be_bytes w32 e.device ++ to_be_bytes w32 e.time.0 ++ to_be_bytes w32 e.value) rest (event_head e.kind) low (omega arith) refl
+
+event_stated : (k : EventKind) (device time value : ℕ) → device ≤ 7 → IsTrue (is_value k value) → event_from (kind_of_code (detail_of k)) device time value ≡ Some (record { kind = k; device = device; time = record { 0 = time }; value = value })
+event_stated kind.Ring device time value low fits = grind (arith, nat_tests)
+event_stated kind.Hook device time value low fits = grind (arith, nat_tests)
+event_stated kind.Current device time value low fits = grind (arith, nat_tests)
+event_stated kind.Digit device time value low fits = grind (arith, nat_tests)
+
+-- and is read again
+pub event_again : (e : Event) (sequence : ℕ) → IsEvent e → event_in (detail_of e.kind) (drop 8 (event_bytes e sequence)) ≡ Some e
+unfolding event_bytes head
+event_again e sequence stated =
+    let low : e.device < 2 ^ 32 = omega (arith, stated.device) in
+    ap (λ (d : ℕ). event_from (kind_of_code (detail_of e.kind)) d (from_be_bytes w32 (to_be_bytes w32 e.time.0)) (from_be_bytes w32 (to_be_bytes w32 e.value))) (from_be_bytes-to_be_bytes_4 e.device low)
+    ∙ ap (λ (t : ℕ). event_from (kind_of_code (detail_of e.kind)) e.device t (from_be_bytes w32 (to_be_bytes w32 e.value))) (from_be_bytes-to_be_bytes_4 e.time.0 stated.time)
+    ∙ ap (λ (v : ℕ). event_from (kind_of_code (detail_of e.kind)) e.device e.time.0 v) (from_be_bytes-to_be_bytes_4 e.value stated.value)
+    ∙ event_stated e.kind e.device e.time.0 e.value stated.device stated.fits

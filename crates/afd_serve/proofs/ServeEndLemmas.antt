@@ -1,0 +1,90 @@
+-- The ends of a server, by what its parts promise.
+use Rattle.std.proofs.Common.{◌≡◌, ℕ, ◌+◌, ◌≤◌, List, ◌++◌, length, refl, sym, ap, ◌∙◌, subst, arith, append-nil, length-append, IsSome, IsOk, Ok, Err}
+use Rattle.std.specs.declared.option.Option.{Option}
+use Rattle.std.specs.declared.option.Option.TheVariants.{None, Some}
+use Rattle.std.specs.declared.result.Result.{Result}
+use Rattle.af_outside.specs.declared.outer.Outer.{Outer}
+use Rattle.af_io.specs.Observed.{Appended, Unchanged}
+use Rattle.af_outside.specs.Log.{Log}
+use Rattle.af_io.specs.Flow.{ConsumedTooMuch, ConsumedWhole}
+use Rattle.af_text.specs.Reading.{IsGoodText}
+use Rattle.af_live.specs.Stating.{Settings}
+use Rattle.af_live.specs.Configuration.{config_of}
+use Rattle.afd_serve.specs.declared.live.LiveEnd.{LiveEnd}
+use Rattle.afd_serve.specs.declared.live.LiveEnd.TheVariants as end
+use Rattle.afd_serve.specs.Words.{ServeJob, serve_job_of}
+use Rattle.afd_serve.specs.Serving.{started}
+use Rattle.afd_serve.specs.Starting.{IsReadEnd, IsReadFrom, StartedUntil}
+use Rattle.afd_serve.specs.Rounds.{ServedUntil}
+use Rattle.afd_serve.specs.Ends.{EndsWell, FailedAt, IsFaultyConfig, IsTold, ServerRan, StartedInPart, Unheard, last_entry, longest_config}
+use Rattle.afd_serve.proofs.ServeRoundLemmas.{served_behind}
+
+-- A good configuration is read
+
+consumed_less : (most : ℕ) (text : List ℕ) (left' : Option (List ℕ)) → IsSome left' → length text ≤ most → ConsumedTooMuch most (Some text) left' → ⊥
+consumed_less most text None tells short g = absurd cc
+consumed_less most text (Some after) tells short g =
+    let whole : length text ≡ length g.text + length after = ap length g.consumed ∙ length-append g.text after in
+    let beyond = g.beyond in
+    absurd (omega (arith, whole, beyond, short))
+
+consumed_all : (most : ℕ) (text given : List ℕ) (left' : Option (List ℕ)) → IsSome left' → ConsumedWhole most (Some text) left' given → text ≡ given
+consumed_all most text given None tells g = absurd cc
+consumed_all most text given (Some after) tells g = g.consumed ∙ ap (λ l. given ++ l) g.spent ∙ append-nil given
+
+ok_is_no_fault : {A : Type 0} (r : Result A ℕ) (line : ℕ) → IsOk r → r ≡ Err line → ⊥
+ok_is_no_fault (Ok x) line ok e = absurd cc
+ok_is_no_fault (Err n) line ok e = absurd cc
+
+module _ (left left' : Option (List ℕ)) (good : IsGoodText config_of longest_config left left') where
+  -- it is not too long, and has no fault
+  pub good_is_short : ConsumedTooMuch longest_config left left' → ⊥
+  good_is_short g = consumed_less longest_config good.text left' good.tells good.within (subst (λ l. ConsumedTooMuch longest_config l left') good.told g)
+
+  pub good_is_configuration : (line : ℕ) → IsFaultyConfig line left left' → ⊥
+  good_is_configuration line f =
+      let whole : ConsumedWhole longest_config (Some good.text) left' f.text = subst (λ l. ConsumedWhole longest_config l left' f.text) good.told f.read in
+      let same = consumed_all longest_config good.text f.text left' good.tells whole in
+      ok_is_no_fault (config_of good.text) line good.means (ap config_of same ∙ f.fault)
+
+  -- so that the reading ends for want of memory alone
+  pub good_read : (ended : LiveEnd) → IsReadEnd ended → (ended ≡ end.ReadFault → ⊥) → (ended ≡ end.TooLong → ConsumedTooMuch longest_config left left') → ((line : ℕ) → ended ≡ end.ConfigFault line → IsFaultyConfig line left left') → EndsWell ended
+  good_read end.ReadFault is cause long fault = absurd (cause refl)
+  good_read end.TooLong is cause long fault = absurd (good_is_short (long refl))
+  good_read (end.ConfigFault line) is cause long fault = absurd (good_is_configuration line (fault line refl))
+  good_read end.OutOfMemory is cause long fault = tt
+  good_read end.Done is cause long fault = absurd is
+  good_read end.Usage is cause long fault = absurd is
+  good_read end.ListenFault is cause long fault = absurd is
+  good_read (end.AttachFault d) is cause long fault = absurd is
+  good_read end.WaitFault is cause long fault = absurd is
+  good_read end.WaitsSpent is cause long fault = absurd is
+
+-- What came before an end
+
+module _ (words : List (List ℕ)) (left left' : Option (List ℕ)) (job : ServeJob) (asks : Some job ≡ serve_job_of words) (settings : Settings) (read : IsReadFrom left left' settings) where
+  abbrev is_told : IsTold words left left'
+  is_told = record { job = job; asks = sym asks; text = read.text; read = read.read; settings = settings; states = read.states }
+
+  module _ (outer outer' : Option (List Outer)) where
+    pub unheard : (ended : LiveEnd) → StartedUntil ended job.address settings outer outer' → ended ≡ end.ListenFault → Unheard words left left' outer outer'
+    unheard ended s e = record { told = is_told; appended = subst (λ x. StartedUntil x job.address settings outer outer') e s }
+
+    pub failed_at : (ended : LiveEnd) → StartedUntil ended job.address settings outer outer' → (d : ℕ) → ended ≡ end.AttachFault d → FailedAt d words left left' outer outer'
+    failed_at ended s d e =
+        let at = subst (λ x. StartedUntil x job.address settings outer outer') e s in
+        record { told = is_told; is_device = at.0; appended = at.1 }
+
+    pub started_in_part : (ended : LiveEnd) → StartedUntil ended job.address settings outer outer' → ended ≡ end.OutOfMemory → StartedInPart words left left' outer outer'
+    started_in_part ended s e =
+        let part = subst (λ x. StartedUntil x job.address settings outer outer') e s in
+        record { told = is_told; front = part.front; rest = part.rest; whole = part.whole; appended = part.appended }
+
+  pub ran : (ended : LiveEnd) (log log1 log2 : Option Log) (outer outer1 outer2 : Option (List Outer)) → Unchanged log log1 → Appended outer (started job.address settings) outer1 → ServedUntil settings.config ended job.waits log1 log2 outer1 outer2 →
+      ServerRan ended words left left' log log2 outer outer2
+  ran ended log log1 log2 outer outer1 outer2 quiet appended s = record {
+    told = is_told;
+    waits = s.asked;
+    count = s.count;
+    served = served_behind settings.config (started job.address settings) (last_entry ended) s.asked log log1 log2 outer outer1 outer2 quiet appended s.served;
+  }

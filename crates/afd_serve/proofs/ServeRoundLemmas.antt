@@ -1,0 +1,195 @@
+-- A server that waits and takes turns: the turns so far are a run, and each is that of its wait.
+use Rattle.std.proofs.Common.{◌≡◌, ◌≢◌, ℕ, ◌+◌, ◌<◌, Bool, true, List, [], ◌∷◌, ◌++◌, length, map, IfSome, refl, sym, ap, ◌∙◌, subst, append_assoc, append-nil, arith, if◌then◌else◌}
+use Rattle.std.specs.declared.option.Option.{Option}
+use Rattle.af_outside.specs.declared.happening.Happening.TheVariants.{Woke}
+use Rattle.af_outside.specs.declared.happening.Wake.{Wake}
+use Rattle.af_outside.specs.declared.happening.Wake.TheVariants as wake
+use Rattle.af_outside.specs.declared.outer.Outer.{Outer}
+use Rattle.af_outside.specs.declared.outer.Outer.TheVariants as noted
+use Rattle.af_outside.specs.declared.script.DeviceSpec.{DeviceSpec}
+use Rattle.af_io.specs.Observed.{Appended, Unchanged}
+use Rattle.af_outside.specs.Log.{Log}
+use Rattle.af_model.specs.State.{State, opening, links_of, outline, outline_with}
+use Rattle.af_model.specs.Turn.{IsTurn, fits}
+use Rattle.af_model.specs.Run.{wakes}
+use Rattle.af_model.specs.More.{has_more}
+use Rattle.af_model.specs.NoLoss.{StateLosesNone}
+use Rattle.af_model.proofs.RunLemmas.{TurnsTo, joined, joined-more, turns_end_state, turns_more, turns_run}
+use Rattle.af_model.proofs.PrefixLawLemmas.{takes_in_order}
+use Rattle.af_model.proofs.FoldLawLemmas.{mixes_all}
+use Rattle.af_core.specs.Stands.{Kept, Stands, Turns, kept_lines, outline_of}
+use Rattle.af_core.proofs.TurnLemmas.{same_lines}
+use Rattle.af_model.proofs.NoLossLemmas.{opening_loses_none}
+use Rattle.af_io.proofs.AppendedLemmas.{appended_none, appended_on, appended_stays, stays_appended, stays_same}
+use Rattle.afd_serve.specs.declared.live.LiveEnd.{LiveEnd}
+use Rattle.afd_serve.specs.declared.live.LiveEnd.TheVariants as end
+use Rattle.afd_serve.specs.Serving.{WaitMade, HasTurn, Served, Serves, entry_of, wake_taken_as}
+use Rattle.afd_serve.specs.Ends.{IsCount, comes_to_wait, last_entry}
+use Rattle.afd_serve.specs.Rounds.{ServedUntil}
+
+-- One turn more
+
+-- the turn of a wait
+pub record Turned (s : State) (wait : WaitMade) (part : Log) (next : State) : Type 0 where
+  pub asked : wait.more ≡ has_more s
+  pub goes_on : wait.wake ≢ wake.Stop
+  pub tail : Log
+  pub begins : part ≡ Woke (wake_taken_as s wait.wake) ∷ tail
+  pub only : wakes tail ≡ 0
+  pub is_turn : IsTurn s part next
+
+-- it is the first turn of a log that it begins
+abbrev has_turn : (s : State) (wait : WaitMade) (part : Log) (next : State) (log rest : Log) → Turned s wait part next → log ≡ part ++ rest → HasTurn s wait log
+has_turn s wait part next log rest t whole = record {
+  asked = t.asked;
+  goes_on = t.goes_on;
+  part = part;
+  rest = rest;
+  whole = whole;
+  tail = t.tail;
+  begins = t.begins;
+  only = t.only;
+  next = next;
+  is_turn = t.is_turn;
+}
+
+serves_more : (s mid end : State) (waits : List WaitMade) (log : Log) (wait : WaitMade) (part : Log) → Serves s waits log mid → Turned mid wait part end → Serves s (waits ++ wait ∷ []) (log ++ part) end
+serves_more s mid end [] log wait part h t =
+    let t' : Turned s wait part end = subst (λ m. Turned m wait part end) h.1 t in
+    let whole : log ++ part ≡ part ++ [] = ap (λ l. l ++ part) h.0 ∙ sym (append-nil part) in
+    (has_turn s wait part end (log ++ part) [] t' whole, (refl, refl))
+serves_more s mid end (w ∷ waits) log wait part h t =
+    let first = h.0 in
+    let whole : log ++ part ≡ first.part ++ (first.rest ++ part) = ap (λ l. l ++ part) first.whole ∙ append_assoc first.part first.rest part in
+    let first_turn : Turned s w first.part first.next = record { asked = first.asked; goes_on = first.goes_on; tail = first.tail; begins = first.begins; only = first.only; is_turn = first.is_turn } in
+    (has_turn s w first.part first.next (log ++ part) (first.rest ++ part) first_turn whole, serves_more first.next mid end waits first.rest wait part h.1 t)
+
+map-more : {A B : Type 0} (f : A → B) (xs : List A) (x : A) → map f (xs ++ x ∷ []) ≡ map f xs ++ f x ∷ []
+map-more f [] x = refl
+map-more f (y ∷ xs) x = ap (λ l. f y ∷ l) (map-more f xs x)
+
+length-more : {A : Type 0} (xs : List A) (x : A) → length (xs ++ x ∷ []) ≡ length xs + 1
+length-more [] x = refl
+length-more (y ∷ xs) x = let e = length-more xs x in omega arith
+
+-- what a core keeps has the outline of the state that it stands for
+same_outline : (kept : Kept) (s : State) → Stands kept s → outline s ≡ outline_of kept
+same_outline kept s stands =
+    ap (λ lines. outline_with lines (links_of s.slots)) (same_lines kept.devices s.devices stands.kept.devices) ∙ ap (λ l. outline_with (kept_lines kept.devices) l) stands.kept.links
+
+-- Rounds
+
+-- So many waits had their turns.
+pub record Runs (config : List DeviceSpec) (kept : Kept) (n : ℕ) (log log' : Option Log) (outer outer' : Option (List Outer)) : Type 0 where
+  pub waits : List WaitMade
+  pub count : length waits ≡ n
+  pub parts : List Log
+  pub state : State
+  pub added : Appended log (joined parts) log'
+  pub told : Appended outer (map entry_of waits) outer'
+  pub serves : Serves (opening config) waits (joined parts) state
+  pub turns : TurnsTo (opening config) parts state
+  pub stands : Stands kept state
+  pub lossless : StateLosesNone state
+
+module _ (config : List DeviceSpec) where
+  pub runs_start : (kept : Kept) (log : Option Log) (outer : Option (List Outer)) → Stands kept (opening config) → Runs config kept 0 log log outer outer
+  runs_start kept log outer stands = record {
+    waits = [];
+    count = refl;
+    parts = [];
+    state = opening config;
+    added = appended_none log;
+    told = appended_none outer;
+    serves = (refl, refl);
+    turns = refl;
+    stands = stands;
+    lossless = opening_loses_none config;
+  }
+
+  -- a wait and its turn behind so many
+  pub runs_more : (kept kept' : Kept) (n : ℕ) (log log1 log2 log3 : Option Log) (outer outer1 outer2 outer3 : Option (List Outer)) (more : Bool) (w : Wake) → Runs config kept n log log1 outer outer1 →
+      ((s : State) → Stands kept s → more ≡ has_more s) → w ≢ wake.Stop → Unchanged log1 log2 → Appended outer1 (noted.Waited more w ∷ []) outer2 →
+      Turns log2 log3 (if fits (outline_of kept) w then w else wake.Idle) kept kept' → Unchanged outer2 outer3 → Runs config kept' (n + 1) log log3 outer outer3
+  runs_more kept kept' n log log1 log2 log3 outer outer1 outer2 outer3 more w r asks goes_on quiet entry turns apart =
+      let wait : WaitMade = record { more = more; wake = w } in
+      let from = turns.each r.state r.stands in
+      let taken : wake_taken_as r.state w ≡ (if fits (outline_of kept) w then w else wake.Idle) = ap (λ o. if fits o w then w else wake.Idle) (same_outline kept r.state r.stands) in
+      let turn : Turned r.state wait turns.part from.next = record {
+        asked = asks r.state r.stands;
+        goes_on = goes_on;
+        tail = turns.rest;
+        begins = turns.begins ∙ ap (λ x. Woke x ∷ turns.rest) (sym taken);
+        only = turns.only;
+        is_turn = from.is_turn;
+      } in
+      let only = turns.only in
+      let one : wakes turns.part ≡ 1 = ap wakes turns.begins ∙ omega (arith, only) in
+      let count = r.count in
+      record {
+        waits = r.waits ++ wait ∷ [];
+        count = length-more r.waits wait ∙ omega (arith, count);
+        parts = r.parts ++ turns.part ∷ [];
+        state = from.next;
+        added = subst (λ l. Appended log l log3) (sym (joined-more r.parts turns.part)) (appended_on log log1 log3 (joined r.parts) turns.part r.added (stays_appended log1 log2 log3 turns.part quiet turns.told));
+        told = subst (λ l. Appended outer l outer3) (sym (map-more entry_of r.waits wait)) (appended_on outer outer1 outer3 (map entry_of r.waits) (entry_of wait ∷ []) r.told (appended_stays outer1 outer2 outer3 (entry_of wait ∷ []) entry apart));
+        serves = subst (λ l. Serves (opening config) (r.waits ++ wait ∷ []) l from.next) (sym (joined-more r.parts turns.part)) (serves_more (opening config) r.state from.next r.waits (joined r.parts) wait turns.part r.serves turn);
+        turns = turns_more (opening config) r.state from.next r.parts turns.part r.turns (record { is_turn = from.is_turn; one = one });
+        stands = from.stands;
+        lossless = from.lossless;
+      }
+
+  -- the end of it all, behind a last entry or none
+  runs_end : (kept : Kept) (n most : ℕ) (end : LiveEnd) (log log1 log2 : Option Log) (outer outer1 outer2 : Option (List Outer)) (r : Runs config kept n log log1 outer outer1) → comes_to_wait end ≡ true → IsCount end (length r.waits) most →
+      Unchanged log1 log2 → Appended outer1 (last_entry end r.state) outer2 → ServedUntil config end most log log2 outer outer2
+  runs_end kept n most end log log1 log2 outer outer1 outer2 r is_end count quiet last = record {
+    is_end = is_end;
+    asked = r.waits;
+    count = count;
+    served = record {
+      added = joined r.parts;
+      appended = appended_stays log log1 log2 (joined r.parts) r.added quiet;
+      end = r.state;
+      serves = r.serves;
+      told = appended_on outer outer1 outer2 (map entry_of r.waits) (last_entry end r.state) r.told last;
+      is_run = turns_run config r.state r.parts r.turns;
+      laws = record {
+        takes_in_order = takes_in_order config (joined r.parts);
+        mixes_all = mixes_all config (joined r.parts);
+        loses_none = subst (λ o. IfSome o StateLosesNone) (sym (turns_end_state config r.state r.parts r.turns)) r.lossless;
+      };
+    };
+  }
+
+  -- a wait gave Stop
+  pub runs_done : (kept : Kept) (n most : ℕ) (log log1 log2 : Option Log) (outer outer1 outer2 : Option (List Outer)) (more : Bool) (w : Wake) → Runs config kept n log log1 outer outer1 → n < most →
+      ((s : State) → Stands kept s → more ≡ has_more s) → w ≡ wake.Stop → Unchanged log1 log2 → Appended outer1 (noted.Waited more w ∷ []) outer2 → ServedUntil config end.Done most log log2 outer outer2
+  runs_done kept n most log log1 log2 outer outer1 outer2 more w r fewer asks stops quiet last =
+      let entry : Outer = noted.Waited (has_more r.state) wake.Stop in
+      let same : noted.Waited more w ≡ entry = ap (λ b. noted.Waited b w) (asks r.state r.stands) ∙ ap (λ x. noted.Waited (has_more r.state) x) stops in
+      runs_end kept n most end.Done log log1 log2 outer outer1 outer2 r refl (subst (λ m. m < most) (sym r.count) fewer) quiet
+      (subst (λ e. Appended outer1 (e ∷ []) outer2) same last)
+
+  -- a wait failed
+  pub runs_failed : (kept : Kept) (n most : ℕ) (log log1 log2 : Option Log) (outer outer1 outer2 : Option (List Outer)) → Runs config kept n log log1 outer outer1 → n < most →
+      Unchanged log1 log2 → Appended outer1 [] outer2 → ServedUntil config end.WaitFault most log log2 outer outer2
+  runs_failed kept n most log log1 log2 outer outer1 outer2 r fewer quiet last =
+      runs_end kept n most end.WaitFault log log1 log2 outer outer1 outer2 r refl (subst (λ m. m < most) (sym r.count) fewer) quiet last
+
+  -- all waits had their turns
+  pub runs_spent : (kept : Kept) (n most : ℕ) (log log1 : Option Log) (outer outer1 : Option (List Outer)) → Runs config kept n log log1 outer outer1 → n ≡ most → ServedUntil config end.WaitsSpent most log log1 outer outer1
+  runs_spent kept n most log log1 outer outer1 r all =
+      runs_end kept n most end.WaitsSpent log log1 log1 outer outer1 outer1 r refl (r.count ∙ all) (stays_same log1) (appended_none outer1)
+
+-- the same behind a start
+pub served_behind : (config : List DeviceSpec) (front : List Outer) (last : State → List Outer) (waits : List WaitMade) (log log1 log2 : Option Log) (outer outer1 outer2 : Option (List Outer)) →
+    Unchanged log log1 → Appended outer front outer1 → Served config [] last waits log1 log2 outer1 outer2 → Served config front last waits log log2 outer outer2
+served_behind config front last waits log log1 log2 outer outer1 outer2 quiet appended s = record {
+  added = s.added;
+  appended = stays_appended log log1 log2 s.added quiet s.appended;
+  end = s.end;
+  serves = s.serves;
+  told = appended_on outer outer1 outer2 front (map entry_of waits ++ last s.end) appended s.told;
+  is_run = s.is_run;
+  laws = s.laws;
+}

@@ -1,0 +1,423 @@
+-- AudioFile for Wireshark and tshark: setups, requests, replies, errors and events, as audiofile-protocol(7) has them.
+--
+--   tshark -X lua_script:audiofile.lua -r FILE          and Wireshark reads it from its folder of personal plugins
+--
+-- A connection is known by its port (1701, or what the preferences say) or by the setup that its client sends first, so any
+-- port will do where a capture has that. Fields are those of the protocol: `audiofile.time`, `audiofile.context`; a display
+-- filter such as `audiofile.error` or `audiofile.opcode == 6` finds messages.
+
+local audiofile = Proto("audiofile", "AudioFile")
+
+audiofile.prefs.ports = Pref.range("TCP ports", "1701", "Ports of servers", 65535)
+
+-- how a setup begins, and whether the numbers of its link are little-endian. Samples are big-endian on every link
+local ORDERS = { [0x41464200] = false }
+local LONGEST_FRAME = 4096
+
+local TYPES = { [0] = "mu255", [1] = "alaw", [2] = "lin16", [3] = "lin32" }
+local KINDS = { [0] = "error", [1] = "reply", [2] = "event" }
+local EVENTS = { [1] = "Ring", [2] = "Hook", [4] = "Current", [8] = "Digit" }
+local ERRORS = {
+    [1] = "BadSetup", [2] = "BadValue", [3] = "BadDevice", [4] = "BadAC", [5] = "BadIDChoice", [6] = "BadMatch", [7] = "TooManyACs",
+    [8] = "BadLine",
+}
+local RATES = { [8000] = true, [11025] = true, [16000] = true, [22050] = true, [32000] = true, [44100] = true, [48000] = true }
+
+-- a request: its name, what its detail is, its words (those of a Play without its data), and its fields: name, offset, bytes
+local REQUESTS = {
+    [1] = { name = "NoOp", words = 1 },
+    [2] = { name = "GetTime", detail = "device", words = 1 },
+    [3] = {
+        name = "CreateAC", detail = "device", words = 4,
+        { "context", 4, 4 }, { "type", 8, 1 }, { "channels", 9, 1 }, { "preempt", 10, 1 }, { "play_gain", 12, 2 }, { "record_gain", 14, 2 },
+    },
+    [4] = {
+        name = "ChangeAC", detail = "mask", words = 4,
+        { "context", 4, 4 }, { "preempt", 8, 1 }, { "play_gain", 12, 2 }, { "record_gain", 14, 2 },
+    },
+    [5] = { name = "FreeAC", words = 2, { "context", 4, 4 } },
+    [6] = { name = "Play", detail = "quiet", words = 4, has_data = true, { "context", 4, 4 }, { "time", 8, 4 }, { "count", 12, 4 } },
+    [7] = { name = "Record", detail = "waits", words = 4, { "context", 4, 4 }, { "time", 8, 4 }, { "count", 12, 4 } },
+    [8] = { name = "SelectEvents", detail = "device", words = 2, { "events", 4, 4 } },
+    [9] = {
+        name = "SetControls", detail = "device", words = 3,
+        { "mask", 4, 1 }, { "input_on", 5, 1 }, { "output_on", 6, 1 }, { "input_gain", 8, 2 }, { "output_gain", 10, 2 },
+    },
+    [10] = { name = "QueryControls", detail = "device", words = 1 },
+    [11] = { name = "HookSwitch", detail = "device", words = 2, { "off", 4, 4 } },
+    [12] = { name = "QueryPhone", detail = "device", words = 1 },
+}
+
+-- the body of a reply: its words (those of a Record without its data), its fields, and the bytes that are zeros
+local TIME = { words = 1, { "time", 8, 4 } }
+local EMPTY = { words = 0 }
+local REPLIES = {
+    [2] = TIME, [3] = EMPTY, [4] = EMPTY, [5] = EMPTY, [6] = TIME, [8] = EMPTY, [9] = EMPTY, [11] = EMPTY,
+    [7] = { words = 2, has_data = true, { "time", 8, 4 }, { "count", 12, 4 } },
+    [10] = {
+        words = 2, flags = { 8, 9 }, zeros = { 10, 2 }, gains = { 12, 14 },
+        { "input_on", 8, 1 }, { "output_on", 9, 1 }, { "input_gain", 12, 2 }, { "output_gain", 14, 2 },
+    },
+    [12] = {
+        words = 2, flags = { 8, 9, 10, 11, 12 }, zeros = { 13, 3 },
+        { "wanted", 8, 1 }, { "given", 9, 1 }, { "ringing", 10, 1 }, { "current", 11, 1 }, { "dead", 12, 1 },
+    },
+}
+
+local NAMES = { [0] = "setup" }
+for opcode, layout in pairs(REQUESTS) do NAMES[opcode] = layout.name end
+
+local fields = {
+    says = ProtoField.string("audiofile.says", "Says"),
+    magic = ProtoField.bytes("audiofile.magic", "Protocol"),
+    major = ProtoField.uint16("audiofile.major", "Major version"),
+    minor = ProtoField.uint16("audiofile.minor", "Minor version"),
+    opcode = ProtoField.uint8("audiofile.opcode", "Request", base.DEC, NAMES),
+    words = ProtoField.uint32("audiofile.words", "Length in words"),
+    number = ProtoField.uint16("audiofile.number", "Number of the request"),
+    kind = ProtoField.uint8("audiofile.kind", "Kind", base.DEC, KINDS),
+    reply = ProtoField.uint8("audiofile.reply", "Reply to", base.DEC, NAMES),
+    error = ProtoField.uint8("audiofile.error", "Error", base.DEC, ERRORS),
+    event = ProtoField.uint8("audiofile.event", "Event", base.DEC, EVENTS),
+    refused = ProtoField.uint8("audiofile.refused", "Refused request", base.DEC, NAMES),
+    asked_in = ProtoField.framenum("audiofile.asked_in", "Asked in", base.NONE, frametype.REQUEST),
+    device = ProtoField.uint32("audiofile.device", "Device"),
+    context = ProtoField.uint32("audiofile.context", "Context"),
+    type = ProtoField.uint8("audiofile.type", "Sample type", base.DEC, TYPES),
+    channels = ProtoField.uint8("audiofile.channels", "Channels"),
+    preempt = ProtoField.uint8("audiofile.preempt", "Preempts"),
+    play_gain = ProtoField.int16("audiofile.play_gain", "Play gain (dB)"),
+    record_gain = ProtoField.int16("audiofile.record_gain", "Record gain (dB)"),
+    mask = ProtoField.uint8("audiofile.mask", "Fields that change", base.HEX),
+    time = ProtoField.uint32("audiofile.time", "Device time"),
+    count = ProtoField.uint32("audiofile.count", "Bytes of data"),
+    data = ProtoField.bytes("audiofile.data", "Samples"),
+    quiet = ProtoField.bool("audiofile.quiet", "No reply is wanted", 8, nil, 1),
+    waits = ProtoField.bool("audiofile.waits", "Waits for all samples", 8, nil, 1),
+    events = ProtoField.uint32("audiofile.events", "Events", base.HEX),
+    input_on = ProtoField.uint8("audiofile.input_on", "Input on"),
+    output_on = ProtoField.uint8("audiofile.output_on", "Output on"),
+    input_gain = ProtoField.int16("audiofile.input_gain", "Input gain (dB)"),
+    output_gain = ProtoField.int16("audiofile.output_gain", "Output gain (dB)"),
+    off = ProtoField.uint32("audiofile.off", "Off hook"),
+    value = ProtoField.uint32("audiofile.value", "Value"),
+    devices = ProtoField.uint32("audiofile.devices", "Devices"),
+    has_line = ProtoField.uint8("audiofile.has_line", "Telephone line"),
+    rate = ProtoField.uint32("audiofile.rate", "Frames a second"),
+    horizon = ProtoField.uint32("audiofile.horizon", "Horizon in frames"),
+    wanted = ProtoField.uint8("audiofile.wanted", "Wanted off hook"),
+    given = ProtoField.uint8("audiofile.given", "Given off hook"),
+    ringing = ProtoField.uint8("audiofile.ringing", "Rings"),
+    current = ProtoField.uint8("audiofile.current", "Current flows"),
+    dead = ProtoField.uint8("audiofile.dead", "Line is dead"),
+}
+for bit, name in pairs(EVENTS) do
+    fields["event_" .. bit] = ProtoField.bool("audiofile.events." .. name:lower(), name, 32, nil, bit)
+end
+audiofile.fields = fields
+
+local malformed = ProtoExpert.new("audiofile.malformed", "Malformed", expert.group.MALFORMED, expert.severity.ERROR)
+local refused = ProtoExpert.new("audiofile.refusal", "Refused", expert.group.RESPONSE_CODE, expert.severity.NOTE)
+audiofile.experts = { malformed, refused }
+
+-- of each connection, by its two ends: the server's port, the order of its numbers, and how many requests it has had. When
+-- frames are first gone through, `numbers` gets the number of each request by the place where it stands, `asked` the frame of
+-- the request that each message answers, and `frames` the frame of each number
+local streams = {}
+
+function audiofile.init()
+    streams = {}
+end
+
+local function stream_of(pinfo)
+    local one = tostring(pinfo.src) .. " " .. pinfo.src_port
+    local other = tostring(pinfo.dst) .. " " .. pinfo.dst_port
+    local ends = one < other and one .. " " .. other or other .. " " .. one
+    streams[ends] = streams[ends] or { little = false, count = nil, numbers = {}, asked = {}, frames = {} }
+    return streams[ends]
+end
+
+local function place_of(tvb, pinfo)
+    return pinfo.number .. "/" .. tvb:offset()
+end
+
+local function number_at(stream, range)
+    return stream.little and range:le_uint() or range:uint()
+end
+
+local function signed_at(stream, range)
+    return stream.little and range:le_int() or range:int()
+end
+
+-- every number is added here, in the order of its link
+local function add(stream, tree, name, range)
+    if stream.little then return tree:add_le(fields[name], range) end
+    return tree:add(fields[name], range)
+end
+
+local function add_all(stream, tree, layout, tvb)
+    for _, each in ipairs(layout) do add(stream, tree, each[1], tvb(each[2], each[3])) end
+end
+
+local function padded(size)
+    return size + (-size % 4)
+end
+
+-- what is said of a message: its name as a field that a filter finds, and with more of it in the tree and in the list of packets,
+-- behind what was said there
+local function say(pinfo, tree, text, more)
+    tree:add(fields.says, text):set_generated()
+    text = text .. (more or "")
+    tree:append_text(", " .. text)
+    if pinfo.private.audiofile then
+        pinfo.cols.info:append("; " .. text)
+    else
+        pinfo.cols.protocol = "AudioFile"
+        pinfo.cols.info = text
+        pinfo.private.audiofile = "said"
+    end
+    pinfo.cols.info:fence()
+end
+
+-- what is told of some requests and replies beside their names: times, and how much sound
+local function more_of(layout, stream, tvb)
+    local parts = {}
+    for _, each in ipairs(layout) do
+        local value = (each[1] == "context" or each[1] == "time" or each[1] == "count") and number_at(stream, tvb(each[2], each[3]))
+        if value then parts[#parts + 1] = each[1] == "count" and value .. " bytes" or each[1] .. " " .. value end
+    end
+    return #parts > 0 and " (" .. table.concat(parts, ", ") .. ")" or ""
+end
+
+local function is_bad(pinfo, tree, why)
+    tree:add_proto_expert_info(malformed, why)
+    say(pinfo, tree, "malformed: " .. why)
+end
+
+-- what a client sends
+
+local function frame_length(stream, tvb, offset)
+    if ORDERS[tvb(offset, 4):uint()] ~= nil then return 8 end
+    local words = number_at(stream, tvb(offset + 2, 2))
+    if words == 0 or words > LONGEST_FRAME then return tvb:len() - offset end
+    return 4 * words
+end
+
+local function setup(stream, tvb, pinfo, tree)
+    stream.little = ORDERS[tvb(0, 4):uint()]
+    tree:add(fields.magic, tvb(0, 4))
+    add(stream, tree, "major", tvb(4, 2))
+    add(stream, tree, "minor", tvb(6, 2))
+    if not pinfo.visited then stream.count = 0 end
+    local major = number_at(stream, tvb(4, 2))
+    if major ~= 1 then return is_bad(pinfo, tree, "a setup of version " .. major) end
+    say(pinfo, tree, "setup")
+end
+
+-- the number of the request that stands here: they count from the setup on, which has to be in the capture
+local function request_number(stream, tvb, pinfo)
+    local place = place_of(tvb, pinfo)
+    if not pinfo.visited and stream.count and not stream.numbers[place] then
+        stream.count = (stream.count + 1) % 65536
+        stream.numbers[place] = stream.count
+        stream.frames[stream.count] = pinfo.number
+    end
+    return stream.numbers[place]
+end
+
+local function request_words(layout, stream, tvb)
+    local words = layout.words
+    if layout.has_data and tvb:len() >= 4 * words then words = words + padded(number_at(stream, tvb(12, 4))) / 4 end
+    return words
+end
+
+local function request(stream, tvb, pinfo, tree)
+    local opcode, words = tvb(0, 1):uint(), number_at(stream, tvb(2, 2))
+    add(stream, tree, "opcode", tvb(0, 1))
+    add(stream, tree, "words", tvb(2, 2))
+    local layout = REQUESTS[opcode]
+    if words == 0 or words > LONGEST_FRAME then return is_bad(pinfo, tree, "a frame of " .. words .. " words") end
+    if not layout then return is_bad(pinfo, tree, "opcode " .. opcode .. ", which is no request") end
+    if words ~= request_words(layout, stream, tvb) then return is_bad(pinfo, tree, "a " .. layout.name .. " of " .. words .. " words") end
+    if layout.detail then add(stream, tree, layout.detail, tvb(1, 1)) end
+    add_all(stream, tree, layout, tvb)
+    if opcode == 8 then
+        for bit in pairs(EVENTS) do add(stream, tree, "event_" .. bit, tvb(4, 4)) end
+    end
+    local count = layout.has_data and number_at(stream, tvb(12, 4)) or 0
+    if count > 0 then tree:add(fields.data, tvb(16, count)) end
+    local number = request_number(stream, tvb, pinfo)
+    if number then tree:add(fields.number, number):set_generated() end
+    say(pinfo, tree, layout.name .. (number and " " .. number or ""), more_of(layout, stream, tvb))
+end
+
+-- what a server sends
+
+local function is_head(kind, detail, words)
+    if kind == 0 then return ERRORS[detail] ~= nil and words == 2 end
+    if kind == 2 then return EVENTS[detail] ~= nil and words == 3 end
+    return kind == 1 and (detail == 0 or REPLIES[detail] ~= nil) and words <= 4002
+end
+
+local function message_length(stream, tvb, offset)
+    local words = number_at(stream, tvb(offset + 4, 4))
+    if not is_head(tvb(offset, 1):uint(), tvb(offset + 1, 1):uint(), words) then return tvb:len() - offset end
+    return 8 + 4 * words
+end
+
+local function are_zeros(tvb, offset, size)
+    for at = offset, offset + size - 1 do
+        if tvb(at, 1):uint() ~= 0 then return false end
+    end
+    return true
+end
+
+-- whether a body is one of this layout
+local function is_body(layout, stream, tvb)
+    local size = tvb:len() - 8
+    if not layout or size < 4 * layout.words then return false end
+    local count = layout.has_data and number_at(stream, tvb(12, 4)) or 0
+    if size ~= 4 * layout.words + padded(count) or not are_zeros(tvb, 16 + count, layout.has_data and -count % 4 or 0) then return false end
+    for _, at in ipairs(layout.flags or {}) do
+        if tvb(at, 1):uint() > 1 then return false end
+    end
+    for _, at in ipairs(layout.gains or {}) do
+        if math.abs(signed_at(stream, tvb(at, 2))) > 30 then return false end
+    end
+    return not layout.zeros or are_zeros(tvb, layout.zeros[1], layout.zeros[2])
+end
+
+local DEVICE = { { "type", 0, 1 }, { "channels", 1, 1 }, { "has_line", 2, 1 }, { "rate", 4, 4 }, { "horizon", 8, 4 } }
+
+local function is_device(stream, tvb, at)
+    local rate = number_at(stream, tvb(at + 4, 4))
+    return tvb(at, 1):uint() <= 3 and tvb(at + 1, 1):uint() == 1 and tvb(at + 2, 1):uint() <= 1 and tvb(at + 3, 1):uint() == 0
+        and RATES[rate] and number_at(stream, tvb(at + 8, 4)) == 4 * rate
+end
+
+-- the answer to a setup, and whether it is one
+local function devices(stream, tvb, tree)
+    if tvb:len() < 16 then return false end
+    local count = number_at(stream, tvb(12, 4))
+    add(stream, tree, "major", tvb(8, 2))
+    add(stream, tree, "minor", tvb(10, 2))
+    add(stream, tree, "devices", tvb(12, 4))
+    if number_at(stream, tvb(8, 2)) ~= 1 or number_at(stream, tvb(10, 2)) ~= 0 then return false end
+    if count < 1 or count > 8 or tvb:len() ~= 16 + 12 * count then return false end
+    local all = true
+    for each = 0, count - 1 do
+        local at = 16 + 12 * each
+        local part = tree:add(tvb(at, 12), "Device " .. each)
+        for _, one in ipairs(DEVICE) do add(stream, part, one[1], tvb(at + one[2], one[3])) end
+        all = all and is_device(stream, tvb, at)
+    end
+    return all
+end
+
+-- which request a message answers, in words, with the frame that it is in
+local function answered(stream, tvb, pinfo, tree, opcode, number)
+    if opcode == 0 then return "setup" end
+    local place = place_of(tvb, pinfo)
+    if not pinfo.visited then stream.asked[place] = stream.frames[number] end
+    if stream.asked[place] then tree:add(fields.asked_in, stream.asked[place]):set_generated() end
+    return (NAMES[opcode] or "opcode " .. opcode) .. " " .. number
+end
+
+local function reply(stream, tvb, pinfo, tree, opcode, number)
+    add(stream, tree, "reply", tvb(1, 1))
+    local text = "reply to " .. answered(stream, tvb, pinfo, tree, opcode, number)
+    if opcode == 0 then
+        if not devices(stream, tvb, tree) then return is_bad(pinfo, tree, "no " .. text) end
+        return say(pinfo, tree, text)
+    end
+    local layout = REPLIES[opcode]
+    if not is_body(layout, stream, tvb) then return is_bad(pinfo, tree, "no " .. text) end
+    add_all(stream, tree, layout, tvb)
+    local count = layout.has_data and number_at(stream, tvb(12, 4)) or 0
+    if count > 0 then tree:add(fields.data, tvb(16, count)) end
+    say(pinfo, tree, text, more_of(layout, stream, tvb))
+end
+
+local function failure(stream, tvb, pinfo, tree, code, number)
+    add(stream, tree, "error", tvb(1, 1))
+    add(stream, tree, "value", tvb(8, 4))
+    add(stream, tree, "refused", tvb(12, 1))
+    local text = "error " .. ERRORS[code] .. " to " .. answered(stream, tvb, pinfo, tree, tvb(12, 1):uint(), number)
+    if not are_zeros(tvb, 13, 3) then return is_bad(pinfo, tree, "no " .. text) end
+    tree:add_proto_expert_info(refused, text)
+    say(pinfo, tree, text)
+end
+
+local function event(stream, tvb, pinfo, tree, kind)
+    add(stream, tree, "event", tvb(1, 1))
+    local layout = { { "device", 8, 4 }, { "time", 12, 4 }, { "value", 16, 4 } }
+    add_all(stream, tree, layout, tvb)
+    local text = "event " .. EVENTS[kind]
+    if number_at(stream, tvb(8, 4)) > 7 or kind ~= 8 and number_at(stream, tvb(16, 4)) > 1 then return is_bad(pinfo, tree, "no " .. text) end
+    say(pinfo, tree, text, more_of(layout, stream, tvb))
+end
+
+local function message(stream, tvb, pinfo, tree)
+    local kind, detail = tvb(0, 1):uint(), tvb(1, 1):uint()
+    add(stream, tree, "kind", tvb(0, 1))
+    local number = number_at(stream, tvb(2, 2))
+    if not is_head(kind, detail, number_at(stream, tvb(4, 4))) then return is_bad(pinfo, tree, "no head of a message") end
+    add(stream, tree, "number", tvb(2, 2))
+    add(stream, tree, "words", tvb(4, 4))
+    if kind == 0 then return failure(stream, tvb, pinfo, tree, detail, number) end
+    if kind == 2 then return event(stream, tvb, pinfo, tree, detail) end
+    reply(stream, tvb, pinfo, tree, detail, number)
+end
+
+-- a whole setup or frame, and a whole message
+
+local function one(tvb, pinfo, tree, to_server)
+    local stream = stream_of(pinfo)
+    local part = tree:add(audiofile, tvb(), "AudioFile")
+    if not to_server then
+        message(stream, tvb, pinfo, part)
+    elseif ORDERS[tvb(0, 4):uint()] ~= nil then
+        setup(stream, tvb, pinfo, part)
+    else
+        request(stream, tvb, pinfo, part)
+    end
+    return tvb:len()
+end
+
+local function is_setup(tvb)
+    return tvb:len() >= 4 and ORDERS[tvb(0, 4):uint()] ~= nil
+end
+
+local function dissect(tvb, pinfo, tree)
+    local stream = stream_of(pinfo)
+    if not stream.server_port then
+        stream.server_port = is_setup(tvb) and pinfo.dst_port or pinfo.match_uint
+    end
+    local to_server = pinfo.dst_port == stream.server_port
+    dissect_tcp_pdus(
+        tvb, tree, to_server and 4 or 8,
+        function(whole, _, offset) return (to_server and frame_length or message_length)(stream, whole, offset) end,
+        function(whole, about, branch) return one(whole, about, branch, to_server) end)
+    return tvb:len()
+end
+
+audiofile.dissector = dissect
+
+-- a client that sends a setup first, to whatever port. Here the function is called, and not the dissector: called through
+-- Wireshark it could not ask for the next segment
+audiofile:register_heuristic("tcp", function(tvb, pinfo, tree)
+    if not is_setup(tvb) then return false end
+    pinfo.conversation = audiofile
+    dissect(tvb, pinfo, tree)
+    return true
+end)
+
+local by_port = DissectorTable.get("tcp.port")
+local ports = audiofile.prefs.ports
+by_port:add(ports, audiofile)
+
+function audiofile.prefs_changed()
+    by_port:remove(ports, audiofile)
+    ports = audiofile.prefs.ports
+    by_port:add(ports, audiofile)
+end

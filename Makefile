@@ -1,37 +1,71 @@
-# demo: runs the example through `afd script`, by the proved program where it is built
-# listen: runs the example in which three clients are heard, in the same way, and makes a sound file of it
-# demo-sound: the real server, two clients that play to it at once, and a sound file of what was heard; after make build
-# build: proves everything and leaves the programs in bin/
-# check-scripts: runs the worked scripts and exercises of tests/, in seconds; after make build
-# test: the whole gate
-# fmt: lays out each crate's files
+# `make` alone lists its targets. The text behind ## is what it says of each.
 
-demo:
-	@if [ -x bin/afd ]; then echo "(the proved program)"; bin/afd script < examples/time.script; \
-	else echo "(no proved program in bin/: run before any proof, by rt try)"; cd crates/afd && rt try -- script < ../../examples/time.script 2>/dev/null; fi
+SCRIPT = examples/time.script
 
-listen:
-	@transcript=$$(mktemp) && trap 'rm -f "$$transcript"' EXIT && \
-	if [ -x bin/afd ]; then echo "(the proved program)"; bin/afd script < examples/mixing.script > "$$transcript"; \
+help: ## what can be made: this list
+	@sed -n 's/^\([a-z-]*\):.*## /  make \1|/p' Makefile | awk -F'|' '{ printf "%-22s%s\n", $$1, $$2 }'
+
+demo: ## starts the server, plays to it, records: a sound file and a picture in demo/; needs no build, half a minute
+	@tools/demo
+
+script: ## runs a script (SCRIPT=examples/time.script) and says in words what came of it; needs no build, half a minute
+	@room=$$(mktemp -d) && trap 'rm -rf "$$room"' EXIT && \
+	if [ -x bin/afd ]; then echo "(the proved program)"; bin/afd script < $(SCRIPT) > "$$room/transcript"; \
 	else echo "(no proved program in bin/: run before any proof, by rt try)"; \
-	(cd crates/afd && rt try -- script < ../../examples/mixing.script 2>/dev/null) > "$$transcript"; fi && \
-	tools/transcript-to-au --script examples/mixing.script --output examples/mixing.au "$$transcript" && \
-	echo "examples/mixing.au: let any player play it"
+	(cd crates/afd && rt try -- script < $(abspath $(SCRIPT)) > "$$room/transcript" 2> "$$room/said") || { cat "$$room/said"; exit 1; }; fi && \
+	if [ -x tools/explain ]; then tools/explain $(SCRIPT) "$$room/transcript"; else cat "$$room/transcript"; fi
 
-demo-sound:
-	@tools/demo-sound
-
-build:
+build: ## proves everything, and leaves the programs bin/afd and bin/af: an hour of processor time, once
 	rt all check && mkdir -p bin && cd crates/afd && rt run -- script < stdin > /dev/null && cp out/afd ../../bin/afd
 	cd crates/af && rm -f out/af && { rt run -- arecord 127.0.0.1:1 --frames=1 2> /dev/null; cp out/af ../../bin/af; }
 
-check-scripts:
+check-scripts: ## the worked scripts and exercises of tests/, by the proved program: seconds
 	@tools/check-scripts
 
-test:
+test: ## the gate: every proof, test, wrong body and worked case
 	.ci/run
 
-fmt:
+fmt: ## lays out each crate's files
 	for crate in crates/*; do (cd $$crate && rt fmt) || exit; done
 
-.PHONY: demo listen demo-sound build check-scripts test fmt
+# Where install puts things is where Debian's policy has them. A package says PREFIX=/usr, DESTDIR for the folder that it is made
+# in, and for the dissector WIRESHARK=/usr/lib/$(DEB_HOST_MULTIARCH)/wireshark/plugins; it compresses the pages itself.
+PREFIX = /usr/local
+DESTDIR =
+AFD = bin/afd
+AF = bin/af
+WIRESHARK = $(PREFIX)/share/audiofile
+PROGRAMS = $(DESTDIR)$(PREFIX)/bin
+MANUALS = $(DESTDIR)$(PREFIX)/share/man
+UNITS = $(DESTDIR)$(PREFIX)/lib/systemd/system
+PAGES = $(DESTDIR)$(PREFIX)/share/doc/audiofile
+DISSECTORS = $(DESTDIR)$(WIRESHARK)
+EXAMPLES = contrib/afd.conf $(wildcard examples/*.script examples/*.py)
+DISSECTOR = $(wildcard contrib/audiofile.lua)
+
+install: ## puts programs, manual pages, unit, examples and dissector below PREFIX (/usr/local); after make build
+	@for program in $(AFD) $(AF); do \
+	  [ -x $$program ] || { echo "$$program is not there: make build proves and makes it" >&2; exit 1; }; done
+	install -d $(PROGRAMS) $(MANUALS)/man1 $(MANUALS)/man5 $(MANUALS)/man7 $(MANUALS)/man8 $(UNITS) $(PAGES)/examples $(DISSECTORS)
+	install -m 755 $(AFD) $(PROGRAMS)/afd
+	install -m 755 $(AF) $(PROGRAMS)/af
+	install -m 644 man/af.1 $(MANUALS)/man1/af.1
+	install -m 644 man/afd-script.5 $(MANUALS)/man5/afd-script.5
+	install -m 644 man/audiofile-protocol.7 $(MANUALS)/man7/audiofile-protocol.7
+	install -m 644 man/afd.8 $(MANUALS)/man8/afd.8
+	sed 's,/usr/local/bin,$(PREFIX)/bin,' contrib/afd.service > $(UNITS)/afd.service && chmod 644 $(UNITS)/afd.service
+	install -m 644 $(EXAMPLES) $(PAGES)/examples
+	install -m 644 LICENSE $(PAGES)/copyright
+	for file in $(DISSECTOR); do install -m 644 $$file $(DISSECTORS); done
+
+uninstall: ## takes away what install put there, with the same PREFIX and DESTDIR, and leaves configuration and sound
+	rm -f $(PROGRAMS)/afd $(PROGRAMS)/af $(UNITS)/afd.service $(PAGES)/copyright
+	rm -f $(MANUALS)/man1/af.1 $(MANUALS)/man5/afd-script.5 $(MANUALS)/man7/audiofile-protocol.7 $(MANUALS)/man8/afd.8
+	rm -f $(addprefix $(PAGES)/examples/,$(notdir $(EXAMPLES))) $(addprefix $(DISSECTORS)/,$(notdir $(DISSECTOR)))
+	for folder in $(PAGES)/examples $(PAGES) $(DESTDIR)$(PREFIX)/share/audiofile; do \
+	  [ ! -d $$folder ] || rmdir --ignore-fail-on-non-empty $$folder; done
+
+check-install: ## tries install and uninstall in a temporary folder, and the manual pages: seconds
+	@tools/check-install
+
+.PHONY: help demo script build install uninstall check-install check-scripts test fmt

@@ -7,20 +7,28 @@ import sys
 import tempfile
 import time
 
+from wire import request, setup
+
 ROOT = os.path.dirname(os.path.dirname(os.path.abspath(__file__)))
-SETUP = bytes.fromhex("4146420000010000")
-GET_TIME = bytes.fromhex("02000001")
+SETUP = setup()
+GET_TIME = request("GetTime")
 WORD = 1 << 32
 HALF = 1 << 31
 
 
+def proved(name):
+    """The proved program, where there is one: that of make build or that of the last gate, the newer of the two."""
+    there = [os.path.join(ROOT, "bin", name), os.path.join(ROOT, "crates", name, "out", name)]
+    return max((it for it in there if os.access(it, os.X_OK)), key=os.path.getmtime, default=None)
+
+
 def program(name):
-    """The proved program: that of make build or that of the last gate, the newer of the two, or else it is built now."""
+    """The proved program. Where there is none it is built now."""
+    found = proved(name)
+    if found:
+        return found
     crate = os.path.join(ROOT, "crates", name)
     left = os.path.join(crate, "out", name)
-    whole = [it for it in (os.path.join(ROOT, "bin", name), left) if os.access(it, os.X_OK)]
-    if whole:
-        return max(whole, key=os.path.getmtime)
     built = subprocess.run(["rt", "run", "--", "usage"], cwd=crate, stdin=subprocess.DEVNULL, capture_output=True)
     if not os.access(left, os.X_OK):
         sys.stderr.buffer.write(built.stdout + built.stderr)
@@ -54,7 +62,7 @@ def set_up(address):
 
 
 def asked_time(link, device=0):
-    link.sendall(bytes([2, device, 0, 1]))
+    link.sendall(request("GetTime", device))
     return int.from_bytes(received(link, 12)[8:12], "big")
 
 
@@ -62,22 +70,28 @@ class Server:
     """A server on the loopback with these devices, in a folder that its files stand in. Used with `with`, it is ended at the end."""
 
     def __init__(self, afd, folder, devices, before=()):
+        self.start([*before, afd], folder, folder, devices)
+
+    def start(self, words, cwd, folder, devices, patience=20):
+        """Starts a program in a folder, and waits until it listens, so many seconds at most."""
         with socket.create_server(("127.0.0.1", 0)) as taken:
             self.address = "127.0.0.1:%d" % taken.getsockname()[1]
         self.folder = folder
         self.said = tempfile.TemporaryFile()
         self.process = subprocess.Popen(
-            [*before, afd, "serve", self.address, "1000000000000"], stdin=subprocess.PIPE, stdout=subprocess.DEVNULL, stderr=self.said, cwd=folder)
+            [*words, "serve", self.address, "1000000000000"], stdin=subprocess.PIPE, stdout=subprocess.DEVNULL, stderr=self.said, cwd=cwd)
         self.process.stdin.write("".join(line + "\n" for line in devices).encode())
         self.process.stdin.close()
-        for _ in range(20000):
+        begun = time.monotonic()
+        while time.monotonic() - begun < patience and self.process.poll() is None:
             try:
                 connect(self.address).close()
                 return
             except OSError:
-                time.sleep(0.001)
-        self.process.kill()
-        sys.exit("the server does not listen")
+                time.sleep(patience / 20000)
+        self.end()
+        self.said.seek(0)
+        sys.exit("the server does not listen\n" + self.said.read().decode(errors="replace"))
 
     def __enter__(self):
         return self
@@ -110,3 +124,11 @@ class Server:
         self.process.wait(20)
         self.said.seek(0)
         return runs and self.said.read() == b""
+
+
+class TriedServer(Server):
+    """A server before any proof: `rt try` compiles it in half a minute and more, and runs it with checks, so many seconds at most. It
+    runs in a folder that is not this one, so the files of its devices are named in full."""
+
+    def __init__(self, folder, devices, seconds):
+        self.start(["rt", "try", "--seconds", str(seconds), "--"], os.path.join(ROOT, "crates", "afd"), folder, devices, 600)

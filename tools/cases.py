@@ -2,9 +2,12 @@
 
 import itertools
 import os
+import re
 
 # how much of a long line is shown on each side of the first difference
 AROUND = 40
+# a line of bytes: how many times, and digits, of which some may stand in brackets
+STATED = re.compile(r"(?:(\d+) times )?([^[]*)(?:\[([^]]*)\])?(.*)", re.DOTALL)
 
 
 def lists_of_words(text):
@@ -19,6 +22,27 @@ def lists_of_words(text):
         elif words:
             yield [] if words == ["(no words)"] else words
             words = []
+
+
+def octets_stated(text):
+    """The bytes that hexadecimal digits state. `N times HEX` states them N times, and what stands in brackets there rises by one each
+    time, and wraps; a line that begins with # is a comment. A line that states no whole bytes is a ValueError, with the line."""
+    stated = []
+    for line in text.split("\n"):
+        if line.startswith("#"):
+            continue
+        times, before, rising, behind = STATED.fullmatch(line).groups()
+        try:
+            before, rising, behind = (bytes.fromhex(digits or "") for digits in (before, rising, behind))
+        except ValueError:
+            raise ValueError(line) from None
+        if rising:
+            first, past = int.from_bytes(rising, "big"), 1 << 8 * len(rising)
+            for more in range(int(times or 1)):
+                stated += before, ((first + more) % past).to_bytes(len(rising), "big"), behind
+        else:
+            stated.append(int(times or 1) * (before + behind))
+    return b"".join(stated)
 
 
 def first_difference(found, wanted):

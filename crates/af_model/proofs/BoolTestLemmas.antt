@@ -2,7 +2,7 @@
 use Rattle.std.proofs.Common.{◌≡◌, ℕ, Bool, true, false, not, cond, ◌&&◌, ◌==◌, List, [], ◌∷◌, is_none, refl, eqb-true}
 use Rattle.std.specs.declared.option.Option.{Option}
 use Rattle.std.specs.declared.option.Option.TheVariants.{None, Some}
-use Rattle.af_outside.specs.Outside.{same_bytes}
+use Rattle.af_world.specs.Outside.{same_bytes}
 
 pub cond-some : {A : Type 0} (t : Bool) (x : Option A) (b : A) → cond t x None ≡ Some b → (t ≡ true) × (x ≡ Some b)
 cond-some true x b e = (refl, e)

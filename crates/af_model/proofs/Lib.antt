@@ -4,6 +4,9 @@ pub mod RunLemmas
 pub mod SlotLemmas
 pub mod BoolTestLemmas
 pub mod ListLemmas
+pub mod AlikeLemmas
+pub mod OpenLinkLemmas
+pub mod LinkDeterminismLemmas
 pub mod DeterminismLemmas
 pub mod StepLemmas
 pub mod OneLogLemmas

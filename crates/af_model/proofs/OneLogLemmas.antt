@@ -13,7 +13,9 @@ use Rattle.af_model.specs.Turn.{Parsed, parse_then, turn, fits, wake_phase, serv
 use Rattle.af_model.specs.Run.{end_by, end_state, then_end, wakes}
 use Rattle.af_model.specs.Script.{AnswersTo, ScriptLog}
 use Rattle.af_model.proofs.BoolTestLemmas.{cond-some, none_some}
-use Rattle.af_model.proofs.DeterminismLemmas.{Agreed, Agree, Woken, alike_then, wake_alike, hooks_alike}
+use Rattle.af_model.proofs.AlikeLemmas.{Agreed, alike_then}
+use Rattle.af_model.proofs.OpenLinkLemmas.{Agree, Woken}
+use Rattle.af_model.proofs.DeterminismLemmas.{wake_alike, hooks_alike}
 use Rattle.af_model.proofs.StepLemmas.{agree_step, agree_start}
 
 -- a turn begins with a wake

@@ -12,7 +12,7 @@ use Rattle.af_world.specs.declared.script.Step.TheVariants.{Open, Send, End, Roo
 use Rattle.af_world.specs.Outside.{Outside, ScriptedClient, outside_start, client_at, some_client, fresh_client, opened_at, adjusted, sending_bytes, ending, taking, failing_read, failing_write, wake_where_open, stepped, wake_of, spec_has_line, IsStep}
 use Rattle.af_model.specs.State.{State, opening, outline, lines_of}
 use Rattle.af_model.specs.Turn.{fits, has_line_at, is_open_at, is_closed_at}
-use Rattle.af_model.proofs.DeterminismLemmas.{Agree, Woken, opens, opens-set, opens_stay, open_after}
+use Rattle.af_model.proofs.OpenLinkLemmas.{Agree, Woken, opens, opens-set, opens_stay, open_after}
 
 -- whether a link is open outside
 client_is_open : (clients : List (Option ScriptedClient)) (k : ℕ) → is_some (some_client (slice_get clients k)) ≡ is_open_at (slice_get (map {A = Option ScriptedClient} {B = Bool} is_some clients) k)

@@ -17,7 +17,7 @@ use Rattle.af_model.specs.NoLoss.{RunLosesNone, StateLosesNone}
 use Rattle.af_model.specs.Script.{AnswersTo, ScriptLog, OneLog}
 use Rattle.af_model.proofs.NoLossLemmas.{opening_loses_none}
 use Rattle.af_model.proofs.RunLemmas.{TurnsTo, turns_end_state, joined, joined-more, turns_more, turns_run, answers_more, replayed_answers}
-use Rattle.af_model.proofs.DeterminismLemmas.{Agree}
+use Rattle.af_model.proofs.OpenLinkLemmas.{Agree}
 use Rattle.af_model.proofs.WakeLemmas.{turn_lines}
 use Rattle.af_model.proofs.PrefixLawLemmas.{takes_in_order}
 use Rattle.af_model.proofs.FoldLawLemmas.{mixes_all}

@@ -1,13 +1,12 @@
-use Rattle.std.proofs.Common.{◌≡◌, ◌<◌, ◌≤◌, ◌^◌, ◌∙◌, ◌++◌, ◌∷◌, [], ap, sym, subst, length, refl, arith, rules}
+use Rattle.std.proofs.Common.{◌≡◌, ◌<◌, ◌≤◌, ◌^◌, ◌∙◌, ◌++◌, ◌∷◌, [], ap, sym, subst, length, refl, rules}
 use Rattle.std.specs.declared.option.Option.TheVariants.{Some}
 use Rattle.std.specs.Prelude.{slice_get}
 use Rattle.std.proofs.lemmas.List.{with_items_is}
 use Rattle.af_buffers.specs.PlayBuffer.{accepted_at}
 use Rattle.af_model.specs.State.{deferred_play, open_link}
 use Rattle.af_model.specs.Play.{accepting, in_devices, start_play, tell_played}
-use Rattle.af_state.specs.Environment.{StandsForLink, KeptEnvironment, StandsForEnvironment, kept}
-use Rattle.af_state.proofs.DeviceLemmas.{device_at}
-use Rattle.af_perform.proofs.LinkRequestLemmas.{play_started, play_waits, stands_here}
+use Rattle.af_state.specs.Environment.{StandsForLink, StandsForEnvironment, kept}
+use Rattle.af_perform.proofs.LinkRequestLemmas.{device_here, play_started, play_waits}
 use Rattle.af_perform.proofs.LeavesLemmas.{leaves_opened, leaves_waiting}
 use Rattle.af_perform.proofs.play.accept_or_defer.Goals as goal
 
@@ -17,14 +16,11 @@ returns-then-frames-frames_within-clause-step c = λ x bytes is a s h there.
     let ds = c.environment.inside.devices.items in
     let ks = c.environment.inside.waits in
     let word : p.start.0 < 2 ^ 32 = search rules in
-    let environment = subst (λ (e : KeptEnvironment). StandsForEnvironment e a) (sym c.environment.view_is) h in
     let known : slice_get a.devices p.device ≡ Some s = ap (λ d. slice_get a.devices d) is.device ∙ there in
-    let low : p.device < length ds = subst (λ (e : KeptEnvironment). p.device < length e.devices) (sym c.environment.view_is) c.requires.there in
-    let here = device_at ds _ _ c.index-device.result.now c.from.ensures (omega (arith, low, c.from.ensures)) ∙ ap (λ d. Some d) (sym c.index-device.ensures) in
-    let stands = stands_here ds ks a p.device _ s environment here known in
-    let lent = subst (λ xs. StandsForEnvironment (kept xs ks) a) (sym c.deref_mut.ensures.value) environment in
+    let here = device_here _ ds ks a _ p.device _ s c.environment.view_is c.from.ensures c.requires.there c.index-device.ensures h known in
+    let lent = subst (λ xs. StandsForEnvironment (kept xs ks) a) (sym c.deref_mut.ensures.value) here.0 in
     subst (λ xs. StandsForLink (kept xs ks) c.accept.new.link (start_play c.args.number p.quiet x p.start.0 bytes s (open_link a c.args.link.now))) (sym (with_items_is c.environment.inside.devices c.accept.new.devices (search rules)))
-    (play_started ds c.accept.new.devices ks _ c.args.link.now _ c.args.number p.quiet x p.start.0 bytes p.sound.now a s word stands is.sound is.frames
+    (play_started ds c.accept.new.devices ks _ c.args.link.now _ c.args.number p.quiet x p.start.0 bytes p.sound.now a s word here.1 is.sound is.frames
     (subst (λ n. length p.sound.now ≤ n) c.frames_within.ensures c.if-frames-frames_within.true)
     (subst (λ d. StandsForLink (kept c.accept.new.devices ks) c.accept.new.link (tell_played p.quiet s (in_devices d (accepting (accepted_at s.now p.start.0 p.sound.now x.preempt)) (open_link a c.args.link.now)))) is.device
     (subst (λ b. StandsForLink (kept c.accept.new.devices ks) c.accept.new.link (tell_played p.quiet s (in_devices p.device (accepting (accepted_at s.now p.start.0 p.sound.now b)) (open_link a c.args.link.now)))) is.preempt
@@ -40,12 +36,9 @@ returns-else-frames-frames_within-clause-step c = λ x bytes is a s h there.
     let ds = c.environment.inside.devices.items in
     let ks = c.environment.inside.waits in
     let word : p.start.0 < 2 ^ 32 = search rules in
-    let environment = subst (λ (e : KeptEnvironment). StandsForEnvironment e a) (sym c.environment.view_is) h in
     let known : slice_get a.devices p.device ≡ Some s = ap (λ d. slice_get a.devices d) is.device ∙ there in
-    let low : p.device < length ds = subst (λ (e : KeptEnvironment). p.device < length e.devices) (sym c.environment.view_is) c.requires.there in
-    let here = device_at ds _ _ c.index-device.result.now c.from.ensures (omega (arith, low, c.from.ensures)) ∙ ap (λ d. Some d) (sym c.index-device.ensures) in
-    let stands = stands_here ds ks a p.device _ s environment here known in
-    play_waits ds ks _ _ c.args.link.now c.args.number p.quiet x p.start.0 bytes p.sound.now c.play_due_in-left.result a s word environment there stands is.sound is.frames c.requires.few
+    let here = device_here _ ds ks a _ p.device _ s c.environment.view_is c.from.ensures c.requires.there c.index-device.ensures h known in
+    play_waits ds ks _ _ c.args.link.now c.args.number p.quiet x p.start.0 bytes p.sound.now c.play_due_in-left.result a s word here.0 there here.1 is.sound is.frames c.requires.few
     (subst (λ n. n < length p.sound.now) c.frames_within.ensures c.if-frames-frames_within.false) c.play_due_in-left.ensures
     (c.begin_play.ensures
     ∙ ap (λ d. ks ++ record { wait = record { link = c.args.number; device = d; left = c.play_due_in-left.result }; deferred = deferred_play p.quiet p.start.0 p.sound.now p.preempt } ∷ []) is.device

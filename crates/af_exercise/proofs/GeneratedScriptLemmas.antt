@@ -4,10 +4,8 @@ use Rattle.rand_pcg.specs.Lcg.{Lcg}
 use Rattle.af_world.specs.declared.script.Step.{Step}
 use Rattle.af_world.specs.declared.script.Step.TheVariants as step
 use Rattle.af_world.specs.Outside.{IsStep}
-use Rattle.std.specs.Prelude.{All, Result, Ok, Err, IfOk}
-use Rattle.af_time.specs.declared.OutOfMemory.{OutOfMemory}
+use Rattle.std.specs.Prelude.{All}
 use Rattle.af_request.specs.Asked.{play_run}
-use Rattle.af_request.specs.Requests.{request_bytes}
 use Rattle.std.proofs.lemmas.List.Elements.{All-nil, All-cons, All-push}
 use Rattle.af_exercise.specs.Exercise.{time_about, sample_bytes, play_drawn, exercised, greeting, first_steps, repeated, turn_step, frames_ticked, drawn, moved_on, step_drawn, steps_drawn, seeded, start_time, generated}
 use Rattle.af_script.specs.Script.{StatedScript}
@@ -95,10 +93,7 @@ made seed turns config steps all one same whole =
 pub made_fit : (config : List DeviceSpec) (steps all : List Step) → config ≡ exercised → all ≡ steps → All (IsStep exercised) steps → All (IsStep config) all
 made_fit config steps all one same fit = subst (λ ds. All (IsStep ds) all) (sym one) (subst (All (IsStep exercised)) (sym same) fit)
 
--- what a sent Play asks is what was drawn
-pub play_is : (r : Result Step OutOfMemory) (link y time t : ℕ) (samples : List ℕ) → IfOk r (λ s. s ≡ step.Send link (request_bytes (play_run false 1 t samples))) → t ≡ time_about time 2000 (y % 36000) → samples ≡ repeated 100 (sample_bytes y) → IfOk r (λ s. s ≡ play_drawn link y time)
+-- a Play of these samples from this time on is the one that is drawn
+pub play_is : (y time t : ℕ) (samples : List ℕ) → t ≡ time_about time 2000 (y % 36000) → samples ≡ repeated 100 (sample_bytes y) → play_run false 1 t samples ≡ play_drawn y time
 unfolding play_drawn
-play_is (Ok s) link y time t samples is at same =
-    is ∙ ap (λ u. step.Send link (request_bytes (play_run false 1 u samples))) at
-    ∙ ap (λ xs. step.Send link (request_bytes (play_run false 1 (time_about time 2000 (y % 36000)) xs))) same
-play_is (Err e) link y time t samples is at same = tt
+play_is y time t samples at same = ap (λ u. play_run false 1 u samples) at ∙ ap (λ xs. play_run false 1 (time_about time 2000 (y % 36000)) xs) same

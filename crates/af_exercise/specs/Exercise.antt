@@ -6,7 +6,7 @@ use Rattle.rand_pcg.specs.Lcg.{Lcg}
 use Rattle.rand_pcg.specs.Pcg.{pcg32, pcg32_of_seed}
 use Rattle.af_sample.specs.declared.sample_type.SampleType.TheVariants.{Lin16}
 use Rattle.af_wire.specs.Front.{setup_bytes}
-use Rattle.af_request.specs.Asked.{get_time, create_ac, play_run, record_run, select_events}
+use Rattle.af_request.specs.Asked.{Asked, get_time, create_ac, play_run, record_run, select_events}
 use Rattle.af_request.specs.Fields.{i16_bytes}
 use Rattle.af_request.specs.Requests.{request_bytes}
 use Rattle.af_phone.specs.declared.line.LineChange.TheVariants as change
@@ -63,17 +63,16 @@ abbrev pub sample_bytes : ℕ → List ℕ
 sample_bytes y = i16_bytes (pos (y % 20001) -ℤ pos 10000)
 
 -- a Play with a reply, of 100 equal samples, that begins 2000 frames before the device's time or up to 35999 frames later
-unfoldable pub play_drawn : ℕ → ℕ → ℕ → Step
-play_drawn link y time =
-    step.Send link (request_bytes (play_run false 1 (time_about time 2000 (y % 36000)) (repeated 100 (sample_bytes y))))
+unfoldable pub play_drawn : ℕ → ℕ → Asked
+play_drawn y time = play_run false 1 (time_about time 2000 (y % 36000)) (repeated 100 (sample_bytes y))
 
 -- a Record of 50 frames that waits for them, and begins 1000 frames before the device's time or up to 1999 frames later
-unfoldable pub record_drawn : ℕ → ℕ → ℕ → Step
-record_drawn link y time = step.Send link (request_bytes (record_run true 1 (time_about time 1000 (y % 2000)) 100))
+unfoldable pub record_drawn : ℕ → ℕ → Asked
+record_drawn y time = record_run true 1 (time_about time 1000 (y % 2000)) 100
 
--- a GetTime
-unfoldable pub time_asked : ℕ → Step
-time_asked link = step.Send link (request_bytes (get_time 0))
+-- a link sends a request
+abbrev pub sends : ℕ → Asked → Step
+sends link request = step.Send link (request_bytes request)
 
 -- a decimal digit is dialled
 unfoldable pub digit_drawn : ℕ → Step
@@ -87,9 +86,9 @@ room_drawn link y = step.Room link (if y % 16 == 0 then Some 100 else None)
 abbrev pub step_chosen : ℕ → ℕ → ℕ → ℕ → Step
 step_chosen choice link y time =
     if nat_lt choice 3 then tick_drawn y
-    else if choice == 3 then play_drawn link y time
-    else if choice == 4 then record_drawn link y time
-    else if choice == 5 then time_asked link
+    else if choice == 3 then sends link (play_drawn y time)
+    else if choice == 4 then sends link (record_drawn y time)
+    else if choice == 5 then sends link (get_time 0)
     else if choice == 6 then digit_drawn y
     else room_drawn link y
 

@@ -3,9 +3,8 @@ ghost use Rattle.std.specs.Prelude.{◌≡◌, ◌≤◌, ◌<◌, ◌*◌, ◌+
 ghost use Rattle.af_sample.specs.Rates.{IsListedRate};
 ghost use Rattle.af_request.specs.Asked.{request_meaning};
 ghost use Rattle.af_request.specs.Requests.{request_bytes, FitsFrame};
-ghost use Rattle.af_world.specs.declared.script.Step.TheVariants as step;
 ghost use Rattle.af_world.specs.Outside.{IsStep};
-ghost use Rattle.af_exercise.specs.Exercise.{generated, exercised, first_steps, greeting, repeated, preempts, seeded, steps_drawn, start_time, sample_bytes, drawn, moved_on, turn_step, tick_drawn, play_drawn, record_drawn, time_asked, digit_drawn, room_drawn, frames_ticked};
+ghost use Rattle.af_exercise.specs.Exercise.{generated, exercised, first_steps, greeting, repeated, preempts, seeded, steps_drawn, start_time, sample_bytes, drawn, moved_on, turn_step, tick_drawn, play_drawn, record_drawn, sends, digit_drawn, room_drawn, frames_ticked};
 
 use af_io::Bytes;
 use af_phone::LineChange;
@@ -182,9 +181,12 @@ fn step_of_turn(
     let link = (x % 4) as u8;
     match x / 4 % 8 {
         0..=2 => tick(alloc, y),
-        3 => play(alloc, link, y, time, room),
-        4 => record(alloc, link, y, time, room),
-        5 => ask_time(alloc, link, room),
+        3 => {
+            let samples = repeated(alloc, 100, sample_bytes(y))?;
+            send(alloc, link, &play(y, time, &samples), room)
+        }
+        4 => send(alloc, link, &record(y, time), room),
+        5 => send(alloc, link, &Request::GetTime { device: 0 }, room),
         6 => Ok(digit(y)),
         _ => Ok(make_room(link, y)),
     }
@@ -204,26 +206,18 @@ fn tick(alloc: Global, y: u32) -> Result<Step, OutOfMemory>
 
 /// A Play of 100 equal samples, from 2000 frames before the device's time on.
 #[tactic(auto, unfolding(crate::specs::Exercise::play_drawn))]
-fn play(
-    alloc: Global,
-    link: u8,
-    y: u32,
-    time: DevTime,
-    room: &mut [u8],
-) -> Result<Step, OutOfMemory>
-    requires room { 16384 ≤ length room.old }
-    requires link { link < 4 }
-    ensures value { IfOk result (λ s. s ≡ play_drawn link y time.0) }
-    ensures fits { IfOk result (λ s. IsStep exercised s) }
+fn play(y: u32, time: DevTime, samples: &[u8]) -> Request<'_>
+    requires samples { samples.now ≡ repeated 100 (sample_bytes y) }
+    requires few { length samples.now ≤ 16368 }
+    ensures value { request_meaning result ≡ play_drawn y time.0 }
+    ensures fits { FitsFrame (request_meaning result) }
 {
-    let samples = repeated(alloc, 100, sample_bytes(y))?;
-    let request = Request::PlayRun {
+    Request::PlayRun {
         quiet: false,
         ac: 1,
         time: time.after(u32::MAX - 1999).after(y % 36000),
-        samples: &samples,
-    };
-    send(alloc, link, &request, room)
+        samples,
+    }
 }
 
 /// The bytes of the sample of a Play, which lies between -10000 and 10000.
@@ -236,36 +230,16 @@ fn sample_bytes(y: u32) -> [u8; 2]
 
 /// A Record of 50 frames that waits for them, from 1000 frames before the device's time on.
 #[tactic(auto, unfolding(crate::specs::Exercise::record_drawn))]
-fn record(
-    alloc: Global,
-    link: u8,
-    y: u32,
-    time: DevTime,
-    room: &mut [u8],
-) -> Result<Step, OutOfMemory>
-    requires room { 16384 ≤ length room.old }
-    requires link { link < 4 }
-    ensures value { IfOk result (λ s. s ≡ record_drawn link y time.0) }
-    ensures fits { IfOk result (λ s. IsStep exercised s) }
+fn record(y: u32, time: DevTime) -> Request<'static>
+    ensures value { request_meaning result ≡ record_drawn y time.0 }
+    ensures fits { FitsFrame (request_meaning result) }
 {
-    let request = Request::RecordRun {
+    Request::RecordRun {
         blocking: true,
         ac: 1,
         time: time.after(u32::MAX - 999).after(y % 2000),
         nbytes: 100,
-    };
-    send(alloc, link, &request, room)
-}
-
-/// A GetTime.
-#[tactic(auto, unfolding(crate::specs::Exercise::time_asked))]
-fn ask_time(alloc: Global, link: u8, room: &mut [u8]) -> Result<Step, OutOfMemory>
-    requires room { 16384 ≤ length room.old }
-    requires link { link < 4 }
-    ensures value { IfOk result (λ s. s ≡ time_asked link) }
-    ensures fits { IfOk result (λ s. IsStep exercised s) }
-{
-    send(alloc, link, &Request::GetTime { device: 0 }, room)
+    }
 }
 
 /// A decimal digit is dialled.
@@ -301,7 +275,7 @@ fn send(
     requires samples { FitsFrame (request_meaning request.now) }
     requires room { 16384 ≤ length room.old }
     requires link { link < 4 }
-    ensures value { IfOk result (λ s. s ≡ step.Send link (request_bytes (request_meaning request.now))) }
+    ensures value { IfOk result (λ s. s ≡ sends link (request_meaning request.now)) }
     ensures fits { IfOk result (λ s. IsStep exercised s) }
 {
     let length = write_request(request, room);

@@ -23,7 +23,7 @@ use Rattle.af_model.proofs.RequestLemmas.{done_both, with_rest}
 
 -- Fronts and more bytes: what is decided stays so
 
-abbrev Unchanged : Front → Front → Type 0
+abbrev pub Unchanged : Front → Front → Type 0
 Unchanged NeedMore g = Unit {0}
 Unchanged (Frame n) g = g ≡ Frame n
 Unchanged Malformed g = g ≡ Malformed
@@ -35,7 +35,7 @@ front_stays words there more =
       | false ↦ grind arith
     ]
 
-frame_stays : (xs ys : List ℕ) → Unchanged (frame_front xs) (frame_front (xs ++ ys))
+pub frame_stays : (xs ys : List ℕ) → Unchanged (frame_front xs) (frame_front (xs ++ ys))
 frame_stays [] ys = tt
 frame_stays (a ∷ []) ys = tt
 frame_stays (a ∷ b ∷ []) ys = tt
@@ -45,7 +45,7 @@ frame_stays (a ∷ b ∷ c ∷ d ∷ xs) ys =
     let e : length (a ∷ b ∷ c ∷ d ∷ xs) + length ys ≡ length (a ∷ b ∷ c ∷ d ∷ (xs ++ ys)) = omega (arith, length-append xs ys) in
     subst (λ n. Unchanged (frame_with words (length (a ∷ b ∷ c ∷ d ∷ xs))) (frame_with words n)) e (front_stays words (length (a ∷ b ∷ c ∷ d ∷ xs)) (length ys))
 
-abbrev UnchangedSetup : SetupFront → SetupFront → Type 0
+abbrev pub UnchangedSetup : SetupFront → SetupFront → Type 0
 UnchangedSetup front.NeedMore g = Unit {0}
 UnchangedSetup front.Setup g = g ≡ front.Setup
 UnchangedSetup (front.BadSetup value) g = g ≡ front.BadSetup value
@@ -55,7 +55,7 @@ same_setup front.NeedMore = tt
 same_setup front.Setup = refl
 same_setup (front.BadSetup value) = refl
 
-setup_stays : (xs ys : List ℕ) → UnchangedSetup (setup_front xs) (setup_front (xs ++ ys))
+pub setup_stays : (xs ys : List ℕ) → UnchangedSetup (setup_front xs) (setup_front (xs ++ ys))
 setup_stays [] ys = tt
 setup_stays (a ∷ []) ys = tt
 setup_stays (a ∷ b ∷ []) ys = tt

@@ -9,7 +9,6 @@ use Rattle.af_outside.specs.declared.happening.Happening.TheVariants.{Woke, Read
 use Rattle.af_outside.specs.declared.happening.ReadGot.{ReadGot}
 use Rattle.af_outside.specs.declared.happening.ReadGot.TheVariants.{Given, NotYet, Ended, Failed}
 use Rattle.af_outside.specs.declared.happening.Why.{Why}
-use Rattle.af_outside.specs.declared.happening.Why.TheVariants as why
 use Rattle.af_outside.specs.declared.happening.Wake.{Wake}
 use Rattle.af_outside.specs.declared.happening.Wake.TheVariants.{Opened, Readable, Writable, Ticked, Line, Idle, Stop}
 use Rattle.af_outside.specs.declared.script.Step.{Step}
@@ -21,7 +20,7 @@ use Rattle.af_wait.specs.Waits.{without_first}
 use Rattle.af_model.specs.Waiting.{falls_due, has_deferral}
 use Rattle.af_model.specs.Advance.{or_else}
 use Rattle.af_model.specs.Tick.{sound, captured_samples, complete, complete_at, complete_by, complete_due, complete_first, complete_step, later, tick}
-use Rattle.af_model.specs.Turn.{Parsed, parsed, parse_then, then_go, parse_one, wants_read, is_read, read_by, read_phase, after_read, wants_write, write_by, write_offered, write_taken, write_phase, after_write, same_why, close_due, close_by, close_for, close_phase, serve_link, serve_open, serve_slot_link, serve_at, serve_from, serve_all, number_of_why, ready, writable, in_open, in_slot, is_capture, capture_by, emit_by, after_capture, tick_phase, line_phase, wake_phase, same_flag, hook_wanted, hook_by, hook_for, hook_at, hook_from, hook_all, serve_and_hook}
+use Rattle.af_model.specs.Turn.{Parsed, parsed, parse_then, then_go, parse_one, wants_read, is_read, read_by, read_phase, after_read, wants_write, write_by, write_offered, write_taken, write_phase, after_write, same_why, close_due, close_by, close_for, close_phase, serve_link, serve_open, serve_slot_link, serve_at, serve_from, serve_all, ready, writable, in_open, in_slot, is_capture, capture_by, emit_by, after_capture, tick_phase, line_phase, wake_phase, same_flag, hook_wanted, hook_by, hook_for, hook_at, hook_from, hook_all, serve_and_hook}
 use Rattle.af_wire.specs.declared.event.Event.{Event}
 use Rattle.af_wire.specs.declared.event.EventKind.{EventKind}
 use Rattle.af_wire.specs.declared.event.EventKind.TheVariants as kind
@@ -30,7 +29,7 @@ use Rattle.af_phone.specs.declared.line.LineChange.{LineChange}
 use Rattle.af_phone.specs.Lines.{changed, flag_value, hooked, event_kind_of, value_of}
 use Rattle.af_model.specs.Events.{event_at, hook_given, hook_refused, line_becomes, line_changes, tell, tell_at, tell_from, tell_open}
 use Rattle.af_model.specs.Script.{AnswersTo}
-use Rattle.af_model.proofs.BoolTestLemmas.{cond-some, cond-true, both-true, not_true, none_some, same_bytes-true}
+use Rattle.af_model.proofs.BoolTestLemmas.{cond-some, cond-true, both-true, not_true, none_some, same_bytes-true, same_why-true}
 use Rattle.af_model.proofs.PhasePartLemmas.{then_inv}
 use Rattle.af_model.proofs.SlotLemmas.{links_of-set}
 
@@ -388,25 +387,6 @@ write_alike w k steps p o (h1 ∷ log1) (h2 ∷ log2) b1 b2 e1 e2 at f1 f2 r1 r2
     ] refl
 
 -- Closes
-
--- the cause with a number
-cause_of : ℕ → Why
-cause_of zero = why.BadSetup
-cause_of (suc zero) = why.Malformed
-cause_of (suc (suc zero)) = why.Ended
-cause_of (suc (suc (suc zero))) = why.LinkFault
-cause_of (suc (suc (suc (suc n)))) = why.Overrun
-
-cause_of-number : (a : Why) → cause_of (number_of_why a) ≡ a
-unfolding cause_of
-cause_of-number why.BadSetup = refl
-cause_of-number why.Malformed = refl
-cause_of-number why.Ended = refl
-cause_of-number why.LinkFault = refl
-cause_of-number why.Overrun = refl
-
-same_why-true : (a b : Why) → same_why a b ≡ true → a ≡ b
-same_why-true a b e = sym (cause_of-number a) ∙ ap cause_of (eqb-true (number_of_why a) (number_of_why b) e) ∙ cause_of-number b
 
 close_one : (w : List Bool) (k : ℕ) (cause : Why) (p : OpenLink) (o : Outside) (h : Happening) (t : SlotLink) → close_by k p.environment cause h ≡ Some t →
     TakesOne (λ p. close_by k p.environment cause) (AtPlace w k) (StandsForSlot w k) p o h (Closed k cause)

@@ -10,12 +10,17 @@ pub mod OneLogLemmas
 pub mod DeviceHistoryLemmas
 pub mod RequestLemmas
 pub mod CuttingLawLemmas
+pub mod InputLemmas
+pub mod CauseLemmas
 pub mod LinkInvariantLemmas
 pub mod PhasePartLemmas
 pub mod OwedBytesLemmas
+pub mod DeadLemmas
 pub mod ServeLemmas
 pub mod WakeLemmas
 pub mod PrefixLawLemmas
 pub mod FoldLawLemmas
+pub mod CauseLawLemmas
+pub mod DeadLawLemmas
 pub mod Example
 pub mod NoLossLemmas

@@ -19,7 +19,7 @@ use Rattle.af_model.specs.Waiting.{wait}
 use Rattle.af_model.specs.Play.{play, play_refusal, start_play, tell_played, accepting, entry_now, in_devices, frames_of, frames_within_horizon, sent_sound}
 use Rattle.af_model.specs.Record.{record_sound, record_refusal, start_record, give_record, given_frames, is_to_wait}
 use Rattle.af_model.specs.Perform.{done, tell_time, in_context}
-use Rattle.af_model.proofs.DeviceHistoryLemmas.{Later, later_accepting, later_line, later_same}
+use Rattle.af_model.proofs.DeviceHistoryLemmas.{Lives, later_same, lives_accepting, lives_line}
 
 -- the same link with another input
 abbrev pub with_rest : List ℕ → OpenLink → OpenLink
@@ -34,8 +34,8 @@ chosen contexts selections p = open_link p.environment (record p.link { contexts
 module _ (k : ℕ) (p : OpenLink) (r : List ℕ) (M : OpenLink → OpenLink → Type 0)
     (stays : M p (with_rest r p))
     (says : (contexts : List Context) (selections bytes : List ℕ) → M (say (chosen contexts selections p) bytes) (say (chosen contexts selections (with_rest r p)) bytes))
-    (becomes : (d : ℕ) (device : DeviceState) (f : DeviceState → DeviceState) → slice_get p.environment.devices d ≡ Some device → Later device (f device) → M (in_devices d f p) (in_devices d f (with_rest r p)))
-    (tells : (d : ℕ) (device : DeviceState) (f : DeviceState → DeviceState) (bytes : List ℕ) → slice_get p.environment.devices d ≡ Some device → Later device (f device) →
+    (becomes : (d : ℕ) (device : DeviceState) (f : DeviceState → DeviceState) → slice_get p.environment.devices d ≡ Some device → Lives device (f device) → M (in_devices d f p) (in_devices d f (with_rest r p)))
+    (tells : (d : ℕ) (device : DeviceState) (f : DeviceState → DeviceState) (bytes : List ℕ) → slice_get p.environment.devices d ≡ Some device → Lives device (f device) →
     M (say (in_devices d f p) bytes) (say (in_devices d f (with_rest r p)) bytes))
     (waits : (d : ℕ) (deferred : Deferred) → M (wait k d deferred p) (wait k d deferred (with_rest r p))) where
   abbrev Both : (OpenLink → OpenLink) → Type 0
@@ -64,7 +64,7 @@ module _ (k : ℕ) (p : OpenLink) (r : List ℕ) (M : OpenLink → OpenLink → 
   line_both opcode d f None h = answers _
   line_both opcode d f (Some line) h = h line
 
-  played_both : (quiet : Bool) (d : ℕ) (device : DeviceState) (f : DeviceState → DeviceState) → slice_get p.environment.devices d ≡ Some device → Later device (f device) → Both (λ q. tell_played quiet device (in_devices d f q))
+  played_both : (quiet : Bool) (d : ℕ) (device : DeviceState) (f : DeviceState → DeviceState) → slice_get p.environment.devices d ≡ Some device → Lives device (f device) → Both (λ q. tell_played quiet device (in_devices d f q))
   played_both true d device f there l = becomes d device f there l
   played_both false d device f there l = tells d device f _ there l
 
@@ -73,7 +73,7 @@ module _ (k : ℕ) (p : OpenLink) (r : List ℕ) (M : OpenLink → OpenLink → 
       refused_both 6 (play_refusal c (length bytes)) (start_play k quiet c time bytes device)
       (either_both (nat_le (frames_of c (length bytes)) (frames_within_horizon device time)) (λ q. tell_played quiet device (in_devices c.device (accepting (entry_now c device time bytes)) q))
       (wait k c.device (deferred_play quiet (unwrap device.now time) (sent_sound c bytes) c.preempt))
-      (played_both quiet c.device device (accepting (entry_now c device time bytes)) there (later_accepting device (entry_now c device time bytes) refl))
+      (played_both quiet c.device device (accepting (entry_now c device time bytes)) there (lives_accepting device (entry_now c device time bytes) refl))
       (waits c.device (deferred_play quiet (unwrap device.now time) (sent_sound c bytes) c.preempt)))
 
   record_both : (blocking : Bool) (c : Context) (time bytes : ℕ) (device : DeviceState) → Both (record_sound k blocking c time bytes device)
@@ -102,12 +102,12 @@ module _ (k : ℕ) (p : OpenLink) (r : List ℕ) (M : OpenLink → OpenLink → 
   done_both (set_controls d mask input_on output_on input_gain output_gain) =
       let f = controlling mask input_on output_on input_gain output_gain in
       device_both 9 d (set_device_controls d mask input_on output_on input_gain output_gain) (slice_get p.environment.devices d) refl
-      (λ device there. refused_both 9 (controls_refusal mask input_on output_on input_gain output_gain) (λ q. replied 9 plain (in_devices d f q)) (tells d device f _ there (later_same device (f device) refl refl refl)))
+      (λ device there. refused_both 9 (controls_refusal mask input_on output_on input_gain output_gain) (λ q. replied 9 plain (in_devices d f q)) (tells d device f _ there (record { later = later_same device (f device) refl refl refl; dead = refl; line_dead = refl })))
   done_both (query_controls d) = device_both 10 d tell_controls (slice_get p.environment.devices d) refl (λ device there. answers _)
   done_both (hook_switch d off) =
       let f = wanting_hook (off == 1) in
       device_both 11 d (λ device. on_line 11 d (switch_hook d off) device.line) (slice_get p.environment.devices d) refl
       (λ device there. line_both 11 d (switch_hook d off) device.line
-      (λ line. refused_both 11 (switch_refusal d off line) (λ q. replied 11 plain (in_devices d f q)) (tells d device f _ there (later_line (wanting (off == 1)) device))))
+      (λ line. refused_both 11 (switch_refusal d off line) (λ q. replied 11 plain (in_devices d f q)) (tells d device f _ there (lives_line (wanting (off == 1)) device (λ line. refl)))))
   done_both (query_phone d) =
       device_both 12 d (λ device. on_line 12 d tell_phone device.line) (slice_get p.environment.devices d) refl (λ device there. line_both 12 d tell_phone device.line (λ line. answers _))

@@ -5,6 +5,7 @@ mod refusal;
 
 ghost use Rattle.std.specs.Prelude.{◌≡◌, ◌≢◌, ℕ, List, []};
 ghost use Rattle.std.specs.declared.option.Option.TheVariants.{Some};
+ghost use Rattle.af_outside.specs.declared.happening.Why.{Why};
 ghost use Rattle.af_outside.specs.declared.happening.Why.TheVariants as why;
 ghost use Rattle.af_outside.specs.declared.script.DeviceSpec.{DeviceSpec};
 ghost use Rattle.af_outside.specs.declared.script.Step.{Step};
@@ -14,7 +15,10 @@ ghost use Rattle.af_model.specs.Advance.{advance_step};
 ghost use Rattle.af_model.specs.Turn.{Parsed, serve_at};
 ghost use Rattle.af_model.specs.Script.{ScriptLog};
 ghost use Rattle.af_model.specs.Cutting.{CutsAlike};
+ghost use Rattle.af_model.specs.LinkHistory.{LinkHistory};
 ghost use Rattle.af_model.specs.Prefix.{TakesInOrder};
+ghost use Rattle.af_model.specs.Causes.{ClosesForCauses, IsCause};
+ghost use Rattle.af_model.specs.Dead.{IsDeadWhereFailed};
 ghost use Rattle.af_model.specs.Fold.{MixesAll};
 
 pub use refusal::{Refusal, RefusalCause};
@@ -49,4 +53,18 @@ pub fn prefix_law()
 /// the end of the run, at the times that it hands out, behind the controls that the device had before that turn.
 pub fn fold_law()
     ensures { (config : List DeviceSpec) (log : Log) → MixesAll config log }
+{}
+
+/// A law of the definitions alone, of closes: each link in a run is closed for the one cause that its part of the log shows. A read or
+/// a write of it failed; or an event found no room beside what was to be sent to it; or a read said that it ended; or its first bytes
+/// are no good setup; or, behind a good setup and requests, its bytes are malformed.
+pub fn cause_law()
+    ensures shown { (config : List DeviceSpec) (log : Log) → ClosesForCauses config log }
+    ensures one { (a b : Why) (h : LinkHistory) (owed : ℕ) → IsCause a h owed → IsCause b h owed → a ≡ b }
+{}
+
+/// A law of the definitions alone, of devices and lines that are dead: behind each run those are for which a call failed, a capture
+/// or an emit of the device, a hook of the line, and no others.
+pub fn dead_law()
+    ensures { (config : List DeviceSpec) (log : Log) → IsDeadWhereFailed config log }
 {}

@@ -7,13 +7,13 @@ use Rattle.af_wire.specs.Event.{event_bytes}
 use Rattle.af_request.specs.declared.reply.Phone.{Phone}
 use Rattle.af_phone.specs.declared.line.LineChange.{LineChange}
 use Rattle.af_phone.specs.Lines.{hook_due}
-use Rattle.af_outside.specs.declared.happening.Happening.TheVariants.{Hooked}
-use Rattle.af_outside.specs.declared.happening.Wake.TheVariants.{Line}
-use Rattle.af_outside.specs.declared.happening.Why.{Why}
-use Rattle.af_outside.specs.declared.happening.Why.TheVariants as why
+use Rattle.af_world.specs.declared.happening.Happening.TheVariants.{Hooked}
+use Rattle.af_world.specs.declared.happening.Wake.TheVariants.{Line}
+use Rattle.af_world.specs.declared.happening.Why.{Why}
+use Rattle.af_world.specs.declared.happening.Why.TheVariants as why
 use Rattle.af_io.specs.Observed.{Appended}
-use Rattle.af_outside.specs.Log.{Log}
-use Rattle.af_outside.proofs.EqualityTestLemmas.{eq-refl}
+use Rattle.af_world.specs.Log.{Log}
+use Rattle.af_world.proofs.EqualityTestLemmas.{eq-refl}
 use Rattle.af_model.specs.State.{State, DeviceState, LinkState, EnvironmentState, open_link, slot_link_at, with_device, device_set, none_selected, say}
 use Rattle.af_model.specs.Events.{dropped, hook_given, hook_refused, line_changes, tell, tell_at, tell_from, tell_open, tell_selected, without_waiter}
 use Rattle.af_model.specs.Turn.{parsed, parse_then, wake_phase, line_phase, hook_all, hook_at, hook_for, hook_from, hook_wanted, same_flag}

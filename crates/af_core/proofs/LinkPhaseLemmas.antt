@@ -5,13 +5,13 @@ use Rattle.std.proofs.lemmas.Option.{slice_get-get_or}
 use Rattle.std.proofs.lemmas.Bool.Decides.{nat_tests}
 use Rattle.std.specs.declared.option.Option.{Option}
 use Rattle.std.specs.declared.option.Option.TheVariants.{None, Some}
-use Rattle.af_outside.specs.declared.happening.Happening.TheVariants.{Read, Wrote, Closed}
-use Rattle.af_outside.specs.declared.happening.ReadGot.{ReadGot}
-use Rattle.af_outside.specs.declared.happening.ReadGot.TheVariants.{Given}
-use Rattle.af_outside.specs.declared.happening.Why.{Why}
+use Rattle.af_world.specs.declared.happening.Happening.TheVariants.{Read, Wrote, Closed}
+use Rattle.af_world.specs.declared.happening.ReadGot.{ReadGot}
+use Rattle.af_world.specs.declared.happening.ReadGot.TheVariants.{Given}
+use Rattle.af_world.specs.declared.happening.Why.{Why}
 use Rattle.af_io.specs.Observed.{Appended}
-use Rattle.af_outside.specs.Log.{Log}
-use Rattle.af_outside.proofs.EqualityTestLemmas.{same_bytes-refl, eq-refl}
+use Rattle.af_world.specs.Log.{Log}
+use Rattle.af_world.proofs.EqualityTestLemmas.{same_bytes-refl, eq-refl}
 use Rattle.af_model.specs.State.{OpenLink, EnvironmentState, LinkState, open_link, opened, link_in_slot, slot_link_at, with_slot_link}
 use Rattle.af_model.specs.Waiting.{has_deferral}
 use Rattle.af_model.specs.Advance.{absorb, advance, takes_more}

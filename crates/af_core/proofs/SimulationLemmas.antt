@@ -1,9 +1,9 @@
 -- Parts of a turn, one after the other.
 use Rattle.std.proofs.Common.{◌≡◌, [], ◌∷◌, ◌++◌, refl, ap, ◌∙◌, append_assoc}
 use Rattle.std.specs.declared.option.Option.{Option}
-use Rattle.af_outside.specs.declared.happening.Happening.{Happening}
+use Rattle.af_world.specs.declared.happening.Happening.{Happening}
 use Rattle.af_io.specs.Observed.{Appended}
-use Rattle.af_outside.specs.Log.{Log}
+use Rattle.af_world.specs.Log.{Log}
 use Rattle.af_io.proofs.AppendedLemmas.{appended_none, appended_on}
 use Rattle.af_model.specs.Turn.{Parsed, parsed, parse_then}
 use Rattle.af_model.specs.Run.{wakes}

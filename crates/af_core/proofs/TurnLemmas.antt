@@ -5,13 +5,13 @@ use Rattle.std.proofs.lemmas.List.Elements.{All-cons}
 use Rattle.std.specs.List.{All}
 use Rattle.std.specs.declared.option.Option.{Option}
 use Rattle.std.specs.declared.option.Option.TheVariants.{None, Some}
-use Rattle.af_outside.specs.declared.happening.Happening.TheVariants.{Woke, Captured, Emitted}
-use Rattle.af_outside.specs.declared.happening.Wake.{Wake}
-use Rattle.af_outside.specs.declared.happening.Wake.TheVariants.{Opened, Readable, Writable, Ticked, Idle, Stop}
-use Rattle.af_outside.specs.declared.script.DeviceSpec.{DeviceSpec}
+use Rattle.af_world.specs.declared.happening.Happening.TheVariants.{Woke, Captured, Emitted}
+use Rattle.af_world.specs.declared.happening.Wake.{Wake}
+use Rattle.af_world.specs.declared.happening.Wake.TheVariants.{Opened, Readable, Writable, Ticked, Idle, Stop}
+use Rattle.af_world.specs.declared.script.DeviceSpec.{DeviceSpec}
 use Rattle.af_io.specs.Observed.{Appended}
-use Rattle.af_outside.specs.Log.{Log}
-use Rattle.af_outside.proofs.EqualityTestLemmas.{same_bytes-refl, eq-refl}
+use Rattle.af_world.specs.Log.{Log}
+use Rattle.af_world.proofs.EqualityTestLemmas.{same_bytes-refl, eq-refl}
 use Rattle.af_request.specs.declared.reply.Phone.{Phone}
 use Rattle.af_model.specs.State.{State, DeviceState, LinkState, Deferral, opening, opening_device, opened, links_of, lines_of, outline, outline_with, with_slot, slot_at, with_device, device_set}
 use Rattle.af_model.specs.Reply.{horizon_of}

@@ -3,7 +3,7 @@ use Rattle.std.specs.Prelude.{◌≡◌, ℕ, ℤ, Bool, List, ◌++◌, length,
 use Rattle.std.specs.declared.option.Option.{Option}
 use Rattle.std.specs.declared.option.Option.TheVariants.{None}
 use Rattle.af_io.specs.Observed.{Appended}
-use Rattle.af_outside.specs.Log.{Log}
+use Rattle.af_world.specs.Log.{Log}
 use Rattle.af_model.specs.State.{State, DeviceState}
 use Rattle.af_model.specs.Tick.{captured_samples, later, sound, tick}
 use Rattle.af_model.specs.Turn.{parsed, parse_then, parse_one, capture_by, after_capture}

@@ -2,7 +2,7 @@
 use Rattle.std.specs.Prelude.{◌≡◌, ◌++◌}
 use Rattle.std.specs.declared.option.Option.{Option}
 use Rattle.af_io.specs.Observed.{Appended}
-use Rattle.af_outside.specs.Log.{Log}
+use Rattle.af_world.specs.Log.{Log}
 use Rattle.af_model.specs.Turn.{Parsed}
 use Rattle.af_model.specs.Run.{wakes}
 

@@ -3,10 +3,10 @@ use Rattle.std.specs.Prelude.{◌≡◌, ◌⊎◌, ℕ, ◌+◌, ◌<◌, ◌�
 use Rattle.std.specs.declared.option.Option.{Option}
 use Rattle.std.specs.declared.option.Option.TheVariants.{None, Some}
 use Rattle.af_wait.specs.declared.Wait.{Wait}
-use Rattle.af_outside.specs.declared.happening.Happening.TheVariants.{Woke}
-use Rattle.af_outside.specs.declared.happening.Wake.{Wake}
+use Rattle.af_world.specs.declared.happening.Happening.TheVariants.{Woke}
+use Rattle.af_world.specs.declared.happening.Wake.{Wake}
 use Rattle.af_io.specs.Observed.{Appended}
-use Rattle.af_outside.specs.Log.{Log}
+use Rattle.af_world.specs.Log.{Log}
 use Rattle.af_wait.specs.Waits.{without_first}
 use Rattle.af_model.specs.State.{State, EnvironmentState, DeviceState, LinkState, Deferral, OpenLink, open_link, SlotLink, Outline, links_of, outline_with}
 use Rattle.af_model.specs.Reply.{horizon_of}

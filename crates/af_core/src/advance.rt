@@ -1,6 +1,6 @@
 // Advancing a link: what stands whole at the front of its input is taken off and answered.
 ghost use Rattle.std.specs.Prelude.{◌≡◌, ◌⊎◌, ◌≤◌, ◌<◌, ◌++◌, length, map, IsTrue, IsFalse, true};
-ghost use Rattle.af_outside.specs.declared.happening.Why.TheVariants as why;
+ghost use Rattle.af_world.specs.declared.happening.Why.TheVariants as why;
 ghost use Rattle.af_wire.specs.declared.front.Front.TheVariants.{Frame};
 ghost use Rattle.af_wire.specs.Front.{setup_front, frame_front};
 ghost use Rattle.af_wire.specs.Message.{error};
@@ -13,11 +13,11 @@ ghost use Rattle.af_state.specs.Deferrals.{has_waiting, OnlyQueues};
 ghost use Rattle.af_state.specs.Environment.{StepsLink, MayAsk};
 ghost use Rattle.af_core.specs.Stands.{IsSettled, Advances};
 
-use af_outside::Why;
 use af_perform::perform;
 use af_request::{Devices, Reply, read_request, write_reply};
 use af_state::{Device, Environment, Scratch, ServedLink, Work};
 use af_wire::{Front, SetupFront, frame_at, setup_of, write_error};
+use af_world::Why;
 
 const BAD_SETUP: u8 = 1;
 

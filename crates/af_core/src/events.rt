@@ -9,10 +9,10 @@ ghost use Rattle.af_state.specs.Environment.{StepsLink};
 ghost use Rattle.af_core.specs.Stands.{AreOrderly, IsSettled, StepsAll, OfDevice, OnlyDrops, StandsFor, kept_of, writes_left};
 
 use crate::slot::Slot;
-use af_outside::Why;
 use af_phone::Line;
 use af_state::{Environment, ServedLink};
 use af_wire::{Event, EventKind};
+use af_world::Why;
 
 /// A link is dropped for a cause: it is to be closed, nothing of it is read or sent any more, and it waits no more.
 pub fn drop_link(number: u8, cause: Why, environment: &mut Environment, link: &mut ServedLink)

@@ -2,10 +2,10 @@
 ghost use Rattle.std.specs.Prelude.{◌≡◌, ◌<◌, [], ◌∷◌, length, option_and_then, option_map, slice_get, IsTrue};
 ghost use Rattle.std.specs.declared.option.Option.{Option};
 ghost use Rattle.std.specs.declared.option.Option.TheVariants.{Some};
-ghost use Rattle.af_outside.specs.declared.happening.Happening.TheVariants.{Hooked};
-ghost use Rattle.af_outside.specs.declared.happening.Wake.TheVariants as wake;
+ghost use Rattle.af_world.specs.declared.happening.Happening.TheVariants.{Hooked};
+ghost use Rattle.af_world.specs.declared.happening.Wake.TheVariants as wake;
 ghost use Rattle.af_io.specs.Observed.{Appended};
-ghost use Rattle.af_outside.specs.Log.{Log};
+ghost use Rattle.af_world.specs.Log.{Log};
 ghost use Rattle.af_phone.specs.Lines.{changed, flag_value, hook_due, hooked, is_change};
 ghost use Rattle.af_model.specs.Turn.{parsed, hook_all, hook_at, wake_phase};
 ghost use Rattle.af_state.specs.Kept.{KeptDevice};
@@ -15,10 +15,10 @@ ghost use Rattle.af_core.specs.Stands.{IsBetweenPhases, StandsFor, kept_of};
 use crate::events::become_line;
 use crate::slot::Slot;
 use af_io::Put;
-use af_outside::World;
 use af_phone::{Line, LineChange};
 use af_state::{Device, Environment};
 use af_wire::EventKind;
+use af_world::World;
 
 // A line that changes.
 fn changed(change: LineChange, line: Option<Line>) -> Option<Line>

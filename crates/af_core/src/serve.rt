@@ -8,8 +8,8 @@ ghost use Rattle.af_core.specs.Stands.{StandsForSlot, IsInTurn, LinkServed, writ
 
 use crate::advance::advance;
 use crate::events::drop_link;
-use af_outside::{LinkGot, LinkTook, Why, World};
 use af_state::{Environment, Scratch, ServedLink};
+use af_world::{LinkGot, LinkTook, Why, World};
 
 // One read, if the link is to be read.
 fn read_link<W: World>(

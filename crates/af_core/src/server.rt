@@ -17,12 +17,12 @@ use crate::slot::{Slot, any_wants, serve_slots};
 use crate::tick::{TICK, tick};
 use af_buffers::{PlayBuffer, RecordBuffer};
 use af_context::Contexts;
-use af_outside::{Config, DeviceSpec, Wake, World};
 use af_phone::Line;
 use af_session::Session;
 use af_state::{DeferredRequests, Device, Environment, Scratch};
 use af_time::OutOfMemory;
 use af_wait::Waiting;
+use af_world::{Config, DeviceSpec, Wake, World};
 use std::alloc::Global;
 use std::marker::Model;
 

@@ -16,11 +16,11 @@ use crate::complete::complete_link;
 use crate::events::tell_link;
 use crate::serve::serve_link;
 use af_context::Contexts;
-use af_outside::World;
 use af_session::Session;
 use af_state::{DeferredRequests, Environment, Scratch, ServedLink};
 use af_time::OutOfMemory;
 use af_wire::Event;
+use af_world::World;
 use std::alloc::Global;
 use std::marker::Model;
 

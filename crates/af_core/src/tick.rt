@@ -2,8 +2,8 @@
 ghost use Rattle.std.specs.Prelude.{◌≡◌, ◌≤◌, ◌<◌, ◌*◌, [], ◌∷◌, List, length, pos, replicate, if◌then◌else◌, false};
 ghost use Rattle.std.specs.declared.option.Option.TheVariants.{None, Some};
 ghost use Rattle.af_sample.specs.SampleTypes.{width_of};
-ghost use Rattle.af_outside.specs.declared.happening.Happening.TheVariants.{Captured, Emitted};
-ghost use Rattle.af_outside.specs.declared.happening.Wake.TheVariants.{Ticked};
+ghost use Rattle.af_world.specs.declared.happening.Happening.TheVariants.{Captured, Emitted};
+ghost use Rattle.af_world.specs.declared.happening.Wake.TheVariants.{Ticked};
 ghost use Rattle.af_io.specs.Observed.{Appended};
 ghost use Rattle.af_model.specs.Tick.{captured_samples};
 ghost use Rattle.af_model.specs.Turn.{parsed, wake_phase};
@@ -14,9 +14,9 @@ ghost use Rattle.af_core.specs.Stands.{IsBetweenPhases, StandsFor, kept_of};
 use crate::complete::complete_due;
 use crate::slot::Slot;
 use af_io::Put;
-use af_outside::World;
 use af_sample::{SampleType, convert_in, convert_out};
 use af_state::{Device, Environment, Scratch, Work, silence};
+use af_world::World;
 
 /// How many frames a tick may have.
 pub const TICK: u32 = 4096;

@@ -1,9 +1,9 @@
 -- The script of an exercise, turn by turn.
 use Rattle.std.proofs.Common.{◌≡◌, ℕ, zero, suc, ◌+◌, ◌%◌, ◌^◌, ◌<◌, false, List, [], ◌∷◌, ◌++◌, length, refl, sym, ap, ◌∙◌, subst, arith, append_assoc, append-nil}
 use Rattle.rand_pcg.specs.Lcg.{Lcg}
-use Rattle.af_outside.specs.declared.script.Step.{Step}
-use Rattle.af_outside.specs.declared.script.Step.TheVariants as step
-use Rattle.af_outside.specs.Outside.{IsStep}
+use Rattle.af_world.specs.declared.script.Step.{Step}
+use Rattle.af_world.specs.declared.script.Step.TheVariants as step
+use Rattle.af_world.specs.Outside.{IsStep}
 use Rattle.std.specs.Prelude.{All, Result, Ok, Err, IfOk}
 use Rattle.af_time.specs.declared.OutOfMemory.{OutOfMemory}
 use Rattle.af_request.specs.Asked.{play_run}
@@ -11,7 +11,7 @@ use Rattle.af_request.specs.Requests.{request_bytes}
 use Rattle.std.proofs.lemmas.List.Elements.{All-nil, All-cons, All-push}
 use Rattle.af_exercise.specs.Exercise.{time_about, sample_bytes, play_drawn, exercised, greeting, first_steps, repeated, turn_step, frames_ticked, drawn, moved_on, step_drawn, steps_drawn, seeded, start_time, generated}
 use Rattle.af_script.specs.Script.{StatedScript}
-use Rattle.af_outside.specs.declared.script.DeviceSpec.{DeviceSpec}
+use Rattle.af_world.specs.declared.script.DeviceSpec.{DeviceSpec}
 
 -- once more at the end is once more in front
 pub repeated_more : (n : ℕ) (bytes : List ℕ) → repeated n bytes ++ bytes ≡ repeated (suc n) bytes

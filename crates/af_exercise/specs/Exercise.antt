@@ -10,9 +10,9 @@ use Rattle.af_request.specs.Asked.{get_time, create_ac, play_run, record_run, se
 use Rattle.af_request.specs.Fields.{i16_bytes}
 use Rattle.af_request.specs.Requests.{request_bytes}
 use Rattle.af_phone.specs.declared.line.LineChange.TheVariants as change
-use Rattle.af_outside.specs.declared.script.DeviceSpec.{DeviceSpec}
-use Rattle.af_outside.specs.declared.script.Step.{Step}
-use Rattle.af_outside.specs.declared.script.Step.TheVariants as step
+use Rattle.af_world.specs.declared.script.DeviceSpec.{DeviceSpec}
+use Rattle.af_world.specs.declared.script.Step.{Step}
+use Rattle.af_world.specs.declared.script.Step.TheVariants as step
 use Rattle.af_script.specs.Script.{StatedScript}
 
 -- the device time at which the device starts: it passes 2^32 after 7296 frames

@@ -3,18 +3,18 @@ ghost use Rattle.std.specs.Prelude.{◌≡◌, ◌≤◌, ◌<◌, ◌*◌, ◌+
 ghost use Rattle.af_sample.specs.Rates.{IsListedRate};
 ghost use Rattle.af_request.specs.Asked.{request_meaning};
 ghost use Rattle.af_request.specs.Requests.{request_bytes, FitsFrame};
-ghost use Rattle.af_outside.specs.declared.script.Step.TheVariants as step;
-ghost use Rattle.af_outside.specs.Outside.{IsStep};
+ghost use Rattle.af_world.specs.declared.script.Step.TheVariants as step;
+ghost use Rattle.af_world.specs.Outside.{IsStep};
 ghost use Rattle.af_exercise.specs.Exercise.{generated, exercised, first_steps, greeting, repeated, preempts, seeded, steps_drawn, start_time, sample_bytes, drawn, moved_on, turn_step, tick_drawn, play_drawn, record_drawn, time_asked, digit_drawn, room_drawn, frames_ticked};
 
 use af_io::Bytes;
-use af_outside::{Config, DeviceSpec, Step};
 use af_phone::LineChange;
 use af_request::{Request, write_request};
 use af_sample::SampleType;
 use af_script::{Script, Steps};
 use af_time::{DevTime, OutOfMemory};
 use af_wire::SETUP;
+use af_world::{Config, DeviceSpec, Step};
 use arrayvec::ArrayVec;
 use rand_core::SeedableRng;
 use rand_core::utils::NextWord;

@@ -3,7 +3,7 @@ use Rattle.std.proofs.Common.{◌≡◌, ◌<◌, ◌≤◌, List, [], ◌∷◌
 use Rattle.std.specs.Prelude.{All, Option, Some, IfSome}
 use Rattle.std.proofs.lemmas.List.Elements.{All-nil, All-push}
 use Rattle.af_sample.specs.Rates.{IsListedRate}
-use Rattle.af_outside.specs.declared.script.DeviceSpec.{DeviceSpec}
+use Rattle.af_world.specs.declared.script.DeviceSpec.{DeviceSpec}
 use Rattle.af_live.specs.Stating.{Configured, Settings}
 use Rattle.af_live.specs.Configuration.{most_configured}
 use Rattle.af_live.specs.Reading.{with_configured, IsSound}

@@ -1,7 +1,7 @@
 -- What the parts of a line stand for, once they are read.
 use Rattle.std.specs.Prelude.{string_bytes}
-use Rattle.af_outside.specs.declared.outer.Backing.{Backing}
-use Rattle.af_outside.specs.Kinds.{silence, two_files}
+use Rattle.af_world.specs.declared.outer.Backing.{Backing}
+use Rattle.af_world.specs.Kinds.{silence, two_files}
 use Rattle.af_live.specs.declared.device.OwnedKind.{OwnedKind}
 use Rattle.af_live.specs.declared.device.OwnedKind.TheVariants as held
 use Rattle.af_live.specs.declared.device.ConfiguredDevice.{ConfiguredDevice}

@@ -2,12 +2,12 @@
 use Rattle.std.specs.Prelude.{◌≡◌, ◌≢◌, ◌⊎◌, ℕ, ◌<◌, Bool, true, false, ◌||◌, not, List, length, slice_index_or, slice_set, if◌then◌else◌}
 use Rattle.std.specs.declared.option.Option.{Option}
 use Rattle.std.specs.declared.option.Option.TheVariants.{None, Some}
-use Rattle.af_outside.specs.declared.happening.Wake.{Wake}
-use Rattle.af_outside.specs.declared.happening.Wake.TheVariants as wake
-use Rattle.af_outside.specs.declared.world.LinkGot.{LinkGot}
-use Rattle.af_outside.specs.declared.world.LinkGot.TheVariants as got
-use Rattle.af_outside.specs.declared.world.LinkTook.{LinkTook}
-use Rattle.af_outside.specs.declared.world.LinkTook.TheVariants as took
+use Rattle.af_world.specs.declared.happening.Wake.{Wake}
+use Rattle.af_world.specs.declared.happening.Wake.TheVariants as wake
+use Rattle.af_world.specs.declared.world.LinkGot.{LinkGot}
+use Rattle.af_world.specs.declared.world.LinkGot.TheVariants as got
+use Rattle.af_world.specs.declared.world.LinkTook.{LinkTook}
+use Rattle.af_world.specs.declared.world.LinkTook.TheVariants as took
 use Rattle.af_live.specs.declared.link_table.LinkEntry.{LinkEntry}
 
 -- no link has the number

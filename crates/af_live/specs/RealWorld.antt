@@ -5,12 +5,12 @@ use Rattle.std.proofs.Math.Nat.{le_refl, le_trans}
 use Rattle.std.specs.declared.option.Option.{Option}
 use Rattle.std.specs.declared.option.Option.TheVariants.{None, Some}
 use Rattle.af_sample.specs.declared.sample_type.SampleType.{SampleType}
-use Rattle.af_outside.specs.declared.happening.Wake.{Wake}
-use Rattle.af_outside.specs.declared.happening.Wake.TheVariants as wake
-use Rattle.af_outside.specs.declared.live.Ready.{Ready}
-use Rattle.af_outside.specs.declared.live.Ready.TheVariants as ready
-use Rattle.af_outside.specs.declared.live.Waited.{Waited}
-use Rattle.af_outside.specs.declared.live.Waited.TheVariants as answer
+use Rattle.af_world.specs.declared.happening.Wake.{Wake}
+use Rattle.af_world.specs.declared.happening.Wake.TheVariants as wake
+use Rattle.af_world.specs.declared.live.Ready.{Ready}
+use Rattle.af_world.specs.declared.live.Ready.TheVariants as ready
+use Rattle.af_world.specs.declared.live.Waited.{Waited}
+use Rattle.af_world.specs.declared.live.Waited.TheVariants as answer
 use Rattle.af_live.specs.declared.link_table.LinkEntry.{LinkEntry}
 use Rattle.af_live.specs.declared.round.Round.{Round}
 use Rattle.af_live.specs.LinkTable.{free_entry, LinkWakeFits, GivesFirst}

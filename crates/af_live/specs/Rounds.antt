@@ -1,7 +1,7 @@
 -- Rounds over the devices of a world.
 use Rattle.std.specs.Prelude.{◌≡◌, ℕ, ◌+◌, ◌≤◌, ◌<◌, Bool, true, false, List, replicate, slice_index_or, slice_set, option_map, is_some, Option, Some, None}
-use Rattle.af_outside.specs.declared.live.Ready.{Ready}
-use Rattle.af_outside.specs.declared.live.Ready.TheVariants as ready
+use Rattle.af_world.specs.declared.live.Ready.{Ready}
+use Rattle.af_world.specs.declared.live.Ready.TheVariants as ready
 use Rattle.af_live.specs.Pacing.{PaceState, begun, due_at, after_due}
 use Rattle.af_live.specs.declared.round.Round.{Round}
 

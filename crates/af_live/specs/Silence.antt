@@ -5,11 +5,11 @@ use Rattle.std.specs.declared.option.Option.TheVariants.{None, Some}
 use Rattle.af_sample.specs.declared.sample_type.SampleType.{SampleType}
 use Rattle.af_io.specs.declared.flow.Put.{Put}
 use Rattle.af_io.specs.declared.flow.Put.TheVariants as put
-use Rattle.af_outside.specs.declared.live.Ready.{Ready}
-use Rattle.af_outside.specs.declared.live.Ready.TheVariants as ready
-use Rattle.af_outside.specs.declared.live.Kind.{Kind}
-use Rattle.af_outside.specs.declared.live.Kind.TheVariants as kind
-use Rattle.af_outside.specs.Outside.{silent_byte}
+use Rattle.af_world.specs.declared.live.Ready.{Ready}
+use Rattle.af_world.specs.declared.live.Ready.TheVariants as ready
+use Rattle.af_world.specs.declared.live.Kind.{Kind}
+use Rattle.af_world.specs.declared.live.Kind.TheVariants as kind
+use Rattle.af_world.specs.Outside.{silent_byte}
 
 -- the sample type of a device that is silent
 abbrev pub silent_at : List (Option SampleType) → ℕ → Option SampleType

@@ -3,9 +3,9 @@ use Rattle.std.specs.Prelude.{ℕ, ◌-◌, ◌^◌, Bool, true, false, List, []
 use Rattle.af_sample.specs.declared.sample_type.SampleType.{SampleType}
 use Rattle.af_text.specs.Words.{number_within}
 use Rattle.af_text.specs.Sound.{type_of, rate_of}
-use Rattle.af_outside.specs.declared.script.DeviceSpec.{DeviceSpec}
-use Rattle.af_outside.specs.declared.outer.Backing.{Backing}
-use Rattle.af_outside.specs.Kinds.{silence, two_files}
+use Rattle.af_world.specs.declared.script.DeviceSpec.{DeviceSpec}
+use Rattle.af_world.specs.declared.outer.Backing.{Backing}
+use Rattle.af_world.specs.Kinds.{silence, two_files}
 
 -- the devices of a server, and what stands behind each, in the same order
 pub record Settings : Type 0 where

@@ -6,9 +6,9 @@ ghost use Rattle.af_text.specs.Lines.{words};
 ghost use Rattle.af_live.specs.Stating.{configured_of, configured_with, placed_at, ending_of, backing_stated, silent_of, files_of};
 ghost use Rattle.af_live.specs.Kept.{placed, backing, stated_ending};
 
-use af_outside::DeviceSpec;
 use af_text::{is_word, listed_rate, next_word, number_between, sample_type, two_words};
 use af_time::OutOfMemory;
+use af_world::DeviceSpec;
 use std::alloc::Global;
 use std::str;
 

@@ -3,8 +3,8 @@ ghost use Rattle.std.specs.Prelude.{◌<◌, length};
 
 use crate::round::MOST_DEVICES;
 use af_io::{Got, Put, Sink, Source, StdSink, StdSource};
-use af_outside::silent_byte;
 use af_sample::SampleType;
+use af_world::silent_byte;
 use std::alloc::{AllocError, Global};
 use std::fs::{self, OpenOptions};
 use std::io::{self, Read, Write};

@@ -3,7 +3,7 @@ ghost use Rattle.std.specs.Prelude.{◌≡◌, ◌≤◌, ◌<◌, length, slice
 ghost use Rattle.std.specs.declared.option.Option.TheVariants.{None, Some};
 ghost use Rattle.af_live.specs.LinkTable.{free_entry, something_ready, wake_at, without_first_ready, IsLeastFree, IsFirstReady, GivesFirst, LinkWakeFits, Opens};
 
-use af_outside::Wake;
+use af_world::Wake;
 
 /// A link that is held: the key of its stream, and what was not given yet: that it is new, that it may have something to read, and
 /// that it may take something.

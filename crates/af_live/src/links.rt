@@ -1,11 +1,11 @@
 // The calls of a world on its links.
 ghost use Rattle.std.specs.Prelude.{◌≡◌, length, is_some, true};
-ghost use Rattle.af_outside.specs.World.{LinkGotFits, TookFits};
+ghost use Rattle.af_world.specs.World.{LinkGotFits, TookFits};
 ghost use Rattle.af_live.specs.LinkTable.{is_free, link_at, AfterRead, AfterWrite, KeepsOpen, ClosesOne};
 
 use crate::link_table::{LinkEntry, free_number, held_at};
 use crate::sockets::Sockets;
-use af_outside::{LinkGot, LinkTook};
+use af_world::{LinkGot, LinkTook};
 use std::io::ErrorKind;
 
 /// Reads what has come by a link. A read that was interrupted gave nothing so far, and is to be made again: the link stays

@@ -1,12 +1,12 @@
 // What a server is started with: its devices, and what stands behind each.
 ghost use Rattle.std.specs.Prelude.{◌≡◌, ◌<◌, [], length, slice_get, Some, IsTrue, nat_eq, OnOk};
-ghost use Rattle.af_outside.specs.Kinds.{backing_of};
+ghost use Rattle.af_world.specs.Kinds.{backing_of};
 ghost use Rattle.af_live.specs.Kept.{placed};
 ghost use Rattle.af_live.specs.Reading.{with_configured};
 
 use crate::device::{ConfiguredDevice, OwnedKind};
-use af_outside::{Config, Kind};
 use af_time::OutOfMemory;
+use af_world::{Config, Kind};
 use arrayvec::ArrayVec;
 use std::alloc::Global;
 use std::marker::Model;

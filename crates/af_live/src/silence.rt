@@ -3,8 +3,8 @@ ghost use Rattle.std.specs.Prelude.{◌≡◌, length, slice_set};
 ghost use Rattle.std.specs.declared.option.Option.TheVariants.{Some};
 ghost use Rattle.af_live.specs.Silence.{silent_at, CapturesSilence};
 
-use af_outside::silent_byte;
 use af_sample::SampleType;
+use af_world::silent_byte;
 
 /// The sample type of a device that is silent.
 pub(crate) fn silent_at(silent: &[Option<SampleType>], device: u8) -> Option<SampleType>

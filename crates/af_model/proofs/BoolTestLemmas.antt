@@ -2,9 +2,9 @@
 use Rattle.std.proofs.Common.{◌≡◌, ℕ, zero, suc, Bool, true, false, not, cond, ◌&&◌, ◌==◌, List, [], ◌∷◌, is_none, refl, sym, ap, ◌∙◌, eqb-true}
 use Rattle.std.specs.declared.option.Option.{Option}
 use Rattle.std.specs.declared.option.Option.TheVariants.{None, Some}
-use Rattle.af_outside.specs.declared.happening.Why.{Why}
-use Rattle.af_outside.specs.declared.happening.Why.TheVariants as why
-use Rattle.af_outside.specs.Outside.{same_bytes}
+use Rattle.af_world.specs.declared.happening.Why.{Why}
+use Rattle.af_world.specs.declared.happening.Why.TheVariants as why
+use Rattle.af_world.specs.Outside.{same_bytes}
 use Rattle.af_model.specs.Turn.{number_of_why, same_why}
 
 pub cond-some : {A : Type 0} (t : Bool) (x : Option A) (b : A) → cond t x None ≡ Some b → (t ≡ true) × (x ≡ Some b)

@@ -6,8 +6,8 @@ use Rattle.std.specs.List.{fold, list_any}
 use Rattle.std.specs.declared.option.Option.{Option}
 use Rattle.std.specs.declared.option.Option.TheVariants.{None, Some}
 use Rattle.af_request.specs.declared.reply.Phone.{Phone}
-use Rattle.af_outside.specs.declared.happening.Happening.{Happening}
-use Rattle.af_outside.specs.Log.{Log}
+use Rattle.af_world.specs.declared.happening.Happening.{Happening}
+use Rattle.af_world.specs.Log.{Log}
 use Rattle.af_model.specs.State.{DeviceState, State, device_set, with_device}
 use Rattle.af_model.specs.Dead.{fails_device, fails_line}
 use Rattle.af_model.proofs.BoolTestLemmas.{none_some, some_is}

@@ -4,16 +4,16 @@ use Rattle.std.proofs.Common.{◌≡◌, ℕ, ℤ, zero, suc, ◌+◌, ◌*◌, 
 use Rattle.std.proofs.lemmas.List.{map-set}
 use Rattle.std.specs.declared.option.Option.{Option}
 use Rattle.std.specs.declared.option.Option.TheVariants.{None, Some}
-use Rattle.af_outside.specs.declared.happening.Happening.{Happening}
-use Rattle.af_outside.specs.declared.happening.Happening.TheVariants.{Woke, Read, Wrote, Closed, Captured, Emitted, Hooked}
-use Rattle.af_outside.specs.declared.happening.ReadGot.{ReadGot}
-use Rattle.af_outside.specs.declared.happening.ReadGot.TheVariants.{Given, NotYet, Ended, Failed}
-use Rattle.af_outside.specs.declared.happening.Why.{Why}
-use Rattle.af_outside.specs.declared.happening.Wake.{Wake}
-use Rattle.af_outside.specs.declared.happening.Wake.TheVariants.{Opened, Readable, Writable, Ticked, Line, Idle, Stop}
-use Rattle.af_outside.specs.declared.script.Step.{Step}
-use Rattle.af_outside.specs.Log.{Log}
-use Rattle.af_outside.specs.Outside.{Outside, ScriptedClient, ScriptedDevice, answered_as_stated, client_answered, read_from, given_from, failed_from, written_to, room_taken_of, fresh_client, some_client, capture_answered, emit_answered, hook_answered, captured, scripted_at, with_scripted, client_at, with_client, same_bytes}
+use Rattle.af_world.specs.declared.happening.Happening.{Happening}
+use Rattle.af_world.specs.declared.happening.Happening.TheVariants.{Woke, Read, Wrote, Closed, Captured, Emitted, Hooked}
+use Rattle.af_world.specs.declared.happening.ReadGot.{ReadGot}
+use Rattle.af_world.specs.declared.happening.ReadGot.TheVariants.{Given, NotYet, Ended, Failed}
+use Rattle.af_world.specs.declared.happening.Why.{Why}
+use Rattle.af_world.specs.declared.happening.Wake.{Wake}
+use Rattle.af_world.specs.declared.happening.Wake.TheVariants.{Opened, Readable, Writable, Ticked, Line, Idle, Stop}
+use Rattle.af_world.specs.declared.script.Step.{Step}
+use Rattle.af_world.specs.Log.{Log}
+use Rattle.af_world.specs.Outside.{Outside, ScriptedClient, ScriptedDevice, answered_as_stated, client_answered, read_from, given_from, failed_from, written_to, room_taken_of, fresh_client, some_client, capture_answered, emit_answered, hook_answered, captured, scripted_at, with_scripted, client_at, with_client, same_bytes}
 use Rattle.af_sample.specs.SampleTypes.{width_of}
 use Rattle.af_model.specs.State.{State, SlotState, EnvironmentState, OpenLink, Deferral, SlotLink, with_device, LinkState, DeviceState, link_in_slot, slot_link_at, with_slot_link, open_link, opened, slot_at, some_slot, with_slot, links_of}
 use Rattle.af_wait.specs.Waits.{without_first}

@@ -6,12 +6,12 @@ use Rattle.std.specs.declared.option.Option.TheVariants.{None, Some}
 use Rattle.af_sample.specs.Heard.{AcceptedPlay, heard}
 use Rattle.af_sample.specs.Samples.{bytes_of}
 use Rattle.af_sample.proofs.HeardLemmas.{heard-append}
-use Rattle.af_outside.specs.declared.happening.Happening.{Happening}
-use Rattle.af_outside.specs.declared.happening.Happening.TheVariants.{Woke, Read, Wrote, Closed, Captured, Emitted, Hooked}
-use Rattle.af_outside.specs.declared.happening.Wake.{Wake}
-use Rattle.af_outside.specs.declared.happening.Wake.TheVariants.{Ticked}
-use Rattle.af_outside.specs.declared.script.DeviceSpec.{DeviceSpec}
-use Rattle.af_outside.specs.Log.{Log}
+use Rattle.af_world.specs.declared.happening.Happening.{Happening}
+use Rattle.af_world.specs.declared.happening.Happening.TheVariants.{Woke, Read, Wrote, Closed, Captured, Emitted, Hooked}
+use Rattle.af_world.specs.declared.happening.Wake.{Wake}
+use Rattle.af_world.specs.declared.happening.Wake.TheVariants.{Ticked}
+use Rattle.af_world.specs.declared.script.DeviceSpec.{DeviceSpec}
+use Rattle.af_world.specs.Log.{Log}
 use Rattle.af_model.specs.State.{State, opening}
 use Rattle.af_model.specs.Controls.{through_output_control}
 use Rattle.af_model.specs.Turn.{turn}

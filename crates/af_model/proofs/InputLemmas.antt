@@ -5,8 +5,8 @@ use Rattle.af_wire.specs.declared.front.Front.TheVariants.{Frame}
 use Rattle.af_wire.specs.declared.front.SetupFront.TheVariants as front
 use Rattle.af_wire.specs.Front.{setup_front, frame_front, IsFrameWithin, IsSetupWithin}
 use Rattle.af_request.specs.Requests.{asked_in}
-use Rattle.af_outside.specs.declared.happening.Why.{Why}
-use Rattle.af_outside.specs.declared.happening.Why.TheVariants as why
+use Rattle.af_world.specs.declared.happening.Why.{Why}
+use Rattle.af_world.specs.declared.happening.Why.TheVariants as why
 use Rattle.af_model.specs.State.{LinkState}
 use Rattle.af_model.specs.Causes.{AreRequests, IsServedTo, is_malformed}
 use Rattle.af_model.proofs.AdvanceLemmas.{frame_within, setup_within}

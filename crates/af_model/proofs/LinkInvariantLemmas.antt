@@ -2,8 +2,8 @@
 use Rattle.std.proofs.Common.{◌≡◌, ℕ, zero, suc, Bool, true, false, not, cond, ◌&&◌, nat_le, List, length, take, is_none, is_some, slice_get, refl, ap, ◌∙◌, IfSome}
 use Rattle.std.specs.declared.option.Option.{Option}
 use Rattle.std.specs.declared.option.Option.TheVariants.{None, Some}
-use Rattle.af_outside.specs.declared.happening.Why.{Why}
-use Rattle.af_outside.specs.declared.happening.Why.TheVariants as why
+use Rattle.af_world.specs.declared.happening.Why.{Why}
+use Rattle.af_world.specs.declared.happening.Why.TheVariants as why
 use Rattle.af_wire.specs.declared.front.Front.{Front}
 use Rattle.af_wire.specs.declared.front.Front.TheVariants.{NeedMore, Frame, Malformed}
 use Rattle.af_wire.specs.declared.front.SetupFront.{SetupFront}

@@ -1,7 +1,7 @@
 -- That nothing is lost, to begin with.
 use Rattle.std.proofs.Common.{List, [], ◌∷◌, All, map, arith}
 use Rattle.std.proofs.lemmas.List.Elements.{All-cons}
-use Rattle.af_outside.specs.declared.script.DeviceSpec.{DeviceSpec}
+use Rattle.af_world.specs.declared.script.DeviceSpec.{DeviceSpec}
 use Rattle.af_model.specs.State.{opening_device}
 use Rattle.af_model.specs.NoLoss.{LosesNone}
 

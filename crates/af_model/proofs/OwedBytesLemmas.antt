@@ -6,8 +6,8 @@ use Rattle.std.specs.declared.option.Option.TheVariants.{None, Some}
 use Rattle.af_wire.specs.declared.event.EventKind.{EventKind}
 use Rattle.af_wire.specs.declared.event.EventKind.TheVariants as kind
 use Rattle.af_phone.specs.Lines.{selects}
-use Rattle.af_outside.specs.declared.happening.Why.{Why}
-use Rattle.af_outside.specs.declared.happening.Why.TheVariants as why
+use Rattle.af_world.specs.declared.happening.Why.{Why}
+use Rattle.af_world.specs.declared.happening.Why.TheVariants as why
 use Rattle.af_wait.specs.Waits.{without_first}
 use Rattle.af_model.specs.State.{DeviceState, LinkState, OpenLink, SlotLink, State, Deferral, open_link, none_selected, slot_at, stopped}
 use Rattle.af_model.specs.Tick.{enter}

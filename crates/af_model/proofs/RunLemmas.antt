@@ -2,11 +2,11 @@
 use Rattle.std.proofs.Common.{◌≡◌, ◌+◌, List, [], ◌∷◌, ◌++◌, length, is_some, refl, sym, ap, ◌∙◌, subst, append_assoc, append-nil, arith, IsSomeAnd}
 use Rattle.std.specs.declared.option.Option.{Option}
 use Rattle.std.specs.declared.option.Option.TheVariants.{None, Some}
-use Rattle.af_outside.specs.declared.happening.Happening.TheVariants.{Woke, Read, Wrote, Closed, Captured, Emitted, Hooked}
-use Rattle.af_outside.specs.declared.script.DeviceSpec.{DeviceSpec}
-use Rattle.af_outside.specs.declared.script.Step.{Step}
-use Rattle.af_outside.specs.Log.{Log}
-use Rattle.af_outside.specs.Outside.{Outside, answered_as_stated, replayed, then_outside, stepped}
+use Rattle.af_world.specs.declared.happening.Happening.TheVariants.{Woke, Read, Wrote, Closed, Captured, Emitted, Hooked}
+use Rattle.af_world.specs.declared.script.DeviceSpec.{DeviceSpec}
+use Rattle.af_world.specs.declared.script.Step.{Step}
+use Rattle.af_world.specs.Log.{Log}
+use Rattle.af_world.specs.Outside.{Outside, answered_as_stated, replayed, then_outside, stepped}
 use Rattle.af_model.specs.State.{State, opening}
 use Rattle.af_model.specs.Turn.{Parsed, IsTurn}
 use Rattle.af_model.specs.Run.{wakes, end_by, end_state, then_end, IsRun}

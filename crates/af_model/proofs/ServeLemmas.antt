@@ -6,13 +6,13 @@ use Rattle.std.proofs.lemmas.List.Sums.{fold-append}
 use Rattle.std.specs.List.{fold}
 use Rattle.std.specs.declared.option.Option.{Option}
 use Rattle.std.specs.declared.option.Option.TheVariants.{None, Some}
-use Rattle.af_outside.specs.declared.happening.Happening.{Happening}
-use Rattle.af_outside.specs.declared.happening.Happening.TheVariants.{Woke, Read, Wrote, Closed, Captured, Emitted, Hooked}
-use Rattle.af_outside.specs.declared.happening.ReadGot.{ReadGot}
-use Rattle.af_outside.specs.declared.happening.ReadGot.TheVariants.{Given, NotYet, Ended, Failed}
-use Rattle.af_outside.specs.declared.happening.Why.TheVariants as why
-use Rattle.af_outside.specs.Log.{Log}
-use Rattle.af_outside.specs.Outside.{same_bytes}
+use Rattle.af_world.specs.declared.happening.Happening.{Happening}
+use Rattle.af_world.specs.declared.happening.Happening.TheVariants.{Woke, Read, Wrote, Closed, Captured, Emitted, Hooked}
+use Rattle.af_world.specs.declared.happening.ReadGot.{ReadGot}
+use Rattle.af_world.specs.declared.happening.ReadGot.TheVariants.{Given, NotYet, Ended, Failed}
+use Rattle.af_world.specs.declared.happening.Why.TheVariants as why
+use Rattle.af_world.specs.Log.{Log}
+use Rattle.af_world.specs.Outside.{same_bytes}
 use Rattle.af_model.specs.State.{State, DeviceState, SlotState, LinkState, OpenLink, SlotLink, link_in_slot, slot_link_at, open_link, slot_at, some_slot, with_slot_link}
 use Rattle.af_model.specs.Waiting.{has_deferral}
 use Rattle.af_model.specs.Advance.{advance, absorb, takes_more}

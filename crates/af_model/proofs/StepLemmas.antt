@@ -4,12 +4,12 @@ use Rattle.std.proofs.lemmas.Grind.{common_steps}
 use Rattle.std.specs.declared.option.Option.{Option}
 use Rattle.std.specs.declared.option.Option.TheVariants.{None, Some}
 use Rattle.af_phone.specs.Lines.{is_change}
-use Rattle.af_outside.specs.declared.happening.Wake.{Wake}
-use Rattle.af_outside.specs.declared.happening.Wake.TheVariants as wake
-use Rattle.af_outside.specs.declared.script.DeviceSpec.{DeviceSpec}
-use Rattle.af_outside.specs.declared.script.Step.{Step}
-use Rattle.af_outside.specs.declared.script.Step.TheVariants.{Open, Send, End, Room, Tick, Line, FailRead, FailWrite, FailCapture, FailEmit, FailHook, Idle}
-use Rattle.af_outside.specs.Outside.{Outside, ScriptedClient, outside_start, client_at, some_client, fresh_client, opened_at, adjusted, sending_bytes, ending, taking, failing_read, failing_write, wake_where_open, stepped, wake_of, spec_has_line, IsStep}
+use Rattle.af_world.specs.declared.happening.Wake.{Wake}
+use Rattle.af_world.specs.declared.happening.Wake.TheVariants as wake
+use Rattle.af_world.specs.declared.script.DeviceSpec.{DeviceSpec}
+use Rattle.af_world.specs.declared.script.Step.{Step}
+use Rattle.af_world.specs.declared.script.Step.TheVariants.{Open, Send, End, Room, Tick, Line, FailRead, FailWrite, FailCapture, FailEmit, FailHook, Idle}
+use Rattle.af_world.specs.Outside.{Outside, ScriptedClient, outside_start, client_at, some_client, fresh_client, opened_at, adjusted, sending_bytes, ending, taking, failing_read, failing_write, wake_where_open, stepped, wake_of, spec_has_line, IsStep}
 use Rattle.af_model.specs.State.{State, opening, outline, lines_of}
 use Rattle.af_model.specs.Turn.{fits, has_line_at, is_open_at, is_closed_at}
 use Rattle.af_model.proofs.DeterminismLemmas.{Agree, Woken, opens, opens-set, opens_stay, open_after}

@@ -2,7 +2,7 @@
 use Rattle.std.specs.Prelude.{ℕ, zero, suc, Bool, not, true, List, ◌++◌, length, take, drop, if◌then◌else◌, ◌&&◌, nat_le, is_none}
 use Rattle.std.specs.declared.option.Option.{Option}
 use Rattle.std.specs.declared.option.Option.TheVariants.{None, Some}
-use Rattle.af_outside.specs.declared.happening.Why.TheVariants as why
+use Rattle.af_world.specs.declared.happening.Why.TheVariants as why
 use Rattle.af_wire.specs.declared.front.Front.{Front}
 use Rattle.af_wire.specs.declared.front.Front.TheVariants.{NeedMore, Frame, Malformed}
 use Rattle.af_wire.specs.declared.front.SetupFront.{SetupFront}

@@ -5,10 +5,10 @@ use Rattle.af_wire.specs.declared.front.Front.TheVariants.{NeedMore, Frame, Malf
 use Rattle.af_wire.specs.declared.front.SetupFront.TheVariants as front
 use Rattle.af_wire.specs.Front.{setup_front, frame_front}
 use Rattle.af_request.specs.Requests.{asked_in}
-use Rattle.af_outside.specs.declared.happening.Why.{Why}
-use Rattle.af_outside.specs.declared.happening.Why.TheVariants as why
-use Rattle.af_outside.specs.declared.script.DeviceSpec.{DeviceSpec}
-use Rattle.af_outside.specs.Log.{Log}
+use Rattle.af_world.specs.declared.happening.Why.{Why}
+use Rattle.af_world.specs.declared.happening.Why.TheVariants as why
+use Rattle.af_world.specs.declared.script.DeviceSpec.{DeviceSpec}
+use Rattle.af_world.specs.Log.{Log}
 use Rattle.af_model.specs.State.{slot_at}
 use Rattle.af_model.specs.LinkHistory.{LinkHistory, history}
 use Rattle.af_model.specs.Run.{end_state}

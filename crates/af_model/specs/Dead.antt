@@ -2,10 +2,10 @@
 use Rattle.std.specs.Prelude.{◌≡◌, ℕ, ◌==◌, ◌&&◌, not, Bool, false, List, slice_get, IfSome}
 use Rattle.std.specs.List.{list_any}
 use Rattle.std.specs.declared.option.Option.TheVariants.{None}
-use Rattle.af_outside.specs.declared.happening.Happening.{Happening}
-use Rattle.af_outside.specs.declared.happening.Happening.TheVariants.{Captured, Emitted, Hooked}
-use Rattle.af_outside.specs.declared.script.DeviceSpec.{DeviceSpec}
-use Rattle.af_outside.specs.Log.{Log}
+use Rattle.af_world.specs.declared.happening.Happening.{Happening}
+use Rattle.af_world.specs.declared.happening.Happening.TheVariants.{Captured, Emitted, Hooked}
+use Rattle.af_world.specs.declared.script.DeviceSpec.{DeviceSpec}
+use Rattle.af_world.specs.Log.{Log}
 use Rattle.af_model.specs.Run.{end_state}
 
 -- whether this is a capture or an emit of device d that failed

@@ -9,8 +9,8 @@ use Rattle.af_wire.specs.Event.{event_bytes}
 use Rattle.af_request.specs.declared.reply.Phone.{Phone}
 use Rattle.af_phone.specs.declared.line.LineChange.{LineChange}
 use Rattle.af_phone.specs.Lines.{changed, flag_value, hooked, event_kind_of, selects, value_of}
-use Rattle.af_outside.specs.declared.happening.Why.{Why}
-use Rattle.af_outside.specs.declared.happening.Why.TheVariants as why
+use Rattle.af_world.specs.declared.happening.Why.{Why}
+use Rattle.af_world.specs.declared.happening.Why.TheVariants as why
 use Rattle.af_model.specs.State.{DeviceState, LinkState, State, Deferral, EnvironmentState, OpenLink, SlotLink, open_link, link_in_slot, slot_link_at, with_slot_link, with_device, none_selected, say}
 use Rattle.af_model.specs.Tick.{enter}
 

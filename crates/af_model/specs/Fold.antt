@@ -4,10 +4,10 @@ use Rattle.std.specs.List.{range_with_len}
 use Rattle.std.specs.declared.option.Option.TheVariants.{Some}
 use Rattle.af_sample.specs.Heard.{heard}
 use Rattle.af_sample.specs.Samples.{bytes_of}
-use Rattle.af_outside.specs.declared.happening.Happening.TheVariants.{Woke, Captured, Emitted}
-use Rattle.af_outside.specs.declared.happening.Wake.TheVariants.{Ticked}
-use Rattle.af_outside.specs.declared.script.DeviceSpec.{DeviceSpec}
-use Rattle.af_outside.specs.Log.{Log}
+use Rattle.af_world.specs.declared.happening.Happening.TheVariants.{Woke, Captured, Emitted}
+use Rattle.af_world.specs.declared.happening.Wake.TheVariants.{Ticked}
+use Rattle.af_world.specs.declared.script.DeviceSpec.{DeviceSpec}
+use Rattle.af_world.specs.Log.{Log}
 use Rattle.af_model.specs.State.{DeviceState, State}
 use Rattle.af_model.specs.Controls.{through_output_control}
 use Rattle.af_model.specs.Run.{end_state}

@@ -1,7 +1,7 @@
 -- The laws of whole runs.
 use Rattle.std.specs.Prelude.{List}
-use Rattle.af_outside.specs.declared.script.DeviceSpec.{DeviceSpec}
-use Rattle.af_outside.specs.Log.{Log}
+use Rattle.af_world.specs.declared.script.DeviceSpec.{DeviceSpec}
+use Rattle.af_world.specs.Log.{Log}
 use Rattle.af_model.specs.NoLoss.{RunLosesNone}
 use Rattle.af_model.specs.Prefix.{TakesInOrder}
 use Rattle.af_model.specs.Fold.{MixesAll}

@@ -3,13 +3,13 @@ use Rattle.std.specs.Prelude.{ℕ, ◌==◌, Bool, true, false, List, [], ◌++�
 use Rattle.std.specs.List.{fold}
 use Rattle.std.specs.declared.option.Option.{Option}
 use Rattle.std.specs.declared.option.Option.TheVariants.{None, Some}
-use Rattle.af_outside.specs.declared.happening.Happening.{Happening}
-use Rattle.af_outside.specs.declared.happening.Happening.TheVariants.{Woke, Read, Wrote, Closed}
-use Rattle.af_outside.specs.declared.happening.ReadGot.{ReadGot}
-use Rattle.af_outside.specs.declared.happening.ReadGot.TheVariants.{Given, NotYet, Ended, Failed}
-use Rattle.af_outside.specs.declared.happening.Wake.TheVariants.{Opened}
-use Rattle.af_outside.specs.declared.happening.Why.{Why}
-use Rattle.af_outside.specs.Log.{Log}
+use Rattle.af_world.specs.declared.happening.Happening.{Happening}
+use Rattle.af_world.specs.declared.happening.Happening.TheVariants.{Woke, Read, Wrote, Closed}
+use Rattle.af_world.specs.declared.happening.ReadGot.{ReadGot}
+use Rattle.af_world.specs.declared.happening.ReadGot.TheVariants.{Given, NotYet, Ended, Failed}
+use Rattle.af_world.specs.declared.happening.Wake.TheVariants.{Opened}
+use Rattle.af_world.specs.declared.happening.Why.{Why}
+use Rattle.af_world.specs.Log.{Log}
 
 -- The bytes that its reads gave, those that its writes took, whether a read said that it ended, whether a read or a write of it
 -- failed, and for what it was closed, if it was.

@@ -1,8 +1,8 @@
 -- That no sample of a request that waited is lost.
 use Rattle.std.specs.Prelude.{ℕ, ◌+◌, ◌≤◌, List, IfSome}
 use Rattle.std.specs.List.{All}
-use Rattle.af_outside.specs.declared.script.DeviceSpec.{DeviceSpec}
-use Rattle.af_outside.specs.Log.{Log}
+use Rattle.af_world.specs.declared.script.DeviceSpec.{DeviceSpec}
+use Rattle.af_world.specs.Log.{Log}
 use Rattle.af_model.specs.State.{DeviceState, Deferred, deferred_play, deferred_record, State}
 use Rattle.af_model.specs.Reply.{horizon_of}
 use Rattle.af_model.specs.Run.{end_state}

@@ -2,10 +2,10 @@
 use Rattle.std.specs.Prelude.{◌≡◌, ℕ, Bool, true, false, List, ◌++◌, IfSome}
 use Rattle.std.specs.declared.option.Option.{Option}
 use Rattle.std.specs.declared.option.Option.TheVariants.{None, Some}
-use Rattle.af_outside.specs.declared.happening.Why.{Why}
-use Rattle.af_outside.specs.declared.happening.Why.TheVariants as why
-use Rattle.af_outside.specs.declared.script.DeviceSpec.{DeviceSpec}
-use Rattle.af_outside.specs.Log.{Log}
+use Rattle.af_world.specs.declared.happening.Why.{Why}
+use Rattle.af_world.specs.declared.happening.Why.TheVariants as why
+use Rattle.af_world.specs.declared.script.DeviceSpec.{DeviceSpec}
+use Rattle.af_world.specs.Log.{Log}
 use Rattle.af_model.specs.State.{LinkState, slot_at}
 use Rattle.af_model.specs.LinkHistory.{history}
 use Rattle.af_model.specs.Run.{end_state}

@@ -1,10 +1,10 @@
 -- The one log of a script: a run of the server, with the wakes and the answers that the script states.
 use Rattle.std.specs.Prelude.{◌≡◌, List, [], ◌∷◌, IsSomeAnd}
-use Rattle.af_outside.specs.declared.happening.Happening.TheVariants.{Woke}
-use Rattle.af_outside.specs.declared.script.DeviceSpec.{DeviceSpec}
-use Rattle.af_outside.specs.declared.script.Step.{Step}
-use Rattle.af_outside.specs.Log.{Log}
-use Rattle.af_outside.specs.Outside.{Outside, outside_start, stepped, wake_of, answered_as_stated}
+use Rattle.af_world.specs.declared.happening.Happening.TheVariants.{Woke}
+use Rattle.af_world.specs.declared.script.DeviceSpec.{DeviceSpec}
+use Rattle.af_world.specs.declared.script.Step.{Step}
+use Rattle.af_world.specs.Log.{Log}
+use Rattle.af_world.specs.Outside.{Outside, outside_start, stepped, wake_of, answered_as_stated}
 use Rattle.af_model.specs.Run.{IsRun}
 
 -- From one outside to another, the log has the wake of each step in order, and between them the answers that the outside of

@@ -8,8 +8,8 @@ use Rattle.af_context.specs.declared.Context.{Context}
 use Rattle.af_request.specs.declared.reply.Controls.{Controls}
 use Rattle.af_request.specs.declared.reply.Phone.{Phone}
 use Rattle.af_phone.specs.Lines.{quiet_line}
-use Rattle.af_outside.specs.declared.happening.Why.{Why}
-use Rattle.af_outside.specs.declared.script.DeviceSpec.{DeviceSpec}
+use Rattle.af_world.specs.declared.happening.Why.{Why}
+use Rattle.af_world.specs.declared.script.DeviceSpec.{DeviceSpec}
 
 -- A request that waits: a play, whose sound has the gain that its context had, and which is replied to unless it is quiet; or
 -- a record, with its context as it was. Starts are whole times.

@@ -4,19 +4,19 @@
 use Rattle.std.specs.Prelude.{◌≡◌, ℕ, zero, suc, ◌+◌, Bool, true, false, not, List, [], ◌∷◌, ◌++◌, length, take, drop, if◌then◌else◌, ◌==◌, ◌&&◌, nat_le, nat_lt, ◌*◌, ℤ, slice_get, option_and_then}
 use Rattle.std.specs.declared.option.Option.{Option}
 use Rattle.std.specs.declared.option.Option.TheVariants.{None, Some}
-use Rattle.af_outside.specs.declared.happening.Happening.{Happening}
-use Rattle.af_outside.specs.declared.happening.Happening.TheVariants.{Woke, Read, Wrote, Closed, Captured, Emitted, Hooked}
-use Rattle.af_outside.specs.declared.happening.ReadGot.{ReadGot}
-use Rattle.af_outside.specs.declared.happening.ReadGot.TheVariants.{Given, NotYet, Ended, Failed}
-use Rattle.af_outside.specs.declared.happening.Wake.{Wake}
-use Rattle.af_outside.specs.declared.happening.Wake.TheVariants.{Opened, Readable, Writable, Ticked, Line, Idle, Stop}
-use Rattle.af_outside.specs.declared.happening.Why.{Why}
-use Rattle.af_outside.specs.declared.happening.Why.TheVariants as why
+use Rattle.af_world.specs.declared.happening.Happening.{Happening}
+use Rattle.af_world.specs.declared.happening.Happening.TheVariants.{Woke, Read, Wrote, Closed, Captured, Emitted, Hooked}
+use Rattle.af_world.specs.declared.happening.ReadGot.{ReadGot}
+use Rattle.af_world.specs.declared.happening.ReadGot.TheVariants.{Given, NotYet, Ended, Failed}
+use Rattle.af_world.specs.declared.happening.Wake.{Wake}
+use Rattle.af_world.specs.declared.happening.Wake.TheVariants.{Opened, Readable, Writable, Ticked, Line, Idle, Stop}
+use Rattle.af_world.specs.declared.happening.Why.{Why}
+use Rattle.af_world.specs.declared.happening.Why.TheVariants as why
 use Rattle.af_phone.specs.declared.line.LineChange.{LineChange}
 use Rattle.af_phone.specs.Lines.{hook_due, is_change}
 use Rattle.af_sample.specs.SampleTypes.{width_of}
-use Rattle.af_outside.specs.Log.{Log}
-use Rattle.af_outside.specs.Outside.{same_bytes}
+use Rattle.af_world.specs.Log.{Log}
+use Rattle.af_world.specs.Outside.{same_bytes}
 use Rattle.af_model.specs.State.{State, DeviceState, SlotState, LinkState, EnvironmentState, OpenLink, SlotLink, link_in_slot, slot_link_at, with_slot_link, Outline, open_link, opened, stopped, slot_at, with_slot, outline}
 use Rattle.af_model.specs.Waiting.{has_deferral}
 use Rattle.af_model.specs.Advance.{advance, absorb, takes_more}

@@ -5,11 +5,11 @@ mod refusal;
 
 ghost use Rattle.std.specs.Prelude.{◌≡◌, ◌≢◌, ℕ, List, []};
 ghost use Rattle.std.specs.declared.option.Option.TheVariants.{Some};
-ghost use Rattle.af_outside.specs.declared.happening.Why.{Why};
-ghost use Rattle.af_outside.specs.declared.happening.Why.TheVariants as why;
-ghost use Rattle.af_outside.specs.declared.script.DeviceSpec.{DeviceSpec};
-ghost use Rattle.af_outside.specs.declared.script.Step.{Step};
-ghost use Rattle.af_outside.specs.Log.{Log};
+ghost use Rattle.af_world.specs.declared.happening.Why.{Why};
+ghost use Rattle.af_world.specs.declared.happening.Why.TheVariants as why;
+ghost use Rattle.af_world.specs.declared.script.DeviceSpec.{DeviceSpec};
+ghost use Rattle.af_world.specs.declared.script.Step.{Step};
+ghost use Rattle.af_world.specs.Log.{Log};
 ghost use Rattle.af_model.specs.State.{OpenLink, State, slot_at};
 ghost use Rattle.af_model.specs.Advance.{advance_step};
 ghost use Rattle.af_model.specs.Turn.{Parsed, serve_at};

@@ -4,12 +4,12 @@ use Rattle.std.proofs.lemmas.List.{map-set}
 use Rattle.std.proofs.lemmas.Simd.{map-map}
 use Rattle.std.specs.Prelude.{if◌then◌else◌}
 use Rattle.std.specs.declared.option.Option.TheVariants.{None, Some}
-use Rattle.af_outside.specs.declared.script.DeviceSpec.{DeviceSpec}
-use Rattle.af_outside.specs.declared.script.Step.{Step}
+use Rattle.af_world.specs.declared.script.DeviceSpec.{DeviceSpec}
+use Rattle.af_world.specs.declared.script.Step.{Step}
 use Rattle.af_outside.specs.declared.scripted_device.KeptScriptedDevice.{KeptScriptedDevice}
-use Rattle.af_outside.specs.Outside.{Outside, ScriptedDevice, scripted_at, with_scripted, scripted_of, captured, capture_answered, emit_answered, hook_answered, same_bytes}
+use Rattle.af_world.specs.Outside.{Outside, ScriptedDevice, scripted_at, with_scripted, scripted_of, captured, capture_answered, emit_answered, hook_answered, same_bytes}
 use Rattle.af_outside.specs.Tape.{KeptClient, outside_of, kept_at, kept_scripted_of, devices_of}
-use Rattle.af_outside.proofs.EqualityTestLemmas.{same_bytes-refl}
+use Rattle.af_world.proofs.EqualityTestLemmas.{same_bytes-refl}
 
 -- nothing was stated of devices whatever the steps are
 pub devices_of-start : (steps : List Step) (config : List DeviceSpec) → devices_of steps (map (λ d. kept_scripted_of d.ty) config) ≡ map (λ d. scripted_of d.ty) config

@@ -6,9 +6,9 @@ use Rattle.std.proofs.lemmas.Option.{slice_get-get_or}
 use Rattle.std.specs.Prelude.{sum_by, option_map}
 use Rattle.std.specs.declared.option.Option.{Option}
 use Rattle.std.specs.declared.option.Option.TheVariants.{None, Some}
-use Rattle.af_outside.specs.declared.script.Step.{Step}
-use Rattle.af_outside.specs.declared.script.Step.TheVariants as step
-use Rattle.af_outside.specs.Outside.{Outside, ScriptedClient, ScriptedDevice, adjusted, client_answered, fresh_client, opened_at, client_at, stated_of, stepped, with_client}
+use Rattle.af_world.specs.declared.script.Step.{Step}
+use Rattle.af_world.specs.declared.script.Step.TheVariants as step
+use Rattle.af_world.specs.Outside.{Outside, ScriptedClient, ScriptedDevice, adjusted, client_answered, fresh_client, opened_at, client_at, stated_of, stepped, with_client}
 use Rattle.af_outside.specs.Tape.{KeptClient, clients_of, outside_of, HasRoomForSteps, sent_by, sent_in}
 
 -- the client of a link is that of its scripted link

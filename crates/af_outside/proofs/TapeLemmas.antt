@@ -9,16 +9,17 @@ use Rattle.std.specs.declared.option.Option.TheVariants.{None, Some}
 use Rattle.std.specs.declared.result.Result.{Result}
 use Rattle.std.specs.declared.result.Result.TheVariants.{Ok, Err}
 use Rattle.af_time.specs.declared.OutOfMemory.{OutOfMemory}
-use Rattle.af_outside.specs.declared.happening.Happening.{Happening}
-use Rattle.af_outside.specs.declared.happening.Wake.{Wake}
-use Rattle.af_outside.specs.declared.script.DeviceSpec.{DeviceSpec}
-use Rattle.af_outside.specs.declared.script.Step.{Step}
+use Rattle.af_world.specs.declared.happening.Happening.{Happening}
+use Rattle.af_world.specs.declared.happening.Wake.{Wake}
+use Rattle.af_world.specs.declared.script.DeviceSpec.{DeviceSpec}
+use Rattle.af_world.specs.declared.script.Step.{Step}
 use Rattle.af_outside.specs.declared.scripted_device.KeptScriptedDevice.{KeptScriptedDevice}
-use Rattle.af_outside.specs.declared.outer.OuterFaults.{OuterFaults}
+use Rattle.af_outside.specs.declared.outer_faults.OuterFaults.{OuterFaults}
 use Rattle.af_io.specs.Observed.{faults_after}
-use Rattle.af_outside.specs.Log.{Log}
-use Rattle.af_outside.specs.Outer.{OuterState, outer_start}
-use Rattle.af_outside.specs.Outside.{Outside, TapeState, TapeLeadsTo, TakesStep, Answered, answered_as_stated, made, scripted_of, stepped, then_outside, wake_of}
+use Rattle.af_world.specs.Log.{Log}
+use Rattle.af_outside.specs.OuterState.{OuterState, outer_start}
+use Rattle.af_world.specs.Outside.{Outside, answered_as_stated, scripted_of, stepped, then_outside, wake_of}
+use Rattle.af_outside.specs.TapeState.{TapeState, TapeLeadsTo, TakesStep, Answered, made}
 use Rattle.af_outside.specs.Tape.{KeptClient, HasRoomForSteps, Noted, kept_scripted_of, outside_of, clients_of, sent_by, devices_of}
 use Rattle.af_outside.proofs.ScriptedDeviceLemmas.{devices_of-start}
 

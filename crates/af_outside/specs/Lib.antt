@@ -1,7 +1,4 @@
-pub mod Log
-pub mod World
-pub mod Outside
+pub mod TapeState
 pub mod Tape
-pub mod Kinds
-pub mod Outer
+pub mod OuterState
 pub mod TapeLaws

@@ -7,19 +7,19 @@ use Rattle.std.specs.declared.result.Result.{Result}
 use Rattle.std.specs.declared.result.Result.TheVariants.{Ok, Err}
 use Rattle.af_time.specs.declared.OutOfMemory.{OutOfMemory}
 use Rattle.af_sample.specs.declared.sample_type.SampleType.{SampleType}
-use Rattle.af_outside.specs.declared.happening.Happening.{Happening}
-use Rattle.af_outside.specs.declared.world.LinkGot.{LinkGot}
-use Rattle.af_outside.specs.declared.world.LinkGot.TheVariants as got
-use Rattle.af_outside.specs.declared.world.LinkTook.{LinkTook}
-use Rattle.af_outside.specs.declared.world.LinkTook.TheVariants as took
-use Rattle.af_outside.specs.declared.script.Step.{Step}
-use Rattle.af_outside.specs.declared.script.Step.TheVariants as step
+use Rattle.af_world.specs.declared.happening.Happening.{Happening}
+use Rattle.af_world.specs.declared.world.LinkGot.{LinkGot}
+use Rattle.af_world.specs.declared.world.LinkGot.TheVariants as got
+use Rattle.af_world.specs.declared.world.LinkTook.{LinkTook}
+use Rattle.af_world.specs.declared.world.LinkTook.TheVariants as took
+use Rattle.af_world.specs.declared.script.Step.{Step}
+use Rattle.af_world.specs.declared.script.Step.TheVariants as step
 use Rattle.af_outside.specs.declared.scripted_device.DeviceCall.{DeviceCall}
 use Rattle.af_outside.specs.declared.scripted_device.DeviceCall.TheVariants as call
 use Rattle.af_outside.specs.declared.scripted_device.KeptScriptedDevice.{KeptScriptedDevice}
 use Rattle.af_io.specs.Observed.{Appended}
-use Rattle.af_outside.specs.Log.{Log}
-use Rattle.af_outside.specs.Outside.{ScriptedClient, ScriptedDevice, Outside}
+use Rattle.af_world.specs.Log.{Log}
+use Rattle.af_world.specs.Outside.{ScriptedClient, ScriptedDevice, Outside}
 
 -- a scripted link: its client, if the link is open, and how many bytes more there is memory for
 pub record KeptClient : Type 0 where

@@ -4,11 +4,12 @@ use Rattle.std.proofs.Math.Nat.{le_refl, le_trans}
 use Rattle.std.proofs.lemmas.List.{append-nil}
 use Rattle.std.specs.declared.option.Option.{Option}
 use Rattle.std.specs.declared.option.Option.TheVariants.{None, Some}
-use Rattle.af_outside.specs.declared.outer.Outer.{Outer}
+use Rattle.af_world.specs.declared.outer.Outer.{Outer}
 use Rattle.af_io.specs.Observed.{Unchanged}
-use Rattle.af_outside.specs.Log.{Log}
-use Rattle.af_outside.specs.Outer.{OuterState, told_beside}
-use Rattle.af_outside.specs.Outside.{Outside, TapeState, TapeLeadsTo, Answered, answered_as_stated, outer_told, replayed, then_outside}
+use Rattle.af_world.specs.Log.{Log}
+use Rattle.af_outside.specs.OuterState.{OuterState, told_beside}
+use Rattle.af_world.specs.Outside.{Outside, answered_as_stated, replayed, then_outside}
+use Rattle.af_outside.specs.TapeState.{TapeState, TapeLeadsTo, Answered, outer_told}
 
 -- a log of two parts is replayed part by part
 pub replayed-append : (o : Outside) (front back : Log) → replayed o (front ++ back) ≡ then_outside (replayed o front) (λ o. replayed o back)

@@ -1,27 +1,22 @@
-//! The outside of the server: the world that it lives in, what happens there, and a world in memory that plays a script.
+//! Tapes: a world in memory that plays the steps of a script. What a server lives in is named here again.
 #![tactic(auto)]
 
-mod happening;
-pub mod laws;
+mod happenings;
 mod links;
-mod live;
 mod logbook;
-mod outer;
 mod outer_book;
-mod script;
+mod outer_faults;
 mod scripted_device;
 mod scripted_link;
 mod tape;
-mod world;
 
 pub use af_io::{
     Args, Bytes, Dial, Dialed, Got, Link, MemDial, MemLink, MemSink, MemSource, Put, Sink, Source,
     StdSink, StdSource, TcpDial, TcpLink, TextFault, WordsFault, program_words, read_text,
 };
-pub use happening::{Happening, ReadGot, Wake, Why};
-pub use live::{Kind, Live, Ready, Waited};
-pub use outer::{Backing, Outer, OuterFaults};
-pub use script::{Config, DeviceSpec, Step};
-pub use scripted_device::silent_byte;
+pub use af_world::{
+    Backing, Config, DeviceSpec, Happening, Kind, LinkGot, LinkTook, Live, Outer, ReadGot, Ready,
+    Step, Waited, Wake, Why, World, laws, silent_byte,
+};
+pub use outer_faults::OuterFaults;
 pub use tape::Tape;
-pub use world::{LinkGot, LinkTook, World};

@@ -1,10 +1,10 @@
 // The links of a tape: what steps do to them, and what they answer.
 ghost use Rattle.std.specs.Prelude.{◌≡◌, ◌∷◌, [], List, length, replicate, sum_by, is_some, IfOk};
 ghost use Rattle.std.specs.declared.option.Option.TheVariants.{None, Some};
-ghost use Rattle.af_outside.specs.declared.happening.Happening.TheVariants.{Read, Wrote, Closed};
-ghost use Rattle.af_outside.specs.declared.script.Step.{Step};
-ghost use Rattle.af_outside.specs.World.{got_of, took_of, LinkGotFits, TookFits};
-ghost use Rattle.af_outside.specs.Outside.{adjusted, answered_as_stated, client_at, stated_of, stepped, wake_of, wake_where_open, ScriptedDevice};
+ghost use Rattle.af_world.specs.declared.happening.Happening.TheVariants.{Read, Wrote, Closed};
+ghost use Rattle.af_world.specs.declared.script.Step.{Step};
+ghost use Rattle.af_world.specs.World.{got_of, took_of, LinkGotFits, TookFits};
+ghost use Rattle.af_world.specs.Outside.{adjusted, answered_as_stated, client_at, stated_of, stepped, wake_of, wake_where_open, ScriptedDevice};
 ghost use Rattle.af_outside.specs.Tape.{HasRoomForSteps, clients_of, outside_of, sent_by, sent_in};
 
 use crate::scripted_link::ScriptedLink;

@@ -17,7 +17,7 @@ pub(crate) struct Logbook {
 
 impl Model for Logbook {
     ghost use Rattle.std.specs.declared.option.Option.{Option};
-    ghost use Rattle.af_outside.specs.Log.{Log};
+    ghost use Rattle.af_world.specs.Log.{Log};
     ghost use Rattle.af_outside.specs.Tape.{log_where};
 
     ghost Value = { Option Log };

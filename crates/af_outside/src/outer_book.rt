@@ -1,14 +1,13 @@
 // What a tape keeps of the listens, attaches and waits that were made, and which of them it lets fail.
 ghost use Rattle.std.specs.Prelude.{◌≡◌, ◌≤◌, ◌∷◌, ◌++◌, [], IfOk};
 ghost use Rattle.std.specs.declared.option.Option.TheVariants.{None, Some};
-ghost use Rattle.af_outside.specs.declared.outer.Outer.TheVariants.{Listened, Attached, Waited};
-ghost use Rattle.af_outside.specs.Kinds.{backing_of};
+ghost use Rattle.af_world.specs.declared.outer.Outer.TheVariants.{Listened, Attached, Waited};
+ghost use Rattle.af_world.specs.Kinds.{backing_of};
 ghost use Rattle.af_io.specs.Observed.{counted, faults_after};
-ghost use Rattle.af_outside.specs.Outer.{EntryNoted, is_stated, outer_start};
+ghost use Rattle.af_outside.specs.OuterState.{EntryNoted, is_stated, outer_start};
 
 use crate::logbook::Logbook;
-use crate::outer::{Backing, Outer, OuterFaults};
-use crate::{Bytes, DeviceSpec, Kind, Wake};
+use crate::{Backing, Bytes, DeviceSpec, Kind, Outer, OuterFaults, Wake};
 use af_io::faults_after;
 use af_time::OutOfMemory;
 use std::alloc::Global;
@@ -25,7 +24,7 @@ pub(crate) struct OuterBook {
 }
 
 impl Model for OuterBook {
-    ghost use Rattle.af_outside.specs.Outer.{OuterState};
+    ghost use Rattle.af_outside.specs.OuterState.{OuterState};
 
     ghost Value = { OuterState };
 

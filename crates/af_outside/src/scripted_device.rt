@@ -1,12 +1,12 @@
 // A scripted device of a tape: what it captures, and which of its calls are to fail.
 ghost use Rattle.std.specs.Prelude.{◌≡◌, List, length, map, option_map, slice_get, slice_set, IfOk};
 ghost use Rattle.std.specs.declared.option.Option.TheVariants.{Some};
-ghost use Rattle.af_outside.specs.declared.script.Step.{Step};
-ghost use Rattle.af_outside.specs.World.{captured_of, is_done};
-ghost use Rattle.af_outside.specs.Outside.{capture_answered, captured, emit_answered, hook_answered, silent_byte, some_scripted, scripted_at, with_scripted};
+ghost use Rattle.af_world.specs.declared.script.Step.{Step};
+ghost use Rattle.af_world.specs.World.{captured_of, is_done};
+ghost use Rattle.af_world.specs.Outside.{capture_answered, captured, emit_answered, hook_answered, silent_byte, some_scripted, scripted_at, with_scripted};
 ghost use Rattle.af_outside.specs.Tape.{KeptClient, failing, outside_of, kept_at, kept_scripted_of, devices_of, stated_at, capture_stated_by};
 
-use crate::{Config, Put, Step};
+use crate::{Config, Put, Step, silent_byte};
 use af_sample::SampleType;
 use af_time::OutOfMemory;
 use std::alloc::Global;
@@ -187,16 +187,5 @@ fn stated(steps: &[Step], number: Option<usize>) -> Option<&[u8]>
     match steps.get(number?)? {
         Step::Tick(_, _, Some(bytes)) => Some(bytes.as_slice()),
         _ => None,
-    }
-}
-
-/// The byte that silence has in each sample type.
-pub fn silent_byte(ty: SampleType) -> u8
-    ensures { result ≡ silent_byte ty }
-{
-    match ty {
-        SampleType::Mu255 => 0xFF,
-        SampleType::Alaw => 0xD5,
-        SampleType::Lin16 | SampleType::Lin32 => 0,
     }
 }

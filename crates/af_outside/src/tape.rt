@@ -1,22 +1,25 @@
 // A world in memory: it plays the steps of a script, answers as the script states, and keeps a log.
 ghost use Rattle.std.specs.Prelude.{◌≡◌, ◌≢◌, ◌↔◌, ◌≤◌, ◌<◌, ◌∷◌, [], List, IsTrue, false, if◌then◌else◌, length, not, slice_get, is_some, IfOk, IfSome};
 ghost use Rattle.std.specs.declared.option.Option.TheVariants.{Some};
-ghost use Rattle.af_outside.specs.declared.happening.Happening.TheVariants.{Read, Wrote, Captured, Emitted, Hooked, Woke, Closed};
-ghost use Rattle.af_outside.specs.declared.script.Step.{Step};
+ghost use Rattle.af_world.specs.declared.happening.Happening.TheVariants.{Read, Wrote, Captured, Emitted, Hooked, Woke, Closed};
+ghost use Rattle.af_world.specs.declared.script.Step.{Step};
 ghost use Rattle.af_io.specs.Observed.{counted, faults_after, Appended, FaultCounted, Unchanged};
-ghost use Rattle.af_outside.specs.World.{got_of, took_of, captured_of, is_done, LinkGotFits, TookFits};
-ghost use Rattle.af_outside.specs.Outside.{answered_as_stated, stepped, wake_of, made, ScriptedDevice, TakesStep, TapeLeadsTo, left_after, outer_told, NoCountFalls, wait_answer, wait_fails, waited_outside};
-ghost use Rattle.af_outside.specs.Kinds.{backing_of};
-ghost use Rattle.af_outside.specs.Outer.{attached, is_stated, listened, was_refused, waited};
+ghost use Rattle.af_world.specs.World.{got_of, took_of, captured_of, is_done, LinkGotFits, TookFits};
+ghost use Rattle.af_world.specs.Outside.{answered_as_stated, stepped, wake_of, ScriptedDevice};
+ghost use Rattle.af_world.specs.Kinds.{backing_of};
+ghost use Rattle.af_world.specs.Outer.{attached, listened, waited};
+ghost use Rattle.af_outside.specs.TapeState.{made, TakesStep, TapeLeadsTo, left_after, outer_told, NoCountFalls, wait_answer, wait_fails, waited_outside};
+ghost use Rattle.af_outside.specs.OuterState.{is_stated, was_refused};
 ghost use Rattle.af_outside.specs.Tape.{HasRoomForSteps, outside_of, devices_of, read_failed, write_failed};
 
+use crate::happenings::{capture_of, emit_of, hook_of, read_of, write_of};
 use crate::logbook::Logbook;
 use crate::outer_book::{OuterBook, attach_of, listen_of, wait_of};
 use crate::scripted_device::{self, DeviceCall, KeptScriptedDevice, new_devices};
 use crate::scripted_link::ScriptedLink;
 use crate::{
     Bytes, Config, DeviceSpec, Happening, Kind, LinkGot, LinkTook, Live, Outer, OuterFaults, Put,
-    ReadGot, Ready, Step, Waited, Wake, Why, World, links,
+    Ready, Step, Waited, Wake, Why, World, links,
 };
 use af_io::faults_after;
 use af_time::OutOfMemory;
@@ -42,10 +45,11 @@ pub struct Tape {
 
 impl Model for Tape {
     ghost use Rattle.std.specs.Prelude.{◌≡◌, ◌≤◌, length, drop};
-    ghost use Rattle.af_outside.specs.Outside.{TapeState};
-    ghost use Rattle.af_outside.specs.Kinds.{backing_of};
+    ghost use Rattle.af_outside.specs.TapeState.{TapeState};
+    ghost use Rattle.af_world.specs.Kinds.{backing_of};
     ghost use Rattle.af_io.specs.Observed.{counted};
-    ghost use Rattle.af_outside.specs.Outer.{attached, is_stated, listened, was_refused, waited};
+    ghost use Rattle.af_world.specs.Outer.{attached, listened, waited};
+    ghost use Rattle.af_outside.specs.OuterState.{is_stated, was_refused};
     ghost use Rattle.af_outside.specs.Tape.{HasRoomForSteps, outside_of, devices_of};
 
     ghost Value = { TapeState };
@@ -198,80 +202,6 @@ fn take_step(
             Wake::Idle
         }
         Step::Idle => Wake::Idle,
-    }
-}
-
-// What a read of a link did, of the slice that was read into.
-fn read_of(alloc: Global, link: u8, got: LinkGot, into: &[u8]) -> Result<Happening, OutOfMemory>
-    requires { LinkGotFits got (length into.now) }
-    ensures { IfOk result (λ happening. happening ≡ Read link (got_of got into.now)) }
-{
-    let got = match got {
-        LinkGot::Bytes(count) => ReadGot::Given(Bytes::copied(alloc, &into[..count])?),
-        LinkGot::NotYet => ReadGot::NotYet,
-        LinkGot::Ended => ReadGot::Ended,
-        LinkGot::Failed => ReadGot::Failed,
-    };
-    Ok(Happening::Read { link, got })
-}
-
-// What a write to a link did, of the piece that was offered.
-fn write_of(alloc: Global, link: u8, took: LinkTook, piece: &[u8]) -> Result<Happening, OutOfMemory>
-    requires bound { length piece.now ≤ 65536 }
-    requires fits { TookFits took (length piece.now) }
-    ensures { IfOk result (λ happening. happening ≡ Wrote link (length piece.now) (took_of took piece.now)) }
-{
-    let taken = match took {
-        LinkTook::Took(count) => Some(Bytes::copied(alloc, &piece[..count])?),
-        LinkTook::Failed => None,
-    };
-    Ok(Happening::Wrote {
-        link,
-        offered: piece.len() as u32,
-        took: taken,
-    })
-}
-
-// What a capture did, of the slice that was captured into.
-fn capture_of(
-    alloc: Global,
-    device: u8,
-    frames: u32,
-    put: Put,
-    into: &[u8],
-) -> Result<Happening, OutOfMemory>
-    ensures { IfOk result (λ happening. happening ≡ Captured device frames (captured_of put into.now)) }
-{
-    let got = match put {
-        Put::Done => Some(Bytes::copied(alloc, into)?),
-        Put::Failed => None,
-    };
-    Ok(Happening::Captured {
-        device,
-        frames,
-        got,
-    })
-}
-
-// What an emit of a sound did.
-fn emit_of(alloc: Global, device: u8, sound: &[u8], put: Put) -> Result<Happening, OutOfMemory>
-    ensures { IfOk result (λ happening. happening ≡ Emitted device sound.now (is_done put)) }
-{
-    Ok(Happening::Emitted {
-        device,
-        sound: Bytes::copied(alloc, sound)?,
-        done: put == Put::Done,
-    })
-}
-
-// What a hook call did.
-fn hook_of(device: u8, off: bool, put: Put) -> Happening
-    ensures { result ≡ Hooked device off (is_done put) }
-{
-    Happening::Hooked {
-        device,
-        off,
-        done: put == Put::Done,
     }
 }
 

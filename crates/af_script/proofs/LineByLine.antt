@@ -4,8 +4,8 @@ use Rattle.std.specs.Prelude.{Option, Some, None, option_map, Result, Ok, Err, n
 use Rattle.std.proofs.lemmas.Bool.Decides.{nat_tests}
 use Rattle.af_text.specs.Reading.{go_on, read_on}
 use Rattle.af_text.proofs.LineByLine.{entries_over, entries_read}
-use Rattle.af_outside.specs.declared.script.DeviceSpec.{DeviceSpec}
-use Rattle.af_outside.specs.declared.script.Step.{Step}
+use Rattle.af_world.specs.declared.script.DeviceSpec.{DeviceSpec}
+use Rattle.af_world.specs.declared.script.Step.{Step}
 use Rattle.af_script.specs.Lines.{words, is_nil, lines}
 use Rattle.af_script.specs.Statement.{is_device_line, device_of, step_of}
 use Rattle.af_script.specs.Script.{StatedScript, ScriptLine, is_passed_over, entries, most_devices, device_lines, with_first, each_says, first_number, with_steps, with_config, stated_by, script_of}

@@ -9,8 +9,8 @@ use Rattle.hex.specs.Hex.{encode_with, encode_lower, lower_digits}
 use Rattle.af_io.proofs.AppendedLemmas.{appended_none, appended_on}
 use Rattle.af_script.specs.Printing.{Printer, Added, CutOff, Prints}
 use Rattle.af_script.specs.Transcript.{transcript, line_for}
-use Rattle.af_outside.specs.Log.{Log}
-use Rattle.af_outside.specs.declared.happening.Happening.{Happening}
+use Rattle.af_world.specs.Log.{Log}
+use Rattle.af_world.specs.declared.happening.Happening.{Happening}
 use Rattle.af_script.specs.declared.print.Broken.{Broken}
 
 -- a number has a digit

@@ -9,10 +9,10 @@ use Rattle.af_sample.specs.Rates.{is_listed_rate, IsListedRate}
 use Rattle.af_phone.specs.Lines.{is_digit}
 use Rattle.af_phone.specs.declared.line.LineChange.{LineChange}
 use Rattle.af_phone.specs.declared.line.LineChange.TheVariants as change
-use Rattle.af_outside.specs.declared.script.DeviceSpec.{DeviceSpec}
-use Rattle.af_outside.specs.declared.script.Step.{Step}
-use Rattle.af_outside.specs.declared.script.Step.TheVariants as step
-use Rattle.af_outside.specs.Outside.{IsStep, IsCapture, IsRoom, spec_has_line, width_at}
+use Rattle.af_world.specs.declared.script.DeviceSpec.{DeviceSpec}
+use Rattle.af_world.specs.declared.script.Step.{Step}
+use Rattle.af_world.specs.declared.script.Step.TheVariants as step
+use Rattle.af_world.specs.Outside.{IsStep, IsCapture, IsRoom, spec_has_line, width_at}
 use Rattle.std.specs.Result.{result_ok}
 use Rattle.hex.specs.Hex.{decode_of}
 use Rattle.af_script.specs.declared.statement.LineKind.{LineKind}

@@ -2,13 +2,14 @@
 use Rattle.std.proofs.Common.{◌≡◌, suc, ◌<◌, Bool, true, false, List, [], ◌∷◌, ◌++◌, length, map, is_some, IfSome, All, refl, sym, ap, ◌∙◌, subst, append_assoc, append-nil, arith}
 use Rattle.std.specs.declared.option.Option.{Option}
 use Rattle.std.specs.declared.option.Option.TheVariants.{None, Some}
-use Rattle.af_outside.specs.declared.happening.Happening.TheVariants.{Woke}
-use Rattle.af_outside.specs.declared.happening.Wake.{Wake}
-use Rattle.af_outside.specs.declared.script.DeviceSpec.{DeviceSpec}
-use Rattle.af_outside.specs.declared.script.Step.{Step}
+use Rattle.af_world.specs.declared.happening.Happening.TheVariants.{Woke}
+use Rattle.af_world.specs.declared.happening.Wake.{Wake}
+use Rattle.af_world.specs.declared.script.DeviceSpec.{DeviceSpec}
+use Rattle.af_world.specs.declared.script.Step.{Step}
 use Rattle.af_io.specs.Observed.{Appended}
-use Rattle.af_outside.specs.Log.{Log}
-use Rattle.af_outside.specs.Outside.{Outside, ScriptedClient, outside_start, TapeState, fresh, TakesStep, TapeLeadsTo, Answered, IsStep, stepped, wake_of, replayed}
+use Rattle.af_world.specs.Log.{Log}
+use Rattle.af_world.specs.Outside.{Outside, ScriptedClient, outside_start, IsStep, stepped, wake_of, replayed}
+use Rattle.af_outside.specs.TapeState.{TapeState, fresh, TakesStep, TapeLeadsTo, Answered}
 use Rattle.af_model.specs.State.{State, LinkState, opening, opening_device, opening_line, lines_of, links_of, outline, outline_with}
 use Rattle.af_model.specs.Turn.{parsed, turn, fits}
 use Rattle.af_model.specs.Run.{wakes}

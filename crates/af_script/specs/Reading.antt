@@ -1,7 +1,7 @@
 -- A script that is read line by line.
 use Rattle.std.specs.Prelude.{ℕ, nat_lt, Bool, ◌&&◌, List, [], ◌∷◌, ◌++◌, length, Option, Some, None, option_map, if◌then◌else◌}
-use Rattle.af_outside.specs.declared.script.DeviceSpec.{DeviceSpec}
-use Rattle.af_outside.specs.declared.script.Step.{Step}
+use Rattle.af_world.specs.declared.script.DeviceSpec.{DeviceSpec}
+use Rattle.af_world.specs.declared.script.Step.{Step}
 use Rattle.af_script.specs.Lines.{words, is_nil}
 use Rattle.af_script.specs.Statement.{is_device_line, device_of, step_of}
 use Rattle.af_script.specs.Script.{StatedScript, is_passed_over, most_devices}

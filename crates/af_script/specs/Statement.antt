@@ -4,10 +4,10 @@ use Rattle.af_sample.specs.declared.sample_type.SampleType.{SampleType}
 use Rattle.af_phone.specs.Lines.{is_digit}
 use Rattle.af_phone.specs.declared.line.LineChange.{LineChange}
 use Rattle.af_phone.specs.declared.line.LineChange.TheVariants as change
-use Rattle.af_outside.specs.declared.script.DeviceSpec.{DeviceSpec}
-use Rattle.af_outside.specs.declared.script.Step.{Step}
-use Rattle.af_outside.specs.declared.script.Step.TheVariants as step
-use Rattle.af_outside.specs.Outside.{spec_has_line, width_at}
+use Rattle.af_world.specs.declared.script.DeviceSpec.{DeviceSpec}
+use Rattle.af_world.specs.declared.script.Step.{Step}
+use Rattle.af_world.specs.declared.script.Step.TheVariants as step
+use Rattle.af_world.specs.Outside.{spec_has_line, width_at}
 use Rattle.af_script.specs.declared.statement.LineKind.{LineKind}
 use Rattle.af_script.specs.declared.statement.LineKind.TheVariants as kind
 pub use Rattle.af_text.specs.Sound.{type_of, rate_of}

@@ -1,8 +1,8 @@
 -- The summary of a log: five lines, each with a number.
 use Rattle.std.specs.Prelude.{ℕ, ◌%◌, ◌^◌, Bool, true, false, List, [], ◌++◌, length, sum, codes, decimal, flat_map, count_by, Option, Some, None, if◌then◌else◌}
-use Rattle.af_outside.specs.declared.happening.Happening.{Happening}
-use Rattle.af_outside.specs.declared.happening.Happening.TheVariants as happening
-use Rattle.af_outside.specs.Log.{Log}
+use Rattle.af_world.specs.declared.happening.Happening.{Happening}
+use Rattle.af_world.specs.declared.happening.Happening.TheVariants as happening
+use Rattle.af_world.specs.Log.{Log}
 use Rattle.af_script.specs.declared.summary.Tally.{Tally}
 
 -- the bytes that a device took where an emit was done

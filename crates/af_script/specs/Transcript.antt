@@ -1,13 +1,13 @@
 -- The transcript of a log: a line for each happening that is seen outside.
 use Rattle.std.specs.Prelude.{ℕ, Bool, true, false, List, [], ◌∷◌, ◌++◌, codes, decimal, flat_map, Option, Some, None, if◌then◌else◌}
 use Rattle.hex.specs.Hex.{encode_lower}
-use Rattle.af_outside.specs.declared.happening.Happening.{Happening}
-use Rattle.af_outside.specs.declared.happening.Happening.TheVariants.{Woke, Read, Wrote, Closed, Captured, Emitted, Hooked}
-use Rattle.af_outside.specs.declared.happening.ReadGot.{ReadGot}
-use Rattle.af_outside.specs.declared.happening.ReadGot.TheVariants as got
-use Rattle.af_outside.specs.declared.happening.Why.{Why}
-use Rattle.af_outside.specs.declared.happening.Why.TheVariants as why
-use Rattle.af_outside.specs.Log.{Log}
+use Rattle.af_world.specs.declared.happening.Happening.{Happening}
+use Rattle.af_world.specs.declared.happening.Happening.TheVariants.{Woke, Read, Wrote, Closed, Captured, Emitted, Hooked}
+use Rattle.af_world.specs.declared.happening.ReadGot.{ReadGot}
+use Rattle.af_world.specs.declared.happening.ReadGot.TheVariants as got
+use Rattle.af_world.specs.declared.happening.Why.{Why}
+use Rattle.af_world.specs.declared.happening.Why.TheVariants as why
+use Rattle.af_world.specs.Log.{Log}
 
 -- the word for why a link was closed
 abbrev pub cause_word : Why → List ℕ

@@ -7,7 +7,7 @@ ghost use Rattle.af_script.specs.Transcript.{transcript, line_for, line_of, head
 ghost use Rattle.af_script.specs.Printing.{Puts};
 
 use af_io::{Put, Sink};
-use af_outside::{Happening, ReadGot, Why};
+use af_world::{Happening, ReadGot, Why};
 use itoa::Buffer;
 
 /// How many bytes are written in hexadecimal at once.

@@ -1,7 +1,7 @@
 // A text is read as a script, line by line.
 ghost use Rattle.std.specs.Prelude.{◌≡◌, ◌≤◌, ◌&&◌, ◌⊎◌, ℕ, [], Some, length, All, IfOk, IfErr, option_map, ◌++◌, ◌∷◌, ◌<◌};
 ghost use Rattle.af_sample.specs.Rates.{IsListedRate};
-ghost use Rattle.af_outside.specs.Outside.{IsStep};
+ghost use Rattle.af_world.specs.Outside.{IsStep};
 ghost use Rattle.af_script.specs.Lines.{words};
 ghost use Rattle.af_script.specs.Script.{script_of, IsScriptFault};
 ghost use Rattle.af_script.specs.Words.{then_some};
@@ -10,9 +10,9 @@ ghost use Rattle.af_script.specs.Reading.{with_line, can_take_device};
 
 use crate::statement::{LineKind, device_stated, kind_named, step_stated};
 use crate::{ScriptFault, Steps};
-use af_outside::{Config, DeviceSpec, Step};
 use af_text::{ByLine, LineFault, next_word, passes_over, read_lines};
 use af_time::OutOfMemory;
+use af_world::{Config, DeviceSpec, Step};
 use arrayvec::ArrayVec;
 use std::alloc::Global;
 use std::marker::Model;

@@ -1,12 +1,14 @@
 // A tape is run to its end: one turn for each step.
 ghost use Rattle.std.specs.Prelude.{◌≡◌, All, OnOk};
 ghost use Rattle.af_sample.specs.Rates.{IsListedRate};
-ghost use Rattle.af_outside.specs.Outside.{fresh, IsStep};
+ghost use Rattle.af_world.specs.Outside.{IsStep};
+ghost use Rattle.af_outside.specs.TapeState.{fresh};
 ghost use Rattle.af_script.specs.Run.{HasOneLog};
 
 use af_core::Core;
-use af_outside::{Config, Tape};
+use af_outside::Tape;
 use af_time::OutOfMemory;
+use af_world::Config;
 use std::alloc::Global;
 
 /// Makes a core and takes one turn for each step of a tape, which was made with this configuration, of listed

@@ -1,17 +1,17 @@
 // What a line states: a device, or a step.
 ghost use Rattle.std.specs.Prelude.{◌≡◌, ◌≤◌, IfOk, length};
-ghost use Rattle.af_outside.specs.Outside.{spec_has_line, width_at};
+ghost use Rattle.af_world.specs.Outside.{spec_has_line, width_at};
 ghost use Rattle.af_script.specs.Lines.{words};
 ghost use Rattle.af_script.specs.Words.{bytes_within};
 ghost use Rattle.af_script.specs.Statement.{line_kind_of, line_stated, device_with, device_number, line_number, link_of, switch_of, digit_of, open_of, send_of, end_of, room_stated, room_of, capture_of, tick_of, ring_of, loop_of, dial_of, fail_read_of, fail_write_of, fail_capture_of, fail_emit_of, fail_hook_of, idle_of, step_of_kind};
 
 use af_io::Bytes;
-use af_outside::{DeviceSpec, Step};
 use af_phone::{LineChange, is_digit};
 use af_text::{
     is_word, listed_rate, next_word, number, number_between, one_word, sample_type, two_words,
 };
 use af_time::OutOfMemory;
+use af_world::{DeviceSpec, Step};
 use hex::FromHexError;
 use std::alloc::Global;
 

@@ -1,7 +1,7 @@
 // The steps of a script, which contracts see as a list.
 ghost use Rattle.std.specs.Prelude.{◌≡◌};
 
-use af_outside::Step;
+use af_world::Step;
 use std::marker::Model;
 
 /// The steps of a script.
@@ -12,7 +12,7 @@ pub struct Steps {
 
 impl Model for Steps {
     ghost use Rattle.std.specs.Prelude.{List};
-    ghost use Rattle.af_outside.specs.declared.script.Step.{Step};
+    ghost use Rattle.af_world.specs.declared.script.Step.{Step};
 
     ghost Value = { List Step };
 

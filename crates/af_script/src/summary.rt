@@ -7,7 +7,7 @@ ghost use Rattle.af_script.specs.Summary.{summary, tally_of, tally_lines, count_
 
 use crate::print::{Broken, print_number, put};
 use af_io::{Put, Sink};
-use af_outside::Happening;
+use af_world::Happening;
 
 /// What is counted of a log.
 #[derive(Clone, Copy, Debug)]

@@ -12,7 +12,7 @@ use Rattle.af_sample.specs.Gains.{gained}
 use Rattle.af_sample.specs.Heard.{heard}
 use Rattle.af_sample.specs.Window.{window}
 use Rattle.af_context.specs.declared.Context.{Context}
-use Rattle.af_outside.specs.declared.script.DeviceSpec.{DeviceSpec}
+use Rattle.af_world.specs.declared.script.DeviceSpec.{DeviceSpec}
 use Rattle.af_sample.specs.Rates.{IsListedRate}
 use Rattle.af_buffers.specs.PlayBuffer.{Next, accepted_at, accepted_by, frames_beyond as play_beyond, frames_within, HandsOut, Hears, Plays}
 use Rattle.af_buffers.specs.RecordBuffer.{Last, Captures, Keeps, frames_before, frames_until_past as record_beyond, samples_from}

@@ -15,11 +15,11 @@ ghost use Rattle.af_state.specs.Kept.{StandsForDevice, kept_info};
 use crate::level::level;
 use af_buffers::{PlayBuffer, RecordBuffer};
 use af_context::Context;
-use af_outside::DeviceSpec;
 use af_phone::Line;
 use af_request::{Controls, DeviceInfo};
 use af_sample::{Gain, SampleType, convert_out, gain_run};
 use af_time::{DevTime, OutOfMemory};
+use af_world::DeviceSpec;
 use std::alloc::Global;
 use std::marker::Model;
 

@@ -23,13 +23,13 @@ ghost use Rattle.af_state.specs.Kept.{IsBounded};
 
 use af_context::{Context, ContextFault, Contexts};
 use af_model::Refusal;
-use af_outside::Why;
 use af_phone::event_for;
 use af_request::{Reply, write_reply};
 use af_sample::Gain;
 use af_session::Session;
 use af_time::OutOfMemory;
 use af_wire::{Event, EventKind, write_error, write_event};
+use af_world::Why;
 use std::alloc::Global;
 use std::marker::Model;
 

@@ -1,8 +1,8 @@
 -- How many steps an exercise has.
 use Rattle.std.proofs.Common.{◌≡◌, ℕ, zero, suc, ◌+◌, List, length, refl, sym, ap, ◌∙◌, length-append}
 use Rattle.rand_pcg.specs.Lcg.{Lcg}
-use Rattle.af_outside.specs.declared.script.DeviceSpec.{DeviceSpec}
-use Rattle.af_outside.specs.declared.script.Step.{Step}
+use Rattle.af_world.specs.declared.script.DeviceSpec.{DeviceSpec}
+use Rattle.af_world.specs.declared.script.Step.{Step}
 use Rattle.af_script.specs.Script.{StatedScript}
 use Rattle.af_exercise.specs.Exercise.{first_steps, steps_drawn, seeded, start_time, generated}
 

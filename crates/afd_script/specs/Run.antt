@@ -2,7 +2,7 @@
 use Rattle.std.specs.Prelude.{ℕ, List}
 use Rattle.std.specs.declared.option.Option.{Option}
 use Rattle.std.specs.declared.option.Option.TheVariants.{None, Some}
-use Rattle.af_outside.specs.Log.{Log}
+use Rattle.af_world.specs.Log.{Log}
 use Rattle.afd_script.specs.Ends.{IsLogOf}
 
 -- the log is observed, and is the one of the script that the text is

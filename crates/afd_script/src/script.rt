@@ -5,7 +5,7 @@ ghost use Rattle.std.specs.declared.option.Option.TheVariants.{None, Some};
 ghost use Rattle.af_io.specs.Observed.{CountsFault, NoFault};
 ghost use Rattle.af_io.specs.declared.flow.Put.TheVariants as put;
 ghost use Rattle.af_sample.specs.Rates.{IsListedRate};
-ghost use Rattle.af_outside.specs.Outside.{IsStep};
+ghost use Rattle.af_world.specs.Outside.{IsStep};
 ghost use Rattle.af_script.specs.Run.{HasOneLog};
 ghost use Rattle.af_script.specs.Script.{IsScriptFault};
 ghost use Rattle.afd_script.specs.declared.job.ScriptJob.TheVariants as job;

@@ -3,9 +3,9 @@ use Rattle.std.proofs.Common.{◌≡◌, ℕ, ◌+◌, ◌≤◌, List, ◌++◌
 use Rattle.std.specs.declared.option.Option.{Option}
 use Rattle.std.specs.declared.option.Option.TheVariants.{None, Some}
 use Rattle.std.specs.declared.result.Result.{Result}
-use Rattle.af_outside.specs.declared.outer.Outer.{Outer}
+use Rattle.af_world.specs.declared.outer.Outer.{Outer}
 use Rattle.af_io.specs.Observed.{Appended, Unchanged}
-use Rattle.af_outside.specs.Log.{Log}
+use Rattle.af_world.specs.Log.{Log}
 use Rattle.af_io.specs.Flow.{ConsumedTooMuch, ConsumedWhole}
 use Rattle.af_text.specs.Reading.{IsGoodText}
 use Rattle.af_live.specs.Stating.{Settings}

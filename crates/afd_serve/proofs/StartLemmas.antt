@@ -4,10 +4,10 @@ use Rattle.std.proofs.lemmas.List.{take_all}
 use Rattle.std.proofs.lemmas.Option.{slice_get-get_or}
 use Rattle.std.specs.declared.option.Option.{Option}
 use Rattle.std.specs.declared.option.Option.TheVariants.{Some}
-use Rattle.af_outside.specs.declared.outer.Outer.{Outer}
-use Rattle.af_outside.specs.declared.outer.Outer.TheVariants as noted
-use Rattle.af_outside.specs.declared.script.DeviceSpec.{DeviceSpec}
-use Rattle.af_outside.specs.declared.outer.Backing.{Backing}
+use Rattle.af_world.specs.declared.outer.Outer.{Outer}
+use Rattle.af_world.specs.declared.outer.Outer.TheVariants as noted
+use Rattle.af_world.specs.declared.script.DeviceSpec.{DeviceSpec}
+use Rattle.af_world.specs.declared.outer.Backing.{Backing}
 use Rattle.af_io.specs.Observed.{Appended}
 use Rattle.af_io.proofs.AppendedLemmas.{appended_on}
 use Rattle.af_live.specs.Stating.{Settings}

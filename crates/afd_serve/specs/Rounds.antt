@@ -1,9 +1,9 @@
 -- How far a server that waits and takes turns came.
 use Rattle.std.specs.Prelude.{◌≡◌, ℕ, List, [], length, true}
 use Rattle.std.specs.declared.option.Option.{Option}
-use Rattle.af_outside.specs.declared.outer.Outer.{Outer}
-use Rattle.af_outside.specs.declared.script.DeviceSpec.{DeviceSpec}
-use Rattle.af_outside.specs.Log.{Log}
+use Rattle.af_world.specs.declared.outer.Outer.{Outer}
+use Rattle.af_world.specs.declared.script.DeviceSpec.{DeviceSpec}
+use Rattle.af_world.specs.Log.{Log}
 use Rattle.afd_serve.specs.declared.live.LiveEnd.{LiveEnd}
 use Rattle.afd_serve.specs.Serving.{WaitMade, Served}
 use Rattle.afd_serve.specs.Ends.{IsCount, comes_to_wait, last_entry}

@@ -1,15 +1,15 @@
 -- A server that waits and takes turns: what it asks of its waits, what it takes of their wakes, and what becomes of the log.
 use Rattle.std.specs.Prelude.{◌≡◌, ◌≢◌, ℕ, suc, Bool, List, [], ◌∷◌, ◌++◌, map, if◌then◌else◌}
 use Rattle.std.specs.declared.option.Option.{Option}
-use Rattle.af_outside.specs.declared.happening.Happening.TheVariants.{Woke}
-use Rattle.af_outside.specs.declared.happening.Wake.{Wake}
-use Rattle.af_outside.specs.declared.happening.Wake.TheVariants as wake
-use Rattle.af_outside.specs.declared.outer.Outer.{Outer}
-use Rattle.af_outside.specs.declared.outer.Outer.TheVariants as noted
-use Rattle.af_outside.specs.declared.script.DeviceSpec.{DeviceSpec}
-use Rattle.af_outside.specs.declared.outer.Backing.{Backing}
+use Rattle.af_world.specs.declared.happening.Happening.TheVariants.{Woke}
+use Rattle.af_world.specs.declared.happening.Wake.{Wake}
+use Rattle.af_world.specs.declared.happening.Wake.TheVariants as wake
+use Rattle.af_world.specs.declared.outer.Outer.{Outer}
+use Rattle.af_world.specs.declared.outer.Outer.TheVariants as noted
+use Rattle.af_world.specs.declared.script.DeviceSpec.{DeviceSpec}
+use Rattle.af_world.specs.declared.outer.Backing.{Backing}
 use Rattle.af_io.specs.Observed.{Appended}
-use Rattle.af_outside.specs.Log.{Log}
+use Rattle.af_world.specs.Log.{Log}
 use Rattle.af_live.specs.Stating.{Settings}
 use Rattle.af_model.specs.State.{State, opening, outline}
 use Rattle.af_model.specs.Turn.{IsTurn, fits}

@@ -2,8 +2,8 @@
 use Rattle.std.specs.Prelude.{◌≡◌, ℕ, ◌<◌, List, [], ◌∷◌, ◌++◌, length, take}
 use Rattle.std.specs.declared.option.Option.{Option}
 use Rattle.std.specs.declared.result.Result.TheVariants.{Ok}
-use Rattle.af_outside.specs.declared.outer.Outer.{Outer}
-use Rattle.af_outside.specs.declared.outer.Outer.TheVariants as noted
+use Rattle.af_world.specs.declared.outer.Outer.{Outer}
+use Rattle.af_world.specs.declared.outer.Outer.TheVariants as noted
 use Rattle.af_io.specs.Observed.{Appended}
 use Rattle.af_io.specs.Flow.{ConsumedWhole}
 use Rattle.af_live.specs.Stating.{Settings}

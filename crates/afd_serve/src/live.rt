@@ -9,7 +9,7 @@ use crate::serve::serve;
 use crate::start::{read_setting, start};
 use crate::words::asked_for;
 use af_io::{Args, Source};
-use af_outside::Live;
+use af_world::Live;
 use std::alloc::Global;
 
 /// How the server ended.

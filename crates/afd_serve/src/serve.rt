@@ -1,7 +1,7 @@
 // The server between its first wait and its end.
 ghost use Rattle.std.specs.Prelude.{◌≡◌, ◌≤◌, List, IsTrue, if◌then◌else◌};
-ghost use Rattle.af_outside.specs.declared.happening.Wake.TheVariants.{Idle};
-ghost use Rattle.af_outside.specs.declared.script.DeviceSpec.{DeviceSpec};
+ghost use Rattle.af_world.specs.declared.happening.Wake.TheVariants.{Idle};
+ghost use Rattle.af_world.specs.declared.script.DeviceSpec.{DeviceSpec};
 ghost use Rattle.af_model.specs.State.{opening};
 ghost use Rattle.af_model.specs.Turn.{fits};
 ghost use Rattle.af_core.specs.Stands.{Stands, Turns, outline_of};
@@ -10,7 +10,7 @@ ghost use Rattle.afd_serve.specs.Ends.{CountsFaults};
 
 use crate::LiveEnd;
 use af_core::Core;
-use af_outside::{Live, Waited, Wake, World};
+use af_world::{Live, Waited, Wake, World};
 
 // What is taken of a wake: one that does not fit is taken as Idle.
 fn taken(core: &Core, wake: Wake) -> Wake

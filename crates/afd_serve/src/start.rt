@@ -13,7 +13,7 @@ use crate::LiveEnd;
 use af_core::Core;
 use af_io::{Source, TextFault, read_text};
 use af_live::{ConfigFault, Setting, read_config};
-use af_outside::{Live, Ready};
+use af_world::{Live, Ready};
 use std::alloc::Global;
 
 /// How many bytes a configuration may have.

@@ -1,8 +1,8 @@
 // Each call of the real world, on the loopback, with the system's clock and files.
 use af_io::Put;
 use af_live::MioWorld;
-use af_outside::{DeviceSpec, Kind, LinkGot, LinkTook, Live, Ready, Waited, Wake, Why};
 use af_sample::SampleType;
+use af_world::{DeviceSpec, Kind, LinkGot, LinkTook, Live, Ready, Waited, Wake, Why};
 use std::alloc::{Alloc, Global};
 use std::fs;
 use std::io::{self, ErrorKind, Read, Write};

@@ -1,6 +1,6 @@
 use Rattle.std.proofs.Common.{◌≡◌, ◌-◌, ◌++◌}
 use Rattle.std.specs.Prelude.{All}
-use Rattle.af_outside.specs.Outside.{IsStep}
+use Rattle.af_world.specs.Outside.{IsStep}
 use Rattle.af_exercise.specs.Exercise.{exercised, first_steps, steps_drawn, seeded, start_time}
 use Rattle.af_exercise.proofs.generate.all_steps.Given as goal
 

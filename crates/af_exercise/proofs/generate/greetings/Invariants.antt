@@ -1,5 +1,5 @@
 use Rattle.std.proofs.Common.{◌≡◌, ◌≤◌, ◌++◌, length, take, map}
-use Rattle.af_outside.specs.declared.script.Step.TheVariants as step
+use Rattle.af_world.specs.declared.script.Step.TheVariants as step
 use Rattle.af_exercise.specs.Exercise.{links, greeting}
 use Rattle.af_exercise.proofs.generate.greetings.Given as goal
 

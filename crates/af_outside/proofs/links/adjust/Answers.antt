@@ -1,5 +1,5 @@
 use Rattle.std.proofs.Common.{arith}
-use Rattle.af_outside.specs.Outside.{stated_of}
+use Rattle.af_world.specs.Outside.{stated_of}
 use Rattle.af_outside.proofs.ScriptedLinkLemmas.{adjusted_here, adjusted_past, HasRoomForSteps-sent, HasRoomForSteps-less}
 use Rattle.af_outside.proofs.links.adjust.Goals as goal
 

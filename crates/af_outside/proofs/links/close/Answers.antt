@@ -1,6 +1,6 @@
 use Rattle.std.proofs.Common.{sym, ap, ◌∙◌, arith}
 use Rattle.std.specs.declared.option.Option.TheVariants.{Some}
-use Rattle.af_outside.specs.Outside.{with_client}
+use Rattle.af_world.specs.Outside.{with_client}
 use Rattle.af_outside.specs.Tape.{outside_of}
 use Rattle.af_outside.proofs.ScriptedLinkLemmas.{outside_of-set, HasRoomForSteps-kept}
 use Rattle.af_outside.proofs.links.close.Goals as goal

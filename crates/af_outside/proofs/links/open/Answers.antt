@@ -1,6 +1,6 @@
 use Rattle.std.proofs.Common.{sym, ap, ◌∙◌, arith, is_some, []}
 use Rattle.std.specs.Prelude.{if◌then◌else◌}
-use Rattle.af_outside.specs.declared.happening.Wake.TheVariants as wake
+use Rattle.af_world.specs.declared.happening.Wake.TheVariants as wake
 use Rattle.af_outside.proofs.ScriptedLinkLemmas.{outside_of-set, HasRoomForSteps-kept, HasRoomForSteps-less, client_at-outside_of, client_at-past, opened_here}
 use Rattle.af_outside.proofs.links.open.Goals as goal
 

@@ -1,7 +1,7 @@
 use Rattle.std.proofs.Common.{arith, refl}
-use Rattle.af_outside.specs.Outside.{read_from}
-use Rattle.af_outside.specs.World.{got_of}
-use Rattle.af_outside.specs.declared.happening.ReadGot.TheVariants.{NotYet}
+use Rattle.af_world.specs.Outside.{read_from}
+use Rattle.af_world.specs.World.{got_of}
+use Rattle.af_world.specs.declared.happening.ReadGot.TheVariants.{NotYet}
 use Rattle.af_outside.proofs.ScriptedLinkLemmas.{answered_here, answered_past, HasRoomForSteps-kept}
 use Rattle.af_outside.proofs.links.read.Goals as goal
 

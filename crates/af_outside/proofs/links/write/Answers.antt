@@ -1,8 +1,8 @@
 use Rattle.std.proofs.Common.{ap, arith, length, take}
 use Rattle.std.proofs.Math.Seq.{take-length}
 use Rattle.std.specs.declared.option.Option.TheVariants.{Some}
-use Rattle.af_outside.specs.Outside.{written_to}
-use Rattle.af_outside.specs.World.{took_of}
+use Rattle.af_world.specs.Outside.{written_to}
+use Rattle.af_world.specs.World.{took_of}
 use Rattle.af_outside.proofs.ScriptedLinkLemmas.{answered_here, answered_past, HasRoomForSteps-kept}
 use Rattle.af_outside.proofs.ScriptedClientLemmas.{written_closed}
 use Rattle.af_outside.proofs.links.write.Goals as goal

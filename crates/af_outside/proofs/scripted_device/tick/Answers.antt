@@ -1,5 +1,5 @@
 use Rattle.std.proofs.Common.{refl, slice_get}
-use Rattle.af_outside.specs.Outside.{ScriptedDevice}
+use Rattle.af_world.specs.Outside.{ScriptedDevice}
 use Rattle.af_outside.specs.Tape.{capture_stated_by}
 use Rattle.af_outside.proofs.ScriptedDeviceLemmas.{outside_of-changed}
 use Rattle.af_outside.proofs.scripted_device.tick.Goals as goal

@@ -2,8 +2,8 @@ use Rattle.std.proofs.Common.{◌≡◌, ℕ, Bool, true, false, ◌&&◌, ◌==
 use Rattle.std.specs.Prelude.{Option, Some, None, option_map, Result, Ok, Err, IfOk}
 use Rattle.std.proofs.lemmas.Bool.{and_parts}
 use Rattle.af_time.specs.declared.OutOfMemory.{OutOfMemory}
-use Rattle.af_outside.specs.declared.script.DeviceSpec.{DeviceSpec}
-use Rattle.af_outside.specs.declared.script.Step.{Step}
+use Rattle.af_world.specs.declared.script.DeviceSpec.{DeviceSpec}
+use Rattle.af_world.specs.declared.script.Step.{Step}
 use Rattle.af_script.specs.declared.statement.LineKind.{LineKind}
 use Rattle.af_script.specs.Lines.{words, is_nil}
 use Rattle.af_script.specs.Words.{then_some}

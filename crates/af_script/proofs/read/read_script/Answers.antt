@@ -1,6 +1,6 @@
 use Rattle.std.proofs.Common.{◌≡◌, inl, List, sym, ap, ◌∙◌, subst}
 use Rattle.std.specs.Prelude.{Ok}
-use Rattle.af_outside.specs.declared.script.Step.{Step}
+use Rattle.af_world.specs.declared.script.Step.{Step}
 use Rattle.af_text.specs.Reading.{MeetsFault}
 use Rattle.af_script.specs.Script.{StatedScript}
 use Rattle.af_script.proofs.LineByLine.{read_start}

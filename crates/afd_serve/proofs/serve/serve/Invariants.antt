@@ -1,5 +1,5 @@
 use Rattle.std.proofs.Common.{List}
-use Rattle.af_outside.specs.declared.script.DeviceSpec.{DeviceSpec}
+use Rattle.af_world.specs.declared.script.DeviceSpec.{DeviceSpec}
 use Rattle.af_model.specs.State.{opening}
 use Rattle.af_core.specs.Stands.{Stands}
 use Rattle.afd_serve.specs.Ends.{CountsFaults}

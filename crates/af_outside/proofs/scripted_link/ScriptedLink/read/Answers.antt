@@ -1,7 +1,7 @@
 use Rattle.std.proofs.Common.{◌≡◌, ℕ, List, ◌-◌, sym, drop, arith, take, length}
 use Rattle.std.proofs.lemmas.List.{drop-drop, length-drop}
 use Rattle.std.proofs.Math.Seq.{take-length}
-use Rattle.af_outside.specs.Outside.{ScriptedClient}
+use Rattle.af_world.specs.Outside.{ScriptedClient}
 use Rattle.af_outside.proofs.ScriptedClientLemmas.{read_first, read_nothing, read_end}
 use Rattle.af_outside.proofs.scripted_link.ScriptedLink.read.Goals as goal
 

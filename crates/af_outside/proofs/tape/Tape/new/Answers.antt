@@ -1,7 +1,7 @@
 use Rattle.std.proofs.Common.{◌≡◌, ◌∙◌}
 use Rattle.std.proofs.lemmas.Slice.Zip.{AllZip-map}
 use Rattle.std.proofs.lemmas.List.{map-id}
-use Rattle.af_outside.specs.declared.script.DeviceSpec.{DeviceSpec}
+use Rattle.af_world.specs.declared.script.DeviceSpec.{DeviceSpec}
 use Rattle.af_outside.proofs.TapeLemmas.{fresh-parts}
 use Rattle.af_outside.proofs.tape.Tape.new.Goals as goal
 

@@ -3,7 +3,7 @@ use Rattle.std.proofs.lemmas.Option.{slice_get_read}
 use Rattle.std.proofs.lemmas.List.{with_items_is}
 use Rattle.std.specs.Vec.{with_items}
 use Rattle.std.specs.declared.option.Option.TheVariants.{Some}
-use Rattle.af_outside.specs.Outside.{TapeState, TakesStep}
+use Rattle.af_outside.specs.TapeState.{TapeState, TakesStep}
 use Rattle.af_outside.specs.Tape.{outside_of, devices_of}
 use Rattle.af_outside.proofs.TapeLemmas.{drop-next, HasRoomForSteps-first, TakesStep-first}
 use Rattle.af_outside.proofs.tape.Tape.step.Goals as goal

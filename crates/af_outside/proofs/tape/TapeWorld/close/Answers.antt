@@ -4,8 +4,8 @@ use Rattle.std.proofs.lemmas.List.{with_items_is}
 use Rattle.std.specs.Vec.{with_items}
 use Rattle.std.specs.declared.option.Option.TheVariants.{Some}
 use Rattle.std.specs.declared.result.Result.TheVariants.{Ok}
-use Rattle.af_outside.specs.declared.happening.Happening.TheVariants.{Closed}
-use Rattle.af_outside.specs.Outside.{answered_as_stated, Outside}
+use Rattle.af_world.specs.declared.happening.Happening.TheVariants.{Closed}
+use Rattle.af_world.specs.Outside.{answered_as_stated, Outside}
 use Rattle.af_outside.specs.Tape.{outside_of, devices_of}
 use Rattle.af_outside.proofs.TapeLemmas.{TapeLeadsTo-noted}
 use Rattle.af_outside.proofs.tape.TapeWorld.close.Goals as goal

@@ -3,9 +3,9 @@ use Rattle.std.proofs.Math.Nat.{le_refl}
 use Rattle.std.proofs.lemmas.List.{with_items_is}
 use Rattle.std.specs.Vec.{with_items}
 use Rattle.std.specs.declared.option.Option.TheVariants.{Some}
-use Rattle.af_outside.specs.declared.happening.Happening.TheVariants.{Emitted}
-use Rattle.af_outside.specs.World.{is_done}
-use Rattle.af_outside.specs.Outside.{answered_as_stated, Outside}
+use Rattle.af_world.specs.declared.happening.Happening.TheVariants.{Emitted}
+use Rattle.af_world.specs.World.{is_done}
+use Rattle.af_world.specs.Outside.{answered_as_stated, Outside}
 use Rattle.af_outside.specs.Tape.{outside_of, devices_of}
 use Rattle.af_outside.proofs.TapeLemmas.{TapeLeadsTo-noted, faults_after-rises}
 use Rattle.af_outside.proofs.tape.TapeWorld.emit.Goals as goal

@@ -1,9 +1,9 @@
 -- What stands behind a device.
 use Rattle.std.specs.Prelude.{ℕ, List}
-use Rattle.af_outside.specs.declared.live.Kind.{Kind}
-use Rattle.af_outside.specs.declared.live.Kind.TheVariants as kind
-use Rattle.af_outside.specs.declared.outer.Backing.{Backing}
-use Rattle.af_outside.specs.declared.outer.Backing.TheVariants as backing
+use Rattle.af_world.specs.declared.live.Kind.{Kind}
+use Rattle.af_world.specs.declared.live.Kind.TheVariants as kind
+use Rattle.af_world.specs.declared.outer.Backing.{Backing}
+use Rattle.af_world.specs.declared.outer.Backing.TheVariants as backing
 
 -- silence, or the names of the two files that the device captures from and hands its sound out to
 abbrev pub silence : Backing

@@ -1,10 +1,10 @@
 // The world that the server lives in.
 ghost use Rattle.std.specs.Prelude.{◌≡◌, ◌≤◌, ◌<◌, ℕ, [], ◌∷◌, length};
 ghost use Rattle.std.specs.declared.option.Option.{Option};
-ghost use Rattle.af_outside.specs.declared.happening.Happening.TheVariants.{Woke, Read, Wrote, Closed, Captured, Emitted, Hooked};
+ghost use Rattle.af_world.specs.declared.happening.Happening.TheVariants.{Woke, Read, Wrote, Closed, Captured, Emitted, Hooked};
 ghost use Rattle.af_io.specs.Observed.{Appended, FaultCounted};
-ghost use Rattle.af_outside.specs.Log.{Log};
-ghost use Rattle.af_outside.specs.World.{got_of, took_of, captured_of, is_done, LinkGotFits, TookFits};
+ghost use Rattle.af_world.specs.Log.{Log};
+ghost use Rattle.af_world.specs.World.{got_of, took_of, captured_of, is_done, LinkGotFits, TookFits};
 
 use crate::{Put, Wake, Why};
 

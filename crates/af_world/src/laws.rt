@@ -3,7 +3,7 @@ ghost use Rattle.std.specs.Prelude.{◌≡◌, ◌*◌, ℕ, pos, replicate};
 ghost use Rattle.af_sample.specs.declared.sample_type.SampleType.{SampleType};
 ghost use Rattle.af_sample.specs.SampleTypes.{width_of};
 ghost use Rattle.af_sample.specs.Samples.{bytes_of};
-ghost use Rattle.af_outside.specs.Outside.{silent_byte};
+ghost use Rattle.af_world.specs.Outside.{silent_byte};
 
 /// The silence that a device captures is the encoding of as many samples of 0.
 pub fn silence_is_zero()

@@ -1,6 +1,6 @@
 -- What happened.
 use Rattle.std.specs.Prelude.{List}
-use Rattle.af_outside.specs.declared.happening.Happening.{Happening}
+use Rattle.af_world.specs.declared.happening.Happening.{Happening}
 
 -- all that happened to the server, in order
 abbrev pub Log : Type 0

@@ -7,7 +7,7 @@ use Rattle.af_sample.specs.declared.sample_type.SampleType.TheVariants.{Mu255, A
 use Rattle.af_sample.specs.G711.{mu_law_decisions, alaw_starts}
 use Rattle.af_sample.specs.SampleTypes.{width_of}
 use Rattle.af_sample.specs.Samples.{encoded, bytes_of}
-use Rattle.af_outside.specs.Outside.{silent_byte}
+use Rattle.af_world.specs.Outside.{silent_byte}
 
 one_sample : (ty : SampleType) → replicate (width_of ty) (silent_byte ty) ≡ encoded ty (pos 0)
 unfolding mu_law_decisions alaw_starts

@@ -1,38 +1,16 @@
--- What is told of listens, attaches and waits, and what a tape keeps of them.
+-- What a tape keeps of listens, attaches and waits.
 use Rattle.std.specs.Prelude.{◌≡◌, ℕ, ◌==◌, Bool, true, false, List, [], ◌∷◌}
 use Rattle.std.specs.declared.option.Option.{Option}
 use Rattle.std.specs.declared.option.Option.TheVariants.{None, Some}
 use Rattle.std.specs.declared.result.Result.{Result}
 use Rattle.std.specs.declared.result.Result.TheVariants.{Ok, Err}
 use Rattle.af_time.specs.declared.OutOfMemory.{OutOfMemory}
-use Rattle.af_outside.specs.declared.live.Ready.{Ready}
-use Rattle.af_outside.specs.declared.live.Ready.TheVariants as ready
-use Rattle.af_outside.specs.declared.live.Waited.{Waited}
-use Rattle.af_outside.specs.declared.live.Waited.TheVariants as answer
-use Rattle.af_outside.specs.declared.outer.Backing.{Backing}
-use Rattle.af_outside.specs.declared.outer.Outer.{Outer}
-use Rattle.af_outside.specs.declared.outer.Outer.TheVariants as outer
-use Rattle.af_outside.specs.declared.outer.OuterFaults.{OuterFaults}
-use Rattle.af_outside.specs.declared.script.DeviceSpec.{DeviceSpec}
+use Rattle.af_world.specs.declared.live.Ready.{Ready}
+use Rattle.af_world.specs.declared.live.Ready.TheVariants as ready
+use Rattle.af_world.specs.declared.outer.Outer.{Outer}
+use Rattle.af_outside.specs.declared.outer_faults.OuterFaults.{OuterFaults}
 use Rattle.af_io.specs.Observed.{Appended, Unchanged}
-use Rattle.af_outside.specs.Log.{Log}
-
--- the entry of a listen, which is there where it was done
-abbrev pub listened : Ready → List ℕ → List Outer
-listened ready.Done address = outer.Listened address ∷ []
-listened ready.Failed address = []
-listened ready.OutOfMemory address = []
-
--- the entry of an attach
-abbrev pub attached : Ready → ℕ → DeviceSpec → Backing → List Outer
-attached ready.Done device spec backing = outer.Attached device spec backing ∷ []
-attached ready.Failed device spec backing = []
-attached ready.OutOfMemory device spec backing = []
-
--- the entry of a wait
-abbrev pub waited : Bool → Waited → List Outer
-waited more (answer.Woke wake) = outer.Waited more wake ∷ []
-waited more answer.Failed = []
+use Rattle.af_world.specs.Log.{Log}
 
 -- whether a listen or an attach failed
 abbrev pub was_refused : Ready → Bool

@@ -1,10 +1,10 @@
 // A world that a server runs in on real time: it is listened in, devices are attached to it, and it gives the wakes.
 ghost use Rattle.std.specs.Prelude.{◌≡◌, ◌≤◌, ℕ, List, [], IsSome};
 ghost use Rattle.std.specs.declared.option.Option.{Option};
-ghost use Rattle.af_outside.specs.declared.outer.Outer.{Outer};
+ghost use Rattle.af_world.specs.declared.outer.Outer.{Outer};
 ghost use Rattle.af_io.specs.Observed.{Appended, FaultCounted, Unchanged};
-ghost use Rattle.af_outside.specs.Kinds.{backing_of};
-ghost use Rattle.af_outside.specs.Outer.{listened, attached, waited};
+ghost use Rattle.af_world.specs.Kinds.{backing_of};
+ghost use Rattle.af_world.specs.Outer.{listened, attached, waited};
 
 use crate::{DeviceSpec, Wake, World};
 use std::alloc::Global;

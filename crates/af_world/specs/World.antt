@@ -2,14 +2,14 @@
 use Rattle.std.specs.Prelude.{ℕ, ◌≤◌, Bool, true, false, List, take}
 use Rattle.std.specs.declared.option.Option.{Option}
 use Rattle.std.specs.declared.option.Option.TheVariants.{None, Some}
-use Rattle.af_outside.specs.declared.happening.ReadGot.{ReadGot}
-use Rattle.af_outside.specs.declared.happening.ReadGot.TheVariants as happened
+use Rattle.af_world.specs.declared.happening.ReadGot.{ReadGot}
+use Rattle.af_world.specs.declared.happening.ReadGot.TheVariants as happened
 use Rattle.af_io.specs.declared.flow.Put.{Put}
 use Rattle.af_io.specs.declared.flow.Put.TheVariants as put
-use Rattle.af_outside.specs.declared.world.LinkGot.{LinkGot}
-use Rattle.af_outside.specs.declared.world.LinkGot.TheVariants as got
-use Rattle.af_outside.specs.declared.world.LinkTook.{LinkTook}
-use Rattle.af_outside.specs.declared.world.LinkTook.TheVariants as took
+use Rattle.af_world.specs.declared.world.LinkGot.{LinkGot}
+use Rattle.af_world.specs.declared.world.LinkGot.TheVariants as got
+use Rattle.af_world.specs.declared.world.LinkTook.{LinkTook}
+use Rattle.af_world.specs.declared.world.LinkTook.TheVariants as took
 
 -- what a read gave, of the slice that was read into
 abbrev pub got_of : LinkGot → List ℕ → ReadGot

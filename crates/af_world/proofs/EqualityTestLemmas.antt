@@ -1,6 +1,6 @@
 -- Tests of numbers and bytes.
 use Rattle.std.proofs.Common.{◌≡◌, ℕ, true, ◌==◌, List, [], ◌∷◌, refl, rules}
-use Rattle.af_outside.specs.Outside.{same_bytes}
+use Rattle.af_world.specs.Outside.{same_bytes}
 
 pub eq-refl : (k : ℕ) → (k == k) ≡ true
 eq-refl k = search rules

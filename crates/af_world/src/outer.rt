@@ -1,4 +1,4 @@
-// What the outside of a server does before and between its turns, and which of that is to fail.
+// What the outside of a server does before and between its turns.
 use crate::{Bytes, DeviceSpec, Wake};
 
 /// What stands behind a device, with the names that it was stated by.
@@ -24,13 +24,4 @@ pub enum Outer {
         more: bool,
         wake: Wake,
     },
-}
-
-/// Which of these calls fail: every listen or none, the attaches of one device or none, and the wait with a number, counted
-/// from 0, or none.
-#[derive(Clone, Copy, Debug, PartialEq, Eq, Default)]
-pub struct OuterFaults {
-    pub listen: bool,
-    pub attach: Option<u8>,
-    pub wait: Option<u32>,
 }

@@ -1,0 +1,2 @@
+pub mod EqualityTestLemmas
+pub mod SilenceLemmas

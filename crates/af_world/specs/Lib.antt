@@ -1,0 +1,5 @@
+pub mod Log
+pub mod World
+pub mod Outside
+pub mod Kinds
+pub mod Outer

@@ -1,0 +1,27 @@
+-- What is told of listens, attaches and waits.
+use Rattle.std.specs.Prelude.{ℕ, Bool, List, [], ◌∷◌}
+use Rattle.af_world.specs.declared.live.Ready.{Ready}
+use Rattle.af_world.specs.declared.live.Ready.TheVariants as ready
+use Rattle.af_world.specs.declared.live.Waited.{Waited}
+use Rattle.af_world.specs.declared.live.Waited.TheVariants as answer
+use Rattle.af_world.specs.declared.outer.Backing.{Backing}
+use Rattle.af_world.specs.declared.outer.Outer.{Outer}
+use Rattle.af_world.specs.declared.outer.Outer.TheVariants as outer
+use Rattle.af_world.specs.declared.script.DeviceSpec.{DeviceSpec}
+
+-- the entry of a listen, which is there where it was done
+abbrev pub listened : Ready → List ℕ → List Outer
+listened ready.Done address = outer.Listened address ∷ []
+listened ready.Failed address = []
+listened ready.OutOfMemory address = []
+
+-- the entry of an attach
+abbrev pub attached : Ready → ℕ → DeviceSpec → Backing → List Outer
+attached ready.Done device spec backing = outer.Attached device spec backing ∷ []
+attached ready.Failed device spec backing = []
+attached ready.OutOfMemory device spec backing = []
+
+-- the entry of a wait
+abbrev pub waited : Bool → Waited → List Outer
+waited more (answer.Woke wake) = outer.Waited more wake ∷ []
+waited more answer.Failed = []

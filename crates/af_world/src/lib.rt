@@ -1,0 +1,19 @@
+//! What a server lives in: its world of links and devices, what happens there, the devices and steps of a script, and how the
+//! outside that a script states answers.
+#![tactic(auto)]
+
+mod happening;
+pub mod laws;
+mod live;
+mod outer;
+mod script;
+mod silence;
+mod world;
+
+pub use af_io::{Bytes, Put};
+pub use happening::{Happening, ReadGot, Wake, Why};
+pub use live::{Kind, Live, Ready, Waited};
+pub use outer::{Backing, Outer};
+pub use script::{Config, DeviceSpec, Step};
+pub use silence::silent_byte;
+pub use world::{LinkGot, LinkTook, World};

@@ -36,11 +36,6 @@ waits_any ws k w e = or_parts (w.link == k) (has_deferral ws k) e
 waits_none : (ws : List Deferral) (k : ℕ) (w : Deferral) → (w.link == k) ≡ false → has_deferral ws k ≡ false → has_deferral (w ∷ ws) k ≡ false
 waits_none ws k w a b = ap (λ t. t || has_deferral ws k) a ∙ b
 
--- another link begins to wait
-pub waits_other : (ws : List Deferral) (k : ℕ) (w : Deferral) → (w.link == k) ≡ false → has_deferral ws k ≡ false → has_deferral (ws ++ w ∷ []) k ≡ false
-waits_other [] k w other h = waits_none [] k w other refl
-waits_other (v ∷ ws) k w other h = let i = waits_any ws k v h in waits_none (ws ++ w ∷ []) k v i.0 (waits_other ws k w other i.1)
-
 -- one that waits leaves
 pub waits_left : (passes : Deferral → Bool) (ws : List Deferral) (k : ℕ) → has_deferral ws k ≡ false → has_deferral (without_first passes ws) k ≡ false
 waits_left passes [] k h = refl
@@ -48,13 +43,7 @@ waits_left passes (w ∷ ws) k h =
     let i = waits_any ws k w h in
     elim (passes w) as (λ t. has_deferral (cond t ws (w ∷ without_first passes ws)) k ≡ false) [ true ↦ i.1 | false ↦ waits_none (without_first passes ws) k w i.0 (waits_left passes ws k i.1) ]
 
--- a link leaves
-pub waits_dropped : (j : ℕ) (ws : List Deferral) (k : ℕ) → has_deferral ws k ≡ false → has_deferral (without_waiter j ws) k ≡ false
-waits_dropped j [] k h = refl
-waits_dropped j (w ∷ ws) k h =
-    let i = waits_any ws k w h in
-    elim (w.link == j) as (λ t. has_deferral (cond (not t) (w ∷ without_waiter j ws) (without_waiter j ws)) k ≡ false) [ true ↦ waits_dropped j ws k i.1 | false ↦ waits_none (without_waiter j ws) k w i.0 (waits_dropped j ws k i.1) ]
-
+-- a link leaves, and then none of its requests waits
 pub dropped_waits : (k : ℕ) (ws : List Deferral) → has_deferral (without_waiter k ws) k ≡ false
 dropped_waits k [] = refl
 dropped_waits k (w ∷ ws) =
@@ -62,6 +51,33 @@ dropped_waits k (w ∷ ws) =
       | true ↦ λ e. dropped_waits k ws
       | false ↦ λ e. waits_none (without_waiter k ws) k w e (dropped_waits k ws)
     ] refl
+
+-- the others that wait are the same, in their order, if a link begins to wait, or leaves again
+own_waits : (ws : List Deferral) (k : ℕ) (w : Deferral) → (w.link == k) ≡ true → without_waiter k (ws ++ w ∷ []) ≡ without_waiter k ws
+own_waits [] k w own = ap (λ t. cond (not t) (w ∷ []) []) own
+own_waits (v ∷ ws) k w own = ap (λ l. cond (not (v.link == k)) (v ∷ l) l) (own_waits ws k w own)
+
+pub own_left : (ws : List Deferral) (k : ℕ) → without_waiter k (without_waiter k ws) ≡ without_waiter k ws
+own_left [] k = refl
+own_left (w ∷ ws) k =
+    elim (w.link == k) as (λ t. (w.link == k) ≡ t → without_waiter k (cond (not t) (w ∷ without_waiter k ws) (without_waiter k ws)) ≡ cond (not t) (w ∷ without_waiter k ws) (without_waiter k ws)) [
+      | true ↦ λ e. own_left ws k
+      | false ↦ λ e. ap (λ t. cond (not t) (w ∷ without_waiter k (without_waiter k ws)) (without_waiter k (without_waiter k ws))) e ∙ ap (λ l. w ∷ l) (own_left ws k)
+    ] refl
+
+-- so another link waits where it did
+other_waits : (ws : List Deferral) (k j : ℕ) → (k == j) ≡ false → has_deferral (without_waiter k ws) j ≡ has_deferral ws j
+other_waits [] k j other = refl
+other_waits (w ∷ ws) k j other =
+    elim (w.link == k) as (λ t. (w.link == k) ≡ t → has_deferral (cond (not t) (w ∷ without_waiter k ws) (without_waiter k ws)) j ≡ has_deferral (w ∷ ws) j) [
+      | true ↦ λ e.
+          let apart : (w.link == j) ≡ false = ap (λ n. n == j) (eqb-true w.link k e) ∙ other in
+          other_waits ws k j other ∙ sym (ap (λ t. t || has_deferral ws j) apart)
+      | false ↦ λ e. ap (λ t. (w.link == j) || t) (other_waits ws k j other)
+    ] refl
+
+pub still_waits : (ws vs : List Deferral) (k j : ℕ) → (k == j) ≡ false → without_waiter k vs ≡ without_waiter k ws → has_deferral ws j ≡ false → has_deferral vs j ≡ false
+still_waits ws vs k j other same e = sym (other_waits vs k j other) ∙ ap (λ l. has_deferral l j) same ∙ other_waits ws k j other ∙ e
 
 pub same_number : (k : ℕ) → (k == k) ≡ true
 same_number k = search rules
@@ -348,8 +364,12 @@ grows_keeps k ds = record {
     some_same : {a b : DeviceState} {o : Option DeviceState} → o ≡ Some a → o ≡ Some b → b ≡ a
     some_same e f = cc
 
-pub fewer_keeps : (k j : ℕ) (ws : List Deferral) → (j == k) ≡ false → Keeps j (λ closing. Unit {0}) (λ p. has_deferral ws k ≡ false → has_deferral p.environment.waiting k ≡ false)
-fewer_keeps k j ws other = record {
+-- the other requests that wait are the same, in their order
+abbrev pub SameOthers : ℕ → List Deferral → List Deferral → Type 0
+SameOthers k ws vs = without_waiter k vs ≡ without_waiter k ws
+
+pub others_keep : (k : ℕ) (ws : List Deferral) → Keeps k (λ closing. Unit {0}) (λ p. SameOthers k ws p.environment.waiting)
+others_keep k ws = record {
   may = λ closing e. tt;
   link = λ p l open' behind same rest set h. h;
   takes = λ p n open' set e asked h. h;
@@ -357,21 +377,21 @@ fewer_keeps k j ws other = record {
   stops = λ p cause open' bad h. h;
   says = λ p bytes stays h. h;
   becomes = λ p d device f there l h. h;
-  waits = λ p d deferred open' h e. waits_other p.environment.waiting k (record { link = j; device = d; deferred = deferred }) other (h e);
+  waits = λ p d deferred open' h. own_waits p.environment.waiting k (record { link = k; device = d; deferred = deferred }) (same_number k) ∙ h;
 }
 
--- What becomes of a link and its environment, if nothing is taken: devices become later, what is queued for it stays so, and of
--- the others none begins to wait.
+-- What becomes of a link and its environment, if nothing is taken: devices become later, what is queued for it stays so, and
+-- the others wait as they did.
 pub record Moved (j : ℕ) (d e : SlotLink) : Type 0 where
   pub devices : AllLive d.environment.devices e.environment.devices
   pub own : (g : LinkHistory) → QueuedSlot j g d → QueuedSlot j g e
-  pub fewer : (k : ℕ) → (j == k) ≡ false → has_deferral d.environment.waiting k ≡ false → has_deferral e.environment.waiting k ≡ false
+  pub others : SameOthers j d.environment.waiting e.environment.waiting
 
 pub moved_of : (j : ℕ) (p q : OpenLink) → ((May : Option Why → Type 0) (I : OpenLink → Type 0) → Keeps j May I → I p → I q) → Moved j (enter p) (enter q)
 moved_of j p q go = record {
   devices = go (λ closing. Unit {0}) (λ x. AllLive p.environment.devices x.environment.devices) (grows_keeps j p.environment.devices) (all_live_refl p.environment.devices);
   own = λ g h. go (λ closing. is_dropped closing ≡ false) (Owing j g) (queueing_keeps j g) h;
-  fewer = λ k other e. go (λ closing. Unit {0}) (λ x. has_deferral p.environment.waiting k ≡ false → has_deferral x.environment.waiting k ≡ false) (fewer_keeps k j p.environment.waiting other) (λ x. x) e;
+  others = go (λ closing. Unit {0}) (λ x. SameOthers j p.environment.waiting x.environment.waiting) (others_keep j p.environment.waiting) refl;
 }
 
 -- an event found no room
@@ -379,5 +399,5 @@ pub moved_overrun : (k : ℕ) (p : OpenLink) → ((g : LinkHistory) → Owing k 
 moved_overrun k p stays full = record {
   devices = all_live_refl p.environment.devices;
   own = λ g h. queued_overrun k g p (stays g h) full h;
-  fewer = λ j other h. waits_dropped k p.environment.waiting j h;
+  others = own_left p.environment.waiting k;
 }

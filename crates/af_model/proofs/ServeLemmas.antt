@@ -26,7 +26,7 @@ use Rattle.af_model.proofs.ListLemmas.{get-set_other, get-set_same}
 use Rattle.af_model.proofs.DeviceHistoryLemmas.{AllLive, Laters, all_live_refl, all_live_trans, laters_refl, laters_trans, live_laters}
 use Rattle.af_model.proofs.DeadLemmas.{DeadAs, DeadIn, NoneFails, died, died_device, died_line, lives_dead, none_fails-append}
 use Rattle.af_model.proofs.LinkInvariantLemmas.{advance_keeps, takes_more_open}
-use Rattle.af_model.proofs.OwedBytesLemmas.{Moved, Owing, OwingAt, QueuedSlot, OwingLink, moved_of, queued_closed, queued_ended, queued_failed, queued_given, queued_taken, queueing_fewer, queueing_keeps, same_number, sending_undropped, waits_dropped}
+use Rattle.af_model.proofs.OwedBytesLemmas.{Moved, Owing, OwingAt, QueuedSlot, OwingLink, moved_of, queued_closed, queued_ended, queued_failed, queued_given, queued_taken, queueing_fewer, queueing_keeps, same_number, sending_undropped, own_left, still_waits, SameOthers}
 use Rattle.af_model.proofs.PhasePartLemmas.{Takes, close_takes, read_takes, takes_chain, takes_nothing, takes_then, write_takes}
 
 -- A happening within a turn, behind its wake and its emit
@@ -47,14 +47,14 @@ inner-append (h ∷ p) q a b = let both = both-true (is_inner h) (inner p) a in 
 -- One link
 
 -- What serving link j makes of it and its environment, and of its history: what is queued for it and what its history shows stay so; of
--- other links nothing is shown, and none begins to wait; and no device and no line fails.
+-- other links nothing is shown, and they wait as they did; and no device and no line fails.
 pub record Served (j : ℕ) (d : SlotLink) (part : Log) (e : SlotLink) : Type 0 where
   pub inside : inner part ≡ true
   pub alive : NoneFails part
   pub devices : AllLive d.environment.devices e.environment.devices
   pub own : (g : LinkHistory) → QueuedSlot j g d → QueuedSlot j (fold (noted j) g part) e
   pub others : (k : ℕ) → (j == k) ≡ false → (g : LinkHistory) → fold (noted k) g part ≡ g
-  pub fewer : (k : ℕ) → (j == k) ≡ false → has_deferral d.environment.waiting k ≡ false → has_deferral e.environment.waiting k ≡ false
+  pub waits : SameOthers j d.environment.waiting e.environment.waiting
 
 -- nothing happens
 served_refl : (j : ℕ) (d : SlotLink) → Served j d [] d
@@ -64,7 +64,7 @@ served_refl j d = record {
   devices = all_live_refl d.environment.devices;
   own = λ g h. h;
   others = λ k other g. refl;
-  fewer = λ k other e. e;
+  waits = refl;
 }
 
 served_trans : (j : ℕ) (a : SlotLink) (p : Log) (b : SlotLink) (q : Log) (c : SlotLink) → Served j a p b → Served j b q c → Served j a (p ++ q) c
@@ -74,7 +74,7 @@ served_trans j a p b q c s t = record {
   devices = all_live_trans a.environment.devices b.environment.devices c.environment.devices s.devices t.devices;
   own = λ g h. subst (λ x. QueuedSlot j x c) (sym (fold-append (noted j) g p q)) (t.own (fold (noted j) g p) (s.own g h));
   others = λ k other g. fold-append (noted k) g p q ∙ t.others k other (fold (noted k) g p) ∙ s.others k other g;
-  fewer = λ k other e. t.fewer k other (s.fewer k other e);
+  waits = t.waits ∙ s.waits;
 }
 
 -- Reads
@@ -87,7 +87,7 @@ read_open k p w = takes_more_open (has_deferral p.environment.waiting k) p.link 
 record HasRead (k : ℕ) (p : OpenLink) (got : ReadGot) (q : OpenLink) : Type 0 where
   devices : AllLive p.environment.devices q.environment.devices
   own : (g : LinkHistory) → Owing k g p → Owing k (read_noted got g) q
-  fewer : (j : ℕ) → (k == j) ≡ false → has_deferral p.environment.waiting j ≡ false → has_deferral q.environment.waiting j ≡ false
+  waits : SameOthers k p.environment.waiting q.environment.waiting
 
 has_read : (k : ℕ) (p : OpenLink) (got : ReadGot) → wants_read (has_deferral p.environment.waiting k) p.link ≡ true → HasRead k p got (after_read k got p)
 has_read k p (Given bytes) w =
@@ -95,18 +95,18 @@ has_read k p (Given bytes) w =
     let q : OpenLink = open_link p.environment (record p.link { rest = p.link.rest ++ bytes }) in
     let m : Moved k (enter q) (enter (advance k q)) = moved_of k q (advance k q) (λ May I kept h. advance_keeps k May I kept q h) in
     let same : absorb k bytes p ≡ advance k q = ap (λ t. cond t (advance k q) p) (ap is_none none) in
-    subst (HasRead k p (Given bytes)) (sym same) (record { devices = m.devices; own = λ g h. m.own (read_noted (Given bytes) g) (queued_given k g bytes p none h); fewer = m.fewer })
+    subst (HasRead k p (Given bytes)) (sym same) (record { devices = m.devices; own = λ g h. m.own (read_noted (Given bytes) g) (queued_given k g bytes p none h); waits = m.others })
 has_read k p NotYet w =
     let none = read_open k p w in
     record {
       devices = all_live_refl p.environment.devices;
       own = λ g h. (queueing_keeps k g).link p (after_read k NotYet p).link none none refl refl refl h;
-      fewer = λ j other e. e;
+      waits = refl;
     }
 has_read k p Ended w =
-    record { devices = all_live_refl p.environment.devices; own = λ g h. queued_ended k g p (read_open k p w) h; fewer = λ j other e. e }
+    record { devices = all_live_refl p.environment.devices; own = λ g h. queued_ended k g p (read_open k p w) h; waits = refl }
 has_read k p Failed w =
-    record { devices = all_live_refl p.environment.devices; own = λ g h. queued_failed k g p h; fewer = λ j other e. waits_dropped k p.environment.waiting j e }
+    record { devices = all_live_refl p.environment.devices; own = λ g h. queued_failed k g p h; waits = own_left p.environment.waiting k }
 
 served_got : (k : ℕ) (p q : OpenLink) (got : ReadGot) → HasRead k p got q → Served k (enter p) (Read k got ∷ []) (enter q)
 served_got k p q got r = record {
@@ -115,7 +115,7 @@ served_got k p q got r = record {
   devices = r.devices;
   own = λ g h. subst (λ x. QueuedSlot k x (enter q)) (sym (ap (λ t. cond t (read_noted got g) g) (same_number k))) (r.own g h);
   others = λ j other g. ap (λ t. cond t (read_noted got g) g) other;
-  fewer = r.fewer;
+  waits = r.waits;
 }
 
 served_read : (k : ℕ) (p : OpenLink) → Takes (read_phase k p) (λ part q. Served k (enter p) part (enter q))
@@ -144,7 +144,7 @@ served_wrote k p offered bytes part r w front s =
           let undropped = sending_undropped k g p.environment.said p.link p.environment.waiting some h in
           subst (λ t. QueuedSlot k (fold (noted k) (cond t f g) part) r) (sym (same_number k)) (s.own f (m.own f (queued_taken k g bytes p left.link undropped refl refl refl (front_back bytes p.link.pending front) h)));
       others = λ j other g. ap (λ t. fold (noted j) (cond t (write_noted (Some bytes) g) g) part) other ∙ s.others j other g;
-      fewer = λ j other e. s.fewer j other (m.fewer j other e);
+      waits = s.waits ∙ m.others;
     }
 
 -- a write that failed, and what follows it
@@ -157,7 +157,7 @@ served_failed k p offered part r s = record {
       let f = write_noted None g in
       subst (λ t. QueuedSlot k (fold (noted k) (cond t f g) part) r) (sym (same_number k)) (s.own f (queued_failed k g p h));
   others = λ j other g. ap (λ t. fold (noted j) (cond t (write_noted None g) g) part) other ∙ s.others j other g;
-  fewer = λ j other e. s.fewer j other (waits_dropped k p.environment.waiting j e);
+  waits = s.waits ∙ own_left p.environment.waiting k;
 }
 
 served_one : (k : ℕ) (p q : OpenLink) (h : Happening) → wants_write p.link ≡ true → write_by k p h ≡ Some q → (part : Log) (r : OpenLink) → Served k (enter q) part (enter r) → Served k (enter p) (h ∷ part) (enter r)
@@ -191,10 +191,10 @@ served_close k p =
       devices = all_live_refl p.environment.devices;
       own = λ g h. subst (λ x. QueuedSlot k x (link_in_slot p.environment None)) (sym (ap (λ t. cond t (record g { closed = Some cause }) g) (same_number k))) (queued_closed k g p cause due h);
       others = λ j other g. ap (λ t. cond t (record g { closed = Some cause }) g) other;
-      fewer = λ j other e. e;
+      waits = refl;
     })
 
-served_link : (k : ℕ) (p : OpenLink) → Takes (serve_link k p) (λ part d. Served k (enter p) part d)
+pub served_link : (k : ℕ) (p : OpenLink) → Takes (serve_link k p) (λ part d. Served k (enter p) part d)
 unfolding serve_link
 served_link k p =
     takes_chain (read_phase k) (λ p log. parse_then (write_phase k p log) (close_phase k)) (λ p part q. Served k (enter p) part (enter q)) (λ p part d. Served k (enter p) part d) (λ p part d. Served k (enter p) part d)
@@ -294,7 +294,7 @@ served_at k s =
           (within_trans s part (with_slot_link k s d) [] (with_slot_link k s d)
           (record {
             inside = h.inside;
-            goes = put_goes k s l d part is h.alive h.devices (λ g queueing. h.own g (subst (λ o. OwingLink k g a.said o s.waiting) is queueing)) h.others h.fewer;
+            goes = put_goes k s l d part is h.alive h.devices (λ g queueing. h.own g (subst (λ o. OwingLink k g a.said o s.waiting) is queueing)) h.others (λ j other e. still_waits s.waiting d.environment.waiting k j other h.waits e);
           }) (within_refl (with_slot_link k s d))))
     ] refl
 

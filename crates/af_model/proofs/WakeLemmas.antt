@@ -19,7 +19,7 @@ use Rattle.af_world.specs.declared.happening.Wake.TheVariants.{Opened, Readable,
 use Rattle.af_world.specs.Log.{Log}
 use Rattle.af_wait.specs.Waits.{without_first}
 use Rattle.af_model.specs.State.{State, DeviceState, SlotState, LinkState, OpenLink, SlotLink, Deferral, link_in_slot, slot_link_at, lines_of, links_of, opened, outline, open_link, say, slot_at, some_slot, with_slot_link, with_device, with_slot, device_set}
-use Rattle.af_model.specs.Waiting.{falls_due, has_deferral}
+use Rattle.af_model.specs.Waiting.{falls_due}
 use Rattle.af_model.specs.Advance.{or_else}
 use Rattle.af_model.specs.Tick.{captured_samples, complete, complete_at, complete_by, complete_due, complete_first, complete_for, complete_step, enter, later, sound, tick}
 use Rattle.af_model.specs.Events.{dropped, event_at, hook_given, hook_refused, line_becomes, line_changes, mask_of, tell, tell_at, tell_from, tell_link, tell_open, tell_selected}
@@ -31,7 +31,7 @@ use Rattle.af_model.proofs.ListLemmas.{get-set_same}
 use Rattle.af_model.proofs.DeviceHistoryLemmas.{AllLive, Later, Laters, Lives, all_live_refl, all_live_with, later_passed, later_line, later_trans, laters_get, laters_lines, laters_refl, laters_trans, laters_with, live_laters, lives_line}
 use Rattle.af_model.proofs.DeadLemmas.{DeadAs, lives_dead, with_dead}
 use Rattle.af_model.proofs.LinkInvariantLemmas.{complete_keeps}
-use Rattle.af_model.proofs.OwedBytesLemmas.{Moved, Owed, moved_overrun, OwingAt, OwingLink, Owing, fewer_keeps, found_waits, grows_keeps, queueing_fewer, queueing_keeps, selects_undropped, waiting_undropped, waits_left}
+use Rattle.af_model.proofs.OwedBytesLemmas.{Moved, Owed, moved_overrun, OwingAt, OwingLink, Owing, SameOthers, found_waits, grows_keeps, queueing_fewer, queueing_keeps, others_keep, still_waits, selects_undropped, waiting_undropped, waits_left}
 use Rattle.af_model.proofs.PhasePartLemmas.{Takes, hook_takes, live_takes, takes_chain, takes_map, takes_nothing, takes_then}
 use Rattle.af_model.proofs.ServeLemmas.{Goes, Within, goes_refl, goes_trans, inner, put_goes, same_door, served_from, slot_other, within_refl, within_trans}
 
@@ -66,7 +66,11 @@ completed passes s w found =
           complete_keeps k (λ closing. is_dropped closing ≡ false) (Owing k g) (queueing_keeps k g) w.device w.deferred device p refl undropped
           (queueing_fewer k g a.said (Some l) s.waiting fewer.waiting (waits_left passes s.waiting k) here))
           (λ j other g. refl)
-          (λ j other. complete_keeps k (λ closing. Unit {0}) (λ q. has_deferral s.waiting j ≡ false → has_deferral q.environment.waiting j ≡ false) (fewer_keeps j k s.waiting other) w.device w.deferred device p refl tt (waits_left passes s.waiting j))
+          (λ j other e.
+          let q = complete_for w device p in
+          let same : SameOthers k fewer.waiting q.environment.waiting =
+          complete_keeps k (λ closing. Unit {0}) (λ q. SameOthers k fewer.waiting q.environment.waiting) (others_keep k fewer.waiting) w.device w.deferred device p refl tt refl in
+          still_waits fewer.waiting q.environment.waiting k j other same (waits_left passes s.waiting j e))
     ] refl
 
 abbrev GoesTo : State → Option State → Type 0
@@ -121,17 +125,17 @@ told k e p =
         | true ↦ λ u. record {
           devices = all_live_refl p.environment.devices;
           own = λ g h. (queueing_keeps k g).says p (event_bytes e p.link.sequence) (selects_undropped k e.device e.kind g p t h) h;
-          fewer = λ j other h. h;
+          others = refl;
         }
         | false ↦ λ u. moved_overrun k p (λ g h. selects_undropped k e.device e.kind g p t h) u
       ] refl
-      | false ↦ λ t. record { devices = all_live_refl p.environment.devices; own = λ g h. h; fewer = λ j other h. h }
+      | false ↦ λ t. record { devices = all_live_refl p.environment.devices; own = λ g h. h; others = refl }
     ] refl
 
 -- an open link moves, and nothing is taken
 moves_goes : (k : ℕ) (s : State) (l : LinkState) (d : SlotLink) → (slot_at k s).link ≡ Some l → Moved k (enter (open_link (slot_link_at k s).environment l)) d → Goes s [] (with_slot_link k s d)
 moves_goes k s l d is m =
-    put_goes k s l d [] is (λ c sofar. (refl, refl)) m.devices (λ g h. m.own g (subst (λ o. OwingLink k g (slot_at k s).said o s.waiting) is h)) (λ j other g. refl) m.fewer
+    put_goes k s l d [] is (λ c sofar. (refl, refl)) m.devices (λ g h. m.own g (subst (λ o. OwingLink k g (slot_at k s).said o s.waiting) is h)) (λ j other g. refl) (λ j other e. still_waits s.waiting d.environment.waiting k j other m.others e)
 
 tell_at-goes : (k : ℕ) (e : Event) (s : State) → Goes s [] (tell_at k e s)
 tell_at-goes k e s =
@@ -330,7 +334,7 @@ opens_goes f k s queued =
     let a = (slot_link_at k s).environment in
     elim (slot_at k s).link as (λ o. (slot_at k s).link ≡ o → Goes s [] (with_slot_link k s (link_in_slot a (in_open f o)))) [
       | None ↦ λ is. subst (Goes s []) (sym (ap (λ o. with_slot_link k s (link_in_slot a o)) (sym is) ∙ same_door k s)) (goes_refl s)
-      | Some l ↦ λ is. moves_goes k s l (link_in_slot a (Some (f l))) is (record { devices = all_live_refl s.devices; own = λ g h. queued g a.said l s.waiting h; fewer = λ j other h. h })
+      | Some l ↦ λ is. moves_goes k s l (link_in_slot a (Some (f l))) is (record { devices = all_live_refl s.devices; own = λ g h. queued g a.said l s.waiting h; others = refl })
     ] refl
 
 -- a wake that no link is opened by, and that takes nothing off

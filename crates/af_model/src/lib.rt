@@ -12,6 +12,7 @@ ghost use Rattle.af_world.specs.declared.script.Step.{Step};
 ghost use Rattle.af_world.specs.Log.{Log};
 ghost use Rattle.af_model.specs.State.{OpenLink, State, slot_at};
 ghost use Rattle.af_model.specs.Advance.{advance_step};
+ghost use Rattle.af_model.specs.Events.{without_waiter};
 ghost use Rattle.af_model.specs.Turn.{Parsed, serve_at};
 ghost use Rattle.af_model.specs.Script.{ScriptLog};
 ghost use Rattle.af_model.specs.Cutting.{CutsAlike};
@@ -30,11 +31,13 @@ pub fn one_log_law()
 
 /// A law of the definitions alone: a malformed client closes itself alone. Where taking off what stands at the front of its
 /// input closes a link for it, nothing in the link's environment changes, no device and no other request, all that is queued for the link
-/// still waits to be sent, and no more of its input is read. Serving a link, that one or any other, changes no other link.
+/// still waits to be sent, and no more of its input is read. Serving a link, that one or any other, changes no other link, and leaves
+/// the others that wait in their order.
 pub fn malformed_alone_law()
     ensures closes { (k : ℕ) (p q : OpenLink) → advance_step k p ≡ Some q → q.link.closing ≡ Some why.Malformed →
         (q.environment ≡ p.environment) × (q.link.pending ≡ p.link.pending) × (q.link.rest ≡ []) }
     ensures others { (k j : ℕ) (s : State) (log : Log) (b : Parsed State) → serve_at k s log ≡ Some b → j ≢ k → slot_at j b.state ≡ slot_at j s }
+    ensures order { (k : ℕ) (s : State) (log : Log) (b : Parsed State) → serve_at k s log ≡ Some b → without_waiter k b.state.waiting ≡ without_waiter k s.waiting }
 {}
 
 /// A law of the definitions alone, of cutting: what comes to a link in two pieces, one right after the other, makes of it and of

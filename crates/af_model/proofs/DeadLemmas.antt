@@ -1,6 +1,5 @@
 -- What a log shows of the devices and lines that are dead, and what of it stays.
 use Rattle.std.proofs.Common.{◌≡◌, ℕ, ◌==◌, ◌||◌, Bool, true, false, List, [], ◌∷◌, ◌++◌, option_map, slice_get, refl, sym, ap, ◌∙◌, subst, eqb-true, IfSome}
-use Rattle.std.proofs.lemmas.Bool.{eqb-false}
 use Rattle.std.proofs.lemmas.List.Sums.{fold-append}
 use Rattle.std.specs.List.{fold, list_any}
 use Rattle.std.specs.declared.option.Option.{Option}
@@ -8,11 +7,10 @@ use Rattle.std.specs.declared.option.Option.TheVariants.{None, Some}
 use Rattle.af_request.specs.declared.reply.Phone.{Phone}
 use Rattle.af_world.specs.declared.happening.Happening.{Happening}
 use Rattle.af_world.specs.Log.{Log}
-use Rattle.af_model.specs.State.{DeviceState, State, device_set, with_device}
+use Rattle.af_model.specs.State.{DeviceState, State, with_device}
 use Rattle.af_model.specs.Dead.{fails_device, fails_line}
-use Rattle.af_model.proofs.BoolTestLemmas.{none_some, some_is}
-use Rattle.af_model.proofs.ListLemmas.{get-set_other, get-set_same}
-use Rattle.af_model.proofs.DeviceHistoryLemmas.{AllLive, all_live_back}
+use Rattle.af_model.proofs.BoolTestLemmas.{some_is}
+use Rattle.af_model.proofs.DeviceHistoryLemmas.{AllLive, all_live_back, with_other, with_same}
 
 -- whether a happening, or one before it, fails
 abbrev pub died : (Happening → Bool) → Bool → Happening → Bool
@@ -76,28 +74,14 @@ lives_dead d x y ds es l h e there =
 
 -- the device at a number becomes another
 module _ (d : ℕ) (f : DeviceState → DeviceState) (devices : List DeviceState) where
-  with_same : (e : DeviceState) → slice_get (with_device d f devices) d ≡ Some e → (device : DeviceState) × (slice_get devices d ≡ Some device) × (f device ≡ e)
-  with_same e there =
-      elim (slice_get devices d) as (λ o. slice_get devices d ≡ o → slice_get (device_set d f devices o) d ≡ Some e → (device : DeviceState) × (slice_get devices d ≡ Some device) × (f device ≡ e)) [
-        | None ↦ λ was there. absurd (none_some (sym was ∙ there))
-        | Some device ↦ λ was there. (device, was, some_is (sym (get-set_same devices d device (f device) was) ∙ there))
-      ] refl there
-
-  with_other : (c : ℕ) → (d == c) ≡ false → slice_get (with_device d f devices) c ≡ slice_get devices c
-  with_other c other =
-      elim (slice_get devices d) as (λ o. slice_get (device_set d f devices o) c ≡ slice_get devices c) [
-        | None ↦ refl
-        | Some device ↦ get-set_other devices d c (f device) (λ same. eqb-false d c other (sym same))
-      ]
-
   pub with_dead : (c : ℕ) (x y u v : Bool) → ((device : DeviceState) → (d == c) ≡ true → IsAsDead x y device → IsAsDead u v (f device)) → ((d == c) ≡ false → (x ≡ u) × (y ≡ v)) →
       DeadIn c x y devices → DeadIn c u v (with_device d f devices)
   with_dead c x y u v here elsewhere h e there =
       elim (d == c) as (λ t. (d == c) ≡ t → IsAsDead u v e) [
         | true ↦ λ t.
-            let got = with_same e (subst (λ n. slice_get (with_device d f devices) n ≡ Some e) (sym (eqb-true d c t)) there) in
+            let got = with_same d f devices e (subst (λ n. slice_get (with_device d f devices) n ≡ Some e) (sym (eqb-true d c t)) there) in
             subst (λ z. IsAsDead u v z) got.2 (here got.0 t (h got.0 (subst (λ n. slice_get devices n ≡ Some got.0) (eqb-true d c t) got.1)))
         | false ↦ λ t.
             let same = elsewhere t in
-            subst (λ z. IsAsDead z v e) same.0 (subst (λ z. IsAsDead x z e) same.1 (h e (sym (with_other c t) ∙ there)))
+            subst (λ z. IsAsDead z v e) same.0 (subst (λ z. IsAsDead x z e) same.1 (h e (sym (with_other d f devices c t) ∙ there)))
       ] refl

@@ -1,6 +1,7 @@
 -- What becomes of devices: what is accepted stays, what is accepted later has a later time, no time falls, a line stays, and nothing dies
 -- but where a call failed.
 use Rattle.std.proofs.Common.{◌≡◌, ℕ, zero, suc, ◌≤◌, ◌==◌, Bool, true, false, cond, ℤ, List, [], ◌∷◌, ◌++◌, length, is_some, option_map, slice_get, slice_set, refl, sym, ap, ◌∙◌, subst, arith, append_assoc, append-nil}
+use Rattle.std.proofs.lemmas.Bool.{eqb-false}
 use Rattle.std.specs.List.{All, AllZip}
 use Rattle.std.proofs.lemmas.List.Elements.{All-nil, All-cons, All-append, All-weaker}
 use Rattle.std.specs.declared.option.Option.{Option}
@@ -10,6 +11,8 @@ use Rattle.af_request.specs.declared.reply.Phone.{Phone}
 use Rattle.af_model.specs.State.{DeviceState, Deferred, deferred_play, deferred_record, with_device, device_set, lines_of}
 use Rattle.af_model.specs.Play.{accepting}
 use Rattle.af_model.specs.Tick.{completing, later}
+use Rattle.af_model.proofs.BoolTestLemmas.{none_some, some_is}
+use Rattle.af_model.proofs.ListLemmas.{get-set_other, get-set_same}
 
 -- each of these was accepted at a time or later
 abbrev pub AtLeast : ℕ → List AcceptedPlay → Type 0
@@ -69,7 +72,7 @@ later_completing d (deferred_record c start frames) = later_same d (completing (
 pub later_passed : (d : DeviceState) (captured : List ℤ) (is_dead : Bool) → Later d (later captured is_dead d)
 later_passed d captured is_dead = record { more = []; accepted = sym (append-nil d.accepted); ats = none_more d.now; now = omega arith; line = refl }
 
--- A device that became later, and is as dead as it was, as its line is
+-- A device that became later at the same time, with the same rate, and is as dead as it was, as its line is
 
 -- whether its line is dead, if it has one
 abbrev pub dead_line : DeviceState → Option Bool
@@ -79,26 +82,33 @@ pub record Lives (d e : DeviceState) : Type 0 where
   pub later : Later d e
   pub dead : e.is_dead ≡ d.is_dead
   pub line_dead : dead_line e ≡ dead_line d
+  pub now : e.now ≡ d.now
+  pub rate : e.rate ≡ d.rate
 
 lives_refl : (d : DeviceState) → Lives d d
-lives_refl d = record { later = later_refl d; dead = refl; line_dead = refl }
+lives_refl d = record { later = later_refl d; dead = refl; line_dead = refl; now = refl; rate = refl }
 
 lives_trans : (d e f : DeviceState) → Lives d e → Lives e f → Lives d f
-lives_trans d e f l m = record { later = later_trans d e f l.later m.later; dead = m.dead ∙ l.dead; line_dead = m.line_dead ∙ l.line_dead }
+lives_trans d e f l m = record { later = later_trans d e f l.later m.later; dead = m.dead ∙ l.dead; line_dead = m.line_dead ∙ l.line_dead; now = m.now ∙ l.now; rate = m.rate ∙ l.rate }
 
 -- a line that becomes another, as dead as it was
 pub lives_line : (f : Phone → Phone) (d : DeviceState) → ((line : Phone) → (f line).dead ≡ line.dead) → Lives d (record d { line = option_map f d.line })
-lives_line f d alike = record { later = later_line f d; dead = refl; line_dead = mapped d.line }
+lives_line f d alike = record { later = later_line f d; dead = refl; line_dead = mapped d.line; now = refl; rate = refl }
   where
     mapped : (o : Option Phone) → option_map (λ line. line.dead) (option_map f o) ≡ option_map (λ line. line.dead) o
     mapped None = refl
     mapped (Some line) = ap (λ b. Some b) (alike line)
 
 pub lives_accepting : (d : DeviceState) (entry : AcceptedPlay) → entry.at ≡ d.now → Lives d (accepting entry d)
-lives_accepting d entry at = record { later = later_accepting d entry at; dead = refl; line_dead = refl }
+lives_accepting d entry at = record { later = later_accepting d entry at; dead = refl; line_dead = refl; now = refl; rate = refl }
 
 pub lives_completing : (d : DeviceState) (deferred : Deferred) → Lives d (completing deferred d)
-lives_completing d deferred = record { later = later_completing d deferred; dead = refl; line_dead = refl }
+lives_completing d deferred = record { later = later_completing d deferred; dead = refl; line_dead = refl; now = refl; rate = refl }
+
+-- what a request makes of a device
+pub record Requested (d e : DeviceState) : Type 0 where
+  pub lives : Lives d e
+  pub completed : e.completed ≡ d.completed
 
 -- All devices
 
@@ -111,7 +121,7 @@ module _ (R : DeviceState → DeviceState → Type 0) where
   zip_get (x ∷ ds) (y ∷ es) (suc i) d l there = zip_get ds es i d l.1 there
 
   -- a device was there before
-  zip_back : (ds es : List DeviceState) (i : ℕ) (e : DeviceState) → AllZip R ds es → slice_get es i ≡ Some e → (d : DeviceState) × (slice_get ds i ≡ Some d) × R d e
+  pub zip_back : (ds es : List DeviceState) (i : ℕ) (e : DeviceState) → AllZip R ds es → slice_get es i ≡ Some e → (d : DeviceState) × (slice_get ds i ≡ Some d) × R d e
   zip_back [] [] i e l there = absurd cc
   zip_back [] (y ∷ es) i e l there = absurd l
   zip_back (x ∷ ds) [] i e l there = absurd l
@@ -137,7 +147,7 @@ module _ (R : DeviceState → DeviceState → Type 0) (same : (d : DeviceState) 
   zip_set (x ∷ ds) (suc i) d e there l = (same x, zip_set ds i d e there l)
 
   -- the device at a number becomes another
-  zip_with : (i : ℕ) (f : DeviceState → DeviceState) (ds : List DeviceState) → ((d : DeviceState) → slice_get ds i ≡ Some d → R d (f d)) → AllZip R ds (with_device i f ds)
+  pub zip_with : (i : ℕ) (f : DeviceState → DeviceState) (ds : List DeviceState) → ((d : DeviceState) → slice_get ds i ≡ Some d → R d (f d)) → AllZip R ds (with_device i f ds)
   zip_with i f ds l =
       elim (slice_get ds i) as (λ o. slice_get ds i ≡ o → AllZip R ds (device_set i f ds o)) [
         | None ↦ λ there. zip_refl ds
@@ -177,6 +187,9 @@ all_live_trans = zip_trans Lives lives_trans
 pub all_live_with : (i : ℕ) (f : DeviceState → DeviceState) (ds : List DeviceState) → ((d : DeviceState) → slice_get ds i ≡ Some d → Lives d (f d)) → AllLive ds (with_device i f ds)
 all_live_with = zip_with Lives lives_refl
 
+pub all_live_get : (ds es : List DeviceState) (i : ℕ) (d : DeviceState) → AllLive ds es → slice_get ds i ≡ Some d → (e : DeviceState) × (slice_get es i ≡ Some e) × Lives d e
+all_live_get = zip_get Lives
+
 pub all_live_back : (ds es : List DeviceState) (i : ℕ) (e : DeviceState) → AllLive ds es → slice_get es i ≡ Some e → (d : DeviceState) × (slice_get ds i ≡ Some d) × Lives d e
 all_live_back = zip_back Lives
 
@@ -185,3 +198,22 @@ live_laters [] [] l = tt
 live_laters [] (e ∷ es) l = absurd l
 live_laters (d ∷ ds) [] l = absurd l
 live_laters (d ∷ ds) (e ∷ es) l = (l.0.later, live_laters ds es l.1)
+
+-- the device at a number becomes another
+module _ (d : ℕ) (f : DeviceState → DeviceState) (devices : List DeviceState) where
+  pub with_same : (e : DeviceState) → slice_get (with_device d f devices) d ≡ Some e → (device : DeviceState) × (slice_get devices d ≡ Some device) × (f device ≡ e)
+  with_same e there =
+      elim (slice_get devices d) as (λ o. slice_get devices d ≡ o → slice_get (device_set d f devices o) d ≡ Some e → (device : DeviceState) × (slice_get devices d ≡ Some device) × (f device ≡ e)) [
+        | None ↦ λ was there. absurd (none_some (sym was ∙ there))
+        | Some device ↦ λ was there. (device, was, some_is (sym (get-set_same devices d device (f device) was) ∙ there))
+      ] refl there
+
+  pub with_other : (c : ℕ) → (d == c) ≡ false → slice_get (with_device d f devices) c ≡ slice_get devices c
+  with_other c other =
+      elim (slice_get devices d) as (λ o. slice_get (device_set d f devices o) c ≡ slice_get devices c) [
+        | None ↦ refl
+        | Some device ↦ get-set_other devices d c (f device) (λ same. eqb-false d c other (sym same))
+      ]
+
+  pub with_there : (device : DeviceState) → slice_get devices d ≡ Some device → slice_get (with_device d f devices) d ≡ Some (f device)
+  with_there device there = ap (λ o. slice_get (device_set d f devices o) d) there ∙ get-set_same devices d device (f device) there

@@ -8,6 +8,8 @@ pub mod DeterminismLemmas
 pub mod StepLemmas
 pub mod OneLogLemmas
 pub mod DeviceHistoryLemmas
+pub mod DueLemmas
+pub mod FrameSizeLemmas
 pub mod RequestLemmas
 pub mod CuttingLawLemmas
 pub mod InputLemmas
@@ -15,6 +17,8 @@ pub mod CauseLemmas
 pub mod LinkInvariantLemmas
 pub mod PhasePartLemmas
 pub mod OwedBytesLemmas
+pub mod SafeLemmas
+pub mod CompletionLemmas
 pub mod DeadLemmas
 pub mod ServeLemmas
 pub mod WakeLemmas

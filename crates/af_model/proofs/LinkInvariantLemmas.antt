@@ -1,5 +1,5 @@
 -- What holds of a link and its environment, and goes on to hold through all that the link does.
-use Rattle.std.proofs.Common.{◌≡◌, ℕ, zero, suc, Bool, true, false, not, cond, ◌&&◌, nat_le, List, length, take, is_none, is_some, slice_get, refl, ap, ◌∙◌, IfSome}
+use Rattle.std.proofs.Common.{◌≡◌, ◌≤◌, ℕ, zero, suc, Bool, true, false, not, cond, ◌&&◌, nat_le, List, length, take, is_none, is_some, slice_get, refl, ap, ◌∙◌, IfSome}
 use Rattle.std.specs.declared.option.Option.{Option}
 use Rattle.std.specs.declared.option.Option.TheVariants.{None, Some}
 use Rattle.af_world.specs.declared.happening.Why.{Why}
@@ -23,7 +23,9 @@ use Rattle.af_model.specs.Tick.{answer_deferred, complete_for, completing}
 use Rattle.af_model.specs.Prefix.{is_dropped}
 use Rattle.af_model.specs.Causes.{is_malformed}
 use Rattle.af_model.proofs.BoolTestLemmas.{both-true, none-true}
-use Rattle.af_model.proofs.DeviceHistoryLemmas.{Lives, lives_completing}
+use Rattle.af_model.proofs.DeviceHistoryLemmas.{Requested}
+use Rattle.af_model.proofs.DueLemmas.{IsToWait, most_asked}
+use Rattle.af_model.proofs.FrameSizeLemmas.{frame_asks}
 use Rattle.af_model.proofs.InputLemmas.{IsBadInput}
 use Rattle.af_model.proofs.RequestLemmas.{chosen, done_both}
 
@@ -37,8 +39,8 @@ pub record Keeps (k : ℕ) (May : Option Why → Type 0) (I : OpenLink → Type 
   pub sets_up : (p : OpenLink) → p.link.closing ≡ None → p.link.is_set_up ≡ false → setup_front p.link.rest ≡ front.Setup → I p → I (open_link p.environment (record (without_front 8 p.link) { is_set_up = true }))
   pub stops : (p : OpenLink) (cause : Why) → p.link.closing ≡ None → IsBadInput cause p.link → I p → I (open_link p.environment (stopped cause p.link))
   pub says : (p : OpenLink) (bytes : List ℕ) → May p.link.closing → I p → I (say p bytes)
-  pub becomes : (p : OpenLink) (d : ℕ) (device : DeviceState) (f : DeviceState → DeviceState) → slice_get p.environment.devices d ≡ Some device → Lives device (f device) → I p → I (in_devices d f p)
-  pub waits : (p : OpenLink) (d : ℕ) (deferred : Deferred) → p.link.closing ≡ None → I p → I (wait k d deferred p)
+  pub becomes : (p : OpenLink) (d : ℕ) (device : DeviceState) (f : DeviceState → DeviceState) → slice_get p.environment.devices d ≡ Some device → Requested device (f device) → I p → I (in_devices d f p)
+  pub waits : (p : OpenLink) (d : ℕ) (device : DeviceState) (deferred : Deferred) → slice_get p.environment.devices d ≡ Some device → IsToWait 16384 device deferred → p.link.closing ≡ None → I p → I (wait k d deferred p)
 
 pub open_undropped : (closing : Option Why) → closing ≡ None → is_dropped closing ≡ false
 open_undropped closing e = ap is_dropped e
@@ -48,22 +50,22 @@ takes_more_open waits l e =
     none-true l.closing (both-true (is_none l.closing) (nat_le (length l.pending) 16384) (both-true (not waits) (is_none l.closing && nat_le (length l.pending) 16384) e).1).0
 
 module _ (k : ℕ) (May : Option Why → Type 0) (I : OpenLink → Type 0) (kept : Keeps k May I) where
-  request_keeps : (request : Asked) (p : OpenLink) → p.link.closing ≡ None → I p → I (perform k request p)
-  request_keeps request p none h =
+  request_keeps : (request : Asked) (p : OpenLink) → most_asked request ≤ 16384 → p.link.closing ≡ None → I p → I (perform k request p)
+  request_keeps request p short none h =
       let q = open_link p.environment (request_counted p.link) in
       let i : I q = kept.link p (request_counted p.link) none none refl refl refl h in
       let may = kept.may p.link.closing (open_undropped p.link.closing none) in
-      done_both k q q.link.rest (λ u v. I u) i
+      done_both k q q.link.rest 16384 (λ u v. I u) i
       (λ contexts selections bytes. kept.says (chosen contexts selections q) bytes may (kept.link q (chosen contexts selections q).link none none refl refl refl i))
       (λ d device f there l. kept.becomes q d device f there l i)
       (λ d device f bytes there l. kept.says (in_devices d f q) bytes may (kept.becomes q d device f there l i))
-      (λ d deferred. kept.waits q d deferred none i) request
+      (λ d device deferred there w. kept.waits q d device deferred there w none i) request short
 
   -- a frame is a request, or closes the link
   asked_keeps : (o : Option Asked) (n : ℕ) (p : OpenLink) → asked_in (take n p.link.rest) ≡ o → frame_front p.link.rest ≡ Frame n → p.link.is_set_up ≡ true → p.link.closing ≡ None → I p →
       I (requested k o (open_link p.environment (without_front n p.link)))
   asked_keeps None n p asked e set none h = kept.stops p why.Malformed none (set, ap (λ f. is_malformed f p.link.rest) e ∙ ap is_none asked) h
-  asked_keeps (Some request) n p asked e set none h = request_keeps request (open_link p.environment (without_front n p.link)) none (kept.takes p n none set e (ap is_some asked) h)
+  asked_keeps (Some request) n p asked e set none h = request_keeps request (open_link p.environment (without_front n p.link)) (frame_asks p.link.rest n request e asked) none (kept.takes p n none set e (ap is_some asked) h)
 
   frame_keeps : (f : Front) (p : OpenLink) → frame_front p.link.rest ≡ f → p.link.is_set_up ≡ true → p.link.closing ≡ None → I p → IfSome (after_frame k f p) I
   frame_keeps NeedMore p e set none h = tt
@@ -104,9 +106,9 @@ module _ (k : ℕ) (May : Option Why → Type 0) (I : OpenLink → Type 0) (kept
   answer_keeps (deferred_record c start frames) device p may h = kept.says p _ may h
 
   -- a request of the link that had waited completes
-  pub complete_keeps : (d : ℕ) (deferred : Deferred) (o : Option DeviceState) (p : OpenLink) → slice_get p.environment.devices d ≡ o → May p.link.closing → I p →
-      I (complete_for (record { link = k; device = d; deferred = deferred }) o p)
-  complete_keeps d deferred None p there may h = h
-  complete_keeps d deferred (Some device) p there may h =
+  pub complete_keeps : (d : ℕ) (deferred : Deferred) (o : Option DeviceState) (p : OpenLink) → slice_get p.environment.devices d ≡ o → ((device : DeviceState) → slice_get p.environment.devices d ≡ Some device → I p → I (in_devices d (completing deferred) p)) →
+      May p.link.closing → I p → I (complete_for (record { link = k; device = d; deferred = deferred }) o p)
+  complete_keeps d deferred None p there completes may h = h
+  complete_keeps d deferred (Some device) p there completes may h =
       let q = in_devices d (completing deferred) p in
-      advance_keeps (answer_deferred deferred device q) (answer_keeps deferred device q may (kept.becomes p d device (completing deferred) there (lives_completing device deferred) h))
+      advance_keeps (answer_deferred deferred device q) (answer_keeps deferred device q may (completes device there h))

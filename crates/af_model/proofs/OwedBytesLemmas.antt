@@ -22,6 +22,7 @@ use Rattle.af_model.proofs.BoolTestLemmas.{cond-some}
 use Rattle.af_model.proofs.InputLemmas.{IsBadInput, IsInput, input_more, input_set_up, input_taken}
 use Rattle.af_model.proofs.CauseLemmas.{IsUnended, Shows, ShowsBy, cause_alike, no_room, owed_at_close, shows_at_close, shows_bad, shows_owed, shows_taken, shows_unfailed}
 use Rattle.af_model.proofs.DeviceHistoryLemmas.{AllLive, Lives, all_live_refl, all_live_trans, all_live_with}
+use Rattle.af_model.proofs.SafeLemmas.{SafeIn, safe_dropped, safe_keeps}
 use Rattle.af_model.proofs.LinkInvariantLemmas.{Keeps, open_undropped}
 
 pub not_both : {A : Type 0} (t : Bool) → t ≡ false → t ≡ true → A
@@ -206,7 +207,7 @@ queueing_keeps k g = record {
     unclosed = h.unclosed;
   };
   becomes = λ p d device f there l h. h;
-  waits = λ p d deferred open' h. record {
+  waits = λ p d device deferred there w open' h. record {
     rest = h.rest;
     whole = h.whole;
     queued = h.queued;
@@ -357,8 +358,8 @@ grows_keeps k ds = record {
   sets_up = λ p open' unset e h. h;
   stops = λ p cause open' bad h. h;
   says = λ p bytes stays h. h;
-  becomes = λ p d device f there l h. all_live_trans ds p.environment.devices _ h (all_live_with d f p.environment.devices (λ x is. subst (λ y. Lives y (f y)) (some_same is there) l));
-  waits = λ p d deferred open' h. h;
+  becomes = λ p d device f there l h. all_live_trans ds p.environment.devices _ h (all_live_with d f p.environment.devices (λ x is. subst (λ y. Lives y (f y)) (some_same is there) l.lives));
+  waits = λ p d device deferred there w open' h. h;
 }
   where
     some_same : {a b : DeviceState} {o : Option DeviceState} → o ≡ Some a → o ≡ Some b → b ≡ a
@@ -377,7 +378,7 @@ others_keep k ws = record {
   stops = λ p cause open' bad h. h;
   says = λ p bytes stays h. h;
   becomes = λ p d device f there l h. h;
-  waits = λ p d deferred open' h. own_waits p.environment.waiting k (record { link = k; device = d; deferred = deferred }) (same_number k) ∙ h;
+  waits = λ p d device deferred there w open' h. own_waits p.environment.waiting k (record { link = k; device = d; deferred = deferred }) (same_number k) ∙ h;
 }
 
 -- What becomes of a link and its environment, if nothing is taken: devices become later, what is queued for it stays so, and
@@ -386,12 +387,14 @@ pub record Moved (j : ℕ) (d e : SlotLink) : Type 0 where
   pub devices : AllLive d.environment.devices e.environment.devices
   pub own : (g : LinkHistory) → QueuedSlot j g d → QueuedSlot j g e
   pub others : SameOthers j d.environment.waiting e.environment.waiting
+  pub safe : SafeIn 0 0 d.environment → SafeIn 0 0 e.environment
 
 pub moved_of : (j : ℕ) (p q : OpenLink) → ((May : Option Why → Type 0) (I : OpenLink → Type 0) → Keeps j May I → I p → I q) → Moved j (enter p) (enter q)
 moved_of j p q go = record {
   devices = go (λ closing. Unit {0}) (λ x. AllLive p.environment.devices x.environment.devices) (grows_keeps j p.environment.devices) (all_live_refl p.environment.devices);
   own = λ g h. go (λ closing. is_dropped closing ≡ false) (Owing j g) (queueing_keeps j g) h;
   others = go (λ closing. Unit {0}) (λ x. SameOthers j p.environment.waiting x.environment.waiting) (others_keep j p.environment.waiting) refl;
+  safe = λ h. go (λ closing. Unit {0}) (λ x. SafeIn 0 0 x.environment) (safe_keeps j 0 0) h;
 }
 
 -- an event found no room
@@ -400,4 +403,5 @@ moved_overrun k p stays full = record {
   devices = all_live_refl p.environment.devices;
   own = λ g h. queued_overrun k g p (stays g h) full h;
   others = own_left p.environment.waiting k;
+  safe = λ h. safe_dropped k p.environment.devices p.environment.waiting h;
 }

@@ -26,6 +26,7 @@ use Rattle.af_model.proofs.ListLemmas.{get-set_other, get-set_same}
 use Rattle.af_model.proofs.DeviceHistoryLemmas.{AllLive, Laters, all_live_refl, all_live_trans, laters_refl, laters_trans, live_laters}
 use Rattle.af_model.proofs.DeadLemmas.{DeadAs, DeadIn, NoneFails, died, died_device, died_line, lives_dead, none_fails-append}
 use Rattle.af_model.proofs.LinkInvariantLemmas.{advance_keeps, takes_more_open}
+use Rattle.af_model.proofs.SafeLemmas.{SafeIn, SafeState, safe_dropped}
 use Rattle.af_model.proofs.OwedBytesLemmas.{Moved, Owing, OwingAt, QueuedSlot, OwingLink, moved_of, queued_closed, queued_ended, queued_failed, queued_given, queued_taken, queueing_fewer, queueing_keeps, same_number, sending_undropped, own_left, still_waits, SameOthers}
 use Rattle.af_model.proofs.PhasePartLemmas.{Takes, close_takes, read_takes, takes_chain, takes_nothing, takes_then, write_takes}
 
@@ -47,7 +48,8 @@ inner-append (h ∷ p) q a b = let both = both-true (is_inner h) (inner p) a in 
 -- One link
 
 -- What serving link j makes of it and its environment, and of its history: what is queued for it and what its history shows stay so; of
--- other links nothing is shown, and they wait as they did; and no device and no line fails.
+-- other links nothing is shown, and they wait as they did; no device and no line fails; and nothing
+-- that waits is due.
 pub record Served (j : ℕ) (d : SlotLink) (part : Log) (e : SlotLink) : Type 0 where
   pub inside : inner part ≡ true
   pub alive : NoneFails part
@@ -55,6 +57,7 @@ pub record Served (j : ℕ) (d : SlotLink) (part : Log) (e : SlotLink) : Type 0 
   pub own : (g : LinkHistory) → QueuedSlot j g d → QueuedSlot j (fold (noted j) g part) e
   pub others : (k : ℕ) → (j == k) ≡ false → (g : LinkHistory) → fold (noted k) g part ≡ g
   pub waits : SameOthers j d.environment.waiting e.environment.waiting
+  pub safe : SafeIn 0 0 d.environment → SafeIn 0 0 e.environment
 
 -- nothing happens
 served_refl : (j : ℕ) (d : SlotLink) → Served j d [] d
@@ -65,6 +68,7 @@ served_refl j d = record {
   own = λ g h. h;
   others = λ k other g. refl;
   waits = refl;
+  safe = λ h. h;
 }
 
 served_trans : (j : ℕ) (a : SlotLink) (p : Log) (b : SlotLink) (q : Log) (c : SlotLink) → Served j a p b → Served j b q c → Served j a (p ++ q) c
@@ -75,6 +79,7 @@ served_trans j a p b q c s t = record {
   own = λ g h. subst (λ x. QueuedSlot j x c) (sym (fold-append (noted j) g p q)) (t.own (fold (noted j) g p) (s.own g h));
   others = λ k other g. fold-append (noted k) g p q ∙ t.others k other (fold (noted k) g p) ∙ s.others k other g;
   waits = t.waits ∙ s.waits;
+  safe = λ h. t.safe (s.safe h);
 }
 
 -- Reads
@@ -88,6 +93,7 @@ record HasRead (k : ℕ) (p : OpenLink) (got : ReadGot) (q : OpenLink) : Type 0 
   devices : AllLive p.environment.devices q.environment.devices
   own : (g : LinkHistory) → Owing k g p → Owing k (read_noted got g) q
   waits : SameOthers k p.environment.waiting q.environment.waiting
+  safe : SafeIn 0 0 p.environment → SafeIn 0 0 q.environment
 
 has_read : (k : ℕ) (p : OpenLink) (got : ReadGot) → wants_read (has_deferral p.environment.waiting k) p.link ≡ true → HasRead k p got (after_read k got p)
 has_read k p (Given bytes) w =
@@ -95,18 +101,19 @@ has_read k p (Given bytes) w =
     let q : OpenLink = open_link p.environment (record p.link { rest = p.link.rest ++ bytes }) in
     let m : Moved k (enter q) (enter (advance k q)) = moved_of k q (advance k q) (λ May I kept h. advance_keeps k May I kept q h) in
     let same : absorb k bytes p ≡ advance k q = ap (λ t. cond t (advance k q) p) (ap is_none none) in
-    subst (HasRead k p (Given bytes)) (sym same) (record { devices = m.devices; own = λ g h. m.own (read_noted (Given bytes) g) (queued_given k g bytes p none h); waits = m.others })
+    subst (HasRead k p (Given bytes)) (sym same) (record { devices = m.devices; own = λ g h. m.own (read_noted (Given bytes) g) (queued_given k g bytes p none h); waits = m.others; safe = m.safe })
 has_read k p NotYet w =
     let none = read_open k p w in
     record {
       devices = all_live_refl p.environment.devices;
       own = λ g h. (queueing_keeps k g).link p (after_read k NotYet p).link none none refl refl refl h;
       waits = refl;
+      safe = λ h. h;
     }
 has_read k p Ended w =
-    record { devices = all_live_refl p.environment.devices; own = λ g h. queued_ended k g p (read_open k p w) h; waits = refl }
+    record { devices = all_live_refl p.environment.devices; own = λ g h. queued_ended k g p (read_open k p w) h; waits = refl; safe = λ h. h }
 has_read k p Failed w =
-    record { devices = all_live_refl p.environment.devices; own = λ g h. queued_failed k g p h; waits = own_left p.environment.waiting k }
+    record { devices = all_live_refl p.environment.devices; own = λ g h. queued_failed k g p h; waits = own_left p.environment.waiting k; safe = λ h. safe_dropped k p.environment.devices p.environment.waiting h }
 
 served_got : (k : ℕ) (p q : OpenLink) (got : ReadGot) → HasRead k p got q → Served k (enter p) (Read k got ∷ []) (enter q)
 served_got k p q got r = record {
@@ -116,6 +123,7 @@ served_got k p q got r = record {
   own = λ g h. subst (λ x. QueuedSlot k x (enter q)) (sym (ap (λ t. cond t (read_noted got g) g) (same_number k))) (r.own g h);
   others = λ j other g. ap (λ t. cond t (read_noted got g) g) other;
   waits = r.waits;
+  safe = r.safe;
 }
 
 served_read : (k : ℕ) (p : OpenLink) → Takes (read_phase k p) (λ part q. Served k (enter p) part (enter q))
@@ -145,6 +153,7 @@ served_wrote k p offered bytes part r w front s =
           subst (λ t. QueuedSlot k (fold (noted k) (cond t f g) part) r) (sym (same_number k)) (s.own f (m.own f (queued_taken k g bytes p left.link undropped refl refl refl (front_back bytes p.link.pending front) h)));
       others = λ j other g. ap (λ t. fold (noted j) (cond t (write_noted (Some bytes) g) g) part) other ∙ s.others j other g;
       waits = s.waits ∙ m.others;
+      safe = λ h. s.safe (m.safe h);
     }
 
 -- a write that failed, and what follows it
@@ -158,6 +167,7 @@ served_failed k p offered part r s = record {
       subst (λ t. QueuedSlot k (fold (noted k) (cond t f g) part) r) (sym (same_number k)) (s.own f (queued_failed k g p h));
   others = λ j other g. ap (λ t. fold (noted j) (cond t (write_noted None g) g) part) other ∙ s.others j other g;
   waits = s.waits ∙ own_left p.environment.waiting k;
+  safe = λ h. s.safe (safe_dropped k p.environment.devices p.environment.waiting h);
 }
 
 served_one : (k : ℕ) (p q : OpenLink) (h : Happening) → wants_write p.link ≡ true → write_by k p h ≡ Some q → (part : Log) (r : OpenLink) → Served k (enter q) part (enter r) → Served k (enter p) (h ∷ part) (enter r)
@@ -192,6 +202,7 @@ served_close k p =
       own = λ g h. subst (λ x. QueuedSlot k x (link_in_slot p.environment None)) (sym (ap (λ t. cond t (record g { closed = Some cause }) g) (same_number k))) (queued_closed k g p cause due h);
       others = λ j other g. ap (λ t. cond t (record g { closed = Some cause }) g) other;
       waits = refl;
+      safe = λ h. h;
     })
 
 pub served_link : (k : ℕ) (p : OpenLink) → Takes (serve_link k p) (λ part d. Served k (enter p) part d)
@@ -205,14 +216,15 @@ served_link k p =
 -- A state
 
 -- What a part of a log makes of a state: devices become later, and are dead where the part shows it; what is queued for each link, and
--- what its history shows, stay so.
+-- what its history shows, stay so; and nothing that waits is due.
 pub record Goes (s : State) (part : Log) (t : State) : Type 0 where
   pub devices : Laters s.devices t.devices
   pub deaths : (d : ℕ) (x y : Bool) → DeadAs d x y s → DeadAs d (died_device d x part) (died_line d y part) t
   pub queued : (k : ℕ) (g : LinkHistory) → OwingAt k g s → OwingAt k (fold (noted k) g part) t
+  pub safe : SafeState 0 0 s → SafeState 0 0 t
 
 pub goes_refl : (s : State) → Goes s [] s
-goes_refl s = record { devices = laters_refl s.devices; deaths = λ d x y h. h; queued = λ k g h. h }
+goes_refl s = record { devices = laters_refl s.devices; deaths = λ d x y h. h; queued = λ k g h. h; safe = λ h. h }
 
 pub goes_trans : (s : State) (p : Log) (t : State) (q : Log) (u : State) → Goes s p t → Goes t q u → Goes s (p ++ q) u
 goes_trans s p t q u a b = record {
@@ -221,6 +233,7 @@ goes_trans s p t q u a b = record {
       subst (λ z. DeadAs d z (died_line d y (p ++ q)) u) (sym (fold-append (died (fails_device d)) x p q)) (subst (λ z. DeadAs d (died_device d (died_device d x p) q) z u) (sym (fold-append (died (fails_line d)) y p q))
       (b.deaths d (died_device d x p) (died_line d y p) (a.deaths d x y h)));
   queued = λ k g h. subst (λ x. OwingAt k x u) (sym (fold-append (noted k) g p q)) (b.queued k (fold (noted k) g p) (a.queued k g h));
+  safe = λ h. b.safe (a.safe h);
 }
 
 -- devices that are as dead as they were, behind a part in which nothing fails
@@ -250,8 +263,8 @@ same_door k s = ap (λ slots. record s { slots = slots }) (slot_same s.slots k)
 
 -- another link in the slot of an open one
 pub put_goes : (j : ℕ) (s : State) (l : LinkState) (d : SlotLink) (part : Log) → (slot_at j s).link ≡ Some l → NoneFails part → AllLive s.devices d.environment.devices → ((g : LinkHistory) → OwingAt j g s → QueuedSlot j (fold (noted j) g part) d) →
-    ((k : ℕ) → (j == k) ≡ false → (g : LinkHistory) → fold (noted k) g part ≡ g) → ((k : ℕ) → (j == k) ≡ false → has_deferral s.waiting k ≡ false → has_deferral d.environment.waiting k ≡ false) → Goes s part (with_slot_link j s d)
-put_goes j s l d part is alive devices own others fewer =
+    ((k : ℕ) → (j == k) ≡ false → (g : LinkHistory) → fold (noted k) g part ≡ g) → ((k : ℕ) → (j == k) ≡ false → has_deferral s.waiting k ≡ false → has_deferral d.environment.waiting k ≡ false) → (SafeState 0 0 s → SafeIn 0 0 d.environment) → Goes s part (with_slot_link j s d)
+put_goes j s l d part is alive devices own others fewer safe =
     let slot : SlotState = record { link = d.link; said = d.environment.said } in
     record {
       devices = live_laters s.devices d.environment.devices devices;
@@ -266,6 +279,7 @@ put_goes j s l d part is alive devices own others fewer =
             (subst (λ (x : SlotState). OwingLink k g x.said x.link d.environment.waiting) (sym (slot_other s.slots j k slot e))
             (queueing_fewer k g (slot_at k s).said (slot_at k s).link s.waiting d.environment.waiting (fewer k e) h))
       ] refl;
+      safe = safe;
     }
 
 -- the same within a turn
@@ -294,7 +308,7 @@ served_at k s =
           (within_trans s part (with_slot_link k s d) [] (with_slot_link k s d)
           (record {
             inside = h.inside;
-            goes = put_goes k s l d part is h.alive h.devices (λ g queueing. h.own g (subst (λ o. OwingLink k g a.said o s.waiting) is queueing)) h.others (λ j other e. still_waits s.waiting d.environment.waiting k j other h.waits e);
+            goes = put_goes k s l d part is h.alive h.devices (λ g queueing. h.own g (subst (λ o. OwingLink k g a.said o s.waiting) is queueing)) h.others (λ j other e. still_waits s.waiting d.environment.waiting k j other h.waits e) h.safe;
           }) (within_refl (with_slot_link k s d))))
     ] refl
 

@@ -5,6 +5,8 @@ mod refusal;
 
 ghost use Rattle.std.specs.Prelude.{◌≡◌, ◌≢◌, ℕ, List, []};
 ghost use Rattle.std.specs.declared.option.Option.TheVariants.{Some};
+ghost use Rattle.std.specs.List.{All};
+ghost use Rattle.af_sample.specs.Rates.{IsListedRate};
 ghost use Rattle.af_world.specs.declared.happening.Why.{Why};
 ghost use Rattle.af_world.specs.declared.happening.Why.TheVariants as why;
 ghost use Rattle.af_world.specs.declared.script.DeviceSpec.{DeviceSpec};
@@ -21,6 +23,7 @@ ghost use Rattle.af_model.specs.Prefix.{TakesInOrder};
 ghost use Rattle.af_model.specs.Causes.{ClosesForCauses, IsCause};
 ghost use Rattle.af_model.specs.Dead.{IsDeadWhereFailed};
 ghost use Rattle.af_model.specs.Fold.{MixesAll};
+ghost use Rattle.af_model.specs.NoLoss.{RunLosesNone};
 
 pub use refusal::{Refusal, RefusalCause};
 
@@ -70,4 +73,10 @@ pub fn cause_law()
 /// or an emit of the device, a hook of the line, and no others.
 pub fn dead_law()
     ensures { (config : List DeviceSpec) (log : Log) → IsDeadWhereFailed config log }
+{}
+
+/// A law of the definitions alone, of requests that wait: with devices of listed rates, no run loses a sample of one. A play is
+/// accepted no later than its start, and a record is answered before a time of it has gone further back than the horizon.
+pub fn no_loss_law()
+    ensures { (config : List DeviceSpec) (log : Log) → All (λ c. IsListedRate c.rate) config → RunLosesNone config log }
 {}

@@ -12,6 +12,7 @@ use Rattle.af_request.specs.Asked.{Asked}
 use Rattle.af_request.specs.Requests.{asked_in}
 use Rattle.af_model.specs.Waiting.{has_deferral}
 use Rattle.af_model.specs.Perform.{perform, request_counted}
+use Rattle.af_model.proofs.DueLemmas.{most_asked}
 use Rattle.af_model.proofs.RequestLemmas.{done_both}
 use Rattle.af_model.specs.Advance.{advance, advance_by, advance_step, after_frame, after_setup, after_front, takes_more, requested, without_front, or_else}
 
@@ -27,11 +28,11 @@ setup_within xs = grind arith
 
 pub perform_rest : (k : ℕ) (request : Asked) (p : OpenLink) → (perform k request p).link.rest ≡ p.link.rest
 perform_rest k request p =
-    done_both k (open_link p.environment (request_counted p.link)) p.link.rest (λ u v. u.link.rest ≡ p.link.rest) refl (λ contexts selections bytes. refl) (λ d device f there l. refl) (λ d device f bytes there l. refl) (λ d deferred. refl) request
+    done_both k (open_link p.environment (request_counted p.link)) p.link.rest (most_asked request) (λ u v. u.link.rest ≡ p.link.rest) refl (λ contexts selections bytes. refl) (λ d device f there l. refl) (λ d device f bytes there l. refl) (λ d device deferred there w. refl) request (omega arith)
 
 pub perform_closing : (k : ℕ) (request : Asked) (p : OpenLink) → (perform k request p).link.closing ≡ p.link.closing
 perform_closing k request p =
-    done_both k (open_link p.environment (request_counted p.link)) p.link.rest (λ u v. u.link.closing ≡ p.link.closing) refl (λ contexts selections bytes. refl) (λ d device f there l. refl) (λ d device f bytes there l. refl) (λ d deferred. refl) request
+    done_both k (open_link p.environment (request_counted p.link)) p.link.rest (most_asked request) (λ u v. u.link.closing ≡ p.link.closing) refl (λ contexts selections bytes. refl) (λ d device f there l. refl) (λ d device f bytes there l. refl) (λ d device deferred there w. refl) request (omega arith)
 
 requested_rest : (k : ℕ) (o : Option Asked) (p : OpenLink) → length (requested k o p).link.rest ≤ length p.link.rest
 requested_rest k None p = omega arith

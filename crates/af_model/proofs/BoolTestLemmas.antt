@@ -1,8 +1,11 @@
 -- What tests that came out true say.
-use Rattle.std.proofs.Common.{◌≡◌, ℕ, Bool, true, false, not, cond, ◌&&◌, ◌==◌, List, [], ◌∷◌, is_none, refl, eqb-true}
+use Rattle.std.proofs.Common.{◌≡◌, ℕ, zero, suc, Bool, true, false, not, cond, ◌&&◌, ◌==◌, List, [], ◌∷◌, is_none, refl, sym, ap, ◌∙◌, eqb-true}
 use Rattle.std.specs.declared.option.Option.{Option}
 use Rattle.std.specs.declared.option.Option.TheVariants.{None, Some}
+use Rattle.af_world.specs.declared.happening.Why.{Why}
+use Rattle.af_world.specs.declared.happening.Why.TheVariants as why
 use Rattle.af_world.specs.Outside.{same_bytes}
+use Rattle.af_model.specs.Turn.{number_of_why, same_why}
 
 pub cond-some : {A : Type 0} (t : Bool) (x : Option A) (b : A) → cond t x None ≡ Some b → (t ≡ true) × (x ≡ Some b)
 cond-some true x b e = (refl, e)
@@ -39,3 +42,22 @@ same_bytes-true (x ∷ xs) (y ∷ ys) e =
     let h : x ≡ y = eqb-true x y t.0 in
     let r : xs ≡ ys = same_bytes-true xs ys t.1 in
     cc
+
+-- the cause with a number
+cause_of : ℕ → Why
+cause_of zero = why.BadSetup
+cause_of (suc zero) = why.Malformed
+cause_of (suc (suc zero)) = why.Ended
+cause_of (suc (suc (suc zero))) = why.LinkFault
+cause_of (suc (suc (suc (suc n)))) = why.Overrun
+
+cause_of-number : (a : Why) → cause_of (number_of_why a) ≡ a
+unfolding cause_of
+cause_of-number why.BadSetup = refl
+cause_of-number why.Malformed = refl
+cause_of-number why.Ended = refl
+cause_of-number why.LinkFault = refl
+cause_of-number why.Overrun = refl
+
+pub same_why-true : (a b : Why) → same_why a b ≡ true → a ≡ b
+same_why-true a b e = sym (cause_of-number a) ∙ ap cause_of (eqb-true (number_of_why a) (number_of_why b) e) ∙ cause_of-number b

@@ -19,11 +19,12 @@ use Rattle.af_model.specs.Perform.{perform, request_counted}
 use Rattle.af_model.specs.Advance.{absorb, advance, advance_step, after_frame, after_front, after_setup, requested, takes_more, without_front}
 use Rattle.af_model.specs.Cutting.{CutsAlike}
 use Rattle.af_model.proofs.AdvanceLemmas.{IsShorter, advance-none, advance-some, frame_within, perform_closing, setup_within, step_shorter}
+use Rattle.af_model.proofs.DueLemmas.{most_asked}
 use Rattle.af_model.proofs.RequestLemmas.{done_both, with_rest}
 
 -- Fronts and more bytes: what is decided stays so
 
-abbrev Unchanged : Front → Front → Type 0
+abbrev pub Unchanged : Front → Front → Type 0
 Unchanged NeedMore g = Unit {0}
 Unchanged (Frame n) g = g ≡ Frame n
 Unchanged Malformed g = g ≡ Malformed
@@ -35,7 +36,7 @@ front_stays words there more =
       | false ↦ grind arith
     ]
 
-frame_stays : (xs ys : List ℕ) → Unchanged (frame_front xs) (frame_front (xs ++ ys))
+pub frame_stays : (xs ys : List ℕ) → Unchanged (frame_front xs) (frame_front (xs ++ ys))
 frame_stays [] ys = tt
 frame_stays (a ∷ []) ys = tt
 frame_stays (a ∷ b ∷ []) ys = tt
@@ -45,7 +46,7 @@ frame_stays (a ∷ b ∷ c ∷ d ∷ xs) ys =
     let e : length (a ∷ b ∷ c ∷ d ∷ xs) + length ys ≡ length (a ∷ b ∷ c ∷ d ∷ (xs ++ ys)) = omega (arith, length-append xs ys) in
     subst (λ n. Unchanged (frame_with words (length (a ∷ b ∷ c ∷ d ∷ xs))) (frame_with words n)) e (front_stays words (length (a ∷ b ∷ c ∷ d ∷ xs)) (length ys))
 
-abbrev UnchangedSetup : SetupFront → SetupFront → Type 0
+abbrev pub UnchangedSetup : SetupFront → SetupFront → Type 0
 UnchangedSetup front.NeedMore g = Unit {0}
 UnchangedSetup front.Setup g = g ≡ front.Setup
 UnchangedSetup (front.BadSetup value) g = g ≡ front.BadSetup value
@@ -55,7 +56,7 @@ same_setup front.NeedMore = tt
 same_setup front.Setup = refl
 same_setup (front.BadSetup value) = refl
 
-setup_stays : (xs ys : List ℕ) → UnchangedSetup (setup_front xs) (setup_front (xs ++ ys))
+pub setup_stays : (xs ys : List ℕ) → UnchangedSetup (setup_front xs) (setup_front (xs ++ ys))
 setup_stays [] ys = tt
 setup_stays (a ∷ []) ys = tt
 setup_stays (a ∷ b ∷ []) ys = tt
@@ -83,7 +84,7 @@ perform_more : (k : ℕ) (request : Asked) (p : OpenLink) (b : List ℕ) → is_
 perform_more k request p b e =
     let q = open_link p.environment (request_counted p.link) in
     let both : perform k request (more_bytes p b) ≡ more_bytes (perform k request p) b =
-    done_both k q (p.link.rest ++ b) (λ (u v : OpenLink). v ≡ more_bytes u b) refl (λ contexts selections bytes. refl) (λ d device f there l. refl) (λ d device f bytes there l. refl) (λ d deferred. refl) request in
+    done_both k q (p.link.rest ++ b) (most_asked request) (λ (u v : OpenLink). v ≡ more_bytes u b) refl (λ contexts selections bytes. refl) (λ d device f there l. refl) (λ d device f bytes there l. refl) (λ d device deferred there w. refl) request (omega arith) in
     both ∙ sym (open_bytes (perform k request p) b (ap is_none (perform_closing k request p) ∙ e))
 
 requested_more : (k : ℕ) (o : Option Asked) (p : OpenLink) (b : List ℕ) → is_none p.link.closing ≡ true → requested k o (more_bytes p b) ≡ then_bytes (requested k o p) b

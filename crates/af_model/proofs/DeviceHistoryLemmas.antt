@@ -1,5 +1,7 @@
--- What becomes of devices: what is accepted stays, what is accepted later has a later time, no time falls, and a line stays.
+-- What becomes of devices: what is accepted stays, what is accepted later has a later time, no time falls, a line stays, and nothing dies
+-- but where a call failed.
 use Rattle.std.proofs.Common.{◌≡◌, ℕ, zero, suc, ◌≤◌, ◌==◌, Bool, true, false, cond, ℤ, List, [], ◌∷◌, ◌++◌, length, is_some, option_map, slice_get, slice_set, refl, sym, ap, ◌∙◌, subst, arith, append_assoc, append-nil}
+use Rattle.std.proofs.lemmas.Bool.{eqb-false}
 use Rattle.std.specs.List.{All, AllZip}
 use Rattle.std.proofs.lemmas.List.Elements.{All-nil, All-cons, All-append, All-weaker}
 use Rattle.std.specs.declared.option.Option.{Option}
@@ -9,6 +11,8 @@ use Rattle.af_request.specs.declared.reply.Phone.{Phone}
 use Rattle.af_model.specs.State.{DeviceState, Deferred, deferred_play, deferred_record, with_device, device_set, lines_of}
 use Rattle.af_model.specs.Play.{accepting}
 use Rattle.af_model.specs.Tick.{completing, later}
+use Rattle.af_model.proofs.BoolTestLemmas.{none_some, some_is}
+use Rattle.af_model.proofs.ListLemmas.{get-set_other, get-set_same}
 
 -- each of these was accepted at a time or later
 abbrev pub AtLeast : ℕ → List AcceptedPlay → Type 0
@@ -68,45 +72,148 @@ later_completing d (deferred_record c start frames) = later_same d (completing (
 pub later_passed : (d : DeviceState) (captured : List ℤ) (is_dead : Bool) → Later d (later captured is_dead d)
 later_passed d captured is_dead = record { more = []; accepted = sym (append-nil d.accepted); ats = none_more d.now; now = omega arith; line = refl }
 
+-- A device that became later at the same time, with the same rate, and is as dead as it was, as its line is
+
+-- whether its line is dead, if it has one
+abbrev pub dead_line : DeviceState → Option Bool
+dead_line d = option_map (λ line. line.dead) d.line
+
+pub record Lives (d e : DeviceState) : Type 0 where
+  pub later : Later d e
+  pub dead : e.is_dead ≡ d.is_dead
+  pub line_dead : dead_line e ≡ dead_line d
+  pub now : e.now ≡ d.now
+  pub rate : e.rate ≡ d.rate
+
+lives_refl : (d : DeviceState) → Lives d d
+lives_refl d = record { later = later_refl d; dead = refl; line_dead = refl; now = refl; rate = refl }
+
+lives_trans : (d e f : DeviceState) → Lives d e → Lives e f → Lives d f
+lives_trans d e f l m = record { later = later_trans d e f l.later m.later; dead = m.dead ∙ l.dead; line_dead = m.line_dead ∙ l.line_dead; now = m.now ∙ l.now; rate = m.rate ∙ l.rate }
+
+-- a line that becomes another, as dead as it was
+pub lives_line : (f : Phone → Phone) (d : DeviceState) → ((line : Phone) → (f line).dead ≡ line.dead) → Lives d (record d { line = option_map f d.line })
+lives_line f d alike = record { later = later_line f d; dead = refl; line_dead = mapped d.line; now = refl; rate = refl }
+  where
+    mapped : (o : Option Phone) → option_map (λ line. line.dead) (option_map f o) ≡ option_map (λ line. line.dead) o
+    mapped None = refl
+    mapped (Some line) = ap (λ b. Some b) (alike line)
+
+pub lives_accepting : (d : DeviceState) (entry : AcceptedPlay) → entry.at ≡ d.now → Lives d (accepting entry d)
+lives_accepting d entry at = record { later = later_accepting d entry at; dead = refl; line_dead = refl; now = refl; rate = refl }
+
+pub lives_completing : (d : DeviceState) (deferred : Deferred) → Lives d (completing deferred d)
+lives_completing d deferred = record { later = later_completing d deferred; dead = refl; line_dead = refl; now = refl; rate = refl }
+
+-- what a request makes of a device
+pub record Requested (d e : DeviceState) : Type 0 where
+  pub lives : Lives d e
+  pub completed : e.completed ≡ d.completed
+
 -- All devices
+
+module _ (R : DeviceState → DeviceState → Type 0) where
+  -- what became of a device that was there
+  zip_get : (ds es : List DeviceState) (i : ℕ) (d : DeviceState) → AllZip R ds es → slice_get ds i ≡ Some d → (e : DeviceState) × (slice_get es i ≡ Some e) × R d e
+  zip_get [] es i d l there = absurd cc
+  zip_get (x ∷ ds) [] i d l there = absurd l
+  zip_get (x ∷ ds) (y ∷ es) zero d l there = let same : x ≡ d = cc in (y, refl, subst (λ u. R u y) same l.0)
+  zip_get (x ∷ ds) (y ∷ es) (suc i) d l there = zip_get ds es i d l.1 there
+
+  -- a device was there before
+  pub zip_back : (ds es : List DeviceState) (i : ℕ) (e : DeviceState) → AllZip R ds es → slice_get es i ≡ Some e → (d : DeviceState) × (slice_get ds i ≡ Some d) × R d e
+  zip_back [] [] i e l there = absurd cc
+  zip_back [] (y ∷ es) i e l there = absurd l
+  zip_back (x ∷ ds) [] i e l there = absurd l
+  zip_back (x ∷ ds) (y ∷ es) zero e l there = let same : y ≡ e = cc in (x, refl, subst (λ u. R x u) same l.0)
+  zip_back (x ∷ ds) (y ∷ es) (suc i) e l there = zip_back ds es i e l.1 there
+
+  zip_trans : ((d e f : DeviceState) → R d e → R e f → R d f) → (ds es fs : List DeviceState) → AllZip R ds es → AllZip R es fs → AllZip R ds fs
+  zip_trans trans [] [] [] a b = tt
+  zip_trans trans (d ∷ ds) (e ∷ es) (f ∷ fs) a b = (trans d e f a.0 b.0, zip_trans trans ds es fs a.1 b.1)
+  zip_trans trans [] (e ∷ es) fs a b = absurd a
+  zip_trans trans (d ∷ ds) [] fs a b = absurd a
+  zip_trans trans [] [] (f ∷ fs) a b = absurd b
+  zip_trans trans (d ∷ ds) (e ∷ es) [] a b = absurd b
+
+module _ (R : DeviceState → DeviceState → Type 0) (same : (d : DeviceState) → R d d) where
+  zip_refl : (ds : List DeviceState) → AllZip R ds ds
+  zip_refl [] = tt
+  zip_refl (d ∷ ds) = (same d, zip_refl ds)
+
+  zip_set : (ds : List DeviceState) (i : ℕ) (d e : DeviceState) → slice_get ds i ≡ Some d → R d e → AllZip R ds (slice_set ds i e)
+  zip_set [] i d e there l = absurd cc
+  zip_set (x ∷ ds) zero d e there l = let is : d ≡ x = cc in (subst (λ y. R y e) is l, zip_refl ds)
+  zip_set (x ∷ ds) (suc i) d e there l = (same x, zip_set ds i d e there l)
+
+  -- the device at a number becomes another
+  pub zip_with : (i : ℕ) (f : DeviceState → DeviceState) (ds : List DeviceState) → ((d : DeviceState) → slice_get ds i ≡ Some d → R d (f d)) → AllZip R ds (with_device i f ds)
+  zip_with i f ds l =
+      elim (slice_get ds i) as (λ o. slice_get ds i ≡ o → AllZip R ds (device_set i f ds o)) [
+        | None ↦ λ there. zip_refl ds
+        | Some d ↦ λ there. zip_set ds i d (f d) there (l d there)
+      ] refl
 
 abbrev pub Laters : List DeviceState → List DeviceState → Type 0
 Laters ds es = AllZip Later ds es
 
 pub laters_refl : (ds : List DeviceState) → Laters ds ds
-laters_refl [] = tt
-laters_refl (d ∷ ds) = (later_refl d, laters_refl ds)
+laters_refl = zip_refl Later later_refl
 
 pub laters_trans : (ds es fs : List DeviceState) → Laters ds es → Laters es fs → Laters ds fs
-laters_trans [] [] [] a b = tt
-laters_trans (d ∷ ds) (e ∷ es) (f ∷ fs) a b = (later_trans d e f a.0 b.0, laters_trans ds es fs a.1 b.1)
-laters_trans [] (e ∷ es) fs a b = absurd a
-laters_trans (d ∷ ds) [] fs a b = absurd a
-laters_trans [] [] (f ∷ fs) a b = absurd b
-laters_trans (d ∷ ds) (e ∷ es) [] a b = absurd b
+laters_trans = zip_trans Later later_trans
 
-pub laters_set : (ds : List DeviceState) (i : ℕ) (d e : DeviceState) → slice_get ds i ≡ Some d → Later d e → Laters ds (slice_set ds i e)
-laters_set [] i d e there l = absurd cc
-laters_set (x ∷ ds) zero d e there l = let same : d ≡ x = cc in (subst (λ y. Later y e) same l, laters_refl ds)
-laters_set (x ∷ ds) (suc i) d e there l = (later_refl x, laters_set ds i d e there l)
-
--- the device at a number becomes another
 pub laters_with : (i : ℕ) (f : DeviceState → DeviceState) (ds : List DeviceState) → ((d : DeviceState) → slice_get ds i ≡ Some d → Later d (f d)) → Laters ds (with_device i f ds)
-laters_with i f ds l =
-    elim (slice_get ds i) as (λ o. slice_get ds i ≡ o → Laters ds (device_set i f ds o)) [
-      | None ↦ λ there. laters_refl ds
-      | Some d ↦ λ there. laters_set ds i d (f d) there (l d there)
-    ] refl
+laters_with = zip_with Later later_refl
 
--- what became of a device that was there
 pub laters_get : (ds es : List DeviceState) (i : ℕ) (d : DeviceState) → Laters ds es → slice_get ds i ≡ Some d → (e : DeviceState) × (slice_get es i ≡ Some e) × Later d e
-laters_get [] es i d l there = absurd cc
-laters_get (x ∷ ds) [] i d l there = absurd l
-laters_get (x ∷ ds) (y ∷ es) zero d l there = let same : x ≡ d = cc in (y, refl, subst (λ u. Later u y) same l.0)
-laters_get (x ∷ ds) (y ∷ es) (suc i) d l there = laters_get ds es i d l.1 there
+laters_get = zip_get Later
 
 pub laters_lines : (ds es : List DeviceState) → Laters ds es → lines_of es ≡ lines_of ds
 laters_lines [] [] l = refl
 laters_lines [] (e ∷ es) l = absurd l
 laters_lines (d ∷ ds) [] l = absurd l
 laters_lines (d ∷ ds) (e ∷ es) l = ap (λ b. b ∷ lines_of es) l.0.line ∙ ap (λ b. is_some d.line ∷ b) (laters_lines ds es l.1)
+
+abbrev pub AllLive : List DeviceState → List DeviceState → Type 0
+AllLive ds es = AllZip Lives ds es
+
+pub all_live_refl : (ds : List DeviceState) → AllLive ds ds
+all_live_refl = zip_refl Lives lives_refl
+
+pub all_live_trans : (ds es fs : List DeviceState) → AllLive ds es → AllLive es fs → AllLive ds fs
+all_live_trans = zip_trans Lives lives_trans
+
+pub all_live_with : (i : ℕ) (f : DeviceState → DeviceState) (ds : List DeviceState) → ((d : DeviceState) → slice_get ds i ≡ Some d → Lives d (f d)) → AllLive ds (with_device i f ds)
+all_live_with = zip_with Lives lives_refl
+
+pub all_live_get : (ds es : List DeviceState) (i : ℕ) (d : DeviceState) → AllLive ds es → slice_get ds i ≡ Some d → (e : DeviceState) × (slice_get es i ≡ Some e) × Lives d e
+all_live_get = zip_get Lives
+
+pub all_live_back : (ds es : List DeviceState) (i : ℕ) (e : DeviceState) → AllLive ds es → slice_get es i ≡ Some e → (d : DeviceState) × (slice_get ds i ≡ Some d) × Lives d e
+all_live_back = zip_back Lives
+
+pub live_laters : (ds es : List DeviceState) → AllLive ds es → Laters ds es
+live_laters [] [] l = tt
+live_laters [] (e ∷ es) l = absurd l
+live_laters (d ∷ ds) [] l = absurd l
+live_laters (d ∷ ds) (e ∷ es) l = (l.0.later, live_laters ds es l.1)
+
+-- the device at a number becomes another
+module _ (d : ℕ) (f : DeviceState → DeviceState) (devices : List DeviceState) where
+  pub with_same : (e : DeviceState) → slice_get (with_device d f devices) d ≡ Some e → (device : DeviceState) × (slice_get devices d ≡ Some device) × (f device ≡ e)
+  with_same e there =
+      elim (slice_get devices d) as (λ o. slice_get devices d ≡ o → slice_get (device_set d f devices o) d ≡ Some e → (device : DeviceState) × (slice_get devices d ≡ Some device) × (f device ≡ e)) [
+        | None ↦ λ was there. absurd (none_some (sym was ∙ there))
+        | Some device ↦ λ was there. (device, was, some_is (sym (get-set_same devices d device (f device) was) ∙ there))
+      ] refl there
+
+  pub with_other : (c : ℕ) → (d == c) ≡ false → slice_get (with_device d f devices) c ≡ slice_get devices c
+  with_other c other =
+      elim (slice_get devices d) as (λ o. slice_get (device_set d f devices o) c ≡ slice_get devices c) [
+        | None ↦ refl
+        | Some device ↦ get-set_other devices d c (f device) (λ same. eqb-false d c other (sym same))
+      ]
+
+  pub with_there : (device : DeviceState) → slice_get devices d ≡ Some device → slice_get (with_device d f devices) d ≡ Some (f device)
+  with_there device there = ap (λ o. slice_get (device_set d f devices o) d) there ∙ get-set_same devices d device (f device) there

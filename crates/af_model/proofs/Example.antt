@@ -1,5 +1,6 @@
 -- Small runs, computed: link 0 sets up and switches the output off, and then a tick hands silence out, or the link is slow and fails.
 use Rattle.std.proofs.Common.{◌≡◌, ℕ, true, false, List, [], ◌∷◌, ◌++◌, is_some, refl, pos}
+use Rattle.std.specs.List.{list_any}
 use Rattle.std.specs.declared.option.Option.{Option}
 use Rattle.std.specs.declared.option.Option.TheVariants.{None, Some}
 use Rattle.af_sample.specs.declared.sample_type.SampleType.TheVariants.{Lin16}
@@ -8,6 +9,7 @@ use Rattle.af_wire.specs.Message.{head}
 use Rattle.af_world.specs.declared.happening.Happening.TheVariants.{Woke, Read, Wrote, Closed, Captured, Emitted}
 use Rattle.af_world.specs.declared.happening.ReadGot.TheVariants.{Given, NotYet}
 use Rattle.af_world.specs.declared.happening.Wake.TheVariants.{Opened, Readable, Writable, Ticked, Idle}
+use Rattle.af_world.specs.declared.happening.Why.{Why}
 use Rattle.af_world.specs.declared.happening.Why.TheVariants as why
 use Rattle.af_world.specs.declared.script.DeviceSpec.{DeviceSpec}
 use Rattle.af_world.specs.Log.{Log}
@@ -18,7 +20,10 @@ use Rattle.af_model.specs.Advance.{absorb, advance}
 use Rattle.af_model.specs.Tick.{complete_due}
 use Rattle.af_model.specs.Turn.{close_phase, hook_from, read_phase, serve_from, serve_link, turn, wake_phase}
 use Rattle.af_model.specs.Run.{end_state, IsRun}
+use Rattle.af_model.specs.LinkHistory.{history}
 use Rattle.af_model.specs.Prefix.{taken}
+use Rattle.af_model.specs.Causes.{IsCause}
+use Rattle.af_model.specs.Dead.{fails_device}
 
 abbrev config : List DeviceSpec
 config = record { ty = Lin16; rate = 8000; start = 0; line = false } ∷ []
@@ -90,6 +95,37 @@ slow_said = refl
 slow_other : is_some (end_state config (slow setup_reply (9 ∷ 1 ∷ []))) ≡ false
 unfolding end_state turn wake_phase serve_from serve_link read_phase close_phase hook_from advance complete_due reply_message head controls_refusal
 slow_other = refl
+
+-- its history shows why it was closed
+slow_cause : ((history 0 (slow setup_reply (1 ∷ 9 ∷ []))).closed ≡ Some why.LinkFault) × IsCause why.LinkFault (history 0 (slow setup_reply (1 ∷ 9 ∷ []))) 6
+slow_cause = (refl, refl)
+
+-- behind its setup and its request a link sends a length of 0
+abbrev malformed : Why → Log
+malformed cause = Woke (Opened 0) ∷ Woke (Readable 0) ∷ Read 0 (Given (sent ++ 9 ∷ 0 ∷ 0 ∷ 0 ∷ [])) ∷ Wrote 0 36 (Some (setup_reply ++ reply)) ∷ Closed 0 cause ∷ []
+
+malformed_run : IsRun config (malformed why.Malformed)
+unfolding end_state turn wake_phase serve_from serve_link read_phase close_phase hook_from advance complete_due reply_message head controls_refusal
+malformed_run = refl
+
+-- it is closed for no other cause
+malformed_other : is_some (end_state config (malformed why.Ended)) ≡ false
+unfolding end_state turn wake_phase serve_from serve_link read_phase close_phase hook_from advance complete_due reply_message head controls_refusal
+malformed_other = refl
+
+malformed_cause : IsCause why.Malformed (history 0 (malformed why.Malformed)) 0
+malformed_cause = (record { failed = refl; ended = refl; all_taken = refl }, 9 ∷ 0 ∷ 0 ∷ 0 ∷ [], record { setup = refl; sizes = 12 ∷ []; requests = (refl, refl, refl) }, refl)
+
+-- a device is dead behind an emit that failed, and makes no call in the next tick
+abbrev failing : Log
+failing = begin ++ Woke (Ticked 0 2) ∷ Captured 0 2 (Some (0 ∷ 9 ∷ 0 ∷ 9 ∷ [])) ∷ Emitted 0 (0 ∷ 0 ∷ 0 ∷ 0 ∷ []) false ∷ Read 0 NotYet ∷ Woke (Ticked 0 1) ∷ []
+
+failing_run : IsRun config failing
+unfolding end_state turn wake_phase serve_from serve_link read_phase close_phase hook_from advance complete_due reply_message head controls_refusal
+failing_run = refl
+
+failing_dead : list_any (fails_device 0) failing ≡ true
+failing_dead = refl
 
 -- Without the case of a closing link, cutting would change what is unread: a malformed front closes, and a byte comes behind it.
 abbrev comes : List ℕ → OpenLink → OpenLink

@@ -7,15 +7,14 @@ use Rattle.af_world.specs.declared.happening.Happening.TheVariants.{Woke, Read, 
 use Rattle.af_world.specs.declared.happening.ReadGot.{ReadGot}
 use Rattle.af_world.specs.declared.happening.ReadGot.TheVariants.{Given, NotYet, Ended, Failed}
 use Rattle.af_world.specs.declared.happening.Why.{Why}
-use Rattle.af_world.specs.declared.happening.Why.TheVariants as why
 use Rattle.af_world.specs.declared.script.Step.{Step}
 use Rattle.af_world.specs.Log.{Log}
 use Rattle.af_world.specs.Outside.{Outside, ScriptedClient, answered_as_stated, client_answered, read_from, given_from, failed_from, written_to, room_taken_of, fresh_client, client_at, with_client, same_bytes}
 use Rattle.af_model.specs.State.{State, EnvironmentState, OpenLink, SlotLink, LinkState, link_in_slot, slot_link_at, with_slot_link, open_link}
 use Rattle.af_model.specs.Waiting.{has_deferral}
-use Rattle.af_model.specs.Turn.{Parsed, parsed, parse_then, then_go, parse_one, wants_read, is_read, read_by, read_phase, after_read, wants_write, write_by, write_offered, write_taken, write_phase, after_write, same_why, close_due, close_by, close_for, close_phase, serve_link, serve_open, serve_slot_link, serve_at, serve_from, serve_all, number_of_why}
+use Rattle.af_model.specs.Turn.{Parsed, parsed, parse_then, then_go, parse_one, wants_read, is_read, read_by, read_phase, after_read, wants_write, write_by, write_offered, write_taken, write_phase, after_write, same_why, close_due, close_by, close_for, close_phase, serve_link, serve_open, serve_slot_link, serve_at, serve_from, serve_all}
 use Rattle.af_model.specs.Script.{AnswersTo}
-use Rattle.af_model.proofs.BoolTestLemmas.{cond-some, cond-true, both-true, not_true, none_some, same_bytes-true}
+use Rattle.af_model.proofs.BoolTestLemmas.{cond-some, cond-true, both-true, not_true, none_some, same_bytes-true, same_why-true}
 use Rattle.af_model.proofs.AlikeLemmas.{GoesAlike, Agreed, TakesOne, headed, go_inv, alike_then, alike_one, alike_nothing}
 use Rattle.af_model.proofs.OpenLinkLemmas.{opens, open_links, Agree, AtPlace, StandsForSlot, opens-set, set-set, opens_stay, open_links-set, open_links-same}
 
@@ -213,25 +212,6 @@ write_alike w k steps p o (h1 ∷ log1) (h2 ∷ log2) b1 b2 e1 e2 at f1 f2 r1 r2
     ] refl
 
 -- Closes
-
--- the cause with a number
-cause_of : ℕ → Why
-cause_of zero = why.BadSetup
-cause_of (suc zero) = why.Malformed
-cause_of (suc (suc zero)) = why.Ended
-cause_of (suc (suc (suc zero))) = why.LinkFault
-cause_of (suc (suc (suc (suc n)))) = why.Overrun
-
-cause_of-number : (a : Why) → cause_of (number_of_why a) ≡ a
-unfolding cause_of
-cause_of-number why.BadSetup = refl
-cause_of-number why.Malformed = refl
-cause_of-number why.Ended = refl
-cause_of-number why.LinkFault = refl
-cause_of-number why.Overrun = refl
-
-same_why-true : (a b : Why) → same_why a b ≡ true → a ≡ b
-same_why-true a b e = sym (cause_of-number a) ∙ ap cause_of (eqb-true (number_of_why a) (number_of_why b) e) ∙ cause_of-number b
 
 close_one : (w : List Bool) (k : ℕ) (cause : Why) (p : OpenLink) (o : Outside) (h : Happening) (t : SlotLink) → close_by k p.environment cause h ≡ Some t →
     TakesOne (λ p. close_by k p.environment cause) (AtPlace w k) (StandsForSlot w k) p o h (Closed k cause)

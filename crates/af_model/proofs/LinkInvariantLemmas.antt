@@ -1,5 +1,5 @@
 -- What holds of a link and its environment, and goes on to hold through all that the link does.
-use Rattle.std.proofs.Common.{◌≡◌, ℕ, zero, suc, Bool, true, false, not, cond, ◌&&◌, nat_le, List, ◌++◌, length, take, is_none, slice_get, refl, ap, IfSome}
+use Rattle.std.proofs.Common.{◌≡◌, ◌≤◌, ℕ, zero, suc, Bool, true, false, not, cond, ◌&&◌, nat_le, List, length, take, is_none, is_some, slice_get, refl, ap, ◌∙◌, IfSome}
 use Rattle.std.specs.declared.option.Option.{Option}
 use Rattle.std.specs.declared.option.Option.TheVariants.{None, Some}
 use Rattle.af_world.specs.declared.happening.Why.{Why}
@@ -17,23 +17,30 @@ use Rattle.af_model.specs.State.{DeviceState, Deferred, deferred_play, deferred_
 use Rattle.af_model.specs.Waiting.{has_deferral, wait}
 use Rattle.af_model.specs.Reply.{infos_of, reply_message}
 use Rattle.af_model.specs.Play.{in_devices, tell_played}
-use Rattle.af_model.specs.Perform.{request_counted}
-use Rattle.af_model.specs.Advance.{absorb, advance, advance_by, advance_step, after_frame, after_front, after_setup, or_else, requested, takes_more, without_front}
+use Rattle.af_model.specs.Perform.{perform, request_counted}
+use Rattle.af_model.specs.Advance.{advance, advance_by, advance_step, after_frame, after_front, after_setup, or_else, requested, takes_more, without_front}
 use Rattle.af_model.specs.Tick.{answer_deferred, complete_for, completing}
 use Rattle.af_model.specs.Prefix.{is_dropped}
+use Rattle.af_model.specs.Causes.{is_malformed}
 use Rattle.af_model.proofs.BoolTestLemmas.{both-true, none-true}
-use Rattle.af_model.proofs.DeviceHistoryLemmas.{Later, later_completing}
+use Rattle.af_model.proofs.DeviceHistoryLemmas.{Requested}
+use Rattle.af_model.proofs.DueLemmas.{IsToWait, most_asked}
+use Rattle.af_model.proofs.FrameSizeLemmas.{frame_asks}
+use Rattle.af_model.proofs.InputLemmas.{IsBadInput}
 use Rattle.af_model.proofs.RequestLemmas.{chosen, done_both}
 
--- What goes on to hold at each move of link k: something of it changes but its output, and it is not closing before and
--- behind; it is to be closed; something is said to it, if it may be; a device becomes later; it begins to wait.
+-- What goes on to hold at each move of link k: something of it changes but its input and its output, and it is not closing before
+-- and behind; a request, or a setup, is taken off its input; it is to be closed for what its input begins with; something is said to
+-- it, if it may be; a device becomes later; it begins to wait.
 pub record Keeps (k : ℕ) (May : Option Why → Type 0) (I : OpenLink → Type 0) : Type 0 where
   pub may : (closing : Option Why) → is_dropped closing ≡ false → May closing
-  pub link : (p : OpenLink) (l : LinkState) → p.link.closing ≡ None → l.closing ≡ None → l.pending ≡ p.link.pending → I p → I (open_link p.environment l)
-  pub stops : (p : OpenLink) (cause : Why) → p.link.closing ≡ None → is_dropped (Some cause) ≡ false → I p → I (open_link p.environment (stopped cause p.link))
+  pub link : (p : OpenLink) (l : LinkState) → p.link.closing ≡ None → l.closing ≡ None → l.pending ≡ p.link.pending → l.rest ≡ p.link.rest → l.is_set_up ≡ p.link.is_set_up → I p → I (open_link p.environment l)
+  pub takes : (p : OpenLink) (n : ℕ) → p.link.closing ≡ None → p.link.is_set_up ≡ true → frame_front p.link.rest ≡ Frame n → is_some (asked_in (take n p.link.rest)) ≡ true → I p → I (open_link p.environment (without_front n p.link))
+  pub sets_up : (p : OpenLink) → p.link.closing ≡ None → p.link.is_set_up ≡ false → setup_front p.link.rest ≡ front.Setup → I p → I (open_link p.environment (record (without_front 8 p.link) { is_set_up = true }))
+  pub stops : (p : OpenLink) (cause : Why) → p.link.closing ≡ None → IsBadInput cause p.link → I p → I (open_link p.environment (stopped cause p.link))
   pub says : (p : OpenLink) (bytes : List ℕ) → May p.link.closing → I p → I (say p bytes)
-  pub becomes : (p : OpenLink) (d : ℕ) (device : DeviceState) (f : DeviceState → DeviceState) → slice_get p.environment.devices d ≡ Some device → Later device (f device) → I p → I (in_devices d f p)
-  pub waits : (p : OpenLink) (d : ℕ) (deferred : Deferred) → p.link.closing ≡ None → I p → I (wait k d deferred p)
+  pub becomes : (p : OpenLink) (d : ℕ) (device : DeviceState) (f : DeviceState → DeviceState) → slice_get p.environment.devices d ≡ Some device → Requested device (f device) → I p → I (in_devices d f p)
+  pub waits : (p : OpenLink) (d : ℕ) (device : DeviceState) (deferred : Deferred) → slice_get p.environment.devices d ≡ Some device → IsToWait 16384 device deferred → p.link.closing ≡ None → I p → I (wait k d deferred p)
 
 pub open_undropped : (closing : Option Why) → closing ≡ None → is_dropped closing ≡ false
 open_undropped closing e = ap is_dropped e
@@ -43,39 +50,45 @@ takes_more_open waits l e =
     none-true l.closing (both-true (is_none l.closing) (nat_le (length l.pending) 16384) (both-true (not waits) (is_none l.closing && nat_le (length l.pending) 16384) e).1).0
 
 module _ (k : ℕ) (May : Option Why → Type 0) (I : OpenLink → Type 0) (kept : Keeps k May I) where
-  request_keeps : (o : Option Asked) (p : OpenLink) → p.link.closing ≡ None → I p → I (requested k o p)
-  request_keeps None p none h = kept.stops p why.Malformed none refl h
-  request_keeps (Some request) p none h =
+  request_keeps : (request : Asked) (p : OpenLink) → most_asked request ≤ 16384 → p.link.closing ≡ None → I p → I (perform k request p)
+  request_keeps request p short none h =
       let q = open_link p.environment (request_counted p.link) in
-      let i : I q = kept.link p (request_counted p.link) none none refl h in
+      let i : I q = kept.link p (request_counted p.link) none none refl refl refl h in
       let may = kept.may p.link.closing (open_undropped p.link.closing none) in
-      done_both k q q.link.rest (λ u v. I u) i
-      (λ contexts selections bytes. kept.says (chosen contexts selections q) bytes may (kept.link q (chosen contexts selections q).link none none refl i))
+      done_both k q q.link.rest 16384 (λ u v. I u) i
+      (λ contexts selections bytes. kept.says (chosen contexts selections q) bytes may (kept.link q (chosen contexts selections q).link none none refl refl refl i))
       (λ d device f there l. kept.becomes q d device f there l i)
       (λ d device f bytes there l. kept.says (in_devices d f q) bytes may (kept.becomes q d device f there l i))
-      (λ d deferred. kept.waits q d deferred none i) request
+      (λ d device deferred there w. kept.waits q d device deferred there w none i) request short
 
-  frame_keeps : (f : Front) (p : OpenLink) → p.link.closing ≡ None → I p → IfSome (after_frame k f p) I
-  frame_keeps NeedMore p none h = tt
-  frame_keeps Malformed p none h = kept.stops p why.Malformed none refl h
-  frame_keeps (Frame n) p none h = request_keeps (asked_in (take n p.link.rest)) (open_link p.environment (without_front n p.link)) none (kept.link p (without_front n p.link) none none refl h)
+  -- a frame is a request, or closes the link
+  asked_keeps : (o : Option Asked) (n : ℕ) (p : OpenLink) → asked_in (take n p.link.rest) ≡ o → frame_front p.link.rest ≡ Frame n → p.link.is_set_up ≡ true → p.link.closing ≡ None → I p →
+      I (requested k o (open_link p.environment (without_front n p.link)))
+  asked_keeps None n p asked e set none h = kept.stops p why.Malformed none (set, ap (λ f. is_malformed f p.link.rest) e ∙ ap is_none asked) h
+  asked_keeps (Some request) n p asked e set none h = request_keeps request (open_link p.environment (without_front n p.link)) (frame_asks p.link.rest n request e asked) none (kept.takes p n none set e (ap is_some asked) h)
 
-  setup_keeps : (f : SetupFront) (p : OpenLink) → p.link.closing ≡ None → I p → IfSome (after_setup f p) I
-  setup_keeps front.NeedMore p none h = tt
-  setup_keeps front.Setup p none h =
+  frame_keeps : (f : Front) (p : OpenLink) → frame_front p.link.rest ≡ f → p.link.is_set_up ≡ true → p.link.closing ≡ None → I p → IfSome (after_frame k f p) I
+  frame_keeps NeedMore p e set none h = tt
+  frame_keeps Malformed p e set none h = kept.stops p why.Malformed none (set, ap (λ f. is_malformed f p.link.rest) e) h
+  frame_keeps (Frame n) p e set none h = asked_keeps (asked_in (take n p.link.rest)) n p refl e set none h
+
+  setup_keeps : (f : SetupFront) (p : OpenLink) → setup_front p.link.rest ≡ f → p.link.is_set_up ≡ false → p.link.closing ≡ None → I p → IfSome (after_setup f p) I
+  setup_keeps front.NeedMore p e unset none h = tt
+  setup_keeps front.Setup p e unset none h =
       let q = open_link p.environment (record (without_front 8 p.link) { is_set_up = true }) in
-      kept.says q (reply_message 0 (setup (infos_of p.environment.devices)) 0) (kept.may p.link.closing (open_undropped p.link.closing none)) (kept.link p q.link none none refl h)
-  setup_keeps (front.BadSetup value) p none h = kept.says (open_link p.environment (stopped why.BadSetup p.link)) (error 1 value 0 0) (kept.may (Some why.BadSetup) refl) (kept.stops p why.BadSetup none refl h)
+      kept.says q (reply_message 0 (setup (infos_of p.environment.devices)) 0) (kept.may p.link.closing (open_undropped p.link.closing none)) (kept.sets_up p none unset e h)
+  setup_keeps (front.BadSetup value) p e unset none h =
+      kept.says (open_link p.environment (stopped why.BadSetup p.link)) (error 1 value 0 0) (kept.may (Some why.BadSetup) refl) (kept.stops p why.BadSetup none (unset, value, e) h)
 
-  front_keeps : (t : Bool) (p : OpenLink) → p.link.closing ≡ None → I p → IfSome (cond t (after_frame k (frame_front p.link.rest) p) (after_setup (setup_front p.link.rest) p)) I
-  front_keeps true p none h = frame_keeps (frame_front p.link.rest) p none h
-  front_keeps false p none h = setup_keeps (setup_front p.link.rest) p none h
+  front_keeps : (t : Bool) (p : OpenLink) → p.link.is_set_up ≡ t → p.link.closing ≡ None → I p → IfSome (cond t (after_frame k (frame_front p.link.rest) p) (after_setup (setup_front p.link.rest) p)) I
+  front_keeps true p set none h = frame_keeps (frame_front p.link.rest) p refl set none h
+  front_keeps false p unset none h = setup_keeps (setup_front p.link.rest) p refl unset none h
 
   step_keeps : (p : OpenLink) → I p → IfSome (advance_step k p) I
   step_keeps p h =
       let waits = has_deferral p.environment.waiting k in
       elim (takes_more waits p.link) as (λ t. takes_more waits p.link ≡ t → IfSome (cond t (after_front k p) None) I) [
-        | true ↦ λ t. front_keeps p.link.is_set_up p (takes_more_open waits p.link t) h
+        | true ↦ λ t. front_keeps p.link.is_set_up p refl (takes_more_open waits p.link t) h
         | false ↦ λ t. tt
       ] refl
 
@@ -88,22 +101,14 @@ module _ (k : ℕ) (May : Option Why → Type 0) (I : OpenLink → Type 0) (kept
   unfolding advance
   advance_keeps p h = by_keeps (length p.link.rest) p h
 
-  pub absorb_keeps : (bytes : List ℕ) (p : OpenLink) → I p → I (absorb k bytes p)
-  absorb_keeps bytes p h =
-      let q = open_link p.environment (record p.link { rest = p.link.rest ++ bytes }) in
-      elim (is_none p.link.closing) as (λ t. is_none p.link.closing ≡ t → I (cond t (advance k q) p)) [
-        | true ↦ λ t. let none = none-true p.link.closing t in advance_keeps q (kept.link p q.link none none refl h)
-        | false ↦ λ t. h
-      ] refl
-
   answer_keeps : (deferred : Deferred) (device : DeviceState) (p : OpenLink) → May p.link.closing → I p → I (answer_deferred deferred device p)
   answer_keeps (deferred_play quiet start sound preempt) device p may h = elim quiet as (λ b. I (tell_played b device p)) [ true ↦ h | false ↦ kept.says p _ may h ]
   answer_keeps (deferred_record c start frames) device p may h = kept.says p _ may h
 
   -- a request of the link that had waited completes
-  pub complete_keeps : (d : ℕ) (deferred : Deferred) (o : Option DeviceState) (p : OpenLink) → slice_get p.environment.devices d ≡ o → May p.link.closing → I p →
-      I (complete_for (record { link = k; device = d; deferred = deferred }) o p)
-  complete_keeps d deferred None p there may h = h
-  complete_keeps d deferred (Some device) p there may h =
+  pub complete_keeps : (d : ℕ) (deferred : Deferred) (o : Option DeviceState) (p : OpenLink) → slice_get p.environment.devices d ≡ o → ((device : DeviceState) → slice_get p.environment.devices d ≡ Some device → I p → I (in_devices d (completing deferred) p)) →
+      May p.link.closing → I p → I (complete_for (record { link = k; device = d; deferred = deferred }) o p)
+  complete_keeps d deferred None p there completes may h = h
+  complete_keeps d deferred (Some device) p there completes may h =
       let q = in_devices d (completing deferred) p in
-      advance_keeps (answer_deferred deferred device q) (answer_keeps deferred device q may (kept.becomes p d device (completing deferred) there (later_completing device deferred) h))
+      advance_keeps (answer_deferred deferred device q) (answer_keeps deferred device q may (completes device there h))

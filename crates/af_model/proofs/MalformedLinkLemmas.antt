@@ -13,13 +13,16 @@ use Rattle.af_wire.specs.Message.{error}
 use Rattle.af_request.specs.Asked.{Asked}
 use Rattle.af_request.specs.Requests.{asked_in}
 use Rattle.af_request.specs.Answer.{setup}
-use Rattle.af_model.specs.State.{State, OpenLink, SlotLink, open_link, say, stopped, some_slot, slot_at, slot_link_at, with_slot_link}
+use Rattle.af_model.specs.State.{State, LinkState, OpenLink, SlotLink, open_link, say, stopped, some_slot, slot_at, slot_link_at, with_slot_link}
 use Rattle.af_model.specs.Waiting.{has_deferral}
 use Rattle.af_model.specs.Reply.{infos_of, reply_message}
 use Rattle.af_model.specs.Advance.{advance_step, after_front, after_frame, after_setup, requested, takes_more, without_front}
-use Rattle.af_model.specs.Turn.{Parsed, parsed, parse_then, serve_at, serve_slot_link}
+use Rattle.af_model.specs.Events.{without_waiter}
+use Rattle.af_model.specs.Turn.{Parsed, parsed, parse_then, serve_at, serve_open, serve_slot_link}
 use Rattle.af_model.proofs.ListLemmas.{get-set_other}
-use Rattle.af_model.proofs.BoolTestLemmas.{both-true, cond-some, none-true, none_some}
+use Rattle.af_model.proofs.BoolTestLemmas.{both-true, cond-some, none-true, none_some, some_is}
+use Rattle.af_model.proofs.PhasePartLemmas.{then_inv}
+use Rattle.af_model.proofs.ServeLemmas.{served_link}
 use Rattle.af_model.proofs.AdvanceLemmas.{perform_closing}
 
 -- the environment of a link, what is queued for it, and that nothing more of its input is read
@@ -74,3 +77,16 @@ served k j s b (Some d) apart e =
 
 pub others_stay : (k j : ℕ) (s : State) (log : Log) (b : Parsed State) → serve_at k s log ≡ Some b → j ≢ k → slot_at j b.state ≡ slot_at j s
 others_stay k j s log b e apart = served k j s b (serve_slot_link k (slot_link_at k s) log) apart e
+
+-- and leaves the order of the others that wait
+
+pub order_stays : (k : ℕ) (s : State) (log : Log) (b : Parsed State) → serve_at k s log ≡ Some b → without_waiter k b.state.waiting ≡ without_waiter k s.waiting
+order_stays k s log b e =
+    let a = (slot_link_at k s).environment in
+    let i = then_inv (serve_slot_link k (slot_link_at k s) log) (λ d log. parsed (with_slot_link k s d) log) b e in
+    let same : with_slot_link k s i.0.state ≡ b.state = ap (λ (c : Parsed State). c.state) (some_is i.2) in
+    ap (λ (t : State). without_waiter k t.waiting) (sym same) ∙ served_order (slot_at k s).link i.0 i.1
+  where
+    served_order : (o : Option LinkState) (c : Parsed SlotLink) → serve_open k (slot_link_at k s).environment o log ≡ Some c → without_waiter k c.state.environment.waiting ≡ without_waiter k s.waiting
+    served_order None c e = ap (λ (x : Parsed SlotLink). without_waiter k x.state.environment.waiting) (sym (some_is e))
+    served_order (Some l) c e = (served_link k (open_link (slot_link_at k s).environment l) log c e).holds.waits

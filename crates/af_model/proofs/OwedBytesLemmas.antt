@@ -1,5 +1,5 @@
--- What is queued for a link: behind what it took, what was said to it.
-use Rattle.std.proofs.Common.{◌≡◌, ℕ, zero, suc, ◌==◌, ◌||◌, Bool, true, false, not, cond, List, [], ◌∷◌, ◌++◌, length, find, replicate, slice_get, refl, sym, ap, ◌∙◌, subst, append_assoc, rules}
+-- What is queued for a link: behind what it took, what was said to it. And what its history shows: why it is to be closed, if it is.
+use Rattle.std.proofs.Common.{◌≡◌, ℕ, zero, suc, ◌+◌, ◌<◌, ◌==◌, ◌||◌, Bool, true, false, not, cond, List, [], ◌∷◌, ◌++◌, length, drop, find, nat_le, replicate, slice_get, IfSome, refl, sym, ap, ◌∙◌, subst, append_assoc, arith, eqb-true, rules}
 use Rattle.std.proofs.lemmas.Bool.{or_parts}
 use Rattle.std.specs.declared.option.Option.{Option}
 use Rattle.std.specs.declared.option.Option.TheVariants.{None, Some}
@@ -7,13 +7,22 @@ use Rattle.af_wire.specs.declared.event.EventKind.{EventKind}
 use Rattle.af_wire.specs.declared.event.EventKind.TheVariants as kind
 use Rattle.af_phone.specs.Lines.{selects}
 use Rattle.af_world.specs.declared.happening.Why.{Why}
+use Rattle.af_world.specs.declared.happening.Why.TheVariants as why
 use Rattle.af_wait.specs.Waits.{without_first}
-use Rattle.af_model.specs.State.{DeviceState, LinkState, OpenLink, SlotLink, State, Deferral, open_link, none_selected, slot_at}
+use Rattle.af_model.specs.State.{DeviceState, LinkState, OpenLink, SlotLink, State, Deferral, open_link, none_selected, slot_at, stopped}
 use Rattle.af_model.specs.Tick.{enter}
 use Rattle.af_model.specs.Waiting.{has_deferral}
 use Rattle.af_model.specs.Events.{dropped, mask_of, some_mask, without_waiter}
+use Rattle.af_model.specs.Advance.{without_front}
+use Rattle.af_model.specs.Turn.{close_due}
+use Rattle.af_model.specs.LinkHistory.{LinkHistory}
 use Rattle.af_model.specs.Prefix.{is_dropped}
-use Rattle.af_model.proofs.DeviceHistoryLemmas.{Later, Laters, laters_refl, laters_trans, laters_with}
+use Rattle.af_model.specs.Causes.{IsCause, IsServedTo}
+use Rattle.af_model.proofs.BoolTestLemmas.{cond-some}
+use Rattle.af_model.proofs.InputLemmas.{IsBadInput, IsInput, input_more, input_set_up, input_taken}
+use Rattle.af_model.proofs.CauseLemmas.{IsUnended, Shows, ShowsBy, cause_alike, no_room, owed_at_close, shows_at_close, shows_bad, shows_owed, shows_taken, shows_unfailed}
+use Rattle.af_model.proofs.DeviceHistoryLemmas.{AllLive, Lives, all_live_refl, all_live_trans, all_live_with}
+use Rattle.af_model.proofs.SafeLemmas.{SafeIn, safe_dropped, safe_keeps}
 use Rattle.af_model.proofs.LinkInvariantLemmas.{Keeps, open_undropped}
 
 pub not_both : {A : Type 0} (t : Bool) → t ≡ false → t ≡ true → A
@@ -28,11 +37,6 @@ waits_any ws k w e = or_parts (w.link == k) (has_deferral ws k) e
 waits_none : (ws : List Deferral) (k : ℕ) (w : Deferral) → (w.link == k) ≡ false → has_deferral ws k ≡ false → has_deferral (w ∷ ws) k ≡ false
 waits_none ws k w a b = ap (λ t. t || has_deferral ws k) a ∙ b
 
--- another link begins to wait
-pub waits_other : (ws : List Deferral) (k : ℕ) (w : Deferral) → (w.link == k) ≡ false → has_deferral ws k ≡ false → has_deferral (ws ++ w ∷ []) k ≡ false
-waits_other [] k w other h = waits_none [] k w other refl
-waits_other (v ∷ ws) k w other h = let i = waits_any ws k v h in waits_none (ws ++ w ∷ []) k v i.0 (waits_other ws k w other i.1)
-
 -- one that waits leaves
 pub waits_left : (passes : Deferral → Bool) (ws : List Deferral) (k : ℕ) → has_deferral ws k ≡ false → has_deferral (without_first passes ws) k ≡ false
 waits_left passes [] k h = refl
@@ -40,13 +44,7 @@ waits_left passes (w ∷ ws) k h =
     let i = waits_any ws k w h in
     elim (passes w) as (λ t. has_deferral (cond t ws (w ∷ without_first passes ws)) k ≡ false) [ true ↦ i.1 | false ↦ waits_none (without_first passes ws) k w i.0 (waits_left passes ws k i.1) ]
 
--- a link leaves
-pub waits_dropped : (j : ℕ) (ws : List Deferral) (k : ℕ) → has_deferral ws k ≡ false → has_deferral (without_waiter j ws) k ≡ false
-waits_dropped j [] k h = refl
-waits_dropped j (w ∷ ws) k h =
-    let i = waits_any ws k w h in
-    elim (w.link == j) as (λ t. has_deferral (cond (not t) (w ∷ without_waiter j ws) (without_waiter j ws)) k ≡ false) [ true ↦ waits_dropped j ws k i.1 | false ↦ waits_none (without_waiter j ws) k w i.0 (waits_dropped j ws k i.1) ]
-
+-- a link leaves, and then none of its requests waits
 pub dropped_waits : (k : ℕ) (ws : List Deferral) → has_deferral (without_waiter k ws) k ≡ false
 dropped_waits k [] = refl
 dropped_waits k (w ∷ ws) =
@@ -54,6 +52,33 @@ dropped_waits k (w ∷ ws) =
       | true ↦ λ e. dropped_waits k ws
       | false ↦ λ e. waits_none (without_waiter k ws) k w e (dropped_waits k ws)
     ] refl
+
+-- the others that wait are the same, in their order, if a link begins to wait, or leaves again
+own_waits : (ws : List Deferral) (k : ℕ) (w : Deferral) → (w.link == k) ≡ true → without_waiter k (ws ++ w ∷ []) ≡ without_waiter k ws
+own_waits [] k w own = ap (λ t. cond (not t) (w ∷ []) []) own
+own_waits (v ∷ ws) k w own = ap (λ l. cond (not (v.link == k)) (v ∷ l) l) (own_waits ws k w own)
+
+pub own_left : (ws : List Deferral) (k : ℕ) → without_waiter k (without_waiter k ws) ≡ without_waiter k ws
+own_left [] k = refl
+own_left (w ∷ ws) k =
+    elim (w.link == k) as (λ t. (w.link == k) ≡ t → without_waiter k (cond (not t) (w ∷ without_waiter k ws) (without_waiter k ws)) ≡ cond (not t) (w ∷ without_waiter k ws) (without_waiter k ws)) [
+      | true ↦ λ e. own_left ws k
+      | false ↦ λ e. ap (λ t. cond (not t) (w ∷ without_waiter k (without_waiter k ws)) (without_waiter k (without_waiter k ws))) e ∙ ap (λ l. w ∷ l) (own_left ws k)
+    ] refl
+
+-- so another link waits where it did
+other_waits : (ws : List Deferral) (k j : ℕ) → (k == j) ≡ false → has_deferral (without_waiter k ws) j ≡ has_deferral ws j
+other_waits [] k j other = refl
+other_waits (w ∷ ws) k j other =
+    elim (w.link == k) as (λ t. (w.link == k) ≡ t → has_deferral (cond (not t) (w ∷ without_waiter k ws) (without_waiter k ws)) j ≡ has_deferral (w ∷ ws) j) [
+      | true ↦ λ e.
+          let apart : (w.link == j) ≡ false = ap (λ n. n == j) (eqb-true w.link k e) ∙ other in
+          other_waits ws k j other ∙ sym (ap (λ t. t || has_deferral ws j) apart)
+      | false ↦ λ e. ap (λ t. (w.link == j) || t) (other_waits ws k j other)
+    ] refl
+
+pub still_waits : (ws vs : List Deferral) (k j : ℕ) → (k == j) ≡ false → without_waiter k vs ≡ without_waiter k ws → has_deferral ws j ≡ false → has_deferral vs j ≡ false
+still_waits ws vs k j other same e = sym (other_waits vs k j other) ∙ ap (λ l. has_deferral l j) same ∙ other_waits ws k j other ∙ e
 
 pub same_number : (k : ℕ) → (k == k) ≡ true
 same_number k = search rules
@@ -74,93 +99,217 @@ found_waits passes (v ∷ ws) w e =
 -- A link
 
 -- What was said is what was taken and a rest, which waits to be sent unless the link was dropped. One that was dropped neither
--- sends nor waits nor selects events.
-pub record Owed (k : ℕ) (took said : List ℕ) (l : LinkState) (waiting : List Deferral) : Type 0 where
+-- sends nor waits nor selects events. If a link is closing, its history shows the cause, and else nothing of an end.
+pub record Owed (k : ℕ) (h : LinkHistory) (said : List ℕ) (l : LinkState) (waiting : List Deferral) : Type 0 where
   pub rest : List ℕ
-  pub whole : said ≡ took ++ rest
+  pub whole : said ≡ h.took ++ rest
   pub queued : is_dropped l.closing ≡ false → rest ≡ l.pending
   pub sends : is_dropped l.closing ≡ true → l.pending ≡ []
   pub waits : is_dropped l.closing ≡ true → has_deferral waiting k ≡ false
   pub wants : is_dropped l.closing ≡ true → l.selections ≡ none_selected
+  pub shows : Shows h rest l
+  pub unclosed : h.closed ≡ None
 
-abbrev pub Owing : ℕ → List ℕ → OpenLink → Type 0
-Owing k took p = Owed k took p.environment.said p.link p.environment.waiting
+abbrev pub Owing : ℕ → LinkHistory → OpenLink → Type 0
+Owing k h p = Owed k h p.environment.said p.link p.environment.waiting
 
-abbrev pub OwingLink : ℕ → List ℕ → List ℕ → Option LinkState → List Deferral → Type 0
-OwingLink k took said None waiting = (rest : List ℕ) × (said ≡ took ++ rest)
-OwingLink k took said (Some l) waiting = Owed k took said l waiting
+-- the same of a number whose link may be closed: then its history shows the cause
+abbrev pub OwingLink : ℕ → LinkHistory → List ℕ → Option LinkState → List Deferral → Type 0
+OwingLink k h said None waiting = (rest : List ℕ) × (said ≡ h.took ++ rest) × IfSome h.closed (λ cause. IsCause cause h (length rest))
+OwingLink k h said (Some l) waiting = Owed k h said l waiting
 
-abbrev pub QueuedSlot : ℕ → List ℕ → SlotLink → Type 0
-QueuedSlot k took d = OwingLink k took d.environment.said d.link d.environment.waiting
+abbrev pub QueuedSlot : ℕ → LinkHistory → SlotLink → Type 0
+QueuedSlot k h d = OwingLink k h d.environment.said d.link d.environment.waiting
 
-abbrev pub OwingAt : ℕ → List ℕ → State → Type 0
-OwingAt k took s = OwingLink k took (slot_at k s).said (slot_at k s).link s.waiting
+abbrev pub OwingAt : ℕ → LinkHistory → State → Type 0
+OwingAt k h s = OwingLink k h (slot_at k s).said (slot_at k s).link s.waiting
 
 -- fewer wait
-pub queueing_fewer : (k : ℕ) (took said : List ℕ) (link : Option LinkState) (ws vs : List Deferral) → (has_deferral ws k ≡ false → has_deferral vs k ≡ false) → OwingLink k took said link ws → OwingLink k took said link vs
-queueing_fewer k took said None ws vs less h = h
-queueing_fewer k took said (Some l) ws vs less h = record { rest = h.rest; whole = h.whole; queued = h.queued; sends = h.sends; waits = λ e. less (h.waits e); wants = h.wants }
+pub queueing_fewer : (k : ℕ) (g : LinkHistory) (said : List ℕ) (link : Option LinkState) (ws vs : List Deferral) → (has_deferral ws k ≡ false → has_deferral vs k ≡ false) → OwingLink k g said link ws → OwingLink k g said link vs
+queueing_fewer k g said None ws vs less h = h
+queueing_fewer k g said (Some l) ws vs less h = record {
+  rest = h.rest;
+  whole = h.whole;
+  queued = h.queued;
+  sends = h.sends;
+  waits = λ e. less (h.waits e);
+  wants = h.wants;
+  shows = h.shows;
+  unclosed = h.unclosed;
+}
 
-pub queueing_keeps : (k : ℕ) (took : List ℕ) → Keeps k (λ closing. is_dropped closing ≡ false) (Owing k took)
-queueing_keeps k took = record {
+-- nothing has ended a link that is not closing
+unended : (k : ℕ) (g : LinkHistory) (p : OpenLink) → p.link.closing ≡ None → (h : Owing k g p) → IsUnended g p.link.is_set_up p.link.rest
+unended k g p none h = subst (ShowsBy g h.rest p.link.is_set_up p.link.rest) none h.shows
+
+-- a link that is not closing becomes another that is not, and the same waits to be sent to it
+becomes_unended : (k : ℕ) (g : LinkHistory) (p : OpenLink) (l : LinkState) → p.link.closing ≡ None → l.closing ≡ None → l.pending ≡ p.link.pending → IsUnended g l.is_set_up l.rest → Owing k g p → Owing k g (open_link p.environment l)
+becomes_unended k g p l none behind same input h =
+    let undropped = open_undropped l.closing behind in
+    record {
+      rest = h.rest;
+      whole = h.whole;
+      queued = λ e. h.queued (open_undropped p.link.closing none) ∙ sym same;
+      sends = λ e. not_both (is_dropped l.closing) undropped e;
+      waits = λ e. not_both (is_dropped l.closing) undropped e;
+      wants = λ e. not_both (is_dropped l.closing) undropped e;
+      shows = subst (ShowsBy g h.rest l.is_set_up l.rest) (sym behind) input;
+      unclosed = h.unclosed;
+    }
+
+-- a link that is not closing becomes one that is, and was not dropped
+becomes_closing : (k : ℕ) (g : LinkHistory) (p : OpenLink) (l : LinkState) (cause : Why) → p.link.closing ≡ None → l.closing ≡ Some cause → is_dropped (Some cause) ≡ false → l.pending ≡ p.link.pending →
+    ((owed : List ℕ) → ShowsBy g owed l.is_set_up l.rest (Some cause)) → Owing k g p → Owing k g (open_link p.environment l)
+becomes_closing k g p l cause none closes stays same shows h =
+    let undropped : is_dropped l.closing ≡ false = ap is_dropped closes ∙ stays in
+    record {
+      rest = h.rest;
+      whole = h.whole;
+      queued = λ e. h.queued (open_undropped p.link.closing none) ∙ sym same;
+      sends = λ e. not_both (is_dropped l.closing) undropped e;
+      waits = λ e. not_both (is_dropped l.closing) undropped e;
+      wants = λ e. not_both (is_dropped l.closing) undropped e;
+      shows = subst (ShowsBy g h.rest l.is_set_up l.rest) (sym closes) (shows h.rest);
+      unclosed = h.unclosed;
+    }
+
+bad_undropped : (cause : Why) (l : LinkState) → IsBadInput cause l → is_dropped (Some cause) ≡ false
+bad_undropped why.BadSetup l bad = refl
+bad_undropped why.Malformed l bad = refl
+bad_undropped why.Ended l bad = refl
+bad_undropped why.LinkFault l bad = absurd bad
+bad_undropped why.Overrun l bad = absurd bad
+
+pub queueing_keeps : (k : ℕ) (g : LinkHistory) → Keeps k (λ closing. is_dropped closing ≡ false) (Owing k g)
+queueing_keeps k g = record {
   may = λ closing e. e;
-  link = λ p l open' behind same h. record {
-    rest = h.rest;
-    whole = h.whole;
-    queued = λ e. h.queued (open_undropped p.link.closing open') ∙ sym same;
-    sends = λ e. not_both (is_dropped l.closing) (open_undropped l.closing behind) e;
-    waits = λ e. not_both (is_dropped l.closing) (open_undropped l.closing behind) e;
-    wants = λ e. not_both (is_dropped l.closing) (open_undropped l.closing behind) e;
-  };
-  stops = λ p cause open' stays h. record {
-    rest = h.rest;
-    whole = h.whole;
-    queued = λ e. h.queued (open_undropped p.link.closing open');
-    sends = λ e. not_both (is_dropped (Some cause)) stays e;
-    waits = λ e. not_both (is_dropped (Some cause)) stays e;
-    wants = λ e. not_both (is_dropped (Some cause)) stays e;
-  };
+  link = λ p l none behind same rest set h.
+      becomes_unended k g p l none behind same (subst (λ b. IsUnended g b l.rest) (sym set) (subst (IsUnended g p.link.is_set_up) (sym rest) (unended k g p none h))) h;
+  takes = λ p n none set e asked h.
+      let u = unended k g p none h in
+      let served : IsServedTo g.gave p.link.rest = subst (λ b. IsInput b g.gave p.link.rest) set u.input in
+      becomes_unended k g p (without_front n p.link) none none refl
+      (record { failed = u.failed; ended = u.ended; input = subst (λ b. IsInput b g.gave (drop n p.link.rest)) (sym set) (input_taken g.gave p.link.rest n e asked served) }) h;
+  sets_up = λ p none unset e h.
+      let u = unended k g p none h in
+      let same : p.link.rest ≡ g.gave = subst (λ b. IsInput b g.gave p.link.rest) unset u.input in
+      becomes_unended k g p (record (without_front 8 p.link) { is_set_up = true }) none none refl (record { failed = u.failed; ended = u.ended; input = input_set_up g.gave p.link.rest e same }) h;
+  stops = λ p cause none bad h.
+      becomes_closing k g p (stopped cause p.link) cause none refl (bad_undropped cause p.link bad) refl (λ owed. shows_bad g owed cause p.link bad (unended k g p none h)) h;
   says = λ p bytes stays h. record {
     rest = h.rest ++ bytes;
-    whole = ap (λ x. x ++ bytes) h.whole ∙ append_assoc took h.rest bytes;
+    whole = ap (λ x. x ++ bytes) h.whole ∙ append_assoc g.took h.rest bytes;
     queued = λ e. ap (λ x. x ++ bytes) (h.queued stays);
     sends = λ e. not_both (is_dropped p.link.closing) stays e;
     waits = λ e. not_both (is_dropped p.link.closing) stays e;
     wants = λ e. not_both (is_dropped p.link.closing) stays e;
+    shows = shows_owed g h.rest (h.rest ++ bytes) p.link.is_set_up p.link.rest p.link.closing stays h.shows;
+    unclosed = h.unclosed;
   };
   becomes = λ p d device f there l h. h;
-  waits = λ p d deferred open' h. record {
+  waits = λ p d device deferred there w open' h. record {
     rest = h.rest;
     whole = h.whole;
     queued = h.queued;
     sends = h.sends;
     waits = λ e. not_both (is_dropped p.link.closing) (open_undropped p.link.closing open') e;
     wants = h.wants;
+    shows = h.shows;
+    unclosed = h.unclosed;
   };
 }
 
+-- bytes came to a link that is not closing
+pub queued_given : (k : ℕ) (g : LinkHistory) (bytes : List ℕ) (p : OpenLink) → p.link.closing ≡ None → Owing k g p →
+    Owing k (record g { gave = g.gave ++ bytes }) (open_link p.environment (record p.link { rest = p.link.rest ++ bytes }))
+queued_given k g bytes p none h =
+    let u = unended k g p none h in
+    let undropped = open_undropped p.link.closing none in
+    record {
+      rest = h.rest;
+      whole = h.whole;
+      queued = h.queued;
+      sends = h.sends;
+      waits = h.waits;
+      wants = h.wants;
+      shows = subst (ShowsBy (record g { gave = g.gave ++ bytes }) h.rest p.link.is_set_up (p.link.rest ++ bytes)) (sym none)
+          (record { failed = u.failed; ended = u.ended; input = input_more p.link.is_set_up g.gave p.link.rest bytes u.input });
+      unclosed = h.unclosed;
+    }
+
+-- a link that is not closing has ended
+pub queued_ended : (k : ℕ) (g : LinkHistory) (p : OpenLink) → p.link.closing ≡ None → Owing k g p →
+    Owing k (record g { has_ended = true }) (open_link p.environment (stopped why.Ended (record p.link { is_ready = false })))
+queued_ended k g p none h =
+    let u = unended k g p none h in
+    record {
+      rest = h.rest;
+      whole = h.whole;
+      queued = λ e. h.queued (open_undropped p.link.closing none);
+      sends = λ e. absurd cc;
+      waits = λ e. absurd cc;
+      wants = λ e. absurd cc;
+      shows = (u.failed, refl, refl);
+      unclosed = h.unclosed;
+    }
+
 -- some of what waited is taken
-pub queued_taken : (k : ℕ) (took bytes : List ℕ) (p : OpenLink) (l : LinkState) → is_dropped p.link.closing ≡ false → l.closing ≡ p.link.closing → p.link.pending ≡ bytes ++ l.pending → Owing k took p → Owing k (took ++ bytes) (open_link p.environment l)
-queued_taken k took bytes p l stays same front h =
+pub queued_taken : (k : ℕ) (g : LinkHistory) (bytes : List ℕ) (p : OpenLink) (l : LinkState) → is_dropped p.link.closing ≡ false → l.closing ≡ p.link.closing → l.rest ≡ p.link.rest → l.is_set_up ≡ p.link.is_set_up →
+    p.link.pending ≡ bytes ++ l.pending → Owing k g p → Owing k (record g { took = g.took ++ bytes }) (open_link p.environment l)
+queued_taken k g bytes p l stays same input set front h =
     let undropped : is_dropped l.closing ≡ false = ap is_dropped same ∙ stays in
+    let f : LinkHistory = record g { took = g.took ++ bytes } in
     record {
       rest = l.pending;
-      whole = h.whole ∙ ap (λ x. took ++ x) (h.queued stays ∙ front) ∙ sym (append_assoc took bytes l.pending);
+      whole = h.whole ∙ ap (λ x. g.took ++ x) (h.queued stays ∙ front) ∙ sym (append_assoc g.took bytes l.pending);
       queued = λ e. refl;
       sends = λ e. not_both (is_dropped l.closing) undropped e;
       waits = λ e. not_both (is_dropped l.closing) undropped e;
       wants = λ e. not_both (is_dropped l.closing) undropped e;
+      shows = subst (λ c. ShowsBy f l.pending l.is_set_up l.rest c) (sym same) (subst (λ b. ShowsBy f l.pending b l.rest p.link.closing) (sym set)
+          (subst (λ x. ShowsBy f l.pending p.link.is_set_up x p.link.closing) (sym input) (shows_taken g bytes h.rest l.pending p.link.is_set_up p.link.rest p.link.closing stays h.shows)));
+      unclosed = h.unclosed;
     }
 
-pub queued_dropped : (k : ℕ) (took : List ℕ) (cause : Why) (p : OpenLink) → is_dropped (Some cause) ≡ true → Owing k took p → Owing k took (dropped k cause p)
-queued_dropped k took cause p drops h = record {
+-- a link is dropped whose history shows the cause
+queued_dropped : (k : ℕ) (g f : LinkHistory) (cause : Why) (p : OpenLink) → is_dropped (Some cause) ≡ true → f.took ≡ g.took → f.closed ≡ g.closed → (h : Owing k g p) → IsCause cause f (length h.rest) → Owing k f (dropped k cause p)
+queued_dropped k g f cause p drops took closed h shows = record {
   rest = h.rest;
-  whole = h.whole;
+  whole = h.whole ∙ ap (λ x. x ++ h.rest) (sym took);
   queued = λ e. not_both (is_dropped (Some cause)) e drops;
   sends = λ e. refl;
   waits = λ e. dropped_waits k p.environment.waiting;
   wants = λ e. refl;
+  shows = subst (λ t. IsCause cause f (owed_at_close t h.rest)) (sym drops) shows;
+  unclosed = closed ∙ h.unclosed;
 }
+
+-- a call of it failed
+pub queued_failed : (k : ℕ) (g : LinkHistory) (p : OpenLink) → Owing k g p → Owing k (record g { has_failed = true }) (dropped k why.LinkFault p)
+queued_failed k g p h = queued_dropped k g (record g { has_failed = true }) why.LinkFault p refl refl refl h refl
+
+-- an event found no room
+pub queued_overrun : (k : ℕ) (g : LinkHistory) (p : OpenLink) → is_dropped p.link.closing ≡ false → nat_le (length p.link.pending + 20) 49152 ≡ false → Owing k g p → Owing k g (dropped k why.Overrun p)
+queued_overrun k g p stays full h =
+    queued_dropped k g g why.Overrun p refl refl refl h
+    (shows_unfailed g h.rest p.link.is_set_up p.link.rest p.link.closing stays h.shows, subst (λ l. 49152 < length l + 20) (sym (h.queued stays)) (no_room (length p.link.pending) full))
+
+-- a link to which nothing waits to be sent is closed for its cause
+pub queued_closed : (k : ℕ) (g : LinkHistory) (p : OpenLink) (cause : Why) → close_due p.link ≡ Some cause → Owing k g p → OwingLink k (record g { closed = Some cause }) p.environment.said None p.environment.waiting
+queued_closed k g p cause due h =
+    let i = cond-some (length p.link.pending == 0) p.link.closing cause due in
+    let none : p.link.pending ≡ [] = no_bytes p.link.pending i.0 in
+    let closes : p.link.closing ≡ Some cause = i.1 in
+    let shows : ShowsBy g h.rest p.link.is_set_up p.link.rest (Some cause) = subst (ShowsBy g h.rest p.link.is_set_up p.link.rest) closes h.shows in (
+      h.rest,
+      h.whole,
+      cause_alike cause g (record g { closed = Some cause }) (length h.rest) refl refl refl
+          (shows_at_close g h.rest p.link.is_set_up p.link.rest cause (λ stays. h.queued (ap is_dropped closes ∙ stays) ∙ none) shows),
+    )
+  where
+    no_bytes : (xs : List ℕ) → (length xs == 0) ≡ true → xs ≡ []
+    no_bytes [] e = refl
+    no_bytes (x ∷ xs) e = let z : length (x ∷ xs) ≡ 0 = eqb-true (length (x ∷ xs)) 0 e in absurd (omega (arith, z))
 
 -- a link that selects an event was not dropped
 none_masked : (n d : ℕ) → some_mask (slice_get (replicate n 0) d) ≡ 0
@@ -174,8 +323,8 @@ none_selects kind.Current = refl
 none_selects kind.Digit = refl
 none_selects kind.Hook = refl
 
-pub selects_undropped : (k d : ℕ) (kind : EventKind) (took : List ℕ) (p : OpenLink) → selects (mask_of p.link d) kind ≡ true → Owing k took p → is_dropped p.link.closing ≡ false
-selects_undropped k d kind took p e h =
+pub selects_undropped : (k d : ℕ) (kind : EventKind) (g : LinkHistory) (p : OpenLink) → selects (mask_of p.link d) kind ≡ true → Owing k g p → is_dropped p.link.closing ≡ false
+selects_undropped k d kind g p e h =
     elim (is_dropped p.link.closing) as (λ t. (t ≡ true → p.link.selections ≡ none_selected) → t ≡ false) [
       | true ↦ λ w.
           let none : selects (mask_of p.link d) kind ≡ false = ap (λ x. selects (some_mask (slice_get x d)) kind) (w refl) ∙ ap (λ m. selects m kind) (none_masked 8 d) ∙ none_selects kind in
@@ -184,16 +333,16 @@ selects_undropped k d kind took p e h =
     ] h.wants
 
 -- a link that waits was not dropped
-pub waiting_undropped : (k : ℕ) (took : List ℕ) (said : List ℕ) (l : LinkState) (ws : List Deferral) → has_deferral ws k ≡ true → Owed k took said l ws → is_dropped l.closing ≡ false
-waiting_undropped k took said l ws e h =
+pub waiting_undropped : (k : ℕ) (g : LinkHistory) (said : List ℕ) (l : LinkState) (ws : List Deferral) → has_deferral ws k ≡ true → Owed k g said l ws → is_dropped l.closing ≡ false
+waiting_undropped k g said l ws e h =
     elim (is_dropped l.closing) as (λ t. (t ≡ true → has_deferral ws k ≡ false) → t ≡ false) [
       | true ↦ λ w. not_both (has_deferral ws k) (w refl) e
       | false ↦ λ w. refl
     ] h.waits
 
 -- a link that sends was not dropped
-pub sending_undropped : (k : ℕ) (took : List ℕ) (said : List ℕ) (l : LinkState) (ws : List Deferral) → not (length l.pending == 0) ≡ true → Owed k took said l ws → is_dropped l.closing ≡ false
-sending_undropped k took said l ws e h =
+pub sending_undropped : (k : ℕ) (g : LinkHistory) (said : List ℕ) (l : LinkState) (ws : List Deferral) → not (length l.pending == 0) ≡ true → Owed k g said l ws → is_dropped l.closing ≡ false
+sending_undropped k g said l ws e h =
     elim (is_dropped l.closing) as (λ t. (t ≡ true → l.pending ≡ []) → t ≡ false) [
       | true ↦ λ w. let none : not (length l.pending == 0) ≡ false = ap (λ x. not (length x == 0)) (w refl) in not_both (not (length l.pending == 0)) none e
       | false ↦ λ w. refl
@@ -201,42 +350,58 @@ sending_undropped k took said l ws e h =
 
 -- Devices, and the other links that wait
 
-pub grows_keeps : (k : ℕ) (ds : List DeviceState) → Keeps k (λ closing. Unit {0}) (λ p. Laters ds p.environment.devices)
+pub grows_keeps : (k : ℕ) (ds : List DeviceState) → Keeps k (λ closing. Unit {0}) (λ p. AllLive ds p.environment.devices)
 grows_keeps k ds = record {
   may = λ closing e. tt;
-  link = λ p l open' behind same h. h;
-  stops = λ p cause open' stays h. h;
+  link = λ p l open' behind same rest set h. h;
+  takes = λ p n open' set e asked h. h;
+  sets_up = λ p open' unset e h. h;
+  stops = λ p cause open' bad h. h;
   says = λ p bytes stays h. h;
-  becomes = λ p d device f there l h. laters_trans ds p.environment.devices _ h (laters_with d f p.environment.devices (λ x is. subst (λ y. Later y (f y)) (some_same is there) l));
-  waits = λ p d deferred open' h. h;
+  becomes = λ p d device f there l h. all_live_trans ds p.environment.devices _ h (all_live_with d f p.environment.devices (λ x is. subst (λ y. Lives y (f y)) (some_same is there) l.lives));
+  waits = λ p d device deferred there w open' h. h;
 }
   where
     some_same : {a b : DeviceState} {o : Option DeviceState} → o ≡ Some a → o ≡ Some b → b ≡ a
     some_same e f = cc
 
-pub fewer_keeps : (k j : ℕ) (ws : List Deferral) → (j == k) ≡ false → Keeps j (λ closing. Unit {0}) (λ p. has_deferral ws k ≡ false → has_deferral p.environment.waiting k ≡ false)
-fewer_keeps k j ws other = record {
+-- the other requests that wait are the same, in their order
+abbrev pub SameOthers : ℕ → List Deferral → List Deferral → Type 0
+SameOthers k ws vs = without_waiter k vs ≡ without_waiter k ws
+
+pub others_keep : (k : ℕ) (ws : List Deferral) → Keeps k (λ closing. Unit {0}) (λ p. SameOthers k ws p.environment.waiting)
+others_keep k ws = record {
   may = λ closing e. tt;
-  link = λ p l open' behind same h. h;
-  stops = λ p cause open' stays h. h;
+  link = λ p l open' behind same rest set h. h;
+  takes = λ p n open' set e asked h. h;
+  sets_up = λ p open' unset e h. h;
+  stops = λ p cause open' bad h. h;
   says = λ p bytes stays h. h;
   becomes = λ p d device f there l h. h;
-  waits = λ p d deferred open' h e. waits_other p.environment.waiting k (record { link = j; device = d; deferred = deferred }) other (h e);
+  waits = λ p d device deferred there w open' h. own_waits p.environment.waiting k (record { link = k; device = d; deferred = deferred }) (same_number k) ∙ h;
 }
 
--- What becomes of a link and its environment, if nothing is taken: devices become later, what is queued for it stays so, and of
--- the others none begins to wait.
+-- What becomes of a link and its environment, if nothing is taken: devices become later, what is queued for it stays so, and
+-- the others wait as they did.
 pub record Moved (j : ℕ) (d e : SlotLink) : Type 0 where
-  pub devices : Laters d.environment.devices e.environment.devices
-  pub own : (took : List ℕ) → QueuedSlot j took d → QueuedSlot j took e
-  pub fewer : (k : ℕ) → (j == k) ≡ false → has_deferral d.environment.waiting k ≡ false → has_deferral e.environment.waiting k ≡ false
+  pub devices : AllLive d.environment.devices e.environment.devices
+  pub own : (g : LinkHistory) → QueuedSlot j g d → QueuedSlot j g e
+  pub others : SameOthers j d.environment.waiting e.environment.waiting
+  pub safe : SafeIn 0 0 d.environment → SafeIn 0 0 e.environment
 
 pub moved_of : (j : ℕ) (p q : OpenLink) → ((May : Option Why → Type 0) (I : OpenLink → Type 0) → Keeps j May I → I p → I q) → Moved j (enter p) (enter q)
 moved_of j p q go = record {
-  devices = go (λ closing. Unit {0}) (λ x. Laters p.environment.devices x.environment.devices) (grows_keeps j p.environment.devices) (laters_refl p.environment.devices);
-  own = λ took h. go (λ closing. is_dropped closing ≡ false) (Owing j took) (queueing_keeps j took) h;
-  fewer = λ k other e. go (λ closing. Unit {0}) (λ x. has_deferral p.environment.waiting k ≡ false → has_deferral x.environment.waiting k ≡ false) (fewer_keeps k j p.environment.waiting other) (λ x. x) e;
+  devices = go (λ closing. Unit {0}) (λ x. AllLive p.environment.devices x.environment.devices) (grows_keeps j p.environment.devices) (all_live_refl p.environment.devices);
+  own = λ g h. go (λ closing. is_dropped closing ≡ false) (Owing j g) (queueing_keeps j g) h;
+  others = go (λ closing. Unit {0}) (λ x. SameOthers j p.environment.waiting x.environment.waiting) (others_keep j p.environment.waiting) refl;
+  safe = λ h. go (λ closing. Unit {0}) (λ x. SafeIn 0 0 x.environment) (safe_keeps j 0 0) h;
 }
 
-pub moved_dropped : (k : ℕ) (p : OpenLink) (cause : Why) → is_dropped (Some cause) ≡ true → Moved k (enter p) (enter (dropped k cause p))
-moved_dropped k p cause drops = record { devices = laters_refl p.environment.devices; own = λ took h. queued_dropped k took cause p drops h; fewer = λ j other h. waits_dropped k p.environment.waiting j h }
+-- an event found no room
+pub moved_overrun : (k : ℕ) (p : OpenLink) → ((g : LinkHistory) → Owing k g p → is_dropped p.link.closing ≡ false) → nat_le (length p.link.pending + 20) 49152 ≡ false → Moved k (enter p) (enter (dropped k why.Overrun p))
+moved_overrun k p stays full = record {
+  devices = all_live_refl p.environment.devices;
+  own = λ g h. queued_overrun k g p (stays g h) full h;
+  others = own_left p.environment.waiting k;
+  safe = λ h. safe_dropped k p.environment.devices p.environment.waiting h;
+}

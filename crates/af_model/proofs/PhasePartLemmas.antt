@@ -13,8 +13,8 @@ use Rattle.af_model.specs.State.{State, DeviceState, OpenLink, SlotLink, link_in
 use Rattle.af_model.specs.Waiting.{has_deferral}
 use Rattle.af_model.specs.Tick.{captured_samples, sound, tick}
 use Rattle.af_model.specs.Events.{hook_given, hook_refused}
-use Rattle.af_model.specs.Turn.{Parsed, parsed, parse_then, then_go, parse_one, wants_read, is_read, read_by, read_phase, after_read, wants_write, write_by, write_phase, close_due, close_by, close_for, close_phase, is_capture, capture_by, emit_by, after_capture, hook_wanted, hook_by, hook_for}
-use Rattle.af_model.proofs.BoolTestLemmas.{both-true, cond-some, none_some, some_is, same_bytes-true}
+use Rattle.af_model.specs.Turn.{Parsed, parsed, parse_then, then_go, parse_one, wants_read, is_read, read_by, read_phase, after_read, wants_write, write_by, write_phase, close_due, close_by, close_for, close_phase, same_flag, same_why, is_capture, capture_by, emit_by, after_capture, hook_wanted, hook_by, hook_for}
+use Rattle.af_model.proofs.BoolTestLemmas.{both-true, cond-some, none_some, some_is, same_bytes-true, same_why-true}
 
 -- the part, which is taken whatever follows it, and what holds of it and of what is behind it
 pub record Taken {T : Type 0} (f : Log → Option (Parsed T)) (M : Log → T → Type 0) (log : Log) (b : Parsed T) : Type 0 where
@@ -125,23 +125,27 @@ module _ (k : ℕ) (R : OpenLink → Log → OpenLink → Type 0) (rests : (p : 
 
 -- Closes
 
-module _ (k : ℕ) (p : OpenLink) (M : Log → SlotLink → Type 0) (stays : M [] (link_in_slot p.environment (Some p.link))) (closes : (j : ℕ) (why : Why) → M (Closed j why ∷ []) (link_in_slot p.environment None)) where
-  close_one : (cause : Why) (h : Happening) (t : SlotLink) → close_by k p.environment cause h ≡ Some t → M (h ∷ []) t
-  close_one cause (Woke wake) t e = absurd (none_some e)
-  close_one cause (Read j got) t e = absurd (none_some e)
-  close_one cause (Wrote j offered took) t e = absurd (none_some e)
-  close_one cause (Captured d n got) t e = absurd (none_some e)
-  close_one cause (Emitted d out done) t e = absurd (none_some e)
-  close_one cause (Hooked d off done) t e = absurd (none_some e)
-  close_one cause (Closed j why) t e = subst (λ q. M (Closed j why ∷ []) q) (some_is (cond-some _ (Some (link_in_slot p.environment None)) t e).1) (closes j why)
+module _ (k : ℕ) (p : OpenLink) (M : Log → SlotLink → Type 0) (stays : M [] (link_in_slot p.environment (Some p.link))) (closes : (cause : Why) → close_due p.link ≡ Some cause → M (Closed k cause ∷ []) (link_in_slot p.environment None)) where
+  close_one : (cause : Why) → close_due p.link ≡ Some cause → (h : Happening) (t : SlotLink) → close_by k p.environment cause h ≡ Some t → M (h ∷ []) t
+  close_one cause due (Woke wake) t e = absurd (none_some e)
+  close_one cause due (Read j got) t e = absurd (none_some e)
+  close_one cause due (Wrote j offered took) t e = absurd (none_some e)
+  close_one cause due (Captured d n got) t e = absurd (none_some e)
+  close_one cause due (Emitted d out done) t e = absurd (none_some e)
+  close_one cause due (Hooked d off done) t e = absurd (none_some e)
+  close_one cause due (Closed j why) t e =
+      let i = cond-some (j == k && same_why why cause) (Some (link_in_slot p.environment None)) t e in
+      let both = both-true (j == k) (same_why why cause) i.0 in
+      subst (λ q. M (Closed j why ∷ []) q) (some_is i.1)
+      (subst (λ n. M (Closed n why ∷ []) (link_in_slot p.environment None)) (sym (eqb-true j k both.0)) (subst (λ w. M (Closed k w ∷ []) (link_in_slot p.environment None)) (sym (same_why-true why cause both.1)) (closes cause due)))
 
   pub close_takes : Takes (close_phase k p) M
   unfolding close_phase
   close_takes =
-      elim (close_due p.link) as (λ o. Takes (close_for k p o) M) [
-        | None ↦ takes_nothing (link_in_slot p.environment (Some p.link)) M stays
-        | Some cause ↦ takes_one (close_by k p.environment cause) M (close_one cause)
-      ]
+      elim (close_due p.link) as (λ o. close_due p.link ≡ o → Takes (close_for k p o) M) [
+        | None ↦ λ due. takes_nothing (link_in_slot p.environment (Some p.link)) M stays
+        | Some cause ↦ λ due. takes_one (close_by k p.environment cause) M (close_one cause due)
+      ] refl
 
 -- Ticks
 
@@ -194,7 +198,7 @@ module _ (d n : ℕ) (device : DeviceState) (s : State) (M : Log → State → T
 -- Hooks
 
 module _ (d : ℕ) (device : DeviceState) (s : State) (M : Log → State → Type 0) (rests : M [] s)
-    (hooks : (j : ℕ) (wanted off done : Bool) → M (Hooked j wanted done ∷ []) (cond done (hook_given off d device s) (hook_refused d s))) where
+    (hooks : (wanted off done : Bool) → M (Hooked d wanted done ∷ []) (cond done (hook_given off d device s) (hook_refused d s))) where
   hook_one : (off : Bool) (h : Happening) (t : State) → hook_by d off device s h ≡ Some t → M (h ∷ []) t
   hook_one off (Woke wake) t e = absurd (none_some e)
   hook_one off (Read j got) t e = absurd (none_some e)
@@ -202,7 +206,10 @@ module _ (d : ℕ) (device : DeviceState) (s : State) (M : Log → State → Typ
   hook_one off (Closed j why) t e = absurd (none_some e)
   hook_one off (Captured j n got) t e = absurd (none_some e)
   hook_one off (Emitted j out done) t e = absurd (none_some e)
-  hook_one off (Hooked j wanted done) t e = subst (λ q. M (Hooked j wanted done ∷ []) q) (some_is (cond-some _ (Some (cond done (hook_given off d device s) (hook_refused d s))) t e).1) (hooks j wanted off done)
+  hook_one off (Hooked j wanted done) t e =
+      let i = cond-some (j == d && same_flag wanted off) (Some (cond done (hook_given off d device s) (hook_refused d s))) t e in
+      let both = both-true (j == d) (same_flag wanted off) i.0 in
+      subst (λ q. M (Hooked j wanted done ∷ []) q) (some_is i.1) (subst (λ n. M (Hooked n wanted done ∷ []) (cond done (hook_given off d device s) (hook_refused d s))) (sym (eqb-true j d both.0)) (hooks wanted off done))
 
   pub hook_takes : Takes (hook_for d device (hook_wanted device) s) M
   hook_takes =

@@ -1,5 +1,5 @@
 -- What a request comes to: one way in for all laws.
-use Rattle.std.proofs.Common.{◌≡◌, ℕ, ◌==◌, Bool, true, false, cond, nat_le, List, [], ◌∷◌, ◌++◌, length, slice_get, refl}
+use Rattle.std.proofs.Common.{◌≡◌, ℕ, ◌==◌, ◌≤◌, Bool, true, false, cond, nat_le, List, [], ◌∷◌, ◌++◌, length, slice_get, refl}
 use Rattle.std.specs.declared.option.Option.{Option}
 use Rattle.std.specs.declared.option.Option.TheVariants.{None, Some}
 use Rattle.af_time.specs.DeviceTime.{unwrap}
@@ -19,7 +19,8 @@ use Rattle.af_model.specs.Waiting.{wait}
 use Rattle.af_model.specs.Play.{play, play_refusal, start_play, tell_played, accepting, entry_now, in_devices, frames_of, frames_within_horizon, sent_sound}
 use Rattle.af_model.specs.Record.{record_sound, record_refusal, start_record, give_record, given_frames, is_to_wait}
 use Rattle.af_model.specs.Perform.{done, tell_time, in_context}
-use Rattle.af_model.proofs.DeviceHistoryLemmas.{Later, later_accepting, later_line, later_same}
+use Rattle.af_model.proofs.DeviceHistoryLemmas.{Requested, later_same, lives_accepting, lives_line}
+use Rattle.af_model.proofs.DueLemmas.{IsToWait, most_asked, play_waits, record_waits}
 
 -- the same link with another input
 abbrev pub with_rest : List ℕ → OpenLink → OpenLink
@@ -30,26 +31,26 @@ abbrev pub chosen : List Context → List ℕ → OpenLink → OpenLink
 chosen contexts selections p = open_link p.environment (record p.link { contexts = contexts; selections = selections })
 
 -- What a request makes of a place, and what it makes of the same place with another input: nothing, or an answer behind other
--- contexts and selections, or a later device with an answer or without, or that it waits.
-module _ (k : ℕ) (p : OpenLink) (r : List ℕ) (M : OpenLink → OpenLink → Type 0)
+-- contexts and selections, or a later device with an answer or without, or that it waits, with no more frames than it may have.
+module _ (k : ℕ) (p : OpenLink) (r : List ℕ) (most : ℕ) (M : OpenLink → OpenLink → Type 0)
     (stays : M p (with_rest r p))
     (says : (contexts : List Context) (selections bytes : List ℕ) → M (say (chosen contexts selections p) bytes) (say (chosen contexts selections (with_rest r p)) bytes))
-    (becomes : (d : ℕ) (device : DeviceState) (f : DeviceState → DeviceState) → slice_get p.environment.devices d ≡ Some device → Later device (f device) → M (in_devices d f p) (in_devices d f (with_rest r p)))
-    (tells : (d : ℕ) (device : DeviceState) (f : DeviceState → DeviceState) (bytes : List ℕ) → slice_get p.environment.devices d ≡ Some device → Later device (f device) →
+    (becomes : (d : ℕ) (device : DeviceState) (f : DeviceState → DeviceState) → slice_get p.environment.devices d ≡ Some device → Requested device (f device) → M (in_devices d f p) (in_devices d f (with_rest r p)))
+    (tells : (d : ℕ) (device : DeviceState) (f : DeviceState → DeviceState) (bytes : List ℕ) → slice_get p.environment.devices d ≡ Some device → Requested device (f device) →
     M (say (in_devices d f p) bytes) (say (in_devices d f (with_rest r p)) bytes))
-    (waits : (d : ℕ) (deferred : Deferred) → M (wait k d deferred p) (wait k d deferred (with_rest r p))) where
+    (waits : (d : ℕ) (device : DeviceState) (deferred : Deferred) → slice_get p.environment.devices d ≡ Some device → IsToWait most device deferred → M (wait k d deferred p) (wait k d deferred (with_rest r p))) where
   abbrev Both : (OpenLink → OpenLink) → Type 0
   Both f = M (f p) (f (with_rest r p))
 
   answers : (bytes : List ℕ) → M (say p bytes) (say (with_rest r p) bytes)
   answers bytes = says p.link.contexts p.link.selections bytes
 
-  either_both : (b : Bool) (f g : OpenLink → OpenLink) → Both f → Both g → M (cond b (f p) (g p)) (cond b (f (with_rest r p)) (g (with_rest r p)))
-  either_both true f g h i = h
-  either_both false f g h i = i
+  either_both : (b : Bool) (f g : OpenLink → OpenLink) → (b ≡ true → Both f) → (b ≡ false → Both g) → M (cond b (f p) (g p)) (cond b (f (with_rest r p)) (g (with_rest r p)))
+  either_both true f g h i = h refl
+  either_both false f g h i = i refl
 
-  refused_both : (opcode : ℕ) (o : Option Refusal) (f : OpenLink → OpenLink) → Both f → Both (refused_or opcode o f)
-  refused_both opcode None f h = h
+  refused_both : (opcode : ℕ) (o : Option Refusal) (f : OpenLink → OpenLink) → (o ≡ None → Both f) → Both (refused_or opcode o f)
+  refused_both opcode None f h = h refl
   refused_both opcode (Some refusal) f h = answers _
 
   device_both : (opcode d : ℕ) (f : DeviceState → OpenLink → OpenLink) (o : Option DeviceState) → slice_get p.environment.devices d ≡ o → ((device : DeviceState) → slice_get p.environment.devices d ≡ Some device → Both (f device)) → Both (in_device opcode d f o)
@@ -64,50 +65,51 @@ module _ (k : ℕ) (p : OpenLink) (r : List ℕ) (M : OpenLink → OpenLink → 
   line_both opcode d f None h = answers _
   line_both opcode d f (Some line) h = h line
 
-  played_both : (quiet : Bool) (d : ℕ) (device : DeviceState) (f : DeviceState → DeviceState) → slice_get p.environment.devices d ≡ Some device → Later device (f device) → Both (λ q. tell_played quiet device (in_devices d f q))
+  played_both : (quiet : Bool) (d : ℕ) (device : DeviceState) (f : DeviceState → DeviceState) → slice_get p.environment.devices d ≡ Some device → Requested device (f device) → Both (λ q. tell_played quiet device (in_devices d f q))
   played_both true d device f there l = becomes d device f there l
   played_both false d device f there l = tells d device f _ there l
 
-  play_both : (quiet : Bool) (c : Context) (time : ℕ) (bytes : List ℕ) (device : DeviceState) → slice_get p.environment.devices c.device ≡ Some device → Both (play k quiet c time bytes device)
-  play_both quiet c time bytes device there =
+  play_both : (quiet : Bool) (c : Context) (time : ℕ) (bytes : List ℕ) (device : DeviceState) → slice_get p.environment.devices c.device ≡ Some device → length bytes ≤ most → Both (play k quiet c time bytes device)
+  play_both quiet c time bytes device there short =
       refused_both 6 (play_refusal c (length bytes)) (start_play k quiet c time bytes device)
-      (either_both (nat_le (frames_of c (length bytes)) (frames_within_horizon device time)) (λ q. tell_played quiet device (in_devices c.device (accepting (entry_now c device time bytes)) q))
+      (λ whole. either_both (nat_le (frames_of c (length bytes)) (frames_within_horizon device time)) (λ q. tell_played quiet device (in_devices c.device (accepting (entry_now c device time bytes)) q))
       (wait k c.device (deferred_play quiet (unwrap device.now time) (sent_sound c bytes) c.preempt))
-      (played_both quiet c.device device (accepting (entry_now c device time bytes)) there (later_accepting device (entry_now c device time bytes) refl))
-      (waits c.device (deferred_play quiet (unwrap device.now time) (sent_sound c bytes) c.preempt)))
+      (λ within. played_both quiet c.device device (accepting (entry_now c device time bytes)) there (record { lives = lives_accepting device (entry_now c device time bytes) refl; completed = refl }))
+      (λ beyond. waits c.device device (deferred_play quiet (unwrap device.now time) (sent_sound c bytes) c.preempt) there (play_waits quiet c device time bytes most whole short beyond)))
 
-  record_both : (blocking : Bool) (c : Context) (time bytes : ℕ) (device : DeviceState) → Both (record_sound k blocking c time bytes device)
-  record_both blocking c time bytes device =
+  record_both : (blocking : Bool) (c : Context) (time bytes : ℕ) (device : DeviceState) → slice_get p.environment.devices c.device ≡ Some device → 16000 ≤ most → Both (record_sound k blocking c time bytes device)
+  record_both blocking c time bytes device there short =
       refused_both 7 (record_refusal c bytes) (start_record k blocking c time bytes device)
-      (either_both (is_to_wait blocking device time (frames_of c bytes)) (wait k c.device (deferred_record c (unwrap device.now time) (frames_of c bytes)))
+      (λ allowed. either_both (is_to_wait blocking device time (frames_of c bytes)) (wait k c.device (deferred_record c (unwrap device.now time) (frames_of c bytes)))
       (give_record c (unwrap device.now time) (given_frames blocking device time (frames_of c bytes)) device)
-      (waits c.device (deferred_record c (unwrap device.now time) (frames_of c bytes))) (answers _))
+      (λ wanted. waits c.device device (deferred_record c (unwrap device.now time) (frames_of c bytes)) there (record_waits blocking c device time bytes most allowed short wanted)) (λ given. answers _))
 
-  pub done_both : (request : Asked) → Both (done k request)
-  done_both no_op = stays
-  done_both (get_time d) = device_both 2 d tell_time (slice_get p.environment.devices d) refl (λ device there. answers _)
-  done_both (create_ac d ac ty channels preempt play_gain record_gain) =
+  pub done_both : (request : Asked) → most_asked request ≤ most → Both (done k request)
+  done_both no_op short = stays
+  done_both (get_time d) short = device_both 2 d tell_time (slice_get p.environment.devices d) refl (λ device there. answers _)
+  done_both (create_ac d ac ty channels preempt play_gain record_gain) short =
       let c = described d ac ty preempt play_gain record_gain in
       refused_both 3 (creation_refusal (length p.environment.devices) d ty channels preempt play_gain record_gain) (create c)
-      (refused_both 3 (context_refusal c.ac (creation p.link.contexts c.ac)) (λ q. replied 3 plain (with_contexts (q.link.contexts ++ c ∷ []) q)) (says (p.link.contexts ++ c ∷ []) p.link.selections _))
-  done_both (change_ac mask ac preempt play_gain record_gain) =
-      refused_both 4 (change_refusal p.link.contexts mask ac preempt play_gain record_gain) (change mask ac preempt play_gain record_gain) (says _ p.link.selections _)
-  done_both (free_ac ac) =
-      refused_both 5 (context_refusal ac (reference p.link.contexts ac)) (λ q. replied 5 plain (with_contexts (without_context q.link.contexts ac) q)) (says _ p.link.selections _)
-  done_both (play_run quiet ac start bytes) = context_both 6 ac (λ c. play k quiet c start bytes) (context_of p.link.contexts ac) (λ c device there. play_both quiet c start bytes device there)
-  done_both (record_run blocking ac start bytes) = context_both 7 ac (λ c. record_sound k blocking c start bytes) (context_of p.link.contexts ac) (λ c device there. record_both blocking c start bytes device)
-  done_both (select_events d mask) =
+      (λ allowed. refused_both 3 (context_refusal c.ac (creation p.link.contexts c.ac)) (λ q. replied 3 plain (with_contexts (q.link.contexts ++ c ∷ []) q)) (λ free. says (p.link.contexts ++ c ∷ []) p.link.selections _))
+  done_both (change_ac mask ac preempt play_gain record_gain) short =
+      refused_both 4 (change_refusal p.link.contexts mask ac preempt play_gain record_gain) (change mask ac preempt play_gain record_gain) (λ allowed. says _ p.link.selections _)
+  done_both (free_ac ac) short =
+      refused_both 5 (context_refusal ac (reference p.link.contexts ac)) (λ q. replied 5 plain (with_contexts (without_context q.link.contexts ac) q)) (λ allowed. says _ p.link.selections _)
+  done_both (play_run quiet ac start bytes) short = context_both 6 ac (λ c. play k quiet c start bytes) (context_of p.link.contexts ac) (λ c device there. play_both quiet c start bytes device there short)
+  done_both (record_run blocking ac start bytes) short = context_both 7 ac (λ c. record_sound k blocking c start bytes) (context_of p.link.contexts ac) (λ c device there. record_both blocking c start bytes device there short)
+  done_both (select_events d mask) short =
       device_both 8 d (λ device. on_line 8 d (λ line. select d mask) device.line) (slice_get p.environment.devices d) refl
       (λ device there. line_both 8 d (λ line. select d mask) device.line (λ line. says p.link.contexts _ _))
-  done_both (set_controls d mask input_on output_on input_gain output_gain) =
+  done_both (set_controls d mask input_on output_on input_gain output_gain) short =
       let f = controlling mask input_on output_on input_gain output_gain in
       device_both 9 d (set_device_controls d mask input_on output_on input_gain output_gain) (slice_get p.environment.devices d) refl
-      (λ device there. refused_both 9 (controls_refusal mask input_on output_on input_gain output_gain) (λ q. replied 9 plain (in_devices d f q)) (tells d device f _ there (later_same device (f device) refl refl refl)))
-  done_both (query_controls d) = device_both 10 d tell_controls (slice_get p.environment.devices d) refl (λ device there. answers _)
-  done_both (hook_switch d off) =
+      (λ device there. refused_both 9 (controls_refusal mask input_on output_on input_gain output_gain) (λ q. replied 9 plain (in_devices d f q)) (λ allowed. tells d device f _ there
+      (record { lives = record { later = later_same device (f device) refl refl refl; dead = refl; line_dead = refl; now = refl; rate = refl }; completed = refl })))
+  done_both (query_controls d) short = device_both 10 d tell_controls (slice_get p.environment.devices d) refl (λ device there. answers _)
+  done_both (hook_switch d off) short =
       let f = wanting_hook (off == 1) in
       device_both 11 d (λ device. on_line 11 d (switch_hook d off) device.line) (slice_get p.environment.devices d) refl
       (λ device there. line_both 11 d (switch_hook d off) device.line
-      (λ line. refused_both 11 (switch_refusal d off line) (λ q. replied 11 plain (in_devices d f q)) (tells d device f _ there (later_line (wanting (off == 1)) device))))
-  done_both (query_phone d) =
+      (λ line. refused_both 11 (switch_refusal d off line) (λ q. replied 11 plain (in_devices d f q)) (λ allowed. tells d device f _ there (record { lives = lives_line (wanting (off == 1)) device (λ line. refl); completed = refl }))))
+  done_both (query_phone d) short =
       device_both 12 d (λ device. on_line 12 d tell_phone device.line) (slice_get p.environment.devices d) refl (λ device there. line_both 12 d tell_phone device.line (λ line. answers _))

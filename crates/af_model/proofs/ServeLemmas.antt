@@ -1,5 +1,5 @@
 -- What serving the links makes of a state, and the part of a log that it takes off.
-use Rattle.std.proofs.Common.{◌≡◌, ℕ, zero, suc, ◌+◌, ◌==◌, Bool, true, false, not, cond, ◌&&◌, List, [], ◌∷◌, ◌++◌, take, drop, length, slice_get, slice_set, refl, sym, ap, ◌∙◌, subst, eqb-true}
+use Rattle.std.proofs.Common.{◌≡◌, ℕ, zero, suc, ◌+◌, ◌==◌, Bool, true, false, not, cond, ◌&&◌, List, [], ◌∷◌, ◌++◌, take, drop, length, is_none, slice_get, slice_set, refl, sym, ap, ◌∙◌, subst, eqb-true}
 use Rattle.std.proofs.lemmas.Bool.{eqb-false}
 use Rattle.std.proofs.lemmas.List.{take-append-drop}
 use Rattle.std.proofs.lemmas.List.Sums.{fold-append}
@@ -13,18 +13,21 @@ use Rattle.af_world.specs.declared.happening.ReadGot.TheVariants.{Given, NotYet,
 use Rattle.af_world.specs.declared.happening.Why.TheVariants as why
 use Rattle.af_world.specs.Log.{Log}
 use Rattle.af_world.specs.Outside.{same_bytes}
-use Rattle.af_model.specs.State.{State, SlotState, LinkState, OpenLink, SlotLink, link_in_slot, slot_link_at, open_link, slot_at, some_slot, with_slot_link}
+use Rattle.af_model.specs.State.{State, DeviceState, SlotState, LinkState, OpenLink, SlotLink, link_in_slot, slot_link_at, open_link, slot_at, some_slot, with_slot_link}
 use Rattle.af_model.specs.Waiting.{has_deferral}
 use Rattle.af_model.specs.Advance.{advance, absorb, takes_more}
 use Rattle.af_model.specs.Tick.{enter}
 use Rattle.af_model.specs.Events.{dropped}
 use Rattle.af_model.specs.Turn.{parsed, parse_then, wants_read, read_phase, after_read, wants_write, sent, write_by, write_offered, write_taken, write_phase, after_write, close_phase, serve_link, serve_open, serve_at, serve_from}
-use Rattle.af_model.specs.Prefix.{took_at}
+use Rattle.af_model.specs.LinkHistory.{LinkHistory, noted, read_noted, write_noted}
+use Rattle.af_model.specs.Dead.{fails_device, fails_line}
 use Rattle.af_model.proofs.BoolTestLemmas.{both-true, cond-some, none_some, same_bytes-true, some_is}
 use Rattle.af_model.proofs.ListLemmas.{get-set_other, get-set_same}
-use Rattle.af_model.proofs.DeviceHistoryLemmas.{Laters, laters_refl, laters_trans}
-use Rattle.af_model.proofs.LinkInvariantLemmas.{advance_keeps, absorb_keeps, takes_more_open}
-use Rattle.af_model.proofs.OwedBytesLemmas.{Moved, moved_dropped, OwingAt, QueuedSlot, OwingLink, moved_of, queued_taken, queueing_fewer, same_number, sending_undropped}
+use Rattle.af_model.proofs.DeviceHistoryLemmas.{AllLive, Laters, all_live_refl, all_live_trans, laters_refl, laters_trans, live_laters}
+use Rattle.af_model.proofs.DeadLemmas.{DeadAs, DeadIn, NoneFails, died, died_device, died_line, lives_dead, none_fails-append}
+use Rattle.af_model.proofs.LinkInvariantLemmas.{advance_keeps, takes_more_open}
+use Rattle.af_model.proofs.SafeLemmas.{SafeIn, SafeState, safe_dropped}
+use Rattle.af_model.proofs.OwedBytesLemmas.{Moved, Owing, OwingAt, QueuedSlot, OwingLink, moved_of, queued_closed, queued_ended, queued_failed, queued_given, queued_taken, queueing_fewer, queueing_keeps, same_number, sending_undropped, own_left, still_waits, SameOthers}
 use Rattle.af_model.proofs.PhasePartLemmas.{Takes, close_takes, read_takes, takes_chain, takes_nothing, takes_then, write_takes}
 
 -- A happening within a turn, behind its wake and its emit
@@ -44,55 +47,90 @@ inner-append (h ∷ p) q a b = let both = both-true (is_inner h) (inner p) a in 
 
 -- One link
 
--- What serving link j makes of it and its environment, and of the bytes that were taken: what is queued for it behind them stays so,
--- and of other links nothing is taken and none begins to wait.
+-- What serving link j makes of it and its environment, and of its history: what is queued for it and what its history shows stay so; of
+-- other links nothing is shown, and they wait as they did; no device and no line fails; and nothing
+-- that waits is due.
 pub record Served (j : ℕ) (d : SlotLink) (part : Log) (e : SlotLink) : Type 0 where
   pub inside : inner part ≡ true
-  pub devices : Laters d.environment.devices e.environment.devices
-  pub own : (took : List ℕ) → QueuedSlot j took d → QueuedSlot j (fold (took_at j) took part) e
-  pub others : (k : ℕ) → (j == k) ≡ false → (took : List ℕ) → fold (took_at k) took part ≡ took
-  pub fewer : (k : ℕ) → (j == k) ≡ false → has_deferral d.environment.waiting k ≡ false → has_deferral e.environment.waiting k ≡ false
+  pub alive : NoneFails part
+  pub devices : AllLive d.environment.devices e.environment.devices
+  pub own : (g : LinkHistory) → QueuedSlot j g d → QueuedSlot j (fold (noted j) g part) e
+  pub others : (k : ℕ) → (j == k) ≡ false → (g : LinkHistory) → fold (noted k) g part ≡ g
+  pub waits : SameOthers j d.environment.waiting e.environment.waiting
+  pub safe : SafeIn 0 0 d.environment → SafeIn 0 0 e.environment
 
-served_moved : (j : ℕ) (d e : SlotLink) (part : Log) → inner part ≡ true → ((k : ℕ) (took : List ℕ) → fold (took_at k) took part ≡ took) → Moved j d e → Served j d part e
-served_moved j d e part inside none m = record {
-  inside = inside;
-  devices = m.devices;
-  own = λ took h. subst (λ t. QueuedSlot j t e) (sym (none j took)) (m.own took h);
-  others = λ k other took. none k took;
-  fewer = m.fewer;
+-- nothing happens
+served_refl : (j : ℕ) (d : SlotLink) → Served j d [] d
+served_refl j d = record {
+  inside = refl;
+  alive = λ c sofar. (refl, refl);
+  devices = all_live_refl d.environment.devices;
+  own = λ g h. h;
+  others = λ k other g. refl;
+  waits = refl;
+  safe = λ h. h;
 }
-
-moved_refl : (j : ℕ) (d : SlotLink) → Moved j d d
-moved_refl j d = record { devices = laters_refl d.environment.devices; own = λ took h. h; fewer = λ k other e. e }
 
 served_trans : (j : ℕ) (a : SlotLink) (p : Log) (b : SlotLink) (q : Log) (c : SlotLink) → Served j a p b → Served j b q c → Served j a (p ++ q) c
 served_trans j a p b q c s t = record {
   inside = inner-append p q s.inside t.inside;
-  devices = laters_trans a.environment.devices b.environment.devices c.environment.devices s.devices t.devices;
-  own = λ took h. subst (λ x. QueuedSlot j x c) (sym (fold-append (took_at j) took p q)) (t.own (fold (took_at j) took p) (s.own took h));
-  others = λ k other took. fold-append (took_at k) took p q ∙ t.others k other (fold (took_at k) took p) ∙ s.others k other took;
-  fewer = λ k other e. t.fewer k other (s.fewer k other e);
+  alive = none_fails-append p q s.alive t.alive;
+  devices = all_live_trans a.environment.devices b.environment.devices c.environment.devices s.devices t.devices;
+  own = λ g h. subst (λ x. QueuedSlot j x c) (sym (fold-append (noted j) g p q)) (t.own (fold (noted j) g p) (s.own g h));
+  others = λ k other g. fold-append (noted k) g p q ∙ t.others k other (fold (noted k) g p) ∙ s.others k other g;
+  waits = t.waits ∙ s.waits;
+  safe = λ h. t.safe (s.safe h);
 }
+
+-- Reads
 
 -- a link that is read is not closing
 read_open : (k : ℕ) (p : OpenLink) → wants_read (has_deferral p.environment.waiting k) p.link ≡ true → p.link.closing ≡ None
 read_open k p w = takes_more_open (has_deferral p.environment.waiting k) p.link (both-true p.link.is_ready (takes_more (has_deferral p.environment.waiting k) p.link) w).1
 
-moved_read : (k : ℕ) (p : OpenLink) (got : ReadGot) → wants_read (has_deferral p.environment.waiting k) p.link ≡ true → Moved k (enter p) (enter (after_read k got p))
-moved_read k p (Given bytes) w = moved_of k p (absorb k bytes p) (λ May I kept h. absorb_keeps k May I kept bytes p h)
-moved_read k p NotYet w =
+-- what a read makes of a link and its environment, and of its history
+record HasRead (k : ℕ) (p : OpenLink) (got : ReadGot) (q : OpenLink) : Type 0 where
+  devices : AllLive p.environment.devices q.environment.devices
+  own : (g : LinkHistory) → Owing k g p → Owing k (read_noted got g) q
+  waits : SameOthers k p.environment.waiting q.environment.waiting
+  safe : SafeIn 0 0 p.environment → SafeIn 0 0 q.environment
+
+has_read : (k : ℕ) (p : OpenLink) (got : ReadGot) → wants_read (has_deferral p.environment.waiting k) p.link ≡ true → HasRead k p got (after_read k got p)
+has_read k p (Given bytes) w =
     let none = read_open k p w in
-    moved_of k p (after_read k NotYet p) (λ May I kept h. kept.link p (after_read k NotYet p).link none none refl h)
-moved_read k p Ended w =
+    let q : OpenLink = open_link p.environment (record p.link { rest = p.link.rest ++ bytes }) in
+    let m : Moved k (enter q) (enter (advance k q)) = moved_of k q (advance k q) (λ May I kept h. advance_keeps k May I kept q h) in
+    let same : absorb k bytes p ≡ advance k q = ap (λ t. cond t (advance k q) p) (ap is_none none) in
+    subst (HasRead k p (Given bytes)) (sym same) (record { devices = m.devices; own = λ g h. m.own (read_noted (Given bytes) g) (queued_given k g bytes p none h); waits = m.others; safe = m.safe })
+has_read k p NotYet w =
     let none = read_open k p w in
-    let q = open_link p.environment (record p.link { is_ready = false }) in
-    moved_of k p (after_read k Ended p) (λ May I kept h. kept.stops q why.Ended none refl (kept.link p q.link none none refl h))
-moved_read k p Failed w = moved_dropped k p why.LinkFault refl
+    record {
+      devices = all_live_refl p.environment.devices;
+      own = λ g h. (queueing_keeps k g).link p (after_read k NotYet p).link none none refl refl refl h;
+      waits = refl;
+      safe = λ h. h;
+    }
+has_read k p Ended w =
+    record { devices = all_live_refl p.environment.devices; own = λ g h. queued_ended k g p (read_open k p w) h; waits = refl; safe = λ h. h }
+has_read k p Failed w =
+    record { devices = all_live_refl p.environment.devices; own = λ g h. queued_failed k g p h; waits = own_left p.environment.waiting k; safe = λ h. safe_dropped k p.environment.devices p.environment.waiting h }
+
+served_got : (k : ℕ) (p q : OpenLink) (got : ReadGot) → HasRead k p got q → Served k (enter p) (Read k got ∷ []) (enter q)
+served_got k p q got r = record {
+  inside = refl;
+  alive = λ c sofar. (refl, refl);
+  devices = r.devices;
+  own = λ g h. subst (λ x. QueuedSlot k x (enter q)) (sym (ap (λ t. cond t (read_noted got g) g) (same_number k))) (r.own g h);
+  others = λ j other g. ap (λ t. cond t (read_noted got g) g) other;
+  waits = r.waits;
+  safe = r.safe;
+}
 
 served_read : (k : ℕ) (p : OpenLink) → Takes (read_phase k p) (λ part q. Served k (enter p) part (enter q))
 served_read k p =
-    read_takes k p (λ part q. Served k (enter p) part (enter q)) (λ w. served_moved k (enter p) (enter p) [] refl (λ k took. refl) (moved_refl k (enter p)))
-    (λ w got r. served_moved k (enter p) (enter (after_read k got p)) (Read k got ∷ []) refl (λ k took. refl) (moved_read k p got w))
+    read_takes k p (λ part q. Served k (enter p) part (enter q)) (λ w. served_refl k (enter p)) (λ w got r. served_got k p (after_read k got p) got (has_read k p got w))
+
+-- Writes
 
 -- bytes that are the first of others, and those behind them
 front_back : (xs ys : List ℕ) → same_bytes xs (take (length xs) ys) ≡ true → ys ≡ xs ++ drop (length xs) ys
@@ -107,25 +145,30 @@ served_wrote k p offered bytes part r w front s =
     let some = (both-true (not (length p.link.pending == 0)) (not p.link.is_stuck) w).0 in
     record {
       inside = s.inside;
-      devices = laters_trans p.environment.devices (advance k left).environment.devices r.environment.devices m.devices s.devices;
-      own = λ took h.
-          let undropped = sending_undropped k took p.environment.said p.link p.environment.waiting some h in
-          subst (λ t. QueuedSlot k (fold (took_at k) (cond t (took ++ bytes) took) part) r) (sym (same_number k)) (s.own (took ++ bytes) (m.own (took ++ bytes) (queued_taken k took bytes p left.link undropped refl (front_back bytes p.link.pending front) h)));
-      others = λ j other took. ap (λ t. fold (took_at j) (cond t (took ++ bytes) took) part) other ∙ s.others j other took;
-      fewer = λ j other e. s.fewer j other (m.fewer j other e);
+      alive = s.alive;
+      devices = all_live_trans p.environment.devices (advance k left).environment.devices r.environment.devices m.devices s.devices;
+      own = λ g h.
+          let f = write_noted (Some bytes) g in
+          let undropped = sending_undropped k g p.environment.said p.link p.environment.waiting some h in
+          subst (λ t. QueuedSlot k (fold (noted k) (cond t f g) part) r) (sym (same_number k)) (s.own f (m.own f (queued_taken k g bytes p left.link undropped refl refl refl (front_back bytes p.link.pending front) h)));
+      others = λ j other g. ap (λ t. fold (noted j) (cond t (write_noted (Some bytes) g) g) part) other ∙ s.others j other g;
+      waits = s.waits ∙ m.others;
+      safe = λ h. s.safe (m.safe h);
     }
 
 -- a write that failed, and what follows it
 served_failed : (k : ℕ) (p : OpenLink) (offered : ℕ) (part : Log) (r : SlotLink) → Served k (enter (dropped k why.LinkFault p)) part r → Served k (enter p) (Wrote k offered None ∷ part) r
-served_failed k p offered part r s =
-    let m = moved_dropped k p why.LinkFault refl in
-    record {
-      inside = s.inside;
-      devices = s.devices;
-      own = λ took h. subst (λ t. QueuedSlot k (fold (took_at k) (cond t took took) part) r) (sym (same_number k)) (s.own took (m.own took h));
-      others = λ j other took. ap (λ t. fold (took_at j) (cond t took took) part) other ∙ s.others j other took;
-      fewer = λ j other e. s.fewer j other (m.fewer j other e);
-    }
+served_failed k p offered part r s = record {
+  inside = s.inside;
+  alive = s.alive;
+  devices = s.devices;
+  own = λ g h.
+      let f = write_noted None g in
+      subst (λ t. QueuedSlot k (fold (noted k) (cond t f g) part) r) (sym (same_number k)) (s.own f (queued_failed k g p h));
+  others = λ j other g. ap (λ t. fold (noted j) (cond t (write_noted None g) g) part) other ∙ s.others j other g;
+  waits = s.waits ∙ own_left p.environment.waiting k;
+  safe = λ h. s.safe (safe_dropped k p.environment.devices p.environment.waiting h);
+}
 
 served_one : (k : ℕ) (p q : OpenLink) (h : Happening) → wants_write p.link ≡ true → write_by k p h ≡ Some q → (part : Log) (r : OpenLink) → Served k (enter q) part (enter r) → Served k (enter p) (h ∷ part) (enter r)
 served_one k p q (Woke wake) w e part r s = absurd (none_some e)
@@ -147,15 +190,22 @@ served_one k p q (Wrote j offered took) w e part r s =
 
 served_write : (k : ℕ) (p : OpenLink) → Takes (write_phase k p) (λ part q. Served k (enter p) part (enter q))
 served_write k p log b e =
-    write_takes k (λ p part q. Served k (enter p) part (enter q)) (λ p. served_moved k (enter p) (enter p) [] refl (λ k took. refl) (moved_refl k (enter p)))
+    write_takes k (λ p part q. Served k (enter p) part (enter q)) (λ p. served_refl k (enter p))
     (λ p q h w e part r s. served_one k p q h w e part r s) log p b e
 
 served_close : (k : ℕ) (p : OpenLink) → Takes (close_phase k p) (λ part d. Served k (enter p) part d)
 served_close k p =
-    close_takes k p (λ part d. Served k (enter p) part d) (served_moved k (enter p) (enter p) [] refl (λ k took. refl) (moved_refl k (enter p)))
-    (λ j why. served_moved k (enter p) (link_in_slot p.environment None) (Closed j why ∷ []) refl (λ k took. refl) (record { devices = laters_refl p.environment.devices; own = λ took h. (h.rest, h.whole); fewer = λ k other e. e }))
+    close_takes k p (λ part d. Served k (enter p) part d) (served_refl k (enter p)) (λ cause due. record {
+      inside = refl;
+      alive = λ c sofar. (refl, refl);
+      devices = all_live_refl p.environment.devices;
+      own = λ g h. subst (λ x. QueuedSlot k x (link_in_slot p.environment None)) (sym (ap (λ t. cond t (record g { closed = Some cause }) g) (same_number k))) (queued_closed k g p cause due h);
+      others = λ j other g. ap (λ t. cond t (record g { closed = Some cause }) g) other;
+      waits = refl;
+      safe = λ h. h;
+    })
 
-served_link : (k : ℕ) (p : OpenLink) → Takes (serve_link k p) (λ part d. Served k (enter p) part d)
+pub served_link : (k : ℕ) (p : OpenLink) → Takes (serve_link k p) (λ part d. Served k (enter p) part d)
 unfolding serve_link
 served_link k p =
     takes_chain (read_phase k) (λ p log. parse_then (write_phase k p log) (close_phase k)) (λ p part q. Served k (enter p) part (enter q)) (λ p part d. Served k (enter p) part d) (λ p part d. Served k (enter p) part d)
@@ -165,19 +215,31 @@ served_link k p =
 
 -- A state
 
--- what a part of a log makes of a state: devices become later, and what is queued for each link behind what it took stays so
+-- What a part of a log makes of a state: devices become later, and are dead where the part shows it; what is queued for each link, and
+-- what its history shows, stay so; and nothing that waits is due.
 pub record Goes (s : State) (part : Log) (t : State) : Type 0 where
   pub devices : Laters s.devices t.devices
-  pub queued : (k : ℕ) (took : List ℕ) → OwingAt k took s → OwingAt k (fold (took_at k) took part) t
+  pub deaths : (d : ℕ) (x y : Bool) → DeadAs d x y s → DeadAs d (died_device d x part) (died_line d y part) t
+  pub queued : (k : ℕ) (g : LinkHistory) → OwingAt k g s → OwingAt k (fold (noted k) g part) t
+  pub safe : SafeState 0 0 s → SafeState 0 0 t
 
 pub goes_refl : (s : State) → Goes s [] s
-goes_refl s = record { devices = laters_refl s.devices; queued = λ k took h. h }
+goes_refl s = record { devices = laters_refl s.devices; deaths = λ d x y h. h; queued = λ k g h. h; safe = λ h. h }
 
 pub goes_trans : (s : State) (p : Log) (t : State) (q : Log) (u : State) → Goes s p t → Goes t q u → Goes s (p ++ q) u
 goes_trans s p t q u a b = record {
   devices = laters_trans s.devices t.devices u.devices a.devices b.devices;
-  queued = λ k took h. subst (λ x. OwingAt k x u) (sym (fold-append (took_at k) took p q)) (b.queued k (fold (took_at k) took p) (a.queued k took h));
+  deaths = λ d x y h.
+      subst (λ z. DeadAs d z (died_line d y (p ++ q)) u) (sym (fold-append (died (fails_device d)) x p q)) (subst (λ z. DeadAs d (died_device d (died_device d x p) q) z u) (sym (fold-append (died (fails_line d)) y p q))
+      (b.deaths d (died_device d x p) (died_line d y p) (a.deaths d x y h)));
+  queued = λ k g h. subst (λ x. OwingAt k x u) (sym (fold-append (noted k) g p q)) (b.queued k (fold (noted k) g p) (a.queued k g h));
+  safe = λ h. b.safe (a.safe h);
 }
+
+-- devices that are as dead as they were, behind a part in which nothing fails
+still_dead : (part : Log) (ds es : List DeviceState) → NoneFails part → AllLive ds es → (d : ℕ) (x y : Bool) → DeadIn d x y ds → DeadIn d (died_device d x part) (died_line d y part) es
+still_dead part ds es alive l d x y h =
+    subst (λ z. DeadIn d z (died_line d y part) es) (sym (alive d x).0) (subst (λ z. DeadIn d x z es) (sym (alive d y).1) (lives_dead d x y ds es l h))
 
 -- the slot of an open link is there, and holds what is written to it
 slot_own : (slots : List SlotState) (k : ℕ) (l : LinkState) (x : SlotState) → (some_slot (slice_get slots k)).link ≡ Some l → some_slot (slice_get (slice_set slots k x) k) ≡ x
@@ -199,23 +261,25 @@ slot_same (y ∷ slots) (suc k) = ap (λ l. y ∷ l) (slot_same slots k)
 pub same_door : (k : ℕ) (s : State) → with_slot_link k s (slot_link_at k s) ≡ s
 same_door k s = ap (λ slots. record s { slots = slots }) (slot_same s.slots k)
 
--- another door of an open link
-pub put_goes : (j : ℕ) (s : State) (l : LinkState) (d : SlotLink) (part : Log) → (slot_at j s).link ≡ Some l → Laters s.devices d.environment.devices → ((took : List ℕ) → OwingAt j took s → QueuedSlot j (fold (took_at j) took part) d) →
-    ((k : ℕ) → (j == k) ≡ false → (took : List ℕ) → fold (took_at k) took part ≡ took) → ((k : ℕ) → (j == k) ≡ false → has_deferral s.waiting k ≡ false → has_deferral d.environment.waiting k ≡ false) → Goes s part (with_slot_link j s d)
-put_goes j s l d part is devices own others fewer =
+-- another link in the slot of an open one
+pub put_goes : (j : ℕ) (s : State) (l : LinkState) (d : SlotLink) (part : Log) → (slot_at j s).link ≡ Some l → NoneFails part → AllLive s.devices d.environment.devices → ((g : LinkHistory) → OwingAt j g s → QueuedSlot j (fold (noted j) g part) d) →
+    ((k : ℕ) → (j == k) ≡ false → (g : LinkHistory) → fold (noted k) g part ≡ g) → ((k : ℕ) → (j == k) ≡ false → has_deferral s.waiting k ≡ false → has_deferral d.environment.waiting k ≡ false) → (SafeState 0 0 s → SafeIn 0 0 d.environment) → Goes s part (with_slot_link j s d)
+put_goes j s l d part is alive devices own others fewer safe =
     let slot : SlotState = record { link = d.link; said = d.environment.said } in
     record {
-      devices = devices;
-      queued = λ k took h. elim (j == k) as (λ t. (j == k) ≡ t → OwingAt k (fold (took_at k) took part) (with_slot_link j s d)) [
+      devices = live_laters s.devices d.environment.devices devices;
+      deaths = still_dead part s.devices d.environment.devices alive devices;
+      queued = λ k g h. elim (j == k) as (λ t. (j == k) ≡ t → OwingAt k (fold (noted k) g part) (with_slot_link j s d)) [
         | true ↦ λ e.
-            let at : OwingAt j took s = subst (λ n. OwingAt n took s) (sym (eqb-true j k e)) h in
-            subst (λ n. OwingAt n (fold (took_at n) took part) (with_slot_link j s d)) (eqb-true j k e)
-            (subst (λ (x : SlotState). OwingLink j (fold (took_at j) took part) x.said x.link d.environment.waiting) (sym (slot_own s.slots j l slot is)) (own took at))
+            let at : OwingAt j g s = subst (λ n. OwingAt n g s) (sym (eqb-true j k e)) h in
+            subst (λ n. OwingAt n (fold (noted n) g part) (with_slot_link j s d)) (eqb-true j k e)
+            (subst (λ (x : SlotState). OwingLink j (fold (noted j) g part) x.said x.link d.environment.waiting) (sym (slot_own s.slots j l slot is)) (own g at))
         | false ↦ λ e.
-            subst (λ x. OwingAt k x (with_slot_link j s d)) (sym (others k e took))
-            (subst (λ (x : SlotState). OwingLink k took x.said x.link d.environment.waiting) (sym (slot_other s.slots j k slot e))
-            (queueing_fewer k took (slot_at k s).said (slot_at k s).link s.waiting d.environment.waiting (fewer k e) h))
+            subst (λ x. OwingAt k x (with_slot_link j s d)) (sym (others k e g))
+            (subst (λ (x : SlotState). OwingLink k g x.said x.link d.environment.waiting) (sym (slot_other s.slots j k slot e))
+            (queueing_fewer k g (slot_at k s).said (slot_at k s).link s.waiting d.environment.waiting (fewer k e) h))
       ] refl;
+      safe = safe;
     }
 
 -- the same within a turn
@@ -244,7 +308,7 @@ served_at k s =
           (within_trans s part (with_slot_link k s d) [] (with_slot_link k s d)
           (record {
             inside = h.inside;
-            goes = put_goes k s l d part is h.devices (λ took queueing. h.own took (subst (λ o. OwingLink k took a.said o s.waiting) is queueing)) h.others h.fewer;
+            goes = put_goes k s l d part is h.alive h.devices (λ g queueing. h.own g (subst (λ o. OwingLink k g a.said o s.waiting) is queueing)) h.others (λ j other e. still_waits s.waiting d.environment.waiting k j other h.waits e) h.safe;
           }) (within_refl (with_slot_link k s d))))
     ] refl
 

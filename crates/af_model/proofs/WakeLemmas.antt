@@ -1,7 +1,10 @@
 -- What a wake makes of a state, and a whole turn.
-use Rattle.std.proofs.Common.{◌≡◌, ℕ, zero, suc, ◌+◌, ◌*◌, ◌≤◌, ◌==◌, ◌⊎◌, inl, inr, Bool, true, false, not, cond, ℤ, List, [], ◌∷◌, ◌++◌, length, map, find, is_some, option_map, option_and_then, slice_get, slice_set, refl, sym, ap, ◌∙◌, subst, eqb-true, arith, IfSome, nat_le}
+use Rattle.std.proofs.Common.{◌≡◌, ℕ, zero, suc, ◌+◌, ◌*◌, ◌≤◌, ◌==◌, ◌&&◌, ◌||◌, ◌⊎◌, inl, inr, Bool, true, false, not, cond, ℤ, List, [], ◌∷◌, ◌++◌, length, map, replicate, pos, nat_lt, find, is_some, option_map, option_and_then, slice_get, slice_set, refl, sym, ap, ◌∙◌, subst, eqb-true, arith, IfSome, nat_le}
 use Rattle.std.specs.declared.option.Option.{Option}
 use Rattle.std.specs.declared.option.Option.TheVariants.{None, Some}
+use Rattle.std.proofs.lemmas.List.{length-replicate}
+use Rattle.af_sample.specs.declared.sample_type.SampleType.{SampleType}
+use Rattle.af_sample.specs.Samples.{samples}
 use Rattle.af_sample.specs.SampleTypes.{width_of}
 use Rattle.af_sample.proofs.RunLemmas.{length-samples}
 use Rattle.af_wire.specs.declared.event.Event.{Event}
@@ -10,6 +13,7 @@ use Rattle.af_wire.specs.declared.event.EventKind.TheVariants as kind
 use Rattle.af_wire.specs.Event.{event_bytes}
 use Rattle.af_request.specs.declared.reply.Phone.{Phone}
 use Rattle.af_phone.specs.declared.line.LineChange.{LineChange}
+use Rattle.af_phone.specs.declared.line.LineChange.TheVariants.{Ring, Current, Digit}
 use Rattle.af_phone.specs.Lines.{changed, flag_value, hooked, event_kind_of, selects, value_of}
 use Rattle.af_world.specs.declared.happening.Happening.TheVariants.{Woke, Read, Wrote, Closed, Captured, Emitted, Hooked}
 use Rattle.af_world.specs.declared.happening.Why.TheVariants as why
@@ -17,25 +21,36 @@ use Rattle.af_world.specs.declared.happening.Wake.{Wake}
 use Rattle.af_world.specs.declared.happening.Wake.TheVariants.{Opened, Readable, Writable, Ticked, Line, Idle, Stop}
 use Rattle.af_world.specs.Log.{Log}
 use Rattle.af_wait.specs.Waits.{without_first}
-use Rattle.af_model.specs.State.{State, DeviceState, SlotState, LinkState, OpenLink, SlotLink, Deferral, link_in_slot, slot_link_at, lines_of, links_of, opened, outline, open_link, say, slot_at, some_slot, with_slot_link, with_device, with_slot, device_set}
-use Rattle.af_model.specs.Waiting.{falls_due, has_deferral}
+use Rattle.af_model.specs.State.{State, DeviceState, SlotState, LinkState, OpenLink, SlotLink, Deferral, link_in_slot, slot_link_at, lines_of, links_of, opened, outline, open_link, say, slot_at, some_slot, with_slot_link, with_device, with_slot}
+use Rattle.af_model.specs.Waiting.{falls_due}
 use Rattle.af_model.specs.Advance.{or_else}
-use Rattle.af_model.specs.Tick.{captured_samples, complete, complete_at, complete_by, complete_due, complete_first, complete_for, complete_step, enter, later, sound, tick}
+use Rattle.af_model.specs.Tick.{captured_samples, complete, complete_at, complete_by, complete_due, complete_first, complete_for, complete_step, completing, enter, later, sound, tick}
 use Rattle.af_model.specs.Events.{dropped, event_at, hook_given, hook_refused, line_becomes, line_changes, mask_of, tell, tell_at, tell_from, tell_link, tell_open, tell_selected}
 use Rattle.af_model.specs.Turn.{Parsed, parsed, parse_then, parse_one, capture_by, after_capture, tick_phase, line_phase, wake_phase, ready, writable, in_open, in_slot, is_closed_at, fits, hook_at, hook_from, hook_all, serve_all, serve_and_hook, turn}
-use Rattle.af_model.specs.Prefix.{is_dropped, took_at}
-use Rattle.af_model.proofs.BoolTestLemmas.{cond-some, none_some}
-use Rattle.af_model.proofs.ListLemmas.{get-set_same}
-use Rattle.af_model.proofs.DeviceHistoryLemmas.{Later, Laters, later_passed, later_line, later_trans, laters_get, laters_lines, laters_refl, laters_with}
+use Rattle.af_model.specs.LinkHistory.{LinkHistory, no_history, noted}
+use Rattle.af_model.specs.Prefix.{is_dropped}
+use Rattle.af_model.proofs.BoolTestLemmas.{both-true, cond-some, none_some}
+use Rattle.af_model.proofs.DeviceHistoryLemmas.{AllLive, Later, Laters, Lives, all_live_refl, all_live_trans, all_live_with, later_passed, later_line, later_trans, laters_get, laters_lines, laters_refl, laters_trans, laters_with, live_laters, lives_completing, lives_line, with_there}
+use Rattle.af_model.proofs.DeadLemmas.{DeadAs, lives_dead, with_dead}
+use Rattle.af_model.proofs.SafeLemmas.{AwaitedIn, SafeIn, SafeState, all_without_first, loses_alike, safe_becomes, safe_completing, safe_fewer, safe_keeps}
+use Rattle.af_model.proofs.CompletionLemmas.{found_all, ticks_safe}
 use Rattle.af_model.proofs.LinkInvariantLemmas.{complete_keeps}
-use Rattle.af_model.proofs.OwedBytesLemmas.{Moved, Owed, moved_dropped, OwingAt, OwingLink, Owing, fewer_keeps, found_waits, grows_keeps, queueing_fewer, queueing_keeps, selects_undropped, waiting_undropped, waits_left}
+use Rattle.af_model.proofs.OwedBytesLemmas.{Moved, Owed, moved_overrun, OwingAt, OwingLink, Owing, SameOthers, found_waits, grows_keeps, queueing_fewer, queueing_keeps, others_keep, still_waits, selects_undropped, waiting_undropped, waits_left}
 use Rattle.af_model.proofs.PhasePartLemmas.{Takes, hook_takes, live_takes, takes_chain, takes_map, takes_nothing, takes_then}
 use Rattle.af_model.proofs.ServeLemmas.{Goes, Within, goes_refl, goes_trans, inner, put_goes, same_door, served_from, slot_other, within_refl, within_trans}
 
 -- Devices change
 
-becomes_goes : (d : ℕ) (f : DeviceState → DeviceState) (s : State) → ((device : DeviceState) → Later device (f device)) → Goes s [] (record s { devices = with_device d f s.devices })
-becomes_goes d f s l = record { devices = laters_with d f s.devices (λ device there. l device); queued = λ k took h. h }
+-- each is as dead as it was
+becomes_goes : (d : ℕ) (f : DeviceState → DeviceState) (s : State) → ((device : DeviceState) → Lives device (f device)) → ((device : DeviceState) → (f device).completed ≡ device.completed) → Goes s [] (record s { devices = with_device d f s.devices })
+becomes_goes d f s l same =
+    let all = all_live_with d f s.devices (λ device there. l device) in
+    record {
+      devices = live_laters s.devices (with_device d f s.devices) all;
+      deaths = λ c x y h. lives_dead c x y s.devices (with_device d f s.devices) all h;
+      queued = λ k g h. h;
+      safe = λ h. safe_becomes 0 0 d f s.devices s.waiting (λ x there. ((l x).now, (l x).rate)) (λ x there safe. loses_alike x (f x) (l x).rate (same x) safe) h;
+    }
 
 -- Completions
 
@@ -45,22 +60,30 @@ completed passes s w found =
     let fewer : State = record s { waiting = without_first passes s.waiting } in
     let a = (slot_link_at w.link fewer).environment in
     let k = w.link in
+    let left : SafeState 0 0 s → SafeState 0 0 fewer = λ h. safe_fewer 0 0 s.devices s.waiting fewer.waiting (λ P all. all_without_first P passes s.waiting all) h in
     elim (slot_at k s).link as (λ o. (slot_at k s).link ≡ o → Goes s [] (with_slot_link k fewer (complete_at w a o))) [
       | None ↦ λ is.
           let back : with_slot_link k fewer (link_in_slot a None) ≡ fewer = ap (λ o. with_slot_link k fewer (link_in_slot a o)) (sym is) ∙ same_door k fewer in
-          subst (Goes s []) (sym back) (record { devices = laters_refl s.devices; queued = λ j took h. queueing_fewer j took (slot_at j s).said (slot_at j s).link s.waiting fewer.waiting (waits_left passes s.waiting j) h })
+          subst (Goes s []) (sym back) (record { devices = laters_refl s.devices; deaths = λ c x y h. h; queued = λ j g h. queueing_fewer j g (slot_at j s).said (slot_at j s).link s.waiting fewer.waiting (waits_left passes s.waiting j) h; safe = λ h. left h })
       | Some l ↦ λ is.
           let p = open_link a l in
           let device = slice_get s.devices w.device in
-          put_goes k s l (enter (complete_for w device p)) [] is
-          (complete_keeps k (λ closing. Unit {0}) (λ q. Laters s.devices q.environment.devices) (grows_keeps k s.devices) w.device w.deferred device p refl tt (laters_refl s.devices))
-          (λ took h.
-          let here : OwingLink k took a.said (Some l) s.waiting = subst (λ o. OwingLink k took a.said o s.waiting) is h in
-          let undropped = waiting_undropped k took a.said l s.waiting (found_waits passes s.waiting w found) here in
-          complete_keeps k (λ closing. is_dropped closing ≡ false) (Owing k took) (queueing_keeps k took) w.device w.deferred device p refl undropped
-          (queueing_fewer k took a.said (Some l) s.waiting fewer.waiting (waits_left passes s.waiting k) here))
-          (λ j other took. refl)
-          (λ j other. complete_keeps k (λ closing. Unit {0}) (λ q. has_deferral s.waiting j ≡ false → has_deferral q.environment.waiting j ≡ false) (fewer_keeps j k s.waiting other) w.device w.deferred device p refl tt (waits_left passes s.waiting j))
+          put_goes k s l (enter (complete_for w device p)) [] is (λ c sofar. (refl, refl))
+          (complete_keeps k (λ closing. Unit {0}) (λ q. AllLive s.devices q.environment.devices) (grows_keeps k s.devices) w.device w.deferred device p refl
+          (λ x there h. all_live_trans s.devices s.devices (with_device w.device (completing w.deferred) s.devices) h (all_live_with w.device (completing w.deferred) s.devices (λ d is. lives_completing d w.deferred))) tt (all_live_refl s.devices))
+          (λ g h.
+          let here : OwingLink k g a.said (Some l) s.waiting = subst (λ o. OwingLink k g a.said o s.waiting) is h in
+          let undropped = waiting_undropped k g a.said l s.waiting (found_waits passes s.waiting w found) here in
+          complete_keeps k (λ closing. is_dropped closing ≡ false) (Owing k g) (queueing_keeps k g) w.device w.deferred device p refl (λ x there h. h) undropped
+          (queueing_fewer k g a.said (Some l) s.waiting fewer.waiting (waits_left passes s.waiting k) here))
+          (λ j other g. refl)
+          (λ j other e.
+          let q = complete_for w device p in
+          let same : SameOthers k fewer.waiting q.environment.waiting =
+          complete_keeps k (λ closing. Unit {0}) (λ q. SameOthers k fewer.waiting q.environment.waiting) (others_keep k fewer.waiting) w.device w.deferred device p refl (λ x there h. h) tt refl in
+          still_waits fewer.waiting q.environment.waiting k j other same (waits_left passes s.waiting j e))
+          (λ h. complete_keeps k (λ closing. Unit {0}) (λ q. SafeIn 0 0 q.environment) (safe_keeps k 0 0) w.device w.deferred device p refl
+          (λ x there g. safe_completing 0 0 w s.devices fewer.waiting (omega arith) (found_all passes s.waiting w (λ v. AwaitedIn 0 0 s.devices v) found h.waiting) g) tt (left h))
     ] refl
 
 abbrev GoesTo : State → Option State → Type 0
@@ -88,31 +111,47 @@ due_goes : (d : ℕ) (s : State) → Goes s [] (complete_due d s)
 unfolding complete_due
 due_goes d s = by_goes (length s.waiting) d s
 
-tick_goes : (d : ℕ) (captured : List ℤ) (is_dead : Bool) (s : State) → Goes s [] (tick d captured is_dead s)
-tick_goes d captured is_dead s =
-    let t : State = record s { devices = with_device d (later captured is_dead) s.devices } in
-    goes_trans s [] t [] (complete_due d t) (becomes_goes d (later captured is_dead) s (λ device. later_passed device captured is_dead)) (due_goes d t)
+-- What sample periods make of a state: a device is dead behind them that is said to be, and the others are as they were.
+record Ticks (d : ℕ) (is_dead : Bool) (s t : State) : Type 0 where
+  devices : Laters s.devices t.devices
+  deaths : (c : ℕ) (x y : Bool) → DeadAs c x y s → DeadAs c (cond (d == c) is_dead x) y t
+  queued : (k : ℕ) (g : LinkHistory) → OwingAt k g s → OwingAt k g t
+  safe : SafeState 0 0 s → SafeState 0 0 t
+
+ticks : (d : ℕ) (captured : List ℤ) (is_dead : Bool) (s : State) (device : DeviceState) → slice_get s.devices d ≡ Some device → length captured ≤ 4096 → Ticks d is_dead s (tick d captured is_dead s)
+ticks d captured is_dead s device there few =
+    let f = later captured is_dead in
+    let t : State = record s { devices = with_device d f s.devices } in
+    let goes = due_goes d t in
+    record {
+      devices = laters_trans s.devices t.devices (complete_due d t).devices (laters_with d f s.devices (λ device there. later_passed device captured is_dead)) goes.devices;
+      deaths = λ c x y h. goes.deaths c (cond (d == c) is_dead x) y
+          (with_dead d f s.devices c x y (cond (d == c) is_dead x) y (λ device same was. (sym (ap (λ b. cond b is_dead x) same), was.1)) (λ other. (sym (ap (λ b. cond b is_dead x) other), refl)) h);
+      queued = goes.queued;
+      safe = λ h. ticks_safe d captured is_dead s device few there h;
+    }
 
 -- Events
 
 told : (k : ℕ) (e : Event) (p : OpenLink) → Moved k (enter p) (enter (tell_link k e p))
 told k e p =
     elim (selects (mask_of p.link e.device) e.kind) as (λ t. selects (mask_of p.link e.device) e.kind ≡ t → Moved k (enter p) (enter (cond t (tell_selected k e p) p))) [
-      | true ↦ λ t. elim (nat_le (length p.link.pending + 20) 49152) as (λ u. Moved k (enter p) (enter (cond u (say p (event_bytes e p.link.sequence)) (dropped k why.Overrun p)))) [
-        | true ↦ record {
-          devices = laters_refl p.environment.devices;
-          own = λ took h. (queueing_keeps k took).says p (event_bytes e p.link.sequence) (selects_undropped k e.device e.kind took p t h) h;
-          fewer = λ j other h. h;
+      | true ↦ λ t. elim (nat_le (length p.link.pending + 20) 49152) as (λ u. nat_le (length p.link.pending + 20) 49152 ≡ u → Moved k (enter p) (enter (cond u (say p (event_bytes e p.link.sequence)) (dropped k why.Overrun p)))) [
+        | true ↦ λ u. record {
+          devices = all_live_refl p.environment.devices;
+          own = λ g h. (queueing_keeps k g).says p (event_bytes e p.link.sequence) (selects_undropped k e.device e.kind g p t h) h;
+          others = refl;
+          safe = λ h. h;
         }
-        | false ↦ moved_dropped k p why.Overrun refl
-      ]
-      | false ↦ λ t. record { devices = laters_refl p.environment.devices; own = λ took h. h; fewer = λ j other h. h }
+        | false ↦ λ u. moved_overrun k p (λ g h. selects_undropped k e.device e.kind g p t h) u
+      ] refl
+      | false ↦ λ t. record { devices = all_live_refl p.environment.devices; own = λ g h. h; others = refl; safe = λ h. h }
     ] refl
 
 -- an open link moves, and nothing is taken
 moves_goes : (k : ℕ) (s : State) (l : LinkState) (d : SlotLink) → (slot_at k s).link ≡ Some l → Moved k (enter (open_link (slot_link_at k s).environment l)) d → Goes s [] (with_slot_link k s d)
 moves_goes k s l d is m =
-    put_goes k s l d [] is m.devices (λ took h. m.own took (subst (λ o. OwingLink k took (slot_at k s).said o s.waiting) is h)) (λ j other took. refl) m.fewer
+    put_goes k s l d [] is (λ c sofar. (refl, refl)) m.devices (λ g h. m.own g (subst (λ o. OwingLink k g (slot_at k s).said o s.waiting) is h)) (λ j other g. refl) (λ j other e. still_waits s.waiting d.environment.waiting k j other m.others e) m.safe
 
 tell_at-goes : (k : ℕ) (e : Event) (s : State) → Goes s [] (tell_at k e s)
 tell_at-goes k e s =
@@ -126,23 +165,41 @@ tell_from-goes : (n k : ℕ) (e : Event) (s : State) → Goes s [] (tell_from n 
 tell_from-goes zero k e s = goes_refl s
 tell_from-goes (suc n) k e s = goes_trans s [] (tell_at k e s) [] (tell_from n (k + 1) e (tell_at k e s)) (tell_at-goes k e s) (tell_from-goes n (k + 1) e (tell_at k e s))
 
-becomes_told : (f : Phone → Phone) (kind : EventKind) (value d : ℕ) (device : DeviceState) (s : State) → Goes s [] (line_becomes f kind value d device s)
+becomes_told : (f : Phone → Phone) → ((line : Phone) → (f line).dead ≡ line.dead) → (kind : EventKind) (value d : ℕ) (device : DeviceState) (s : State) → Goes s [] (line_becomes f kind value d device s)
 unfolding tell
-becomes_told f kind value d device s =
+becomes_told f alike kind value d device s =
     let t : State = record s { devices = with_device d (λ device. record device { line = option_map f device.line }) s.devices } in
     goes_trans s [] t [] (tell_from (length s.slots) 0 (event_at kind d device value) t)
-    (becomes_goes d (λ device. record device { line = option_map f device.line }) s (later_line f)) (tell_from-goes (length s.slots) 0 (event_at kind d device value) t)
+    (becomes_goes d (λ device. record device { line = option_map f device.line }) s (λ device. lives_line f device alike) (λ device. refl)) (tell_from-goes (length s.slots) 0 (event_at kind d device value) t)
 
 -- Hooks
 
-hook_goes : (d : ℕ) (off done : Bool) (device : DeviceState) (s : State) → Goes s [] (cond done (hook_given off d device s) (hook_refused d s))
-hook_goes d off true device s = becomes_told (hooked true) kind.Hook (flag_value off) d device s
-hook_goes d off false device s = becomes_goes d (λ device. record device { line = option_map (hooked false) device.line }) s (later_line (hooked false))
+-- a line that was refused its hook is dead
+refused_goes : (d : ℕ) (off : Bool) (s : State) → Goes s (Hooked d off false ∷ []) (hook_refused d s)
+refused_goes d off s =
+    let f : DeviceState → DeviceState = λ device. record device { line = option_map (hooked false) device.line } in
+    record {
+      devices = laters_with d f s.devices (λ device there. later_line (hooked false) device);
+      deaths = λ c x y h.
+          with_dead d f s.devices c x y x ((d == c) || y) (λ device same was. (was.0, subst (λ b. IfSome (option_map (hooked false) device.line) (λ line. line.dead ≡ (b || y))) (sym same) (dies device.line)))
+          (λ other. (refl, sym (ap (λ b. b || y) other))) h;
+      queued = λ k g h. h;
+      safe = λ h. safe_becomes 0 0 d f s.devices s.waiting (λ x there. (refl, refl)) (λ x there safe. loses_alike x (f x) refl refl safe) h;
+    }
+  where
+    dies : (line : Option Phone) → IfSome (option_map (hooked false) line) (λ line. line.dead ≡ true)
+    dies None = tt
+    dies (Some line) = refl
+
+hook_goes : (d : ℕ) (wanted off done : Bool) (device : DeviceState) (s : State) → Goes s (Hooked d wanted done ∷ []) (cond done (hook_given off d device s) (hook_refused d s))
+hook_goes d wanted off true device s =
+    let g = becomes_told (hooked true) (λ line. refl) kind.Hook (flag_value off) d device s in
+    record { devices = g.devices; deaths = g.deaths; queued = g.queued; safe = g.safe }
+hook_goes d wanted off false device s = refused_goes d wanted s
 
 hooked_at : (d : ℕ) (o : Option DeviceState) (s : State) → Takes (hook_at d o s) (Within s)
 hooked_at d None s = takes_nothing s (Within s) (within_refl s)
-hooked_at d (Some device) s =
-    hook_takes d device s (Within s) (within_refl s) (λ j wanted off done. let g = hook_goes d off done device s in record { inside = refl; goes = record { devices = g.devices; queued = g.queued } })
+hooked_at d (Some device) s = hook_takes d device s (Within s) (within_refl s) (λ wanted off done. record { inside = refl; goes = hook_goes d wanted off done device s })
 
 hooked_from : (n d : ℕ) (s : State) → Takes (hook_from n d s) (Within s)
 unfolding hook_from
@@ -184,9 +241,6 @@ pub record Woken (s : State) (w : Wake) (part : Log) (t : State) : Type 0 where
   pub goes : Goes s (Woke w ∷ part) t
   pub emits : (inner part ≡ true) ⊎ Hands s w part t
 
-get_device : (devices : List DeviceState) (d : ℕ) (f : DeviceState → DeviceState) (x : DeviceState) → slice_get devices d ≡ Some x → slice_get (with_device d f devices) d ≡ Some (f x)
-get_device devices d f x e = ap (λ o. slice_get (device_set d f devices o) d) e ∙ get-set_same devices d x (f x) e
-
 ticked : (d n : ℕ) (device : DeviceState) (s : State) (bytes : List ℕ) (done : Bool) → slice_get s.devices d ≡ Some device → length bytes ≡ n * width_of device.ty →
     HandedOut s d n (sound device n) (tick d (captured_samples device.ty n (Some bytes)) (not done) s)
 ticked d n device s bytes done there size =
@@ -194,23 +248,78 @@ ticked d n device s bytes done there size =
     let after : DeviceState = later captured (not done) device in
     let t : State = record s { devices = with_device d (later captured (not done)) s.devices } in
     let long : length captured ≡ n = length-samples device.ty bytes n size in
-    let got = laters_get t.devices (complete_due d t).devices d after (due_goes d t).devices (get_device s.devices d (later captured (not done)) device there) in
+    let got = laters_get t.devices (complete_due d t).devices d after (due_goes d t).devices (with_there d (later captured (not done)) s.devices device there) in
     record { device = device; there = there; same = refl; after = after; accepted = refl; past = omega (arith, long); last = got.0; stands = got.1; becomes = got.2 }
 
-woken_ticked : (d n : ℕ) (o : Option DeviceState) (s : State) → slice_get s.devices d ≡ o → Takes (tick_phase d n o s) (Woken s (Ticked d n))
-woken_ticked d n None s there = λ log b e. absurd (none_some e)
-woken_ticked d n (Some device) s there =
-    let dead = tick_goes d (captured_samples device.ty n None) true s in
-    elim device.is_dead as (λ t. Takes (λ log. cond t (parsed (tick d (captured_samples device.ty n None) true s) log) (parse_then (parse_one (capture_by d n device) log) (after_capture d n device s))) (Woken s (Ticked d n))) [
-      | true ↦ takes_nothing (tick d (captured_samples device.ty n None) true s) (Woken s (Ticked d n)) (record { goes = record { devices = dead.devices; queued = dead.queued }; emits = inl refl })
-      | false ↦ live_takes d n device s (Woken s (Ticked d n)) (record { goes = record { devices = dead.devices; queued = dead.queued }; emits = inl refl })
-          (λ bytes done size.
-          let g = tick_goes d (captured_samples device.ty n (Some bytes)) (not done) s in
-          record {
-            goes = record { devices = g.devices; queued = g.queued };
+-- a device that fails dies, and another is as dead as it was
+sound_dead : (same done x : Bool) → (same ≡ true → x ≡ false) → cond same (not done) x ≡ ((not done && same) || x)
+sound_dead true true x alive = sym (alive refl)
+sound_dead true false x alive = refl
+sound_dead false true x alive = refl
+sound_dead false false x alive = refl
+
+-- a device that is as dead as this
+as_dead : (d : ℕ) (device : DeviceState) (s : State) (c : ℕ) (x y : Bool) → slice_get s.devices d ≡ Some device → DeadAs c x y s → (d == c) ≡ true → x ≡ device.is_dead
+as_dead d device s c x y there h same = sym (h device (subst (λ n. slice_get s.devices n ≡ Some device) (eqb-true d c same) there)).0
+
+-- what was captured has as many samples as frames went by
+silence_few : (n : ℕ) → n ≤ 4096 → length (replicate n (pos 0)) ≤ 4096
+silence_few n few = omega (arith, few, length-replicate n (pos 0))
+
+sound_few : (ty : SampleType) (n : ℕ) (bytes : List ℕ) → n ≤ 4096 → length bytes ≡ n * width_of ty → length (samples ty bytes) ≤ 4096
+sound_few ty n bytes few size = omega (arith, few, length-samples ty bytes n size)
+
+-- sample periods of a dead device
+dead_goes : (d n : ℕ) (device : DeviceState) (s : State) → n ≤ 4096 → slice_get s.devices d ≡ Some device → device.is_dead ≡ true → Goes s (Woke (Ticked d n) ∷ []) (tick d (captured_samples device.ty n None) true s)
+dead_goes d n device s few there dead =
+    let t = tick d (captured_samples device.ty n None) true s in
+    let g = ticks d (captured_samples device.ty n None) true s device there (silence_few n few) in
+    record {
+      devices = g.devices;
+      deaths = λ c x y h. subst (λ z. DeadAs c z y t) (stays (d == c) x (λ same. as_dead d device s c x y there h same ∙ dead)) (g.deaths c x y h);
+      queued = g.queued;
+      safe = g.safe;
+    }
+  where
+    stays : (same x : Bool) → (same ≡ true → x ≡ true) → cond same true x ≡ x
+    stays true x h = sym (h refl)
+    stays false x h = refl
+
+-- a capture that fails
+failed_goes : (d n : ℕ) (device : DeviceState) (s : State) → n ≤ 4096 → slice_get s.devices d ≡ Some device → Goes s (Woke (Ticked d n) ∷ Captured d n None ∷ []) (tick d (captured_samples device.ty n None) true s)
+failed_goes d n device s few there =
+    let t = tick d (captured_samples device.ty n None) true s in
+    let g = ticks d (captured_samples device.ty n None) true s device there (silence_few n few) in
+    record { devices = g.devices; deaths = λ c x y h. subst (λ z. DeadAs c z y t) (either (d == c) x) (g.deaths c x y h); queued = g.queued; safe = g.safe }
+  where
+    either : (same x : Bool) → cond same true x ≡ (same || x)
+    either true x = refl
+    either false x = refl
+
+-- a capture, and an emit that is done or fails
+sounded_goes : (d n : ℕ) (device : DeviceState) (s : State) (bytes sent : List ℕ) (done : Bool) → n ≤ 4096 → length bytes ≡ n * width_of device.ty → slice_get s.devices d ≡ Some device → device.is_dead ≡ false →
+    Goes s (Woke (Ticked d n) ∷ Captured d n (Some bytes) ∷ Emitted d sent done ∷ []) (tick d (captured_samples device.ty n (Some bytes)) (not done) s)
+sounded_goes d n device s bytes sent done few size there alive =
+    let t = tick d (captured_samples device.ty n (Some bytes)) (not done) s in
+    let g = ticks d (captured_samples device.ty n (Some bytes)) (not done) s device there (sound_few device.ty n bytes few size) in
+    record {
+      devices = g.devices;
+      deaths = λ c x y h. subst (λ z. DeadAs c z y t) (sound_dead (d == c) done x (λ same. as_dead d device s c x y there h same ∙ alive)) (g.deaths c x y h);
+      queued = g.queued;
+      safe = g.safe;
+    }
+
+woken_ticked : (d n : ℕ) (o : Option DeviceState) (s : State) → n ≤ 4096 → slice_get s.devices d ≡ o → Takes (tick_phase d n o s) (Woken s (Ticked d n))
+woken_ticked d n None s few there = λ log b e. absurd (none_some e)
+woken_ticked d n (Some device) s few there =
+    elim device.is_dead as (λ t. device.is_dead ≡ t → Takes (λ log. cond t (parsed (tick d (captured_samples device.ty n None) true s) log) (parse_then (parse_one (capture_by d n device) log) (after_capture d n device s))) (Woken s (Ticked d n))) [
+      | true ↦ λ dead. takes_nothing (tick d (captured_samples device.ty n None) true s) (Woken s (Ticked d n)) (record { goes = dead_goes d n device s few there dead; emits = inl refl })
+      | false ↦ λ alive. live_takes d n device s (Woken s (Ticked d n)) (record { goes = failed_goes d n device s few there; emits = inl refl })
+          (λ bytes done size. record {
+            goes = sounded_goes d n device s bytes (sound device n) done few size there alive;
             emits = inr (record { d = d; frames = n; captured = bytes; sent = sound device n; done = done; wake = refl; is = refl; out = ticked d n device s bytes done there size });
           })
-    ]
+    ] refl
 
 -- the slot of a link that may be opened is there
 slot_opened : (slots : List SlotState) (k : ℕ) (x : SlotState) → is_closed_at (slice_get (map {A = Option LinkState} {B = Bool} is_some (links_of slots)) k) ≡ true → some_slot (slice_get (slice_set slots k x) k) ≡ x
@@ -224,46 +333,66 @@ opened_goes j s fit =
     let slot : SlotState = record { link = Some opened; said = [] } in
     record {
       devices = laters_refl s.devices;
-      queued = λ k took h. elim (j == k) as (λ t. (j == k) ≡ t → OwingAt k (cond t [] took) (with_slot j slot s)) [
+      deaths = λ d x y h. h;
+      safe = λ h. h;
+      queued = λ k g h. elim (j == k) as (λ t. (j == k) ≡ t → OwingAt k (cond t no_history g) (with_slot j slot s)) [
         | true ↦ λ e.
-            subst (λ n. OwingAt n [] (with_slot j slot s)) (eqb-true j k e) (subst (λ (x : SlotState). OwingLink j [] x.said x.link s.waiting) (sym (slot_opened s.slots j slot fit))
-            (record { rest = []; whole = refl; queued = λ e. refl; sends = λ e. refl; waits = λ e. absurd cc; wants = λ e. refl }))
-        | false ↦ λ e. subst (λ (x : SlotState). OwingLink k took x.said x.link s.waiting) (sym (slot_other s.slots j k slot e)) h
+            subst (λ n. OwingAt n no_history (with_slot j slot s)) (eqb-true j k e) (subst (λ (x : SlotState). OwingLink j no_history x.said x.link s.waiting) (sym (slot_opened s.slots j slot fit))
+            (record {
+              rest = [];
+              whole = refl;
+              queued = λ e. refl;
+              sends = λ e. refl;
+              waits = λ e. absurd cc;
+              wants = λ e. refl;
+              shows = record { failed = refl; ended = refl; input = refl };
+              unclosed = refl;
+            }))
+        | false ↦ λ e. subst (λ (x : SlotState). OwingLink k g x.said x.link s.waiting) (sym (slot_other s.slots j k slot e)) h
       ] refl;
     }
 
 -- something of an open link changes, but nothing that is queued for it
-opens_goes : (f : LinkState → LinkState) (k : ℕ) (s : State) → ((took said : List ℕ) (l : LinkState) (waiting : List Deferral) → Owed k took said l waiting → Owed k took said (f l) waiting) → Goes s [] (with_slot k (in_slot f (slot_at k s)) s)
+opens_goes : (f : LinkState → LinkState) (k : ℕ) (s : State) → ((g : LinkHistory) (said : List ℕ) (l : LinkState) (waiting : List Deferral) → Owed k g said l waiting → Owed k g said (f l) waiting) → Goes s [] (with_slot k (in_slot f (slot_at k s)) s)
 opens_goes f k s queued =
     let a = (slot_link_at k s).environment in
     elim (slot_at k s).link as (λ o. (slot_at k s).link ≡ o → Goes s [] (with_slot_link k s (link_in_slot a (in_open f o)))) [
       | None ↦ λ is. subst (Goes s []) (sym (ap (λ o. with_slot_link k s (link_in_slot a o)) (sym is) ∙ same_door k s)) (goes_refl s)
-      | Some l ↦ λ is. moves_goes k s l (link_in_slot a (Some (f l))) is (record { devices = laters_refl s.devices; own = λ took h. queued took a.said l s.waiting h; fewer = λ j other h. h })
+      | Some l ↦ λ is. moves_goes k s l (link_in_slot a (Some (f l))) is (record { devices = all_live_refl s.devices; own = λ g h. queued g a.said l s.waiting h; others = refl; safe = λ h. h })
     ] refl
 
 -- a wake that no link is opened by, and that takes nothing off
-woken_quiet : (w : Wake) (s t : State) → ((k : ℕ) (took : List ℕ) → took_at k took (Woke w) ≡ took) → Goes s [] t → Takes (λ log. parsed t log) (Woken s w)
+woken_quiet : (w : Wake) (s t : State) → ((k : ℕ) (g : LinkHistory) → noted k g (Woke w) ≡ g) → Goes s [] t → Takes (λ log. parsed t log) (Woken s w)
 woken_quiet w s t still g =
-    takes_nothing t (Woken s w) (record { goes = record { devices = g.devices; queued = λ k took h. subst (λ x. OwingAt k x t) (sym (still k took)) (g.queued k took h) }; emits = inl refl })
+    takes_nothing t (Woken s w) (record { goes = record { devices = g.devices; deaths = g.deaths; queued = λ k f h. subst (λ x. OwingAt k x t) (sym (still k f)) (g.queued k f h); safe = g.safe }; emits = inl refl })
+
+-- a change of a line leaves it as dead as it was
+changed_alike : (change : LineChange) (line : Phone) → (changed change line).dead ≡ line.dead
+changed_alike (Ring on) line = refl
+changed_alike (Current on) line = refl
+changed_alike (Digit code) line = refl
 
 woken_line : (change : LineChange) (d : ℕ) (o : Option DeviceState) (s : State) → Takes (line_phase change d o s) (Woken s (Line d change))
 woken_line change d None s = λ log b e. absurd (none_some e)
 woken_line change d (Some device) s =
-    woken_quiet (Line d change) s (line_changes change d device s) (λ k took. refl) (becomes_told (changed change) (event_kind_of change) (value_of change) d device s)
+    woken_quiet (Line d change) s (line_changes change d device s) (λ k f. refl) (becomes_told (changed change) (changed_alike change) (event_kind_of change) (value_of change) d device s)
 
 woken : (w : Wake) (s : State) → fits (outline s) w ≡ true → Takes (wake_phase w s) (Woken s w)
 unfolding wake_phase
 woken (Opened k) s fit = takes_nothing (with_slot k (record { link = Some opened; said = [] }) s) (Woken s (Opened k)) (record { goes = opened_goes k s fit; emits = inl refl })
 woken (Readable k) s fit =
-    woken_quiet (Readable k) s (with_slot k (in_slot ready (slot_at k s)) s) (λ k took. refl)
-    (opens_goes ready k s (λ took said l waiting h. record { rest = h.rest; whole = h.whole; queued = h.queued; sends = h.sends; waits = h.waits; wants = h.wants }))
+    woken_quiet (Readable k) s (with_slot k (in_slot ready (slot_at k s)) s) (λ k f. refl)
+    (opens_goes ready k s (λ g said l waiting h. record { rest = h.rest; whole = h.whole; queued = h.queued; sends = h.sends; waits = h.waits; wants = h.wants; shows = h.shows; unclosed = h.unclosed }))
 woken (Writable k) s fit =
-    woken_quiet (Writable k) s (with_slot k (in_slot writable (slot_at k s)) s) (λ k took. refl)
-    (opens_goes writable k s (λ took said l waiting h. record { rest = h.rest; whole = h.whole; queued = h.queued; sends = h.sends; waits = h.waits; wants = h.wants }))
-woken (Ticked d n) s fit = woken_ticked d n (slice_get s.devices d) s refl
+    woken_quiet (Writable k) s (with_slot k (in_slot writable (slot_at k s)) s) (λ k f. refl)
+    (opens_goes writable k s (λ g said l waiting h. record { rest = h.rest; whole = h.whole; queued = h.queued; sends = h.sends; waits = h.waits; wants = h.wants; shows = h.shows; unclosed = h.unclosed }))
+woken (Ticked d n) s fit = woken_ticked d n (slice_get s.devices d) s (few_frames n (both-true (nat_lt d (length (outline s).lines) && nat_le 1 n) (nat_le n 4096) fit).1) refl
+  where
+    few_frames : (n : ℕ) → nat_le n 4096 ≡ true → n ≤ 4096
+    few_frames n e = grind arith
 woken (Line d change) s fit = woken_line change d (slice_get s.devices d) s
-woken Idle s fit = woken_quiet Idle s s (λ k took. refl) (goes_refl s)
-woken Stop s fit = woken_quiet Stop s s (λ k took. refl) (goes_refl s)
+woken Idle s fit = woken_quiet Idle s s (λ k f. refl) (goes_refl s)
+woken Stop s fit = woken_quiet Stop s s (λ k f. refl) (goes_refl s)
 
 -- A whole turn: its wake, a part that may hand something out, and a part without a wake or an emit.
 pub record Turned (s : State) (part : Log) (t : State) : Type 0 where

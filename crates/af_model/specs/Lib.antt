@@ -16,7 +16,10 @@ pub mod More
 pub mod Run
 pub mod NoLoss
 pub mod Cutting
+pub mod LinkHistory
 pub mod Prefix
+pub mod Causes
+pub mod Dead
 pub mod Fold
 pub mod Laws
 pub mod Script

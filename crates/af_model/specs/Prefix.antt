@@ -1,32 +1,18 @@
 -- That what a link took begins what was said to it.
-use Rattle.std.specs.Prelude.{◌≡◌, ℕ, ◌==◌, Bool, true, false, List, [], ◌++◌, if◌then◌else◌, IfSome}
-use Rattle.std.specs.List.{fold}
+use Rattle.std.specs.Prelude.{◌≡◌, ℕ, Bool, true, false, List, ◌++◌, IfSome}
 use Rattle.std.specs.declared.option.Option.{Option}
 use Rattle.std.specs.declared.option.Option.TheVariants.{None, Some}
-use Rattle.af_world.specs.declared.happening.Happening.{Happening}
-use Rattle.af_world.specs.declared.happening.Happening.TheVariants.{Woke, Wrote}
-use Rattle.af_world.specs.declared.happening.Wake.TheVariants.{Opened}
 use Rattle.af_world.specs.declared.happening.Why.{Why}
 use Rattle.af_world.specs.declared.happening.Why.TheVariants as why
 use Rattle.af_world.specs.declared.script.DeviceSpec.{DeviceSpec}
 use Rattle.af_world.specs.Log.{Log}
 use Rattle.af_model.specs.State.{LinkState, slot_at}
+use Rattle.af_model.specs.LinkHistory.{history}
 use Rattle.af_model.specs.Run.{end_state}
-
--- what a write took more; one that failed took nothing
-abbrev pub took_more : List ℕ → Option (List ℕ) → List ℕ
-took_more sofar None = sofar
-took_more sofar (Some bytes) = sofar ++ bytes
-
--- what link k took so far, with one happening more
-abbrev pub took_at : ℕ → List ℕ → Happening → List ℕ
-took_at k sofar (Woke (Opened link)) = if link == k then [] else sofar
-took_at k sofar (Wrote link offered took) = if link == k then took_more sofar took else sofar
-took_at k sofar _ = sofar
 
 -- the bytes that were taken by the writes to link k since it was opened last
 abbrev pub taken : ℕ → Log → List ℕ
-taken k log = fold (took_at k) [] log
+taken k log = (history k log).took
 
 -- whether a link was dropped, so that what waited to be sent to it is gone
 abbrev pub is_dropped : Option Why → Bool

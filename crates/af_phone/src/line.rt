@@ -83,9 +83,9 @@ impl Line {
         }
     }
 
-    /// The line changes, dead or live. It answers the kind and the value of the event that tells it.
+    /// The line changes, dead or live. It answers the kind and the value of the event that tells it. A code that is no
+    /// digit's is told like one, and changes nothing either.
     pub fn change(&mut self, change: LineChange) -> (EventKind, u32)
-        requires { IsTrue (is_change change) }
         ensures line { self.new ≡ changed change self.old }
         ensures kind { result.0 ≡ event_kind_of change }
         ensures value { result.1 ≡ value_of change }

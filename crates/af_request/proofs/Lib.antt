@@ -3,4 +3,5 @@ pub mod FieldRoundTrips
 pub mod DeviceListLemmas
 pub mod RequestRoundTrips
 pub mod ReplyRoundTrips
+pub mod ReplyMessageLemmas
 pub mod SetupReplyLemmas

@@ -1,5 +1,5 @@
 -- Requests that are written and read again.
-use Rattle.std.proofs.Common.{◌≡◌, ◌<◌, ◌≤◌, ◌+◌, ◌-◌, ◌*◌, ◌∙◌, ◌^◌, ℕ, Bool, true, false, List, [], ◌∷◌, ◌++◌, length, take, drop, refl, ap, arith}
+use Rattle.std.proofs.Common.{◌≡◌, ◌<◌, ◌≤◌, ◌+◌, ◌-◌, ◌*◌, ◌∙◌, ◌^◌, ℕ, Bool, true, false, List, [], ◌∷◌, ◌++◌, length, take, drop, refl, sym, ap, subst, arith}
 use Rattle.std.specs.Prelude.{Some, None, if◌then◌else◌, slice_range}
 use Rattle.std.proofs.lemmas.Bool.{eq-eqb}
 use Rattle.std.proofs.lemmas.Nat.{from_be_bytes-to_be_bytes_2}
@@ -8,7 +8,7 @@ use Rattle.af_wire.specs.declared.front.Front.TheVariants.{Frame}
 use Rattle.af_wire.specs.Front.{frame_front, frame_with}
 use Rattle.af_request.specs.Asked.{Asked, no_op, get_time, create_ac, change_ac, free_ac, play_run, record_run, select_events, set_controls, query_controls, hook_switch, query_phone}
 use Rattle.af_request.specs.Fields.{u32_bytes, i16_bytes, flag_byte, words_for, padded}
-use Rattle.af_request.specs.Requests.{row, asked_by, asked_in, request_bytes, front, IsWritable}
+use Rattle.af_request.specs.Requests.{row, asked_by, asked_in, request_bytes, front, IsOneRequest, IsWritable}
 use Rattle.af_request.proofs.FieldRoundTrips.{ap_2, ap_3, u32_again, i16_again, length-padded, take-padded}
 
 -- a count of samples that a frame has room for is below 2^32
@@ -103,3 +103,8 @@ request_framed (query_phone device) rest fits = framed 12 device 1 [] rest (omeg
 -- bytes that spell a request are read as it
 pub spelled_again : (a : Asked) (bytes : List ℕ) → bytes ≡ request_bytes a → IsWritable a → asked_in bytes ≡ Some a
 spelled_again a bytes e fits = ap asked_in e ∙ request_again a fits
+
+-- and are one frame, whatever follows them
+pub spelled_one : (a : Asked) (bytes : List ℕ) → bytes ≡ request_bytes a → IsWritable a → IsOneRequest a bytes
+spelled_one a bytes e fits = subst (λ (b : List ℕ). IsOneRequest a b) (sym e)
+    (record { one = λ rest. request_framed a rest fits; asks = request_again a fits })

@@ -1,6 +1,8 @@
 -- The grammar of requests: which bytes ask what, and how a request is spelled.
-use Rattle.std.specs.Prelude.{◌≢◌, ◌≤◌, ◌<◌, ◌^◌, ℕ, ◌+◌, ◌*◌, ◌==◌, if◌then◌else◌, Bool, List, [], ◌∷◌, ◌++◌, Option, Some, None, length, slice_range, bit_and, option_and_then, MatchOption, FitsSigned, ⊤}
+use Rattle.std.specs.Prelude.{◌≡◌, ◌≢◌, ◌≤◌, ◌<◌, ◌^◌, ℕ, ◌+◌, ◌*◌, ◌==◌, if◌then◌else◌, Bool, List, [], ◌∷◌, ◌++◌, Option, Some, None, length, slice_range, bit_and, option_and_then, MatchOption, FitsSigned, ⊤}
 use Rattle.std.specs.Int.{w16, to_be_bytes}
+use Rattle.af_wire.specs.declared.front.Front.TheVariants.{Frame}
+use Rattle.af_wire.specs.Front.{frame_front}
 use Rattle.af_request.specs.Asked.{Asked, no_op, get_time, create_ac, change_ac, free_ac, play_run, record_run, select_events, set_controls, query_controls, hook_switch, query_phone}
 use Rattle.af_request.specs.Fields.{u8_at, u32_at, i16_at, u32_bytes, i16_bytes, flag_byte, words_for, padded}
 
@@ -139,3 +141,8 @@ IsWritable (set_controls device mask input_on output_on input_gain output_gain) 
     FitsSigned w16 input_gain × FitsSigned w16 output_gain
 IsWritable (hook_switch device off) = off < 2 ^ 32
 IsWritable _ = ⊤
+
+-- bytes that are one frame, whatever follows them, and a frame that asks this
+pub record IsOneRequest (a : Asked) (bytes : List ℕ) : Type 0 where
+  pub one : (rest : List ℕ) → frame_front (bytes ++ rest) ≡ Frame (length bytes)
+  pub asks : asked_in bytes ≡ Some a

@@ -1,6 +1,7 @@
 // Writing a reply as a message.
 ghost use Rattle.std.specs.Prelude.{◌≡◌, ◌≤◌, ◌+◌, ◌*◌, ◌++◌, drop, length, take};
 ghost use Rattle.af_wire.specs.Message.{head};
+ghost use Rattle.af_wire.specs.MessageFront.{IsOneMessage};
 ghost use Rattle.af_request.specs.Answer.{reply_meaning, recorded, setup};
 ghost use Rattle.af_request.specs.Answer.{controls as controls_answer, phone as phone_answer};
 ghost use Rattle.af_request.specs.Fields.{i16_bytes, words_for};
@@ -19,6 +20,7 @@ pub fn write_reply(opcode: u8, reply: &Reply<'_>, sequence: u16, out: &mut [u8])
     ensures size { result ≡ 8 + 4 * body_words (reply_meaning reply.now) }
     ensures most { result ≤ 16016 }
     ensures bytes { take result out.new ≡ reply_bytes opcode (reply_meaning reply.now) sequence }
+    ensures one { IsReplyTo opcode (reply_meaning reply.now) → IsOneMessage 1 opcode sequence (take result out.new) }
     ensures again { IsReplyTo opcode (reply_meaning reply.now) →
         answer_in opcode (drop 8 (take result out.new)) ≡ Some (reply_meaning reply.now) }
 {

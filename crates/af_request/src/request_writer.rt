@@ -2,20 +2,21 @@
 ghost use Rattle.std.specs.Prelude.{◌≡◌, ◌≤◌, ◌+◌, ◌*◌, ◌++◌, length, take, slice_index};
 ghost use Rattle.af_request.specs.Asked.{request_meaning, play_run, record_run};
 ghost use Rattle.af_request.specs.Fields.{u32_bytes, i16_bytes, words_for};
-ghost use Rattle.af_request.specs.Requests.{asked_in, front, request_bytes, FitsFrame};
+ghost use Rattle.af_request.specs.Requests.{asked_in, front, request_bytes, FitsFrame, IsOneRequest};
 
 use crate::Request;
 use crate::put::{put, put_zeros};
 
 /// Writes a request as a frame, its padding as zeros, and answers how many bytes that are. A Play has at most 16368 bytes
 /// of samples.
-#[tactic(auto, using(crate::proofs::RequestRoundTrips::spelled_again))]
+#[tactic(auto, using(crate::proofs::RequestRoundTrips::spelled_again, crate::proofs::RequestRoundTrips::spelled_one))]
 pub fn write_request(request: &Request<'_>, out: &mut [u8]) -> usize
     requires samples { FitsFrame (request_meaning request.now) }
     requires room { 16384 ≤ length out.old }
     ensures size { result ≡ length (request_bytes (request_meaning request.now)) }
     ensures most { result ≤ 16384 }
     ensures bytes { take result out.new ≡ request_bytes (request_meaning request.now) }
+    ensures one { IsOneRequest (request_meaning request.now) (take result out.new) }
     ensures again { asked_in (take result out.new) ≡ Some (request_meaning request.now) }
 {
     match request {
@@ -132,12 +133,13 @@ fn put_run(out: &mut [u8], kind: [u8; 2], words: u16, run: [u32; 3]) -> usize
 }
 
 // A play, its samples padded with zeros to a word.
-#[tactic(auto, using(crate::proofs::RequestRoundTrips::spelled_again))]
+#[tactic(auto, using(crate::proofs::RequestRoundTrips::spelled_again, crate::proofs::RequestRoundTrips::spelled_one))]
 fn put_play(out: &mut [u8], quiet: bool, ac: u32, time: u32, samples: &[u8]) -> usize
     requires samples { length samples.now ≤ 16368 }
     requires room { 16384 ≤ length out.old }
     ensures end { result ≡ 16 + 4 * words_for (length samples.now) }
     ensures bytes { take result out.new ≡ request_bytes (play_run quiet ac time samples.now) }
+    ensures one { IsOneRequest (play_run quiet ac time samples.now) (take result out.new) }
     ensures again { asked_in (take result out.new) ≡ Some (play_run quiet ac time samples.now) }
 {
     let words = samples.len().div_ceil(4);
@@ -147,11 +149,12 @@ fn put_play(out: &mut [u8], quiet: bool, ac: u32, time: u32, samples: &[u8]) -> 
     put_zeros(out, at, 4 * words - samples.len())
 }
 
-#[tactic(auto, using(crate::proofs::RequestRoundTrips::spelled_again))]
+#[tactic(auto, using(crate::proofs::RequestRoundTrips::spelled_again, crate::proofs::RequestRoundTrips::spelled_one))]
 fn put_record(out: &mut [u8], blocking: bool, ac: u32, time: u32, nbytes: u32) -> usize
     requires { 16 ≤ length out.old }
     ensures end { result ≡ 16 }
     ensures bytes { take result out.new ≡ request_bytes (record_run blocking ac time nbytes) }
+    ensures one { IsOneRequest (record_run blocking ac time nbytes) (take result out.new) }
     ensures again { asked_in (take result out.new) ≡ Some (record_run blocking ac time nbytes) }
 {
     put_run(out, [7, u8::from(blocking)], 4, [ac, time, nbytes])

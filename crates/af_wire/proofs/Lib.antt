@@ -1,1 +1,4 @@
 pub mod MessageRoundTrips
+pub mod SetupFrontLemmas
+pub mod FrameFrontLemmas
+pub mod MessageFrontLemmas

@@ -1,5 +1,5 @@
 -- Messages that are written and read again.
-use Rattle.std.proofs.Common.{◌≡◌, ◌<◌, ◌≤◌, ◌+◌, ◌*◌, ◌^◌, ◌∙◌, ℕ, Bool, true, false, List, ◌++◌, length, drop, refl, ap, arith, nat_lt}
+use Rattle.std.proofs.Common.{◌≡◌, ◌<◌, ◌≤◌, ◌+◌, ◌*◌, ◌^◌, ◌∙◌, ℕ, Bool, true, false, List, [], ◌∷◌, ◌++◌, length, drop, refl, sym, ap, subst, arith, nat_lt}
 use Rattle.std.specs.Prelude.{IsTrue, if◌then◌else◌, Some}
 use Rattle.std.specs.Int.{w32, from_be_bytes, to_be_bytes}
 use Rattle.std.proofs.lemmas.Bool.Decides.{nat_tests}
@@ -10,8 +10,9 @@ use Rattle.af_wire.specs.declared.event.EventKind.{EventKind}
 use Rattle.af_wire.specs.declared.event.EventKind.TheVariants as kind
 use Rattle.af_wire.specs.declared.message_front.MessageFront.TheVariants.{NeedMore, Message, BadMessage}
 use Rattle.af_wire.specs.Event.{detail_of, event_bytes, event_in, event_from, is_value, kind_of_code, IsEvent}
-use Rattle.af_wire.specs.Message.{head}
-use Rattle.af_wire.specs.MessageFront.{is_head, message_front, message_with}
+use Rattle.af_wire.specs.Message.{head, error}
+use Rattle.af_wire.specs.MessageFront.{is_head, message_front, message_with, IsOneMessage}
+use Rattle.af_wire.specs.Begins.{StatesError}
 
 -- the front of a good head, behind which its body is there
 good_front : (t : Bool) (k d s m there : ℕ) → IsTrue t → m ≤ there → (if t then (if nat_lt there m then NeedMore m else Message k d s m) else BadMessage) ≡ Message k d s m
@@ -30,6 +31,35 @@ head_framed kind detail sequence words body rest good low few whole =
     ∙ ap (λ (w : ℕ). message_with kind detail sequence w there) (from_be_bytes-to_be_bytes_4 words few)
     ∙ good_front (is_head kind detail words) kind detail sequence (8 + 4 * words) there good fits
 
+-- bytes that spell a good head are one message with the body that they state
+pub head_one : (kind detail sequence words : ℕ) (bytes body : List ℕ) → bytes ≡ head kind detail sequence words → IsTrue (is_head kind detail words) → sequence < 2 ^ 16 → words < 2 ^ 32 → length body ≡ 4 * words →
+    IsOneMessage kind detail sequence (bytes ++ body)
+unfolding IsOneMessage head
+head_one kind detail sequence words bytes body e good low few whole rest =
+    let size : length (head kind detail sequence words ++ body) ≡ 8 + 4 * words = omega (arith, whole) in
+    ap (λ (b : List ℕ). message_front (b ++ body ++ rest)) e ∙ head_framed kind detail sequence words body rest good low few whole
+    ∙ ap (Message kind detail sequence) (sym size ∙ ap (λ (b : List ℕ). length (b ++ body)) (sym e))
+
+error_head : (code : ℕ) → 1 ≤ code → code ≤ 8 → IsTrue (is_head 0 code 2)
+error_head code some most = grind (arith, nat_tests)
+
+-- an error of a code that there is, is one message
+pub error_one : (code value opcode sequence : ℕ) (bytes : List ℕ) → bytes ≡ error code value opcode sequence → sequence < 2 ^ 16 → 1 ≤ code → code ≤ 8 → IsOneMessage 0 code sequence bytes
+unfolding error head
+error_one code value opcode sequence bytes e low some most =
+    let body : List ℕ = to_be_bytes w32 value ++ (opcode ∷ 0 ∷ 0 ∷ 0 ∷ []) in
+    subst (λ (b : List ℕ). IsOneMessage 0 code sequence b) (sym e)
+    (head_one 0 code sequence 2 (head 0 code sequence 2) body refl (error_head code some most) low (omega arith) refl)
+
+-- and states what it refuses
+pub error_stated : (code value opcode sequence : ℕ) (bytes : List ℕ) → bytes ≡ error code value opcode sequence → value < 2 ^ 32 → StatesError value opcode (drop 8 bytes)
+unfolding error head
+error_stated code value opcode sequence bytes e low = record {
+  value_field = to_be_bytes w32 value;
+  is = ap (λ (b : List ℕ). drop 8 b) e;
+  is_value = record { size = refl; is = from_be_bytes-to_be_bytes_4 value low };
+}
+
 event_head : (k : EventKind) → IsTrue (is_head 2 (detail_of k) 3)
 event_head kind.Ring = refl
 event_head kind.Hook = refl
@@ -41,6 +71,13 @@ pub event_framed : (e : Event) (sequence : ℕ) (rest : List ℕ) → sequence <
 unfolding event_bytes
 event_framed e sequence rest low =
     head_framed 2 (detail_of e.kind) sequence 3 (to_be_bytes w32 e.device ++ to_be_bytes w32 e.time.0 ++ to_be_bytes w32 e.value) rest (event_head e.kind) low (omega arith) refl
+
+pub event_one : (e : Event) (sequence : ℕ) (bytes : List ℕ) → bytes ≡ event_bytes e sequence → sequence < 2 ^ 16 → IsOneMessage 2 (detail_of e.kind) sequence bytes
+unfolding event_bytes
+event_one e sequence bytes is low =
+    let body : List ℕ = to_be_bytes w32 e.device ++ to_be_bytes w32 e.time.0 ++ to_be_bytes w32 e.value in
+    subst (λ (b : List ℕ). IsOneMessage 2 (detail_of e.kind) sequence b) (sym is)
+    (head_one 2 (detail_of e.kind) sequence 3 (head 2 (detail_of e.kind) sequence 3) body refl (event_head e.kind) low (omega arith) refl)
 
 event_stated : (k : EventKind) (device time value : ℕ) → device ≤ 7 → IsTrue (is_value k value) → event_from (kind_of_code (detail_of k)) device time value ≡ Some (record { kind = k; device = device; time = record { 0 = time }; value = value })
 event_stated kind.Ring device time value low fits = grind (arith, nat_tests)
@@ -57,3 +94,6 @@ event_again e sequence stated =
     ∙ ap (λ (t : ℕ). event_from (kind_of_code (detail_of e.kind)) e.device t (from_be_bytes w32 (to_be_bytes w32 e.value))) (from_be_bytes-to_be_bytes_4 e.time.0 stated.time)
     ∙ ap (λ (v : ℕ). event_from (kind_of_code (detail_of e.kind)) e.device e.time.0 v) (from_be_bytes-to_be_bytes_4 e.value stated.value)
     ∙ event_stated e.kind e.device e.time.0 e.value stated.device stated.fits
+
+pub event_spelled : (e : Event) (sequence : ℕ) (bytes : List ℕ) → bytes ≡ event_bytes e sequence → IsEvent e → event_in (detail_of e.kind) (drop 8 bytes) ≡ Some e
+event_spelled e sequence bytes is stated = ap (λ (b : List ℕ). event_in (detail_of e.kind) (drop 8 b)) is ∙ event_again e sequence stated

@@ -2,3 +2,4 @@ pub mod Front
 pub mod Message
 pub mod Event
 pub mod MessageFront
+pub mod Begins

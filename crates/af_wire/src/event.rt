@@ -1,6 +1,7 @@
 // Events of telephone lines, as messages.
-ghost use Rattle.std.specs.Prelude.{◌≡◌, length};
-ghost use Rattle.af_wire.specs.Event.{detail_of, event_bytes, event_in, kind_of_code};
+ghost use Rattle.std.specs.Prelude.{◌≡◌, drop, length};
+ghost use Rattle.af_wire.specs.Event.{detail_of, event_bytes, event_in, kind_of_code, IsEvent};
+ghost use Rattle.af_wire.specs.MessageFront.{IsOneMessage};
 
 use crate::write_head;
 use af_time::DevTime;
@@ -55,10 +56,12 @@ pub struct Event {
 }
 
 /// Writes an event, with the number of the request that was performed or begun last.
-#[tactic(auto, unfolding(crate::specs::Event::event_bytes))]
+#[tactic(auto, using(crate::proofs::MessageRoundTrips::event_one), unfolding(crate::specs::Event::event_bytes))]
 pub fn write_event(event: Event, sequence: u16, out: &mut [u8])
     requires { length out.old ≡ 20 }
-    ensures { out.new ≡ event_bytes event sequence }
+    ensures bytes { out.new ≡ event_bytes event sequence }
+    ensures one { IsOneMessage 2 (detail_of event.kind) sequence out.new }
+    ensures again { IsEvent event → event_in (detail_of event.kind) (drop 8 out.new) ≡ Some event }
 {
     let [d0, d1, d2, d3] = u32::from(event.device).to_be_bytes();
     let [t0, t1, t2, t3] = event.time.0.to_be_bytes();

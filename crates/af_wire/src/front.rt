@@ -1,7 +1,10 @@
 // What the bytes of a link begin with: a setup, a frame, too little, or nothing that can be read.
-ghost use Rattle.std.specs.Prelude.{◌≡◌, ◌<◌, length};
+ghost use Rattle.std.specs.Prelude.{◌≡◌, ◌↔◌, ◌<◌, length};
 ghost use Rattle.af_wire.specs.declared.front.SetupFront.TheVariants as setup;
 ghost use Rattle.af_wire.specs.declared.front.Front.TheVariants as frame;
+ghost use Rattle.af_wire.specs.declared.front.SetupFront.{SetupFront};
+ghost use Rattle.af_wire.specs.declared.front.Front.{Front};
+ghost use Rattle.af_wire.specs.Begins.{HasSetupFront, HasFront};
 ghost use Rattle.af_wire.specs.Front.{setup_front, frame_front, IsFrameWithin, IsSetupWithin};
 
 /// The setup that a client sends, of version 1.0.
@@ -28,10 +31,12 @@ pub enum Front {
 }
 
 /// Reads a setup. It needs more exactly where fewer than 8 bytes are there.
+#[tactic(auto, using(crate::proofs::SetupFrontLemmas::setup_exactly))]
 pub fn setup_of(input: &[u8]) -> SetupFront
     ensures value { result ≡ setup_front input.now }
     ensures more { result ≡ setup.NeedMore → length input.now < 8 }
     ensures within { IsSetupWithin result (length input.now) }
+    ensures exactly { (front : SetupFront) → (result ≡ front) ↔ HasSetupFront input.now front }
 {
     let [a, b, c, d, e, f, _, _, ..] = input else {
         return SetupFront::NeedMore;
@@ -49,10 +54,12 @@ pub fn setup_of(input: &[u8]) -> SetupFront
 
 /// Reads the length of a frame. It needs more exactly where fewer than 4 bytes are there, or fewer than a good stated
 /// length.
+#[tactic(auto, using(crate::proofs::FrameFrontLemmas::frame_exactly))]
 pub fn frame_at(input: &[u8]) -> Front
     ensures value { result ≡ frame_front input.now }
     ensures more { result ≡ frame.NeedMore → length input.now < 16384 }
     ensures within { IsFrameWithin result (length input.now) }
+    ensures exactly { (front : Front) → (result ≡ front) ↔ HasFront input.now front }
 {
     let [_, _, high, low, ..] = input else {
         return Front::NeedMore;

@@ -1,5 +1,7 @@
 // What the bytes that a server sends begin with.
-ghost use Rattle.std.specs.Prelude.{◌≡◌, ◌≤◌, true, length};
+ghost use Rattle.std.specs.Prelude.{◌≡◌, ◌↔◌, ◌≤◌, true, length};
+ghost use Rattle.af_wire.specs.declared.message_front.MessageFront.{MessageFront};
+ghost use Rattle.af_wire.specs.Begins.{HasMessageFront};
 ghost use Rattle.af_wire.specs.MessageFront.{is_head, message_front, IsMessageWithin};
 
 /// What the bytes that a server sends begin with.
@@ -19,9 +21,11 @@ pub enum MessageFront {
 }
 
 /// Reads the front of a message. It needs more exactly where fewer than 8 bytes are there, or fewer than a good head states.
+#[tactic(auto, using(crate::proofs::MessageFrontLemmas::message_exactly))]
 pub fn message_at(input: &[u8]) -> MessageFront
     ensures value { result ≡ message_front input.now }
     ensures within { IsMessageWithin result (length input.now) }
+    ensures exactly { (front : MessageFront) → (result ≡ front) ↔ HasMessageFront input.now front }
 {
     let [kind, detail, s0, s1, w0, w1, w2, w3, ..] = input else {
         return MessageFront::NeedMore(8);

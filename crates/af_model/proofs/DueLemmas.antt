@@ -1,0 +1,85 @@
+-- What a request is like that begins to wait: it is due later than its device's time, and it has not more frames than it may.
+use Rattle.std.proofs.Common.{◌≡◌, ℕ, ◌+◌, ◌-◌, ◌*◌, ◌/◌, ◌%◌, ◌<◌, ◌≤◌, Bool, true, false, not, List, [], ◌∷◌, length, nat_le, nat_lt, refl, sym, ◌∙◌, arith, eqb-true}
+use Rattle.std.proofs.lemmas.List.{length-map}
+use Rattle.std.proofs.Math.Nat.{div-le_self}
+use Rattle.std.proofs.lemmas.Nat.{div-add-mod'}
+use Rattle.std.specs.declared.option.Option.TheVariants.{None}
+use Rattle.af_time.specs.DeviceTime.{unwrap}
+use Rattle.af_sample.specs.Gains.{gained}
+use Rattle.af_sample.specs.Samples.{samples}
+use Rattle.af_sample.specs.SampleTypes.{width_of}
+use Rattle.af_sample.proofs.RunLemmas.{length-samples}
+use Rattle.af_context.specs.declared.Context.{Context}
+use Rattle.af_request.specs.Asked.{Asked, play_run, record_run}
+use Rattle.af_model.specs.declared.refusal.RefusalCause.TheVariants.{BadValue}
+use Rattle.af_model.specs.State.{DeviceState, Deferred, deferred_play, deferred_record}
+use Rattle.af_model.specs.Reply.{horizon_of}
+use Rattle.af_model.specs.Checks.{check, first_refusal}
+use Rattle.af_model.specs.Waiting.{due}
+use Rattle.af_model.specs.Play.{are_frames, frames_of, frames_within_horizon, play_refusal, sent_sound}
+use Rattle.af_model.specs.Record.{frames_before_now, is_to_wait, record_refusal}
+use Rattle.af_model.proofs.BoolTestLemmas.{both-true, none_some}
+
+-- how many frames a request has that waits
+abbrev pub frames_deferred : Deferred → ℕ
+frames_deferred (deferred_play quiet start sound preempt) = length sound
+frames_deferred (deferred_record c start frames) = frames
+
+-- how many it may have, of those that can wait: a play no more than its bytes, a record no more than the bytes of its reply
+abbrev pub most_asked : Asked → ℕ
+most_asked (play_run quiet ac start bytes) = length bytes
+most_asked (record_run blocking ac start bytes) = 16000
+most_asked _ = 0
+
+pub record IsToWait (most : ℕ) (device : DeviceState) (deferred : Deferred) : Type 0 where
+  pub later : device.now < due (horizon_of device) deferred
+  pub short : frames_deferred deferred ≤ most
+
+-- a check that refuses nothing did not fail
+unfailed : (fails : Bool) (value : ℕ) → check fails BadValue value ≡ None → fails ≡ false
+unfailed true value e = absurd (none_some (sym e))
+unfailed false value e = refl
+
+-- bytes that are whole frames are as many samples
+whole_sound : (c : Context) (bytes : List ℕ) → play_refusal c (length bytes) ≡ None → length (sent_sound c bytes) ≡ frames_of c (length bytes)
+whole_sound c bytes e =
+    let whole : are_frames c (length bytes) ≡ true = unfailed_not (are_frames c (length bytes)) (unfailed (not (are_frames c (length bytes))) (length bytes) e) in
+    let none : length bytes % width_of c.ty ≡ 0 = eqb-true (length bytes % width_of c.ty) 0 whole in
+    let parts = div-add-mod' (length bytes) (width_of c.ty) in
+    let size : length bytes ≡ length bytes / width_of c.ty * width_of c.ty = sym parts ∙ omega (arith, none) in
+    length-map (samples c.ty bytes) (λ x. gained x c.play_gain) ∙ length-samples c.ty bytes (length bytes / width_of c.ty) size
+  where
+    unfailed_not : (b : Bool) → not b ≡ false → b ≡ true
+    unfailed_not true e = refl
+    unfailed_not false e = absurd cc
+
+-- a play that ends beyond the horizon
+pub play_waits : (quiet : Bool) (c : Context) (device : DeviceState) (time : ℕ) (bytes : List ℕ) (most : ℕ) → play_refusal c (length bytes) ≡ None → length bytes ≤ most →
+    nat_le (frames_of c (length bytes)) (frames_within_horizon device time) ≡ false → IsToWait most device (deferred_play quiet (unwrap device.now time) (sent_sound c bytes) c.preempt)
+play_waits quiet c device time bytes most whole short beyond =
+    let size = whole_sound c bytes whole in
+    let fewer = div-le_self (length bytes) (width_of c.ty) in
+    record { later = past device.now (horizon_of device) (unwrap device.now time) (length (sent_sound c bytes)) (frames_of c (length bytes)) size beyond; short = omega (arith, size, fewer, short) }
+  where
+    past : (now horizon start sound frames : ℕ) → sound ≡ frames → nat_le frames (now + horizon - start) ≡ false → now < start + sound - horizon
+    past now horizon start sound frames same e = grind arith
+
+-- a record of what is not there yet
+pub record_waits : (blocking : Bool) (c : Context) (device : DeviceState) (time bytes most : ℕ) → record_refusal c bytes ≡ None → 16000 ≤ most → is_to_wait blocking device time (frames_of c bytes) ≡ true →
+    IsToWait most device (deferred_record c (unwrap device.now time) (frames_of c bytes))
+unfolding record_refusal
+record_waits blocking c device time bytes most allowed most_is waits =
+    let test = (both-true blocking (nat_lt (frames_before_now device time) (frames_of c bytes)) waits).1 in
+    let few : nat_lt 16000 bytes ≡ false = first (check (not (are_frames c bytes)) BadValue bytes ∷ []) (nat_lt 16000 bytes) allowed in
+    let fewer = div-le_self bytes (width_of c.ty) in
+    record { later = past device.now (unwrap device.now time) (frames_of c bytes) test; short = bounded bytes (frames_of c bytes) few fewer }
+  where
+    first : (rest : _) (fails : Bool) → first_refusal (check fails BadValue bytes ∷ rest) ≡ None → fails ≡ false
+    first rest true e = absurd (none_some (sym e))
+    first rest false e = refl
+
+    past : (now start frames : ℕ) → nat_lt (now - start) frames ≡ true → now < start + frames
+    past now start frames e = grind arith
+
+    bounded : (bytes frames : ℕ) → nat_lt 16000 bytes ≡ false → frames ≤ bytes → frames ≤ most
+    bounded bytes frames e le = let m : 16000 ≤ most = most_is in grind arith

@@ -1,0 +1,149 @@
+-- What holds between turns so that nothing is lost: each request that waits is due later than its device's time, and has not too many
+-- frames. While a device ticks its requests may be due for as many frames as went by.
+use Rattle.std.proofs.Common.{◌≡◌, ℕ, zero, suc, ◌+◌, ◌*◌, ◌==◌, ◌<◌, ◌≤◌, Bool, true, false, not, cond, List, [], ◌∷◌, slice_get, slice_set, refl, sym, ◌∙◌, subst, arith}
+use Rattle.std.specs.List.{All, AllZip}
+use Rattle.std.proofs.lemmas.List.Elements.{All-cons, All-filter, All-head, All-push, All-tail, All-weaker}
+use Rattle.std.specs.declared.option.Option.TheVariants.{None, Some}
+use Rattle.af_wait.specs.Waits.{without_first}
+use Rattle.af_model.specs.State.{DeviceState, Deferral, Deferred, deferred_play, deferred_record, EnvironmentState, State, device_set, with_device}
+use Rattle.af_model.specs.Reply.{horizon_of}
+use Rattle.af_model.specs.Waiting.{due}
+use Rattle.af_model.specs.Tick.{completing}
+use Rattle.af_model.specs.Events.{without_waiter}
+use Rattle.af_model.specs.NoLoss.{IsWholeAt, LosesNone}
+use Rattle.af_model.proofs.BoolTestLemmas.{some_is}
+use Rattle.af_model.proofs.DeviceHistoryLemmas.{zip_back, zip_with}
+use Rattle.af_model.proofs.DueLemmas.{IsToWait, frames_deferred}
+use Rattle.af_model.proofs.LinkInvariantLemmas.{Keeps}
+
+-- a device that keeps sound for long enough, and completed no request that lost a sample
+pub record IsSafe (device : DeviceState) : Type 0 where
+  pub rate : 8000 ≤ device.rate
+  pub loses_none : LosesNone device
+
+-- a request that is due no more than some frames ago
+pub record IsAwaited (slack : ℕ) (device : DeviceState) (deferred : Deferred) : Type 0 where
+  pub soon : device.now < due (horizon_of device) deferred + slack
+  pub ever : 0 < due (horizon_of device) deferred
+  pub short : frames_deferred deferred ≤ 16384
+
+-- of those that wait, the ones that wait for a device have slack
+abbrev pub slack_for : ℕ → ℕ → Deferral → ℕ
+slack_for slack d w = cond (w.device == d) slack 0
+
+abbrev pub AwaitedIn : ℕ → ℕ → List DeviceState → Deferral → Type 0
+AwaitedIn slack d devices w = (device : DeviceState) → slice_get devices w.device ≡ Some device → IsAwaited (slack_for slack d w) device w.deferred
+
+pub record Safe (slack d : ℕ) (ds : List DeviceState) (ws : List Deferral) : Type 0 where
+  pub devices : All (λ device. IsSafe device) ds
+  pub waiting : All (λ w. AwaitedIn slack d ds w) ws
+
+abbrev pub SafeIn : ℕ → ℕ → EnvironmentState → Type 0
+SafeIn slack d environment = Safe slack d environment.devices environment.waiting
+
+abbrev pub SafeState : ℕ → ℕ → State → Type 0
+SafeState slack d s = Safe slack d s.devices s.waiting
+
+-- Lists
+
+module _ {X : Type 0} (P : X → Type 0) where
+  pub all_at : (xs : List X) (i : ℕ) (x : X) → All P xs → slice_get xs i ≡ Some x → P x
+  all_at [] i x h there = absurd cc
+  all_at (y ∷ xs) zero x h there = subst P (some_is there) (All-head P y xs h)
+  all_at (y ∷ xs) (suc i) x h there = all_at xs i x (All-tail P y xs h) there
+
+  all_set : (xs : List X) (i : ℕ) (x : X) → All P xs → P x → All P (slice_set xs i x)
+  all_set [] i x h p = h
+  all_set (y ∷ xs) zero x h p = All-cons P x xs p (All-tail P y xs h)
+  all_set (y ∷ xs) (suc i) x h p = All-cons P y (slice_set xs i x) (All-head P y xs h) (all_set xs i x (All-tail P y xs h) p)
+
+  pub all_without_first : (passes : X → Bool) (xs : List X) → All P xs → All P (without_first passes xs)
+  all_without_first passes [] h = h
+  all_without_first passes (y ∷ xs) h =
+      elim (passes y) as (λ t. All P (cond t xs (y ∷ without_first passes xs))) [
+        | true ↦ All-tail P y xs h
+        | false ↦ All-cons P y (without_first passes xs) (All-head P y xs h) (all_without_first passes xs (All-tail P y xs h))
+      ]
+
+-- Devices change
+
+awaited_alike : (slack : ℕ) (a b : DeviceState) (deferred : Deferred) → b.now ≡ a.now → b.rate ≡ a.rate → IsAwaited slack a deferred → IsAwaited slack b deferred
+awaited_alike slack a b deferred now rate h = record {
+  soon = subst (λ n. n < due (horizon_of b) deferred + slack) (sym now) (subst (λ r. a.now < due (r * 4) deferred + slack) (sym rate) h.soon);
+  ever = subst (λ r. 0 < due (r * 4) deferred) (sym rate) h.ever;
+  short = h.short;
+}
+
+-- a device at the same time, with the same rate
+abbrev pub SameClock : DeviceState → DeviceState → Type 0
+SameClock d e = (e.now ≡ d.now) × (e.rate ≡ d.rate)
+
+awaited_still : (slack d : ℕ) (ds es : List DeviceState) (ws : List Deferral) → AllZip SameClock ds es → All (λ w. AwaitedIn slack d ds w) ws → All (λ w. AwaitedIn slack d es w) ws
+awaited_still slack d ds es ws l h =
+    All-weaker (λ w. AwaitedIn slack d ds w) (λ w. AwaitedIn slack d es w) (λ w one e there. let got = zip_back SameClock ds es w.device e l there in awaited_alike (slack_for slack d w) got.0 e w.deferred got.2.0 got.2.1 (one got.0 got.1)) ws h
+
+pub safe_with : (d : ℕ) (f : DeviceState → DeviceState) (ds : List DeviceState) → ((device : DeviceState) → slice_get ds d ≡ Some device → IsSafe device → IsSafe (f device)) → All (λ x. IsSafe x) ds → All (λ x. IsSafe x) (with_device d f ds)
+safe_with d f ds g h =
+    elim (slice_get ds d) as (λ o. slice_get ds d ≡ o → All (λ x. IsSafe x) (device_set d f ds o)) [
+      | None ↦ λ there. h
+      | Some device ↦ λ there. all_set (λ x. IsSafe x) ds d (f device) h (g device there (all_at (λ x. IsSafe x) ds d device h there))
+    ] refl
+
+pub safe_becomes : (slack c d : ℕ) (f : DeviceState → DeviceState) (ds : List DeviceState) (ws : List Deferral) → ((device : DeviceState) → slice_get ds d ≡ Some device → SameClock device (f device)) →
+    ((device : DeviceState) → slice_get ds d ≡ Some device → IsSafe device → IsSafe (f device)) → Safe slack c ds ws → Safe slack c (with_device d f ds) ws
+safe_becomes slack c d f ds ws l g h = record { devices = safe_with d f ds g h.devices; waiting = awaited_still slack c ds (with_device d f ds) ws (zip_with SameClock (λ x. (refl, refl)) d f ds l) h.waiting }
+
+pub loses_alike : (d e : DeviceState) → e.rate ≡ d.rate → e.completed ≡ d.completed → IsSafe d → IsSafe e
+loses_alike d e rate completed h = record {
+  rate = subst (λ r. 8000 ≤ r) (sym rate) h.rate;
+  loses_none = subst (λ r. All (λ c. IsWholeAt (r * 4) c.at c.deferred) e.completed) (sym rate) (subst (λ l. All (λ c. IsWholeAt (d.rate * 4) c.at c.deferred) l) (sym completed) h.loses_none);
+}
+
+pub safe_keeps : (k slack d : ℕ) → Keeps k (λ closing. Unit {0}) (λ p. SafeIn slack d p.environment)
+safe_keeps k slack c = record {
+  may = λ closing e. tt;
+  link = λ p l open' behind same rest set h. h;
+  takes = λ p n open' set e asked h. h;
+  sets_up = λ p open' unset e h. h;
+  stops = λ p cause open' bad h. h;
+  says = λ p bytes stays h. h;
+  becomes = λ p d device f there l h. safe_becomes slack c d f p.environment.devices p.environment.waiting (λ x is. subst (λ y. SameClock y (f y)) (some_is (sym there ∙ is)) (l.lives.now, l.lives.rate))
+      (λ x is. subst (λ y. IsSafe y → IsSafe (f y)) (some_is (sym there ∙ is)) (loses_alike device (f device) l.lives.rate l.completed)) h;
+  waits = λ p d device deferred there w open' h. record {
+    devices = h.devices;
+    waiting = All-push (λ v. AwaitedIn slack c p.environment.devices v) p.environment.waiting (record { link = k; device = d; deferred = deferred }) h.waiting
+        (λ x is. subst (λ y. IsAwaited (slack_for slack c (record { link = k; device = d; deferred = deferred })) y deferred) (some_is (sym there ∙ is)) (to_wait device deferred (slack_for slack c (record { link = k; device = d; deferred = deferred })) w));
+  };
+}
+  where
+    to_wait : (device : DeviceState) (deferred : Deferred) (slack : ℕ) → IsToWait 16384 device deferred → IsAwaited slack device deferred
+    to_wait device deferred slack w = record { soon = omega (arith, w.later); ever = omega (arith, w.later); short = w.short }
+
+-- A request completes
+
+-- one that is due no more than 4096 frames ago loses nothing
+whole_now : (device : DeviceState) (deferred : Deferred) (slack : ℕ) → slack ≤ 4096 → 8000 ≤ device.rate → IsAwaited slack device deferred → IsWholeAt (horizon_of device) device.now deferred
+whole_now device (deferred_play quiet start sound preempt) slack few rate h = omega (arith, few, rate, h.soon, h.ever, h.short)
+whole_now device (deferred_record c start frames) slack few rate h = omega (arith, few, rate, h.soon, h.ever, h.short)
+
+pub safe_completing : (slack c : ℕ) (w : Deferral) (ds : List DeviceState) (ws : List Deferral) → slack ≤ 4096 → AwaitedIn slack c ds w → Safe slack c ds ws →
+    Safe slack c (with_device w.device (completing w.deferred) ds) ws
+safe_completing slack c w ds ws few one h =
+    safe_becomes slack c w.device (completing w.deferred) ds ws (λ device there. (refl, refl)) (λ device there safe. record {
+      rate = safe.rate;
+      loses_none = All-push (λ x. IsWholeAt (horizon_of device) x.at x.deferred) device.completed (record { deferred = w.deferred; at = device.now }) safe.loses_none
+          (whole_now device w.deferred (slack_for slack c w) (within (w.device == c)) safe.rate (one device there));
+    }) h
+  where
+    within : (b : Bool) → cond b slack 0 ≤ 4096
+    within true = few
+    within false = omega arith
+
+-- Fewer wait
+
+pub safe_fewer : (slack d : ℕ) (ds : List DeviceState) (ws vs : List Deferral) → ((P : Deferral → Type 0) → All P ws → All P vs) → Safe slack d ds ws → Safe slack d ds vs
+safe_fewer slack d ds ws vs less h = record { devices = h.devices; waiting = less (λ w. AwaitedIn slack d ds w) h.waiting }
+
+-- a link is dropped
+pub safe_dropped : (k : ℕ) (ds : List DeviceState) (ws : List Deferral) → Safe 0 0 ds ws → Safe 0 0 ds (without_waiter k ws)
+safe_dropped k ds ws h = safe_fewer 0 0 ds ws (without_waiter k ws) (λ P all. All-filter (λ w. not (w.link == k)) P ws all) h

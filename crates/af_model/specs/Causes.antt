@@ -1,0 +1,60 @@
+-- That each link is closed for the cause that the log shows.
+use Rattle.std.specs.Prelude.{◌≡◌, ℕ, ◌+◌, ◌-◌, ◌<◌, Bool, true, false, List, [], ◌∷◌, ◌++◌, length, take, drop, is_none, is_some, IfSome}
+use Rattle.af_wire.specs.declared.front.Front.{Front}
+use Rattle.af_wire.specs.declared.front.Front.TheVariants.{NeedMore, Frame, Malformed}
+use Rattle.af_wire.specs.declared.front.SetupFront.TheVariants as front
+use Rattle.af_wire.specs.Front.{setup_front, frame_front}
+use Rattle.af_request.specs.Requests.{asked_in}
+use Rattle.af_world.specs.declared.happening.Why.{Why}
+use Rattle.af_world.specs.declared.happening.Why.TheVariants as why
+use Rattle.af_world.specs.declared.script.DeviceSpec.{DeviceSpec}
+use Rattle.af_world.specs.Log.{Log}
+use Rattle.af_model.specs.State.{slot_at}
+use Rattle.af_model.specs.LinkHistory.{LinkHistory, history}
+use Rattle.af_model.specs.Run.{end_state}
+
+-- requests of so many bytes each are the first of these bytes, and then there is a rest
+abbrev pub AreRequests : List ℕ → List ℕ → List ℕ → Type 0
+AreRequests [] bytes rest = rest ≡ bytes
+AreRequests (n ∷ sizes) bytes rest = (frame_front bytes ≡ Frame n) × (is_some (asked_in (take n bytes)) ≡ true) × AreRequests sizes (drop n bytes) rest
+
+-- a good setup and requests are the first of these bytes, and then there is a rest
+pub record IsServedTo (bytes rest : List ℕ) : Type 0 where
+  pub setup : setup_front bytes ≡ front.Setup
+  pub sizes : List ℕ
+  pub requests : AreRequests sizes (drop 8 bytes) rest
+
+-- whether bytes begin with what is no frame, or with a frame that is no request
+abbrev pub is_malformed : Front → List ℕ → Bool
+is_malformed NeedMore bytes = false
+is_malformed Malformed bytes = true
+is_malformed (Frame n) bytes = is_none (asked_in (take n bytes))
+
+-- nothing failed, the link did not end, and all that was said to it was taken
+pub record ShowsNoOther (h : LinkHistory) (owed : ℕ) : Type 0 where
+  pub failed : h.has_failed ≡ false
+  pub ended : h.has_ended ≡ false
+  pub all_taken : owed ≡ 0
+
+-- What a link shows that is closed for a cause, of which so many bytes were said to it and not taken: a read or a write of it failed; an
+-- event of 20 bytes found no room beside what was to be sent; a read said that it ended; its first bytes are no good setup;
+-- behind a good setup and requests its bytes are malformed.
+abbrev pub IsCause : Why → LinkHistory → ℕ → Type 0
+IsCause why.LinkFault h owed = h.has_failed ≡ true
+IsCause why.Overrun h owed = (h.has_failed ≡ false) × (49152 < owed + 20)
+IsCause why.Ended h owed = (h.has_failed ≡ false) × (h.has_ended ≡ true) × (owed ≡ 0)
+IsCause why.BadSetup h owed = ShowsNoOther h owed × (value : ℕ) × (setup_front h.gave ≡ front.BadSetup value)
+IsCause why.Malformed h owed = ShowsNoOther h owed × (rest : List ℕ) × IsServedTo h.gave rest × (is_malformed (frame_front rest) rest ≡ true)
+
+-- the bytes that were said to a link and not taken
+abbrev pub owed_of : LinkHistory → List ℕ → ℕ
+owed_of h said = length said - length h.took
+
+-- behind a run the log shows the cause for which a link was closed that is not open again
+abbrev pub ShowsCauses : List DeviceSpec → Log → Type 0
+ShowsCauses config log =
+    IfSome (end_state config log) (λ s. (k : ℕ) → IfSome (history k log).closed (λ cause. IsCause cause (history k log) (owed_of (history k log) (slot_at k s).said)))
+
+-- so it is of each close in a log: behind the turn that has it
+abbrev pub ClosesForCauses : List DeviceSpec → Log → Type 0
+ClosesForCauses config log = (part rest : Log) → log ≡ part ++ rest → ShowsCauses config part

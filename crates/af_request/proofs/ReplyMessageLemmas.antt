@@ -1,0 +1,50 @@
+-- Replies that are written, as messages.
+use Rattle.std.proofs.Common.{◌≡◌, ◌<◌, ◌≤◌, ◌^◌, ◌⊎◌, inl, inr, ℕ, List, length, refl, sym, subst, arith}
+use Rattle.std.proofs.lemmas.Bool.Decides.{nat_tests}
+use Rattle.std.specs.Prelude.{IsTrue}
+use Rattle.af_wire.specs.Message.{head}
+use Rattle.af_wire.specs.MessageFront.{is_head, IsOneMessage}
+use Rattle.af_wire.proofs.MessageRoundTrips.{head_one}
+use Rattle.af_request.specs.Answer.{Answer, setup, plain, time, played, recorded, controls, phone}
+use Rattle.af_request.specs.Replies.{body_bytes, body_words, is_plain, reply_bytes, IsReplyTo}
+use Rattle.af_request.proofs.ReplyRoundTrips.{length-body}
+
+-- the opcode of a reply that a client takes
+IsOpcode : ℕ → Type 0
+IsOpcode opcode = (opcode ≡ 0) ⊎ ((2 ≤ opcode) × (opcode ≤ 12))
+
+good_by : (opcode words : ℕ) → IsOpcode opcode → words ≤ 4002 → IsTrue (is_head 1 opcode words)
+unfolding IsOpcode
+good_by opcode words (inl zero) few = grind (arith, nat_tests)
+good_by opcode words (inr within) few = grind (arith, nat_tests)
+
+plain_within : (opcode : ℕ) → IsTrue (is_plain opcode) → (2 ≤ opcode) × (opcode ≤ 12)
+plain_within opcode is = (grind (arith, nat_tests), grind (arith, nat_tests))
+
+opcode_within : (opcode : ℕ) (a : Answer) → IsReplyTo opcode a → IsOpcode opcode
+unfolding IsOpcode
+opcode_within opcode (setup devices) is = inl is.0
+opcode_within opcode plain is = inr (plain_within opcode is)
+opcode_within opcode (time now) is = let e : opcode ≡ 2 = is.0 in inr (omega arith, omega arith)
+opcode_within opcode (played now) is = let e : opcode ≡ 6 = is.0 in inr (omega arith, omega arith)
+opcode_within opcode (recorded now samples) is = let e : opcode ≡ 7 = is.0 in inr (omega arith, omega arith)
+opcode_within opcode (controls c) is = let e : opcode ≡ 10 = is.0 in inr (omega arith, omega arith)
+opcode_within opcode (phone p) is = let e : opcode ≡ 12 = is in inr (omega arith, omega arith)
+
+few_words : (opcode : ℕ) (a : Answer) → IsReplyTo opcode a → body_words a ≤ 4002
+few_words opcode (setup devices) is = let few : length devices ≤ 8 = is.2 in omega arith
+few_words opcode plain is = omega arith
+few_words opcode (time now) is = omega arith
+few_words opcode (played now) is = omega arith
+few_words opcode (recorded now samples) is = let few : length samples ≤ 16000 = is.2 in omega arith
+few_words opcode (controls c) is = omega arith
+few_words opcode (phone p) is = omega arith
+
+-- bytes that spell a reply are one message, whatever follows them
+pub reply_one : (opcode sequence : ℕ) (a : Answer) (bytes : List ℕ) → bytes ≡ reply_bytes opcode a sequence → sequence < 2 ^ 16 → IsReplyTo opcode a →
+    IsOneMessage 1 opcode sequence bytes
+reply_one opcode sequence a bytes e low is =
+    let few = few_words opcode a is in
+    subst (λ (b : List ℕ). IsOneMessage 1 opcode sequence b) (sym e)
+    (head_one 1 opcode sequence (body_words a) (head 1 opcode sequence (body_words a)) (body_bytes a) refl
+    (good_by opcode (body_words a) (opcode_within opcode a is) few) low (omega arith) (length-body a))

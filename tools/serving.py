@@ -2,6 +2,7 @@
 
 import os
 import socket
+import struct
 import subprocess
 import sys
 import tempfile
@@ -59,6 +60,22 @@ def set_up(address):
     head = received(link, 8)
     received(link, 4 * int.from_bytes(head[4:8], "big"))
     return link
+
+
+def reset(link):
+    """Closes a link without a farewell, so that the calls of the other side fail."""
+    link.setsockopt(socket.SOL_SOCKET, socket.SO_LINGER, struct.pack("ii", 1, 0))
+    link.close()
+
+
+def broken_source(octets):
+    """A socket that gives these bytes, and then fails."""
+    with socket.create_server(("127.0.0.1", 0)) as listener:
+        near = socket.create_connection(listener.getsockname())
+        far, _ = listener.accept()
+    far.sendall(octets)
+    reset(far)
+    return near
 
 
 def asked_time(link, device=0):

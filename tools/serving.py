@@ -2,6 +2,7 @@
 
 import os
 import socket
+import struct
 import subprocess
 import sys
 import tempfile
@@ -36,9 +37,20 @@ def program(name):
     return left
 
 
-def connect(address):
+def connect(address, window=None):
+    """A link to a server, with room for about so many bytes that were not read yet."""
     host, port = address.split(":")
-    return socket.create_connection((host, int(port)), timeout=20)
+    link = socket.socket()
+    link.settimeout(20)
+    if window:
+        link.setsockopt(socket.SOL_SOCKET, socket.SO_RCVBUF, window)
+        link.setsockopt(socket.SOL_SOCKET, socket.SO_SNDBUF, window)
+    try:
+        link.connect((host, int(port)))
+    except OSError:
+        link.close()
+        raise
+    return link
 
 
 def received(link, count):
@@ -52,13 +64,51 @@ def received(link, count):
     return got
 
 
-def set_up(address):
+def set_up(address, window=None):
     """A link that is set up."""
-    link = connect(address)
+    link = connect(address, window)
     link.sendall(SETUP)
     head = received(link, 8)
     received(link, 4 * int.from_bytes(head[4:8], "big"))
     return link
+
+
+def reset(link):
+    """Closes a link without a farewell, so that the calls of the other side fail."""
+    link.setsockopt(socket.SOL_SOCKET, socket.SO_LINGER, struct.pack("ii", 1, 0))
+    link.close()
+
+
+def broken_source(octets):
+    """A socket that gives these bytes, and then fails."""
+    with socket.create_server(("127.0.0.1", 0)) as listener:
+        near = socket.create_connection(listener.getsockname())
+        far, _ = listener.accept()
+    far.sendall(octets)
+    reset(far)
+    return near
+
+
+def is_served(link):
+    """Whether a client is set up, and told the time of a device."""
+    try:
+        link.sendall(SETUP + GET_TIME)
+        head = received(link, 8)
+        rest = 4 * int.from_bytes(head[4:8], "big") + 12
+        return len(head) == 8 and len(received(link, rest)) == rest
+    except (ConnectionResetError, BrokenPipeError):
+        return False
+
+
+def guest(server):
+    """A client that is served, as soon as a place is free."""
+    for _ in range(200):
+        link = connect(server.address)
+        if is_served(link):
+            return link
+        link.close()
+        time.sleep(0.05)
+    return None
 
 
 def asked_time(link, device=0):

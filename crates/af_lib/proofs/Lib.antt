@@ -4,6 +4,5 @@ pub mod FrameLemmas
 pub mod AwaitedMessageLemmas
 pub mod ExchangeLemmas
 pub mod SuccessLemmas
-pub mod ReplyLemmas
 pub mod EventRingLemmas
 pub mod OnlyReading

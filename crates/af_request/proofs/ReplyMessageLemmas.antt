@@ -1,10 +1,11 @@
 -- Replies that are written, as messages.
-use Rattle.std.proofs.Common.{◌≡◌, ◌<◌, ◌≤◌, ◌^◌, ◌⊎◌, inl, inr, ℕ, List, length, refl, sym, subst, arith}
+use Rattle.std.proofs.Common.{◌≡◌, ◌<◌, ◌≤◌, ◌+◌, ◌*◌, ◌^◌, ◌⊎◌, inl, inr, ℕ, List, ◌++◌, length, refl, sym, subst, arith}
 use Rattle.std.proofs.lemmas.Bool.Decides.{nat_tests}
 use Rattle.std.specs.Prelude.{IsTrue}
 use Rattle.af_wire.specs.Message.{head}
-use Rattle.af_wire.specs.MessageFront.{is_head, IsOneMessage}
-use Rattle.af_wire.proofs.MessageRoundTrips.{head_one}
+use Rattle.af_wire.specs.declared.message_front.MessageFront.TheVariants.{Message}
+use Rattle.af_wire.specs.MessageFront.{is_head, message_front, IsOneMessage}
+use Rattle.af_wire.proofs.MessageRoundTrips.{head_framed, head_one}
 use Rattle.af_request.specs.Answer.{Answer, setup, plain, time, played, recorded, controls, phone}
 use Rattle.af_request.specs.Replies.{body_bytes, body_words, is_plain, reply_bytes, IsReplyTo}
 use Rattle.af_request.proofs.ReplyRoundTrips.{length-body}
@@ -48,3 +49,10 @@ reply_one opcode sequence a bytes e low is =
     subst (λ (b : List ℕ). IsOneMessage 1 opcode sequence b) (sym e)
     (head_one 1 opcode sequence (body_words a) (head 1 opcode sequence (body_words a)) (body_bytes a) refl
     (good_by opcode (body_words a) (opcode_within opcode a is) few) low (omega arith) (length-body a))
+
+-- its spelling with what follows it, as a client takes it
+pub reply_framed : (opcode : ℕ) (a : Answer) (sequence : ℕ) (rest : List ℕ) → IsReplyTo opcode a → sequence < 2 ^ 16 →
+    message_front (reply_bytes opcode a sequence ++ rest) ≡ Message 1 opcode sequence (8 + 4 * body_words a)
+reply_framed opcode a sequence rest is low =
+    let few = few_words opcode a is in
+    head_framed 1 opcode sequence (body_words a) (body_bytes a) rest (good_by opcode (body_words a) (opcode_within opcode a is) few) low (omega arith) (length-body a)

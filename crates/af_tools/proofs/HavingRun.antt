@@ -31,14 +31,6 @@ aplay_finish job devices bytes w there few =
     let d = device_at devices job.device there in
     rw (aplay_there devices w job bytes d.0 d.1) (played_finish job d.0 bytes w (λ frames start _. writing (played frames start) (ends done)) few (λ frames start v. inl refl))
 
-tool_ran : (trace : Trace) (device : ℕ) (devices : List DeviceInfo) (how : ToolEnd) (s s' h h' : Option (List ℕ)) → (device < length devices → IsDoneOrRefused trace.finish) →
-    ObservedTrace trace how s s' h h' → ToolRan trace device devices how s s' h h'
-tool_ran trace device devices how s s' h h' finish f = record {
-  followed = f;
-  reply = ends_by_reply trace how s s' h h' f;
-  complete = λ there answered. done_where_answered trace how f.sends f.output f.ended (finish there) answered;
-}
-
 -- a tool on the device with a number, which on each device is done or refused
 pub record IsOnDevice (trace : Trace) (number : ℕ) (devices : List DeviceInfo) (each : DeviceInfo → Trace) : Type 0 where
   pub is : trace ≡ with_job_device number devices each
@@ -58,8 +50,13 @@ module _ (trace : Trace) (number : ℕ) (devices : List DeviceInfo) (each : Devi
   chosen found get = t.is ∙ ap (λ (o : Option DeviceInfo). on_device o (length devices) each) get
 
   followed_ran : (how : ToolEnd) (s s' h h' : Option (List ℕ)) → ObservedTrace trace how s s' h h' → ToolRan trace number devices how s s' h h'
-  followed_ran how s s' h h' f = tool_ran trace number devices how s s' h h'
-      (λ there. (let d = device_at devices number there in subst (λ (c : Trace). IsDoneOrRefused c.finish) (sym (chosen (Some d.0) d.1)) (t.finish d.0))) f
+  followed_ran how s s' h h' f = record {
+    followed = f;
+    reply = ends_by_reply trace how s s' h h' f;
+    complete = λ there answered.
+        let d = device_at devices number there in
+        done_where_answered trace how f.sends f.output f.ended (subst (λ (c : Trace). IsDoneOrRefused c.finish) (sym (chosen (Some d.0) d.1)) (t.finish d.0)) answered;
+  }
 
   -- the device is not there, and nothing was sent
   pub missing_ran : (how : ToolEnd) (s h : Option (List ℕ)) → IsMissing devices number how → ToolRan trace number devices how s s h h

@@ -118,6 +118,14 @@ IsFresh (Err (fault.Spent first)) = ⊥
 IsFresh (Err fault.OutOfMemory) = ⊥
 IsFresh _ = ⊤
 
+-- an answer to one message that is awaited: what it is, or that the link failed or ended, or that the message is a bad one
+abbrev pub IsOfMessage : {X : Type 0} → Result X ConnFault → Type 0
+IsOfMessage (Ok x) = ⊤
+IsOfMessage (Err fault.LinkFault) = ⊤
+IsOfMessage (Err fault.LinkEnded) = ⊤
+IsOfMessage (Err (fault.BadReply header first)) = ⊤
+IsOfMessage _ = ⊥
+
 -- all bytes were sent, or a part of them where the link failed
 pub record Sends {X : Type 0} (result : Result X ConnFault) (before : Option (List ℕ)) (bytes : List ℕ) (after : Option (List ℕ)) : Type 0 where
   pub whole : result ≢ Err fault.LinkFault → Appended before bytes after
@@ -228,8 +236,8 @@ pub record EventAwaited {L : Type 0} (left sent : L → Option (List ℕ)) (faul
   -- exactly one message was taken
   pub next : old.cause ≡ None → slice_get old.ring.events 0 ≡ None → result ≢ Err fault.LinkFault →
       BothTold (left old.link) (left new.link) (λ b a. (result ≡ event_of b) × (a ≡ rest_of b))
-  -- the answer is one of a connection that can still be used
-  pub fresh : old.cause ≡ None → IsFresh result
+  -- and but for Spent no other answer comes than an event, LinkFault, LinkEnded or BadReply
+  pub answer : old.cause ≡ None → IsOfMessage result
   -- bytes that are observed stay observed
   pub tells : IsSome (left old.link) → IsSome (left new.link)
   -- the ring stays empty, and a fault is kept

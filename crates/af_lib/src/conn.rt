@@ -106,8 +106,8 @@ impl<L: Link + Drop> Conn<L> {
         self.ring.take()
     }
 
-    /// Waits for an event: the oldest of the ring, or else the next message, which is to be one. Behind a fault of the
-    /// connection it answers Spent even where the ring holds events.
+    /// Waits for an event: the oldest of the ring, or else the next message, which is to be one. Its faults are LinkFault,
+    /// LinkEnded, BadReply and, behind a fault of the connection, Spent, even where the ring holds events.
     pub fn wait_event(&mut self) -> Result<Event, ConnFault>
         ensures { EventAwaited L.left L.sent L.faults self.old self.new result }
     {

@@ -1,7 +1,7 @@
 // Receiving messages: bytes, one message, and the first message that is no event.
 ghost use Rattle.std.specs.Prelude.{◌≡◌, ◌≢◌, ◌≤◌, ◌<◌, length, IfOk, Ok, Err};
 ghost use Rattle.af_lib.specs.Incoming.{bad_reply, first_bytes, message_in, rest_of};
-ghost use Rattle.af_lib.specs.Calls.{event_of, event_only, IsFresh};
+ghost use Rattle.af_lib.specs.Calls.{event_of, event_only, IsFresh, IsOfMessage};
 ghost use Rattle.af_lib.specs.Observed.{BothTold, OnlyRead};
 ghost use Rattle.af_lib.specs.Ring.{Gained};
 ghost use Rattle.af_lib.specs.Receive.{Fills, Frames, Takes, Awaits, taken_as, taken_of, IsFramedWithin, IsTakenWithin};
@@ -103,7 +103,7 @@ pub fn message_in(bytes: &[u8]) -> Result<Taken, ConnFault>
     requires { 8 ≤ length bytes.now }
     ensures value { taken_as result bytes.now ≡ message_in bytes.now }
     ensures within { IsTakenWithin result (length bytes.now) }
-    ensures fresh { IsFresh result }
+    ensures message { IsOfMessage result }
 {
     if bytes[0] != 2 {
         return Ok(Taken::Other(bytes.len()));
@@ -119,7 +119,7 @@ pub fn take_message<L: Link>(link: &mut L, input: &mut [u8]) -> Result<Taken, Co
     requires { 16016 ≤ length input.old }
     ensures takes { result ≢ Err ConnFault.LinkFault → Takes result input.new (L.left link.old) (L.left link.new) }
     ensures within { IsTakenWithin result 16016 }
-    ensures fresh { IsFresh result }
+    ensures message { IsOfMessage result }
     ensures reads { OnlyRead L.left L.sent L.faults (result ≡ Err ConnFault.LinkFault) link.old link.new }
 {
     match frame(link, input) {
@@ -161,7 +161,7 @@ pub fn take_event<L: Link>(link: &mut L, input: &mut [u8]) -> Result<Event, Conn
     requires { 16016 ≤ length input.old }
     ensures takes { result ≢ Err ConnFault.LinkFault →
         BothTold (L.left link.old) (L.left link.new) (λ b a. (result ≡ event_of b) × (a ≡ rest_of b)) }
-    ensures fresh { IsFresh result }
+    ensures message { IsOfMessage result }
     ensures reads { OnlyRead L.left L.sent L.faults (result ≡ Err ConnFault.LinkFault) link.old link.new }
 {
     match take_message(link, input) {
@@ -175,7 +175,7 @@ fn event_in(taken: Taken, input: &[u8]) -> Result<Event, ConnFault>
     requires { IsTakenWithin (Ok taken) (length input.now) }
     ensures value { Ok (taken_of taken input.now) ≡ taken_as (Ok taken) input.now }
     ensures event { result ≡ event_only (taken_of taken input.now) }
-    ensures fresh { IsFresh result }
+    ensures message { IsOfMessage result }
     ensures sound { result ≢ Err ConnFault.LinkFault }
 {
     match taken {

@@ -30,7 +30,7 @@ use Rattle.af_tool.proofs.ToolEndLemmas.{finish_done}
 use Rattle.af_tool.specs.Trace.{ClientState, answer_on, after_reply, done, mismatch}
 use Rattle.af_options.specs.Ranges.{IsPaced}
 use Rattle.af_relay.specs.Pass.{RelayTrace, after, apass_trace, as_word, asks_by, asks_from, asks_to, at_one_rate, begins_both, ends_both, ends_contexts, from_context, has_drifted, in_step, none_passed, on_one, pace_of, passed_between, after_block, passed_text, passes, passes_block, moment_of, relayed_by, sending_from, sending_to, to_context}
-use Rattle.af_relay.specs.Relayed.{AreTold, IsRelayed, PassedBlock, Relayed, is_moved, moves, plays, record_replies, records, reply_then, samples_of, type_from}
+use Rattle.af_relay.specs.Relayed.{AreTold, IsRelayed, PassedBlock, Relayed, is_moved, is_same_time, moves, plays, record_replies, records, reply_then, samples_of, type_from}
 use Rattle.af_relay.proofs.RelayEndLemmas.{reports}
 use Rattle.af_relay.proofs.TimeWordLemmas.{told_low}
 
@@ -64,8 +64,8 @@ few_frames d delay s short =
     omega arith
 
 -- a time in step is the delay ahead
-ahead_of : (now delay : ℕ) → now < 2 ^ 32 → delay < 2 ^ 31 → ((now + delay) % 2 ^ 32 + (2 ^ 32 - now)) % 2 ^ 32 ≡ delay
-ahead_of now delay word small = omega arith
+ahead_of : (due now delay : ℕ) → now < 2 ^ 32 → delay < 2 ^ 31 → ((now + delay) % 2 ^ 32) % 2 ^ 32 ≡ due % 2 ^ 32 → (due + (2 ^ 32 - now)) % 2 ^ 32 ≡ delay
+ahead_of due now delay word small same = omega arith
 
 signed_small : (n : ℕ) → n < 2 ^ 31 → cast_signed w32 n ≡ pos n
 signed_small n small =
@@ -77,9 +77,9 @@ no_distance : (n : ℕ) → unsigned_abs (pos n -ℤ pos n) ≡ 0
 no_distance n = omega (arith, ints)
 
 -- what was due in step has not drifted
-in_step_holds : (due now : DevTime) (delay slack : ℕ) → now.0 < 2 ^ 32 → delay < 2 ^ 31 → (after now delay).0 ≡ due.0 → has_drifted due now delay slack ≡ false
+in_step_holds : (due now : DevTime) (delay slack : ℕ) → now.0 < 2 ^ 32 → delay < 2 ^ 31 → (after now delay).0 % 2 ^ 32 ≡ due.0 % 2 ^ 32 → has_drifted due now delay slack ≡ false
 in_step_holds due now delay slack word small same =
-    let difference : word_difference due.0 now.0 ≡ pos delay = ap (λ (n : ℕ). word_difference n now.0) (sym same) ∙ ap (cast_signed w32) (ahead_of now.0 delay word small) ∙ signed_small delay small in
+    let difference : word_difference due.0 now.0 ≡ pos delay = ap (cast_signed w32) (ahead_of due.0 now.0 delay word small same) ∙ signed_small delay small in
     let none : nat_lt slack 0 ≡ false = grind (arith, nat_tests) in
     ap (λ (z : ℤ). nat_lt slack (unsigned_abs (z -ℤ pos delay))) difference ∙ ap (nat_lt slack) (no_distance delay) ∙ none
 
@@ -93,9 +93,9 @@ eq_not m n apart = grind (arith, nat_tests, apart)
 moved_by : (b : Bool) (due now : DevTime) (delay slack : ℕ) → has_drifted due now delay slack ≡ b → now.0 < 2 ^ 32 → delay < 2 ^ 31 →
     (let place : PlayMoment = if b then in_step now delay true else record { time = due; resynced = false } in is_moved (Some due) place.time ≡ (if place.resynced then 1 else 0))
 moved_by true due now delay slack drifted word small =
-    let apart : ((after now delay).0 == due.0) ≡ false = eq_not (after now delay).0 due.0 (λ same. let bad : true ≡ false = sym drifted ∙ in_step_holds due now delay slack word small same in cc) in
+    let apart : is_same_time (after now delay) due ≡ false = eq_not ((after now delay).0 % 2 ^ 32) (due.0 % 2 ^ 32) (λ same. let bad : true ≡ false = sym drifted ∙ in_step_holds due now delay slack word small same in cc) in
     ap (λ (b : Bool). if b then 0 else 1) apart
-moved_by false due now delay slack drifted word small = ap (λ (b : Bool). if b then 0 else 1) (eq_same due.0)
+moved_by false due now delay slack drifted word small = ap (λ (b : Bool). if b then 0 else 1) (eq_same (due.0 % 2 ^ 32))
 
 moved_so : (due : Option DevTime) (now : DevTime) (delay slack : ℕ) → now.0 < 2 ^ 32 → delay < 2 ^ 31 → is_moved due (moment_of due now delay slack).time ≡ (if (moment_of due now delay slack).resynced then 1 else 0)
 moved_so None now delay slack word small = refl

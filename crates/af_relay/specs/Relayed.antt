@@ -1,5 +1,5 @@
 -- What a relay that is done has passed: which bytes it recorded and played, and when.
-use Rattle.std.specs.Prelude.{◌≡◌, ◌+◌, ◌==◌, if◌then◌else◌, ⊤, ℕ, zero, suc, true, false, List, [], ◌∷◌, ◌++◌, length, slice_get, unwrap_or, Result, Ok, Err}
+use Rattle.std.specs.Prelude.{◌≡◌, ◌+◌, ◌%◌, ◌^◌, ◌==◌, if◌then◌else◌, ⊤, ℕ, zero, suc, Bool, true, false, List, [], ◌∷◌, ◌++◌, length, slice_get, unwrap_or, Result, Ok, Err}
 use Rattle.std.specs.declared.option.Option.{Option}
 use Rattle.std.specs.declared.option.Option.TheVariants.{None, Some}
 use Rattle.af_time.specs.declared.DevTime.{DevTime}
@@ -46,10 +46,14 @@ record_replies zero job size at v = []
 record_replies (suc n) job size at v =
     reply_then (answer_on (record_run true 1 at.0 size) (as_recorded true size) v) (record_replies n job size (after at job.block) (after_reply v))
 
+-- two times are one, as a request states them: in 32 bits
+abbrev pub is_same_time : DevTime → DevTime → Bool
+is_same_time one other = (one.0 % 2 ^ 32) == (other.0 % 2 ^ 32)
+
 -- a block is not played when it was due: the first is never due
 abbrev pub is_moved : Option DevTime → DevTime → ℕ
 is_moved None time = 0
-is_moved (Some due) time = if time.0 == due.0 then 0 else 1
+is_moved (Some due) time = if is_same_time time due then 0 else 1
 
 -- how many of these blocks are not played right behind the one before
 unfoldable pub moves : (frames : ℕ) → Option DevTime → List PassedBlock → ℕ

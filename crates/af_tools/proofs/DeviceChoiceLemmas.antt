@@ -8,13 +8,9 @@ use Rattle.af_request.specs.declared.reply.DeviceInfo.{DeviceInfo}
 use Rattle.af_tool.specs.declared.end.ToolEnd.{ToolEnd}
 use Rattle.af_tool.specs.declared.end.ToolEnd.TheVariants as end
 use Rattle.af_options.specs.declared.job.PlayJob.{PlayJob}
-use Rattle.af_options.specs.declared.job.RecordJob.{RecordJob}
-use Rattle.af_options.specs.declared.job.SetJob.{SetJob}
 use Rattle.af_tool.specs.Trace.{Trace, ClientState, done, ends, no_device, on_device, writing}
 use Rattle.af_tool.specs.Device.{device_or_end}
 use Rattle.af_tools.specs.Play.{aplay_trace, played, played_on}
-use Rattle.af_tools.specs.Record.{arecord_trace, recorded_on}
-use Rattle.af_tools.specs.Set.{aset_trace, set_on, standing_text}
 use Rattle.af_tool.specs.Ends.{ObservedTrace, is_of_link, is_of_report}
 use Rattle.af_tools.specs.Ways.{is_of_blocks, is_of_records}
 use Rattle.af_io.proofs.AppendedLemmas.{appended_none}
@@ -66,23 +62,6 @@ module _ (devices : List DeviceInfo) (w : ClientState) where
   pub aplay_missing : (job : PlayJob) (bytes : List ℕ) → slice_get devices job.device ≡ None → aplay_trace job devices bytes w ≡ ends (no_device (length devices))
   unfolding aplay_trace
   aplay_missing job bytes get = ap (λ (o : Option DeviceInfo). on_device o (length devices) (λ device. played_on job device bytes w (λ frames start _. writing (played frames start) (ends done)))) get
-
-  pub arecord_there : (job : RecordJob) (device : DeviceInfo) → slice_get devices job.device ≡ Some device → arecord_trace job devices w ≡ recorded_on job device w (λ _. ends done)
-  unfolding arecord_trace
-  arecord_there job device get = ap (λ (o : Option DeviceInfo). on_device o (length devices) (λ device. recorded_on job device w (λ _. ends done))) get
-
-  pub arecord_missing : (job : RecordJob) → slice_get devices job.device ≡ None → arecord_trace job devices w ≡ ends (no_device (length devices))
-  unfolding arecord_trace
-  arecord_missing job get = ap (λ (o : Option DeviceInfo). on_device o (length devices) (λ device. recorded_on job device w (λ _. ends done))) get
-
-  pub aset_there : (job : SetJob) (device : DeviceInfo) → slice_get devices job.device ≡ Some device →
-      aset_trace job devices w ≡ set_on job device w (λ standing _. writing (standing_text standing) (ends done))
-  unfolding aset_trace
-  aset_there job device get = ap (λ (o : Option DeviceInfo). on_device o (length devices) (λ device. set_on job device w (λ standing _. writing (standing_text standing) (ends done)))) get
-
-  pub aset_missing : (job : SetJob) → slice_get devices job.device ≡ None → aset_trace job devices w ≡ ends (no_device (length devices))
-  unfolding aset_trace
-  aset_missing job get = ap (λ (o : Option DeviceInfo). on_device o (length devices) (λ device. set_on job device w (λ standing _. writing (standing_text standing) (ends done)))) get
 
 pub followed_same : (c d : Trace) (how : ToolEnd) (s s' h h' : Option (List ℕ)) → d ≡ c → ObservedTrace c how s s' h h' → ObservedTrace d how s s' h h'
 followed_same c d how s s' h h' is f = subst (λ (x : Trace). ObservedTrace x how s s' h h') (sym is) f

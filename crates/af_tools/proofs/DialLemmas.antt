@@ -30,7 +30,7 @@ use Rattle.af_tool.proofs.ToolEndLemmas.{done_unless_outer}
 use Rattle.af_tools.proofs.SetupTraceLemmas.{ended_same, setup_known}
 use Rattle.af_relay.proofs.RelayPartLemmas.{is_from, is_to, one_goes}
 use Rattle.af_relay.proofs.RelayEndLemmas.{between_finish, reports}
-use Rattle.af_tools.proofs.OneServerLemmas.{IsShort, consumed_entry, one_short, served_done, short_of}
+use Rattle.af_tools.proofs.OneServerLemmas.{IsShort, consumed_entry, one_short, served_done, short_of, undialled_outer}
 
 -- a tool with one server is a relay that does not use its second link
 alone_from : (c : Trace) (how : ToolEnd) (sends output : List ℕ) → MatchesTrace c how sends output → MatchesTrace (on_from (alone c)) how sends output
@@ -282,8 +282,10 @@ run_short (relay from to job) links bytes few = relay_short job links
 pub run_done : (j : Job) (links : List ToldLink) (bytes sends output : List ℕ) (how : ToolEnd) → MatchesTrace (on_from (run_trace j links bytes)) how sends output →
     length bytes ≤ most_bytes → IsServed (on_from (run_trace j links bytes)) → (how ≡ end.Done) ⊎ (is_outer how ≡ true)
 run_done j links bytes sends output how e few served =
-    done_unless_outer (on_from (run_trace j links bytes)) how sends output e
-    (served_done (run_trace j links bytes).finish served.dialled served.there served.even served.answered (run_short j links bytes few))
+    elim (served_done (run_trace j links bytes).finish served.there served.even served.answered (run_short j links bytes few)) [
+      | inl is ↦ done_unless_outer (on_from (run_trace j links bytes)) how sends output e is
+      | inr none ↦ inr (undialled_outer (on_from (run_trace j links bytes)) how sends output e none)
+    ]
 
 -- words have one job
 pub same_job : (o : Option Job) (j k : Job) → o ≡ Some j → o ≡ Some k → j ≡ k

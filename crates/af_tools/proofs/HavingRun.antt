@@ -1,23 +1,23 @@
 -- What a tool on one connection has done, where it followed its trace.
-use Rattle.std.proofs.Common.{◌≡◌, ℕ, ◌<◌, ◌≤◌, List, length, slice_get, refl, arith, inl, inr}
+use Rattle.std.proofs.Common.{◌≡◌, ℕ, ◌<◌, ◌≤◌, List, length, slice_get, refl, sym, ap, ◌∙◌, subst, arith, inl, inr}
 use Rattle.std.proofs.lemmas.Option.{slice_get_cases}
 use Rattle.std.specs.declared.option.Option.{Option}
-use Rattle.std.specs.declared.option.Option.TheVariants.{Some}
+use Rattle.std.specs.declared.option.Option.TheVariants.{None, Some}
 use Rattle.af_request.specs.declared.reply.DeviceInfo.{DeviceInfo}
 use Rattle.af_tool.specs.declared.end.ToolEnd.{ToolEnd}
-use Rattle.af_tool.specs.Trace.{Trace, ClientState, done, ends, writing}
+use Rattle.af_tool.specs.Trace.{Trace, ClientState, done, ends, on_device, with_job_device, writing}
 use Rattle.af_tool.specs.Ends.{ObservedTrace}
 use Rattle.af_tool.proofs.ToolEndLemmas.{IsDoneOrRefused, done_where_answered, ends_by_reply}
 use Rattle.af_options.specs.declared.job.PlayJob.{PlayJob}
 use Rattle.af_options.specs.declared.job.RecordJob.{RecordJob}
 use Rattle.af_options.specs.declared.job.SetJob.{SetJob}
 use Rattle.af_tools.specs.Play.{aplay_trace, most_bytes, played}
-use Rattle.af_tools.specs.Record.{arecord_trace}
-use Rattle.af_tools.specs.Set.{aset_trace, standing_text}
+use Rattle.af_tools.specs.Record.{arecord_trace, recorded_on}
+use Rattle.af_tools.specs.Set.{aset_trace, set_on, standing_text}
 use Rattle.af_tools.specs.Ran.{AplayRan, ToolRan}
 use Rattle.af_tools.proofs.TraceEndLemmas.{played_finish, recorded_finish, set_finish}
 use Rattle.af_tools.proofs.PlayedBlockLemmas.{is_played}
-use Rattle.af_tools.proofs.DeviceChoiceLemmas.{aplay_there, arecord_there, aset_there}
+use Rattle.af_tools.proofs.DeviceChoiceLemmas.{IsMissing, IsThere, aplay_there, followed_missing, followed_same}
 
 -- the device with a number below their number
 device_at : (devices : List DeviceInfo) (number : ℕ) → number < length devices → (device : DeviceInfo) × (slice_get devices number ≡ Some device)
@@ -31,31 +31,40 @@ aplay_finish job devices bytes w there few =
     let d = device_at devices job.device there in
     rw (aplay_there devices w job bytes d.0 d.1) (played_finish job d.0 bytes w (λ frames start _. writing (played frames start) (ends done)) few (λ frames start v. inl refl))
 
-arecord_finish : (job : RecordJob) (devices : List DeviceInfo) (w : ClientState) → job.device < length devices → IsDoneOrRefused (arecord_trace job devices w).finish
-arecord_finish job devices w there =
-    let d = device_at devices job.device there in
-    rw (arecord_there devices w job d.0 d.1) (recorded_finish job d.0 w (λ _. ends done) (λ v. inl refl))
+-- a tool on the device with a number, which on each device is done or refused
+pub record IsOnDevice (trace : Trace) (number : ℕ) (devices : List DeviceInfo) (each : DeviceInfo → Trace) : Type 0 where
+  pub is : trace ≡ with_job_device number devices each
+  pub finish : (device : DeviceInfo) → IsDoneOrRefused (each device).finish
 
-aset_finish : (job : SetJob) (devices : List DeviceInfo) (w : ClientState) → job.device < length devices → IsDoneOrRefused (aset_trace job devices w).finish
-aset_finish job devices w there =
-    let d = device_at devices job.device there in
-    rw (aset_there devices w job d.0 d.1) (set_finish job d.0 w (λ standing _. writing (standing_text standing) (ends done)) (λ s v. inl refl))
+pub arecord_on : (job : RecordJob) (devices : List DeviceInfo) (w : ClientState) → IsOnDevice (arecord_trace job devices w) job.device devices (λ device. recorded_on job device w (λ _. ends done))
+unfolding arecord_trace
+arecord_on job devices w = record { is = refl; finish = λ device. recorded_finish job device w (λ _. ends done) (λ v. inl refl) }
 
-tool_ran : (trace : Trace) (device : ℕ) (devices : List DeviceInfo) (how : ToolEnd) (s s' h h' : Option (List ℕ)) → (device < length devices → IsDoneOrRefused trace.finish) →
-    ObservedTrace trace how s s' h h' → ToolRan trace device devices how s s' h h'
-tool_ran trace device devices how s s' h h' finish f = record {
-  followed = f;
-  reply = ends_by_reply trace how s s' h h' f;
-  complete = λ there answered. done_where_answered trace how f.sends f.output f.ended (finish there) answered;
-}
+pub aset_on : (job : SetJob) (devices : List DeviceInfo) (w : ClientState) →
+    IsOnDevice (aset_trace job devices w) job.device devices (λ device. set_on job device w (λ standing _. writing (standing_text standing) (ends done)))
+unfolding aset_trace
+aset_on job devices w = record { is = refl; finish = λ device. set_finish job device w (λ standing _. writing (standing_text standing) (ends done)) (λ s v. inl refl) }
 
-pub arecord_ran : (job : RecordJob) (devices : List DeviceInfo) (w : ClientState) (how : ToolEnd) (s s' h h' : Option (List ℕ)) →
-    ObservedTrace (arecord_trace job devices w) how s s' h h' → ToolRan (arecord_trace job devices w) job.device devices how s s' h h'
-arecord_ran job devices w how s s' h h' f = tool_ran (arecord_trace job devices w) job.device devices how s s' h h' (arecord_finish job devices w) f
+module _ (trace : Trace) (number : ℕ) (devices : List DeviceInfo) (each : DeviceInfo → Trace) (t : IsOnDevice trace number devices each) where
+  chosen : (found : Option DeviceInfo) → slice_get devices number ≡ found → trace ≡ on_device found (length devices) each
+  chosen found get = t.is ∙ ap (λ (o : Option DeviceInfo). on_device o (length devices) each) get
 
-pub aset_ran : (job : SetJob) (devices : List DeviceInfo) (w : ClientState) (how : ToolEnd) (s s' h h' : Option (List ℕ)) →
-    ObservedTrace (aset_trace job devices w) how s s' h h' → ToolRan (aset_trace job devices w) job.device devices how s s' h h'
-aset_ran job devices w how s s' h h' f = tool_ran (aset_trace job devices w) job.device devices how s s' h h' (aset_finish job devices w) f
+  followed_ran : (how : ToolEnd) (s s' h h' : Option (List ℕ)) → ObservedTrace trace how s s' h h' → ToolRan trace number devices how s s' h h'
+  followed_ran how s s' h h' f = record {
+    followed = f;
+    reply = ends_by_reply trace how s s' h h' f;
+    complete = λ there answered.
+        let d = device_at devices number there in
+        done_where_answered trace how f.sends f.output f.ended (subst (λ (c : Trace). IsDoneOrRefused c.finish) (sym (chosen (Some d.0) d.1)) (t.finish d.0)) answered;
+  }
+
+  -- the device is not there, and nothing was sent
+  pub missing_ran : (how : ToolEnd) (s h : Option (List ℕ)) → IsMissing devices number how → ToolRan trace number devices how s s h h
+  missing_ran how s h m = followed_ran how s s h h (followed_missing trace (length devices) how s h (chosen None m.get) m.way)
+
+  -- the device is there, and the tool did what it does on it
+  pub there_ran : (device : DeviceInfo) (how : ToolEnd) (s s' h h' : Option (List ℕ)) → IsThere devices number device → ObservedTrace (each device) how s s' h h' → ToolRan trace number devices how s s' h h'
+  there_ran device how s s' h h' d f = followed_ran how s s' h h' (followed_same (each device) trace how s s' h h' (chosen (Some device) d.get) f)
 
 pub aplay_ran : (job : PlayJob) (devices : List DeviceInfo) (bytes : List ℕ) (w : ClientState) (how : ToolEnd) (s s' h h' : Option (List ℕ)) → 1 ≤ job.block →
     ObservedTrace (aplay_trace job devices bytes w) how s s' h h' → AplayRan job devices bytes w how s s' h h'

@@ -104,13 +104,20 @@ unfolding connects
 one_short t [] bytes few = λ e. cc
 one_short t (link ∷ links) bytes few = setup_short (answered as_devices 0 0 (next_message (unused link.gives)).found) (set_up link.gives) _ (λ devices v. task_short t devices bytes v few)
 
-pub served_done : (finish : Finish) → finish ≢ not_dialled → ((n : ℕ) → finish ≢ no_device n) → ((a b : ℕ) → finish ≢ mismatch a b) → ((f : ConnFault) → finish ≢ refused f) → IsShort finish → finish ≡ done
-served_done done dialled there even answered short = refl
-served_done not_dialled dialled there even answered short = absurd (dialled refl)
-served_done (no_device n) dialled there even answered short = absurd (there n refl)
-served_done (mismatch a b) dialled there even answered short = absurd (even a b refl)
-served_done too_long dialled there even answered short = absurd (short refl)
-served_done (refused f) dialled there even answered short = absurd (answered f refl)
+pub served_done : (finish : Finish) → ((n : ℕ) → finish ≢ no_device n) → ((a b : ℕ) → finish ≢ mismatch a b) → ((f : ConnFault) → finish ≢ refused f) → IsShort finish → (finish ≡ done) ⊎ (finish ≡ not_dialled)
+served_done done there even answered short = inl refl
+served_done not_dialled there even answered short = inr refl
+served_done (no_device n) there even answered short = absurd (there n refl)
+served_done (mismatch a b) there even answered short = absurd (even a b refl)
+served_done too_long there even answered short = absurd (short refl)
+served_done (refused f) there even answered short = absurd (answered f refl)
+
+-- a tool that has no link ends for something from outside
+pub undialled_outer : (trace : Trace) (how : ToolEnd) (sends output : List ℕ) → MatchesTrace trace how sends output → trace.finish ≡ not_dialled → is_outer how ≡ true
+undialled_outer trace how sends output e is = elim (is_outer how) as (λ b. is_outer how ≡ b → is_outer how ≡ true) [
+  | true ↦ λ outer. outer
+  | false ↦ λ inner. ap is_outer ((e.whole inner).0 ∙ ap tool_end is)
+] refl
 
 device_told : (finish : Finish) (n : ℕ) → end.NoDevice n ≡ tool_end finish → finish ≡ no_device n
 device_told done n e = cc

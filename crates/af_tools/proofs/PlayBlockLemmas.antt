@@ -1,5 +1,5 @@
 -- Blocks that are played, one behind the other.
-use Rattle.std.proofs.Common.{◌≡◌, ℕ, zero, suc, ◌+◌, ◌-◌, ◌/◌, ◌%◌, ◌^◌, ◌<◌, ◌≤◌, nat_lt, true, false, List, [], ◌∷◌, ◌++◌, length, take, drop, sym, ap, ap₂, ◌∙◌, append-nil, refl, arith, inl, inr, length-append, length-drop, length-take}
+use Rattle.std.proofs.Common.{◌≡◌, ℕ, zero, suc, ◌+◌, ◌-◌, ◌/◌, ◌<◌, ◌≤◌, nat_lt, true, false, List, [], ◌∷◌, ◌++◌, length, take, drop, sym, ap, ap₂, ◌∙◌, append-nil, refl, arith, inl, inr, length-append, length-drop, length-take}
 use Rattle.std.proofs.lemmas.Bool.Decides.{nat_tests}
 use Rattle.std.proofs.lemmas.List.{take_at, drop_at, take_all, drop_all}
 use Rattle.std.proofs.lemmas.Bool.{cases_lt}
@@ -10,7 +10,7 @@ use Rattle.af_io.specs.Observed.{Consumed}
 use Rattle.af_request.specs.Asked.{play_run}
 use Rattle.af_lib.specs.Calls.{as_time}
 use Rattle.af_tool.specs.Trace.{Trace, ClientState, asks, ends, too_long}
-use Rattle.af_tools.specs.Play.{blocks, cut, frames_in, most_bytes, plays, whole_frames}
+use Rattle.af_tools.specs.Play.{block_time, blocks, cut, frames_in, most_bytes, plays, whole_frames}
 use Rattle.af_tools.proofs.PartProgressLemmas.{Reaches}
 
 -- a source gave exactly n bytes
@@ -81,7 +81,7 @@ blocks_empty size (x ∷ rest) none = absurd (omega arith)
 module _ (width start frames given : ℕ) (w : ClientState) (next : ℕ → ClientState → Trace) where
   pub plays_block : (block : List ℕ) (more : List (List ℕ)) → given + length block ≤ most_bytes → 0 < length block / width →
       plays width start frames given (block ∷ more) w next
-      ≡ asks (play_run false 1 ((start + frames) % 2 ^ 32) (whole_frames width block)) as_time w (λ _ v. plays width start (frames + frames_in width block) (given + length block) more v next)
+      ≡ asks (play_run false 1 (block_time start frames) (whole_frames width block)) as_time w (λ _ v. plays width start (frames + frames_in width block) (given + length block) more v next)
   unfolding plays
   plays_block block more within some =
       let fits : nat_lt most_bytes (given + length block) ≡ false = grind (arith, nat_tests) in
@@ -108,7 +108,7 @@ module _ (width start frames given : ℕ) (w : ClientState) (next : ℕ → Clie
   -- the block that was read is played
   pub plays_next : (size : ℕ) (rest block behind : List ℕ) → 0 < size → length block ≤ size → rest ≡ block ++ behind → (length block < size → behind ≡ []) → given + length block ≤ most_bytes → 0 < length block / width →
       plays width start frames given (blocks size rest) w next
-      ≡ asks (play_run false 1 ((start + frames) % 2 ^ 32) (whole_frames width block)) as_time w (λ _ v. plays width start (frames + frames_in width block) (given + length block) (blocks size behind) v next)
+      ≡ asks (play_run false 1 (block_time start frames) (whole_frames width block)) as_time w (λ _ v. plays width start (frames + frames_in width block) (given + length block) (blocks size behind) v next)
   plays_next size rest block behind some fits is ended within whole =
       let more : 0 < length block = some_of (length block) width whole in
       ap (λ b. plays width start frames given b w next) (blocks_read size rest block behind some more fits is ended) ∙ plays_block block (blocks size behind) within whole

@@ -1,5 +1,5 @@
 -- The steps of playing a source: a block is read and played, or the tool ends.
-use Rattle.std.proofs.Common.{◌≡◌, ℕ, ◌+◌, ◌*◌, ◌/◌, ◌%◌, ◌^◌, ◌<◌, ◌≤◌, true, false, List, [], ◌++◌, length, take, sym, ap, ap₂, ◌∙◌, refl, subst, arith, append-nil, length-take-le, IsSome}
+use Rattle.std.proofs.Common.{◌≡◌, ℕ, ◌+◌, ◌*◌, ◌/◌, ◌<◌, ◌≤◌, true, false, List, [], ◌++◌, length, take, sym, ap, ap₂, ◌∙◌, refl, subst, arith, append-nil, length-take-le, IsSome}
 use Rattle.std.specs.Prelude.{Ok, Err}
 use Rattle.std.proofs.lemmas.List.{take-take}
 use Rattle.std.proofs.Math.Nat.{zero-div}
@@ -13,7 +13,7 @@ use Rattle.af_lib.specs.Calls.{as_time}
 use Rattle.af_tool.specs.declared.end.ToolEnd.{ToolEnd}
 use Rattle.af_tool.specs.declared.end.ToolEnd.TheVariants as end
 use Rattle.af_tool.specs.Trace.{Trace, ClientState, asks, too_long}
-use Rattle.af_tools.specs.Play.{blocks, frames_in, most_bytes, plays, whole_frames}
+use Rattle.af_tools.specs.Play.{block_time, blocks, frames_in, most_bytes, plays, whole_frames}
 use Rattle.af_tools.specs.Fill.{ConsumedAbove}
 use Rattle.af_tool.specs.Ends.{ObservedPart, is_outer}
 use Rattle.af_io.proofs.ConsumedLemmas.{consumed_known}
@@ -69,7 +69,7 @@ module _ (width start size frames given : ℕ) (bytes : List ℕ) (first : Clien
         (goes_value _ frames p.input told wire sent' held p.is_told
         (λ next. plays_over width start frames given (wire p.input) next size p.rest some (omega arith) (omega arith) (ap (λ k. k / width) len ∙ none)))
 
-    module _ (at : ℕ) (samples : List ℕ) (place : at ≡ (start + frames) % 2 ^ 32) (is_whole : samples ≡ whole_frames width (take n room)) (whole : 0 < n / width) where
+    module _ (at : ℕ) (samples : List ℕ) (place : at ≡ block_time start frames) (is_whole : samples ≡ whole_frames width (take n room)) (whole : 0 < n / width) where
       -- the block is played
       asked_next : (next : ℕ → ClientState → Trace) → plays width start frames given (blocks size p.rest) (wire p.input) next
           ≡ asks (play_run false 1 at samples) as_time (wire p.input) (λ _ v. plays width start (frames + n / width) (given + n) (blocks size r.behind) v next)

@@ -17,7 +17,7 @@ use Rattle.af_options.specs.declared.job.SetJob.{SetJob}
 use Rattle.af_tool.specs.Trace.{Trace, ClientState, answer_on, answered_by, asks, after_reply}
 use Rattle.af_tool.proofs.ToolEndLemmas.{IsDoneOrRefused}
 use Rattle.af_tools.specs.declared.standing.Standing.{Standing}
-use Rattle.af_tools.specs.Play.{blocks, cut, most_bytes, play_context, played_on, plays}
+use Rattle.af_tools.specs.Play.{block_time, blocks, cut, most_bytes, play_context, played_on, plays}
 use Rattle.af_tools.specs.Record.{block_lengths, ends_row, peak, record_context, recorded_on, records}
 use Rattle.af_tools.specs.Set.{asks_line, asks_where, control_request, hooks, set_on, states_controls}
 
@@ -45,7 +45,7 @@ plays_finish width start (suc n) size sent given (b ∷ bytes) w next within mor
     let left = length-drop size (b ∷ bytes) in
     let fits : nat_lt most_bytes (given + length block) ≡ false = grind (arith, nat_tests) in
     rw fits (if_finish (nat_lt 0 (length block / width)) _ (next sent w)
-    (asked_finish (play_run false 1 ((start + sent) % 2 ^ 32) (take (length block / width * width) block)) as_time w (λ _ v. plays width start (sent + length block / width) (given + length block) (cut n size rest) v next)
+    (asked_finish (play_run false 1 (block_time start sent) (take (length block / width * width) block)) as_time w (λ _ v. plays width start (sent + length block / width) (given + length block) (cut n size rest) v next)
     (λ _ v. plays_finish width start n size (sent + length block / width) (given + length block) rest v next (omega arith) more)) (more sent w))
 
 pub played_finish : (job : PlayJob) (device : DeviceInfo) (bytes : List ℕ) (w : ClientState) (next : ℕ → ℕ → ClientState → Trace) → length bytes ≤ most_bytes → ((frames start : ℕ) (v : ClientState) → IsDoneOrRefused (next frames start v).finish) →

@@ -31,13 +31,17 @@ frames_in width block = length block / width
 abbrev pub whole_frames : ℕ → List ℕ → List ℕ
 whole_frames width block = take (frames_in width block * width) block
 
--- Each block is played behind those before it: n frames after the start. What follows is told how many frames there
--- were in all. A block without a whole frame is not sent, and if the source has given too much the tool ends.
+-- when a block is played: n frames after the start
+abbrev pub block_time : (start sent : ℕ) → ℕ
+block_time start sent = (start + sent) % 2 ^ 32
+
+-- Each block is played behind those before it. What follows is told how many frames there were in all. A block without a whole
+-- frame is not sent, and if the source has given too much the tool ends.
 unfoldable pub plays : (width start sent given : ℕ) → List (List ℕ) → ClientState → (ℕ → ClientState → Trace) → Trace
 plays width start sent given [] w next = next sent w
 plays width start sent given (block ∷ more) w next =
     if nat_lt most_bytes (given + length block) then ends too_long
-    else if nat_lt 0 (frames_in width block) then asks (play_run false 1 ((start + sent) % 2 ^ 32) (whole_frames width block)) as_time w
+    else if nat_lt 0 (frames_in width block) then asks (play_run false 1 (block_time start sent) (whole_frames width block)) as_time w
     (λ _ v. plays width start (sent + frames_in width block) (given + length block) more v next)
     else next sent w
 

@@ -21,6 +21,10 @@ pub record UsesSource {S : Type 0} (left : S → Option (List ℕ)) (faults : S 
   pub within : how ≢ end.TooLong → ConsumedWithinMost (left source) (left source')
   pub failed : CountsFault (how ≡ end.ReadFault) (faults source) (faults source')
 
+-- a source that is read tells these bytes, and still tells what is left of them afterwards
+abbrev pub TellsIfRead : {S : Type 0} → (gives : S → Option (List ℕ)) → (reads : Bool) → List ℕ → (source source' : S) → Type 0
+TellsIfRead gives reads bytes source source' = reads ≡ true → (gives source ≡ Some bytes) × IsSome (gives source')
+
 -- how a part went that also reads, over a link and a source that tell what they give; the source still tells it afterwards
 abbrev pub ObservedPartReading : {L S X : Type 0} → (left sent : L → Option (List ℕ)) → (gives : S → Option (List ℕ)) →
     (conn conn' : ConnState L) → (source source' : S) → (List ℕ → ClientState → TracePart X) → Result X ToolEnd → Type 0
@@ -34,9 +38,9 @@ abbrev pub ObservedPartWriting : {L K X : Type 0} → (left sent : L → Option 
 ObservedPartWriting left sent held conn conn' sink sink' part result = (input : List ℕ) → left conn.link ≡ Some input →
     ObservedPart (part (client_of conn input)) result (left conn'.link) (client_of conn') (sent conn.link) (sent conn'.link) (held sink) (held sink')
 
--- how a tool followed its trace, over a link and a source that tell what they give; the source still tells it afterwards
+-- how a tool followed its trace, over a link that tells what it gives, and a source that does if the tool reads it
 abbrev pub FollowsTrace : {L S K : Type 0} → (left sent : L → Option (List ℕ)) → (gives : S → Option (List ℕ)) → (held : K → Option (List ℕ)) →
-    ToolEnd → (link link' : L) → (source source' : S) → (sink sink' : K) → (List ℕ → List ℕ → Trace) → Type 0
-FollowsTrace left sent gives held how link link' source source' sink sink' trace =
-    (input bytes : List ℕ) → left link ≡ Some input → gives source ≡ Some bytes → IsSome (gives source') →
+    (reads : Bool) → ToolEnd → (link link' : L) → (source source' : S) → (sink sink' : K) → (List ℕ → List ℕ → Trace) → Type 0
+FollowsTrace left sent gives held reads how link link' source source' sink sink' trace =
+    (input bytes : List ℕ) → left link ≡ Some input → TellsIfRead gives reads bytes source source' →
     ObservedTrace (trace input bytes) how (sent link) (sent link') (held sink) (held sink')

@@ -1,5 +1,5 @@
 -- What the tools do, by their words, the bytes of the source, and what the links that are dialled give.
-use Rattle.std.specs.Prelude.{◌≡◌, ◌≢◌, ◌≤◌, ◌⊎◌, ℕ, Bool, true, false, List, [], ◌∷◌, ◌++◌, length, Ok, IsSome}
+use Rattle.std.specs.Prelude.{◌≡◌, ◌≢◌, ◌≤◌, ◌⊎◌, ℕ, Bool, true, false, List, [], ◌∷◌, ◌++◌, length, Ok}
 use Rattle.std.specs.declared.option.Option.{Option}
 use Rattle.std.specs.declared.option.Option.TheVariants.{None, Some}
 use Rattle.clap.specs.Words.{Text}
@@ -10,7 +10,7 @@ use Rattle.af_tool.specs.declared.end.ToolEnd.{ToolEnd}
 use Rattle.af_tool.specs.declared.end.ToolEnd.TheVariants as end
 use Rattle.af_options.specs.declared.job.Task.{Task}
 use Rattle.af_options.specs.declared.job.Task.TheVariants as task
-use Rattle.af_tool.specs.Trace.{Trace, ClientState, dials, mismatch, next_message, no_device, not_dialled, set_up, unused}
+use Rattle.af_tool.specs.Trace.{Trace, ClientState, dials, mismatch, next_message, no_device, set_up, unused}
 use Rattle.af_tools.specs.Play.{aplay_trace, most_bytes}
 use Rattle.af_tools.specs.Record.{arecord_trace}
 use Rattle.af_tools.specs.Set.{aset_trace}
@@ -25,7 +25,8 @@ use Rattle.af_tools.specs.Intent.{IsPlayed}
 use Rattle.af_options.specs.Words.{Job, one, relay}
 use Rattle.af_relay.specs.Pair.{is_of_pass}
 use Rattle.af_tool.specs.Ends.{MatchesTrace, EndsByReply, IsAnswered, is_outer, client_of}
-use Rattle.af_tools.specs.Ways.{is_of_play}
+use Rattle.af_tools.specs.Ways.{is_of_tool}
+use Rattle.af_tools.specs.Reading.{TellsIfRead}
 
 -- the trace of a task on a server that was set up
 abbrev pub task_trace : Task → List DeviceInfo → List ℕ → ClientState → Trace
@@ -56,18 +57,16 @@ abbrev pub reads_of : Option Job → Bool
 reads_of (Some j) = job_reads j
 reads_of None = false
 
--- the ends of a tool that has a link
-abbrev pub is_of_far : ToolEnd → Bool
-is_of_far end.OutOfMemory = true
-is_of_far how = is_of_play how
+-- the ends of a tool with one server that has its link, and of one that dials; only one that reads its source ends for it
+abbrev pub is_of_far : (reads : Bool) → ToolEnd → Bool
+is_of_far reads end.OutOfMemory = true
+is_of_far reads how = is_of_tool reads how
 
--- the ends of a tool whose words were taken
-abbrev pub is_of_run : ToolEnd → Bool
-is_of_run end.DialFault = true
-is_of_run (end.RateMismatch from to) = true
-is_of_run how = is_of_far how
+abbrev pub is_of_one : (reads : Bool) → ToolEnd → Bool
+is_of_one reads end.DialFault = true
+is_of_one reads how = is_of_far reads how
 
--- the ends of a relay that has a second link, and of one that dials
+-- the ends of a relay that has a second link, and of one that dials; only a relay ends for two rates
 abbrev pub is_of_over : ToolEnd → Bool
 is_of_over end.OutOfMemory = true
 is_of_over how = is_of_pass how
@@ -76,10 +75,20 @@ abbrev pub is_of_relay : ToolEnd → Bool
 is_of_relay end.DialFault = true
 is_of_relay how = is_of_over how
 
--- the ends of the program
-abbrev pub is_of_af : ToolEnd → Bool
-is_of_af end.Usage = true
-is_of_af how = is_of_run how
+-- the ends of a job
+abbrev pub is_of_job : Job → ToolEnd → Bool
+is_of_job (one server task) how = is_of_one (reads_source task) how
+is_of_job (relay from to job) how = is_of_relay how
+
+-- the ends of the program: Usage, and those of the job that its words name; if they name none, want of memory
+abbrev pub is_of_named : Option Job → ToolEnd → Bool
+is_of_named (Some j) how = is_of_job j how
+is_of_named None end.OutOfMemory = true
+is_of_named None _ = false
+
+abbrev pub is_of_af : Option Job → ToolEnd → Bool
+is_of_af named end.Usage = true
+is_of_af named how = is_of_named named how
 
 -- Each link that was dialled was given back: none, and then nothing was sent; or the first, having been sent this besides what
 -- it had been sent before.
@@ -164,11 +173,11 @@ pub record PlayRan (job : PlayJob) (bytes : List ℕ) (links : List ToldLink) (l
   pub played : IsPlayed job devices bytes (set_up first.gives) (Some []) (Some sends) held held'
   pub link : ReturnedLinks links links' (setup_bytes ++ sends) [] back back'
 
--- the same by what the links that a dial gives, a source and a sink tell; the source still tells it afterwards
+-- the same by what the links that a dial gives, a sink, and a source if the job reads it tell
 abbrev pub RunsJob : {D S K : Type 0} → (links : D → Option (List ToldLink)) → (back : D → Option (List (List ℕ))) → (gives : S → Option (List ℕ)) → (held : K → Option (List ℕ)) →
     Job → ToolEnd → (dial dial' : D) → (source source' : S) → (sink sink' : K) → Type 0
 RunsJob links back gives held j how dial dial' source source' sink sink' =
-    (told : List ToldLink) (bytes : List ℕ) → links dial ≡ Some told → gives source ≡ Some bytes → IsSome (gives source') →
+    (told : List ToldLink) (bytes : List ℕ) → links dial ≡ Some told → TellsIfRead gives (job_reads j) bytes source source' →
     JobRan j bytes how told (links dial') (held sink) (held sink') (back dial) (back dial')
 
 -- the same of a relay behind the setup of its first link
@@ -204,9 +213,8 @@ pub record AskedFor (servers : List Text) (how : ToolEnd) (asked asked' : Option
   pub none : named ≡ [] → how ≡ end.OutOfMemory
   pub all : how ≡ end.Done → others ≡ []
 
--- a link and the device are there, two devices have one rate, and each request gets the reply that it awaits
+-- the device is there, two devices have one rate, and each request gets the reply that it awaits
 pub record IsServed (trace : Trace) : Type 0 where
-  pub dialled : trace.finish ≢ not_dialled
   pub there : (devices : ℕ) → trace.finish ≢ no_device devices
   pub even : (from to : ℕ) → trace.finish ≢ mismatch from to
   pub answered : IsAnswered trace
@@ -223,9 +231,9 @@ pub record JobDone (j : Job) (bytes : List ℕ) (how : ToolEnd) (links : List To
   pub relayed : (from to : Text) (pass : PassJob) → j ≡ relay from to pass → how ≡ end.Done → RelayRan pass links links' held held' back back'
   pub complete : length bytes ≤ most_bytes → IsServed (on_from (run_trace j links bytes)) → (how ≡ end.Done) ⊎ (is_outer how ≡ true)
 
--- the same by what the links that a dial gives, a source and a sink tell; the source still tells it afterwards
+-- the same by what the links that a dial gives, a sink, and a source if the job reads it tell
 abbrev pub DoesJob : {D S K : Type 0} → (links : D → Option (List ToldLink)) → (back : D → Option (List (List ℕ))) → (gives : S → Option (List ℕ)) → (held : K → Option (List ℕ)) →
     Job → ToolEnd → (dial dial' : D) → (source source' : S) → (sink sink' : K) → Type 0
 DoesJob links back gives held j how dial dial' source source' sink sink' =
-    (told : List ToldLink) (bytes : List ℕ) → links dial ≡ Some told → gives source ≡ Some bytes → IsSome (gives source') →
+    (told : List ToldLink) (bytes : List ℕ) → links dial ≡ Some told → TellsIfRead gives (job_reads j) bytes source source' →
     JobDone j bytes how told (links dial') (held sink) (held sink') (back dial) (back dial')

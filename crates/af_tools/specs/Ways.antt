@@ -1,5 +1,5 @@
 -- The ends that a tool of one link may have, and those of its parts that do more than to send requests and take their replies.
-use Rattle.std.specs.Prelude.{Bool, true}
+use Rattle.std.specs.Prelude.{Bool, true, false}
 use Rattle.af_tool.specs.declared.end.ToolEnd.{ToolEnd}
 use Rattle.af_tool.specs.declared.end.ToolEnd.TheVariants as end
 use Rattle.af_tool.specs.Ends.{is_of_link}
@@ -15,18 +15,19 @@ abbrev pub is_of_records : ToolEnd → Bool
 is_of_records end.SinkFault = true
 is_of_records how = is_of_link how
 
--- a tool may also end in another way than by its link
+-- A tool may also end in another way than by its link, and for its source only if it reads one.
+abbrev pub is_of_tool : (reads : Bool) → ToolEnd → Bool
+is_of_tool reads end.Done = true
+is_of_tool reads (end.NoDevice devices) = true
+is_of_tool reads end.ReadFault = reads
+is_of_tool reads end.TooLong = reads
+is_of_tool reads end.SinkFault = true
+is_of_tool reads how = is_of_link how
+
+-- the ends of aplay
 abbrev pub is_of_play : ToolEnd → Bool
-is_of_play end.Done = true
-is_of_play (end.NoDevice devices) = true
-is_of_play end.ReadFault = true
-is_of_play end.TooLong = true
-is_of_play end.SinkFault = true
-is_of_play how = is_of_link how
+is_of_play how = is_of_tool true how
 
 -- the ends of a tool that reads no source
 abbrev pub is_of_writer : ToolEnd → Bool
-is_of_writer end.Done = true
-is_of_writer (end.NoDevice devices) = true
-is_of_writer end.SinkFault = true
-is_of_writer how = is_of_link how
+is_of_writer how = is_of_tool false how

@@ -7,9 +7,9 @@ ghost use Rattle.af_tool.specs.Ends.{client_of};
 ghost use Rattle.af_options.specs.Words.{is_spelled, job, one, Job};
 ghost use Rattle.af_options.specs.Call.{job_of_call, IsCall};
 ghost use Rattle.af_options.specs.Ranges.{IsAddress, IsRanged};
-ghost use Rattle.af_tools.specs.Ways.{is_of_play};
+ghost use Rattle.af_tools.specs.Ways.{is_of_tool};
 ghost use Rattle.af_tools.specs.Reading.{FollowsTrace, UsesSource};
-ghost use Rattle.af_tools.specs.Run.{is_of_af, is_of_far, is_of_run, job_reads, reads_of, reads_source, servers_of, task_trace, AskedFor, DoesJob, RunsJob};
+ghost use Rattle.af_tools.specs.Run.{is_of_af, is_of_far, is_of_job, is_of_one, job_reads, reads_of, reads_source, servers_of, task_trace, AskedFor, DoesJob, RunsJob};
 
 use crate::player::aplay;
 use crate::recorder::arecord;
@@ -33,9 +33,9 @@ fn perform<L: Link + Drop, S: Source, K: Sink>(
     requires usable { conn.old.cause ≡ None }
     requires range { IsRanged task.now }
     requires room { 16000 ≤ length room.old }
-    ensures followed { FollowsTrace L.left L.sent S.left K.held result conn.old.link conn.new.link source.old source.new
-        sink.old sink.new (λ input bytes. task_trace task.now conn.old.devices bytes (client_of conn.old input)) }
-    ensures end { is_of_play result ≡ true }
+    ensures followed { FollowsTrace L.left L.sent S.left K.held (reads_source task.now) result conn.old.link conn.new.link
+        source.old source.new sink.old sink.new (λ input bytes. task_trace task.now conn.old.devices bytes (client_of conn.old input)) }
+    ensures end { is_of_tool (reads_source task.now) result ≡ true }
     ensures source { UsesSource S.left S.faults (reads_source task.now) result source.old source.new }
     ensures link { CountsFault (result ≡ ToolEnd.LinkFault) (L.faults conn.old.link) (L.faults conn.new.link) }
     ensures sink { CountsFault (result ≡ ToolEnd.SinkFault) (K.faults sink.old) (K.faults sink.new) }
@@ -58,10 +58,10 @@ fn perform_over<L: Link + Drop, S: Source, K: Sink>(
 ) -> (ToolEnd, L)
     requires range { IsRanged task.now }
     requires room { 16000 ≤ length room.old }
-    ensures followed { FollowsTrace L.left L.sent S.left K.held result.0 far result.1 source.old source.new sink.old sink.new
-        (λ input bytes. connects input (λ devices w. task_trace task.now devices bytes w)) }
+    ensures followed { FollowsTrace L.left L.sent S.left K.held (reads_source task.now) result.0 far result.1
+        source.old source.new sink.old sink.new (λ input bytes. connects input (λ devices w. task_trace task.now devices bytes w)) }
     ensures memory { result.0 ≡ ToolEnd.OutOfMemory → (L.sent result.1 ≡ L.sent far) × (sink.new ≡ sink.old) }
-    ensures end { is_of_far result.0 ≡ true }
+    ensures end { is_of_far (reads_source task.now) result.0 ≡ true }
     ensures source { UsesSource S.left S.faults (reads_source task.now) result.0 source.old source.new }
     ensures link { result.0 ≡ ToolEnd.LinkFault → FaultCounted (L.faults far) (L.faults result.1) }
     ensures sink { CountsFault (result.0 ≡ ToolEnd.SinkFault) (K.faults sink.old) (K.faults sink.new) }
@@ -103,7 +103,7 @@ fn run_one<S: Source, K: Sink, D: Dial>(
         dial.old dial.new source.old source.new sink.old sink.new }
     ensures asked { Appended (D.asked dial.old) (server.now ∷ []) (D.asked dial.new) }
     ensures memory { result ≡ ToolEnd.OutOfMemory → sink.new ≡ sink.old }
-    ensures end { is_of_run result ≡ true }
+    ensures end { is_of_one (reads_source task.now) result ≡ true }
     ensures source { UsesSource S.left S.faults (reads_source task.now) result source.old source.new }
     ensures dialled { CountsFault (result ≡ ToolEnd.DialFault) (D.faults dial.old) (D.faults dial.new) }
     ensures link { CountsFault (result ≡ ToolEnd.LinkFault) (D.hurt dial.old) (D.hurt dial.new) }
@@ -133,7 +133,7 @@ fn run_call<S: Source, K: Sink, D: Dial>(
         dial.old dial.new source.old source.new sink.old sink.new }
     ensures asked { AskedFor (servers_of (job_of_call call.now)) result (D.asked dial.old) (D.asked dial.new) }
     ensures memory { result ≡ ToolEnd.OutOfMemory → sink.new ≡ sink.old }
-    ensures end { is_of_run result ≡ true }
+    ensures end { is_of_job (job_of_call call.now) result ≡ true }
     ensures source { UsesSource S.left S.faults (job_reads (job_of_call call.now)) result source.old source.new }
     ensures dialled { CountsFault (result ≡ ToolEnd.DialFault) (D.faults dial.old) (D.faults dial.new) }
     ensures link { CountsFault (result ≡ ToolEnd.LinkFault) (D.hurt dial.old) (D.hurt dial.new) }
@@ -171,7 +171,7 @@ pub fn af_run<S: Source, K: Sink, D: Dial>(
         DoesJob D.links D.back S.left K.held j result dial.old dial.new source.old source.new sink.old sink.new }
 
     // each end has its cause
-    ensures end { is_of_af result ≡ true }
+    ensures end { is_of_af (job words.now) result ≡ true }
     ensures memory { result ≡ ToolEnd.OutOfMemory → sink.new ≡ sink.old }
     ensures source { UsesSource S.left S.faults (reads_of (job words.now)) result source.old source.new }
     ensures dialled { CountsFault (result ≡ ToolEnd.DialFault) (D.faults dial.old) (D.faults dial.new) }

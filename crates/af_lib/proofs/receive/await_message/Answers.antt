@@ -3,6 +3,7 @@ use Rattle.std.specs.Prelude.{Result, Ok, Err}
 use Rattle.af_lib.specs.declared.receive.Taken.{Taken}
 use Rattle.af_lib.specs.declared.fault.ConnFault.{ConnFault}
 use Rattle.af_lib.specs.declared.fault.ConnFault.TheVariants as fault
+use Rattle.af_lib.specs.Calls.{IsFresh, IsOfMessage}
 use Rattle.af_lib.specs.Receive.{Takes, Awaits}
 use Rattle.af_lib.specs.Ring.{nothing_more, one_more, Gained, RingState}
 use Rattle.af_lib.proofs.OnlyReading.{read_on, read_where}
@@ -16,6 +17,21 @@ sound taken taken' P is f = subst P is (f (λ e. cc))
 -- the same fault of a call with another answer
 retag : {f f' : ConnFault} → (let r : Result Taken ConnFault = Err f in r ≡ Err f') → (let r : Result ℕ ConnFault = Err f in r ≡ Err f')
 retag e = cc
+
+-- a fault of one message is one of a connection that can still be used
+still_fresh : (f : ConnFault) → (let r : Result Taken ConnFault = Err f in IsOfMessage r) → (let r : Result ℕ ConnFault = Err f in IsFresh r)
+still_fresh fault.LinkFault is = tt
+still_fresh fault.LinkEnded is = tt
+still_fresh (fault.ServerError code value) is = absurd is
+still_fresh (fault.BadReply header first) is = tt
+still_fresh fault.OutOfMemory is = absurd is
+still_fresh fault.EventFlood is = absurd is
+still_fresh (fault.Spent first) is = absurd is
+
+pub returns-in_err-event-clause-fresh : goal.returns-in_err-event-clause-fresh
+returns-in_err-event-clause-fresh g c =
+    let same : c.from_residual.result ≡ Err c.in_err-event.field-0.0 = search rules in
+    rw same (still_fresh c.in_err-event.field-0.0 c.in_err-event.ensures.message)
 
 pub returns-in_err-event-clause-awaits : goal.returns-in_err-event-clause-awaits
 returns-in_err-event-clause-awaits g c unfailed =

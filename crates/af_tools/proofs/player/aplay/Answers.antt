@@ -1,6 +1,4 @@
 use Rattle.std.proofs.Common.{length}
-use Rattle.af_tool.specs.declared.end.ToolEnd.{ToolEnd}
-use Rattle.af_tool.specs.declared.end.ToolEnd.TheVariants as end
 use Rattle.af_tool.specs.Trace.{done, ends, writing}
 use Rattle.af_tool.specs.Ends.{client_of, TracePart}
 use Rattle.af_tools.specs.declared.player.Played.{Played}

@@ -1,41 +1,33 @@
-use Rattle.std.proofs.Common.{length, refl}
+use Rattle.std.proofs.Common.{refl}
 use Rattle.af_tool.specs.Trace.{done, ends}
 use Rattle.af_tool.specs.Ends.{client_of}
 use Rattle.af_tools.specs.Record.{recorded_on}
 use Rattle.af_tools.proofs.SetupTraceLemmas.{followed_on, followed_stop}
-use Rattle.af_tools.proofs.HavingRun.{arecord_ran}
-use Rattle.af_tools.proofs.DeviceChoiceLemmas.{arecord_missing, arecord_there, followed_done, followed_missing, followed_same, is_missing, is_there, missing_iff, never_records, there_iff}
+use Rattle.af_tools.proofs.HavingRun.{arecord_on, missing_ran, there_ran}
+use Rattle.af_tools.proofs.DeviceChoiceLemmas.{followed_done, is_missing, is_there, missing_iff, never_records, there_iff}
 use Rattle.af_tools.proofs.recorder.arecord.Goals as goal
 
 pub returns-in-Err-clause-ran : goal.returns-in-Err-clause-ran
 returns-in-Err-clause-ran g c input told =
-    let m = is_missing c.args.conn.now.devices c.args.job.now.device c.in-Err.end c.in-Err.ensures.value in
-    arecord_ran c.args.job.now c.args.conn.now.devices (client_of c.args.conn.now input) _ _ _ _ _
-    (followed_missing _ (length c.args.conn.now.devices) _ _ _ (arecord_missing c.args.conn.now.devices (client_of c.args.conn.now input) c.args.job.now m.get) m.way)
+    missing_ran _ _ _ _ (arecord_on c.args.job.now c.args.conn.now.devices (client_of c.args.conn.now input)) _ _ _ (is_missing _ _ _ c.in-Err.ensures.value)
 
 pub returns-in-Err-clause-no_device : goal.returns-in-Err-clause-no_device
-returns-in-Err-clause-no_device g c n = missing_iff _ _ _ (is_missing c.args.conn.now.devices c.args.job.now.device c.in-Err.end c.in-Err.ensures.value) n
+returns-in-Err-clause-no_device g c n = missing_iff _ _ _ (is_missing _ _ _ c.in-Err.ensures.value) n
 
 pub returns-in-Ok-record_on-clause-ran : goal.returns-in-Ok-record_on-clause-ran
 returns-in-Ok-record_on-clause-ran g c input told =
-    let t = is_there c.args.conn.now.devices c.args.job.now.device c.in-Ok.device c.in-Ok.ensures.value in
     let w = client_of c.args.conn.now input in
-    arecord_ran c.args.job.now c.args.conn.now.devices w _ _ _ _ _
-    (followed_same _ _ _ _ _ _ _ (arecord_there c.args.conn.now.devices w c.args.job.now c.in-Ok.device t.get)
-    (followed_on (λ next. recorded_on c.args.job.now c.in-Ok.device w (next tt)) (λ _ _. ends done) tt _ _ (client_of c.record_on.new.conn) _ _ _ _ _ _ (c.in-Ok-record_on.ensures.goes input told) (λ i t. followed_done _ _ _ refl)))
+    there_ran _ _ _ _ (arecord_on c.args.job.now c.args.conn.now.devices w) c.in-Ok.device _ _ _ _ _ (is_there _ _ _ c.in-Ok.ensures.value)
+    (followed_on (λ next. recorded_on c.args.job.now c.in-Ok.device w (next tt)) (λ _ _. ends done) tt _ _ (client_of c.record_on.new.conn) _ _ _ _ _ _ (c.in-Ok-record_on.ensures.goes input told) (λ i t. followed_done _ _ _ refl))
 
 pub returns-in-Ok-record_on-clause-no_device : goal.returns-in-Ok-record_on-clause-no_device
-returns-in-Ok-record_on-clause-no_device g c n =
-    there_iff _ _ _ _ (is_there c.args.conn.now.devices c.args.job.now.device c.in-Ok.device c.in-Ok.ensures.value) (λ n e. cc) n
+returns-in-Ok-record_on-clause-no_device g c n = there_iff _ _ _ _ (is_there _ _ c.in-Ok.device c.in-Ok.ensures.value) (λ n e. cc) n
 
 pub returns-in-Err-record_on-clause-ran : goal.returns-in-Err-record_on-clause-ran
 returns-in-Err-record_on-clause-ran g c input told =
-    let t = is_there c.args.conn.now.devices c.args.job.now.device c.in-Ok.device c.in-Ok.ensures.value in
     let w = client_of c.args.conn.now input in
-    arecord_ran c.args.job.now c.args.conn.now.devices w _ _ _ _ _
-    (followed_same _ _ _ _ _ _ _ (arecord_there c.args.conn.now.devices w c.args.job.now c.in-Ok.device t.get)
-    (followed_stop (λ next. recorded_on c.args.job.now c.in-Ok.device w (next tt)) (λ _ _. ends done) _ _ (client_of c.record_on.new.conn) _ _ _ _ (c.in-Err-record_on.ensures.goes input told)))
+    there_ran _ _ _ _ (arecord_on c.args.job.now c.args.conn.now.devices w) c.in-Ok.device _ _ _ _ _ (is_there _ _ _ c.in-Ok.ensures.value)
+    (followed_stop (λ next. recorded_on c.args.job.now c.in-Ok.device w (next tt)) (λ _ _. ends done) _ _ (client_of c.record_on.new.conn) _ _ _ _ (c.in-Err-record_on.ensures.goes input told))
 
 pub returns-in-Err-record_on-clause-no_device : goal.returns-in-Err-record_on-clause-no_device
-returns-in-Err-record_on-clause-no_device g c n =
-    there_iff _ _ _ _ (is_there c.args.conn.now.devices c.args.job.now.device c.in-Ok.device c.in-Ok.ensures.value) (never_records _ c.in-Err-record_on.ensures.end) n
+returns-in-Err-record_on-clause-no_device g c n = there_iff _ _ _ _ (is_there _ _ c.in-Ok.device c.in-Ok.ensures.value) (never_records _ c.in-Err-record_on.ensures.end) n

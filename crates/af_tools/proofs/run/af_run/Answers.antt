@@ -1,23 +1,24 @@
-use Rattle.std.proofs.Common.{refl, subst, sym}
+use Rattle.std.proofs.Common.{refl, subst, sym, ap, ◌∙◌}
 use Rattle.std.specs.declared.option.Option.{Option}
 use Rattle.af_tool.specs.declared.end.ToolEnd.TheVariants as end
 use Rattle.af_options.specs.Words.{Job}
 use Rattle.af_options.specs.Call.{job_of_call}
 use Rattle.af_tools.specs.Reading.{UsesSource}
-use Rattle.af_tools.specs.Run.{JobDone, reads_of}
+use Rattle.af_tools.specs.Run.{JobDone, job_reads, reads_of}
 use Rattle.af_tools.proofs.OutcomeLemmas.{did, ranged_call}
 use Rattle.af_tools.proofs.DialLemmas.{ran_none, same_job}
 use Rattle.af_tools.proofs.run.af_run.Goals as goal
 
 pub returns-in-Err-OutOfMemory-clause-told : goal.returns-in-Err-OutOfMemory-clause-told
-returns-in-Err-OutOfMemory-clause-told g c j called used links bytes told is tells =
+returns-in-Err-OutOfMemory-clause-told g c j called used links bytes told tells =
     did j bytes end.OutOfMemory links _ _ _ _ _ (ran_none j bytes end.OutOfMemory links _ _ _ _ refl told refl) (λ e. cc)
 
 pub returns-in-Ok-clause-told : goal.returns-in-Ok-clause-told
-returns-in-Ok-clause-told g c j called used links bytes told is tells =
+returns-in-Ok-clause-told g c j called used links bytes told tells =
+    let same = same_job _ _ _ c.in-Ok.ensures.ok called in
     subst (λ (x : Job). JobDone x bytes c.run_call.result links (g.D.Dial.links c.run_call.new.dial) (g.K.Sink.held c.args.sink.now) (g.K.Sink.held c.run_call.new.sink) (g.D.Dial.back c.args.dial.now) (g.D.Dial.back c.run_call.new.dial))
-    (same_job _ _ _ c.in-Ok.ensures.ok called)
-    (did (job_of_call c.in-Ok.call) bytes c.run_call.result links _ _ _ _ _ (c.run_call.ensures.ran links bytes told is tells) (λ way. ranged_call c.in-Ok.call c.in-Ok.ensures.call))
+    same
+    (did (job_of_call c.in-Ok.call) bytes c.run_call.result links _ _ _ _ _ (c.run_call.ensures.ran links bytes told (λ reads. tells (ap job_reads (sym same) ∙ reads))) (λ way. ranged_call c.in-Ok.call c.in-Ok.ensures.call))
 
 pub returns-in-Ok-clause-source : goal.returns-in-Ok-clause-source
 returns-in-Ok-clause-source g c =

@@ -1,18 +1,20 @@
-use Rattle.std.proofs.Common.{rules, ◌≡◌}
+use Rattle.std.proofs.Common.{rules, ◌≡◌, ap}
 use Rattle.af_options.specs.declared.job.Task.TheVariants as task
+use Rattle.af_tools.specs.Run.{reads_source}
 use Rattle.af_tools.proofs.run.perform.Goals as goal
 
 pub returns-in-Play-clause-followed : goal.returns-in-Play-clause-followed
-returns-in-Play-clause-followed g c input bytes told is tells =
+returns-in-Play-clause-followed g c input bytes told tells =
     let play : c.args.task.now ≡ task.Play c.in-Play.job = search rules in
-    rw play ((c.aplay.ensures.ran input bytes told is tells).followed)
+    let source = tells (ap reads_source play) in
+    rw play ((c.aplay.ensures.ran input bytes told source.0 source.1).followed)
 
 pub returns-in-Record-clause-followed : goal.returns-in-Record-clause-followed
-returns-in-Record-clause-followed g c input bytes told is tells =
+returns-in-Record-clause-followed g c input bytes told tells =
     let record_job : c.args.task.now ≡ task.Record c.in-Record.job = search rules in
     rw record_job ((c.arecord.ensures.ran input told).followed)
 
 pub returns-in-Set-clause-followed : goal.returns-in-Set-clause-followed
-returns-in-Set-clause-followed g c input bytes told is tells =
+returns-in-Set-clause-followed g c input bytes told tells =
     let set : c.args.task.now ≡ task.Set c.in-Set.job = search rules in
     rw set ((c.aset.ensures.ran input told).followed)

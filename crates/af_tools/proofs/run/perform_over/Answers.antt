@@ -8,17 +8,17 @@ use Rattle.af_tools.proofs.SetupTraceLemmas.{followed_early, followed_on, follow
 use Rattle.af_tools.proofs.run.perform_over.Goals as goal
 
 pub returns-in-Ok-clause-followed : goal.returns-in-Ok-clause-followed
-returns-in-Ok-clause-followed g c input bytes told is tells =
+returns-in-Ok-clause-followed g c input bytes told tells =
     let e = c.in-Ok.ensures in
     let conn = c.in-Ok.conn in
     let g0 = setup_goes g.L.Link.left g.L.Link.sent g.L.Link.faults c.args.far conn.link conn.ring input (g.K.Sink.held c.args.sink.now) (Ok conn.devices) e.2 told in
     let same : c.into_link.result ≡ c.perform-end.new.conn.link = c.into_link.ensures in
     rw same (followed_on (connects input) (λ devices w. task_trace c.args.task.now devices bytes w) conn.devices c.perform-end.result (g.L.Link.left conn.link) (λ i. record { sequence = 0; ring = conn.ring; input = i }) _ _ _ _ _ _ g0
     (λ i t. subst (λ (n : ℕ). ObservedTrace (task_trace c.args.task.now conn.devices bytes (record { sequence = n; ring = conn.ring; input = i })) c.perform-end.result (g.L.Link.sent conn.link) (g.L.Link.sent c.perform-end.new.conn.link) (g.K.Sink.held c.args.sink.now) (g.K.Sink.held c.perform-end.new.sink)) e.0
-    (c.perform-end.ensures.followed i bytes t is tells)))
+    (c.perform-end.ensures.followed i bytes t tells)))
 
 pub returns-in-Err-clause-followed : goal.returns-in-Err-clause-followed
-returns-in-Err-clause-followed g c input bytes told is tells =
+returns-in-Err-clause-followed g c input bytes told tells =
     elim (c.in-Err.ensures) [
       | inl none ↦
           let way : c.from.result ≡ end.OutOfMemory = c.from.ensures ∙ ap fault_end none.0 in

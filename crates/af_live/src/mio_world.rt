@@ -10,10 +10,11 @@ ghost use Rattle.af_outside.specs.World.{LinkGotFits, TookFits};
 ghost use Rattle.af_live.specs.LinkTable.{is_free, link_at, something_ready, AfterRead, AfterWrite, KeepsOpen, ClosesOne, LinkWakeFits, Opens};
 ghost use Rattle.af_live.specs.Counting.{CountsOne, CountsStand};
 ghost use Rattle.af_live.specs.Silence.{silent_at, silent_behind, CapturesAs, EmitsAs};
+ghost use Rattle.af_live.specs.FileDevices.{files_of, CapturesFiles, EmitsFiles, AttachesFiles};
 ghost use Rattle.af_live.specs.Rounds.{is_paced, round_begun, round_after};
 ghost use Rattle.af_live.specs.RealWorld.{RealLeadsTo, begun_world, given, listens_behind, GivesKept, LeadsRound, WakeFits};
 
-use crate::file_device::{FileDevice, FileDevices};
+use crate::file_device::{FileDevices, capture_files, emit_files, open_files};
 use crate::link_table::{LinkEntry, take_ready};
 use crate::links::{close_link, read_link, write_link};
 use crate::round::Round;
@@ -55,6 +56,7 @@ pub struct MioWorld<R: Net + Clock + Files + Drop> {
 
 impl<R: Net + Clock + Files + Drop> Model for MioWorld<R> {
     ghost use Rattle.std.specs.Prelude.{is_some};
+    ghost use Rattle.af_live.specs.FileDevices.{files_of};
     ghost use Rattle.af_live.specs.RealWorld.{RealState};
 
     ghost Value = { RealState };
@@ -63,6 +65,7 @@ impl<R: Net + Clock + Files + Drop> Model for MioWorld<R> {
       listens = is_some w.sockets;
       links = w.links;
       silent = w.silent;
+      files = files_of w.file_devices;
       round = w.round;
       link_faults = w.link_faults;
       device_faults = w.device_faults;
@@ -160,15 +163,13 @@ impl<R: Net + Clock + Files + Drop> World for MioWorld<R> {
         ensures faults { CountsOne (result ≡ Put.Failed) self.old.device_faults self.new.device_faults }
         ensures leads { RealLeadsTo self.old self.new }
         ensures silence { CapturesAs (silent_at self.old.silent device) result into.new }
-        ensures rest { self.new ≡ record self.old { device_faults = self.new.device_faults } }
+        ensures files { CapturesFiles (silent_at self.old.silent device) device result into.new self.old.files self.new.files }
+        ensures rest { self.new ≡ record self.old { files = self.new.files; device_faults = self.new.device_faults } }
     {
         if capture_silence(&self.silent, device, into) {
             return Put::Done;
         }
-        let put = match &mut self.file_devices {
-            Some(file_devices) => file_devices.capture(device, into),
-            None => Put::Failed,
-        };
+        let put = capture_files(&mut self.file_devices, device, into);
         if put == Put::Failed {
             self.device_faults = self.device_faults.saturating_add(1);
         }
@@ -180,15 +181,13 @@ impl<R: Net + Clock + Files + Drop> World for MioWorld<R> {
         ensures faults { CountsOne (result ≡ Put.Failed) self.old.device_faults self.new.device_faults }
         ensures leads { RealLeadsTo self.old self.new }
         ensures silence { EmitsAs (silent_at self.old.silent device) result }
-        ensures rest { self.new ≡ record self.old { device_faults = self.new.device_faults } }
+        ensures files { EmitsFiles (silent_at self.old.silent device) device result sound.now self.old.files self.new.files }
+        ensures rest { self.new ≡ record self.old { files = self.new.files; device_faults = self.new.device_faults } }
     {
         if silent_at(&self.silent, device).is_some() {
             return Put::Done;
         }
-        let put = match &mut self.file_devices {
-            Some(file_devices) => file_devices.emit(device, sound),
-            None => Put::Failed,
-        };
+        let put = emit_files(&mut self.file_devices, device, sound);
         if put == Put::Failed {
             self.device_faults = self.device_faults.saturating_add(1);
         }
@@ -239,8 +238,9 @@ impl<R: Net + Clock + Files + Drop> Live for MioWorld<R> {
         ensures attaches { result ≡ Ready.Done → (device < 8) × (is_paced self.old.round device ≡ false) }
         ensures round { self.new.round ≡ round_after result self.old.round device spec.now.rate }
         ensures silent { self.new.silent ≡ silent_behind result kind.entry self.old.silent device spec.now.ty }
-        ensures rest { self.new
-            ≡ record self.old { silent = self.new.silent; round = self.new.round; device_faults = self.new.device_faults } }
+        ensures files { AttachesFiles result kind.entry device spec.now.ty self.old.files self.new.files }
+        ensures rest { self.new ≡ record self.old
+            { silent = self.new.silent; files = self.new.files; round = self.new.round; device_faults = self.new.device_faults } }
         ensures counts { CountsStand self.old self.new }
     {
         let attached = put_there(
@@ -336,6 +336,7 @@ fn put_there<R: Files>(
     ensures attaches { result ≡ Ready.Done → (device < 8) × (is_paced round.old device ≡ false) }
     ensures round { round.new ≡ round_after result round.old device spec.now.rate }
     ensures silent { silent.new ≡ silent_behind result kind.entry silent.old device spec.now.ty }
+    ensures files { AttachesFiles result kind.entry device spec.now.ty (files_of file_devices.old) (files_of file_devices.new) }
 {
     if device >= 8 || round.is_paced(device) {
         return Ready::Failed;
@@ -362,26 +363,6 @@ fn put_there<R: Files>(
             Err(e) => refusal(&e),
         },
     }
-}
-
-/// Opens the files of a device.
-fn open_files<R: Files>(
-    rt: &R,
-    alloc: Global,
-    device: u8,
-    ty: SampleType,
-    input: &str,
-    output: &str,
-    file_devices: &mut Option<FileDevices<R::File>>,
-) -> io::Result<()> {
-    if file_devices.is_none() {
-        *file_devices = Some(FileDevices::new(alloc)?);
-    }
-    let file_device = FileDevice::open(rt, ty, input, output)?;
-    if let Some(file_devices) = file_devices {
-        file_devices.put(device, file_device);
-    }
-    Ok(())
 }
 
 /// The nanoseconds of the clock.

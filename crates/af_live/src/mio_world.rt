@@ -3,15 +3,16 @@
 // given yet. The streams lie under these keys in the slab of `sockets`, beside the poll and the listener. Of each of 8 devices
 // `round` has the pace, and either `silent` its sample type or `file_devices` its two files. Faults of links, devices, listens and
 // waits are counted apart. Contracts see these tables and counts; of the sockets only whether there are any.
-ghost use Rattle.std.specs.Prelude.{◌≡◌, ◌≢◌, ◌≤◌, ◌<◌, ℕ, length, not, true, false, is_some, IfSome, MatchOption};
+ghost use Rattle.std.specs.Prelude.{◌≡◌, ◌≢◌, ◌≤◌, ◌<◌, ◌^◌, ℕ, length, not, true, false, is_some, IfSome, MatchOption};
 ghost use Rattle.std.specs.declared.option.Option.TheVariants.{None};
+ghost use Rattle.std.specs.Duration.{as_nanos};
 ghost use Rattle.af_io.specs.Observed.{FaultCounted};
 ghost use Rattle.af_outside.specs.World.{LinkGotFits, TookFits};
 ghost use Rattle.af_live.specs.LinkTable.{is_free, link_at, something_ready, AfterRead, AfterWrite, KeepsOpen, ClosesOne, LinkWakeFits, Opens};
 ghost use Rattle.af_live.specs.Counting.{CountsOne, CountsStand};
 ghost use Rattle.af_live.specs.Silence.{silent_at, silent_behind, CapturesAs, EmitsAs};
 ghost use Rattle.af_live.specs.FileDevices.{files_of, CapturesFiles, EmitsFiles, AttachesFiles};
-ghost use Rattle.af_live.specs.Rounds.{is_paced, round_begun, round_after};
+ghost use Rattle.af_live.specs.Rounds.{is_paced, round_begun, round_after, whole_millis, pause_of, IsReadingBy};
 ghost use Rattle.af_live.specs.RealWorld.{RealLeadsTo, begun_world, given, listens_behind, GivesKept, LeadsRound, WakeFits};
 
 use crate::file_device::{FileDevices, capture_files, emit_files, open_files};
@@ -32,6 +33,8 @@ use std::time::{Clock, Duration};
 
 /// How many milliseconds a wait with nothing to do waits at most, and so the longest that a device may be late.
 const LONGEST_PAUSE_MILLIS: u64 = 10;
+
+const NANOS_A_MILLISECOND: u64 = 1_000_000;
 
 /// The real outside of a server. It listens at one address, whose links it numbers from 0, at most 32 at a time; a further one is
 /// accepted and closed at once. Up to 8 devices go on by the clock of the system, a Pace for each.
@@ -365,10 +368,23 @@ fn put_there<R: Files>(
     }
 }
 
-/// The nanoseconds of the clock.
-fn reading<R: Clock>(rt: &R) -> Option<u64> {
-    let since = rt.monotonic().ok()?;
-    u64::try_from(since.as_nanos()).ok()
+/// What a clock shows, in nanoseconds and rounded down to whole milliseconds: no frame ticks before its time, and a round that
+/// follows another within the millisecond finds nothing due, and sleeps.
+fn whole_millis(shown: Duration) -> Option<u64>
+    ensures { MatchOption result (2 ^ 64 ≤ as_nanos shown) (λ nanos. nanos ≡ whole_millis (as_nanos shown)) }
+{
+    let nanos = u64::try_from(shown.as_nanos()).ok()?;
+    Some(nanos - nanos % NANOS_A_MILLISECOND)
+}
+
+/// The reading of the clock that a round goes by: its own, or one that is taken now.
+fn reading<R: Clock>(rt: &R, round: &Round) -> Option<u64>
+    ensures { IfSome result (λ nanos. IsReadingBy round.now.reading nanos) }
+{
+    match round.reading() {
+        Some(taken) => Some(taken),
+        None => whole_millis(rt.monotonic().ok()?),
+    }
 }
 
 /// What a poll finds first. A new round over the devices begins behind it.
@@ -417,7 +433,7 @@ fn next_wake<R: Clock>(
     if let Some(wake) = take_ready(links) {
         return Some(wake);
     }
-    let nanos = reading(rt)?;
+    let nanos = reading(rt, round)?;
     if let Some((device, frames)) = round.next_tick(nanos) {
         return Some(Wake::Ticked(device, frames));
     }
@@ -425,7 +441,9 @@ fn next_wake<R: Clock>(
 }
 
 /// How long a poll waits at most.
-fn pause(more: bool, ticked: bool) -> Duration {
+fn pause(more: bool, ticked: bool) -> Duration
+    ensures { as_nanos result ≡ pause_of more ticked }
+{
     if more || ticked {
         Duration::ZERO
     } else {

@@ -117,25 +117,31 @@ impl<F: Read + Write + Drop> FileDevices<F> {
     }
 }
 
+/// A device that is to be put over two files.
+#[derive(Clone, Copy)]
+pub(crate) struct NewFiles<'a> {
+    pub number: u8,
+    pub ty: SampleType,
+    pub input: &'a str,
+    pub output: &'a str,
+}
+
 /// Opens the files of a device, which is put at its number.
 pub(crate) fn open_files<R: Files>(
     rt: &R,
     alloc: Global,
-    device: u8,
-    ty: SampleType,
-    input: &str,
-    output: &str,
+    asked: NewFiles<'_>,
     file_devices: &mut Option<FileDevices<R::File>>,
 ) -> io::Result<()>
-    ensures { MatchResult result (λ _. PutsFiles device ty (files_of file_devices.old) (files_of file_devices.new))
+    ensures { MatchResult result (λ _. PutsFiles asked.entry.number asked.entry.ty (files_of file_devices.old) (files_of file_devices.new))
         (λ _. files_of file_devices.new ≡ files_of file_devices.old) }
 {
     if file_devices.is_none() {
         *file_devices = Some(FileDevices::new(alloc)?);
     }
-    let file_device = FileDevice::open(rt, ty, input, output)?;
+    let file_device = FileDevice::open(rt, asked.ty, asked.input, asked.output)?;
     if let Some(file_devices) = file_devices {
-        file_devices.put(device, file_device);
+        file_devices.put(asked.number, file_device);
     }
     Ok(())
 }

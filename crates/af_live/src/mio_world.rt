@@ -1,9 +1,9 @@
 // The real outside of a server: sockets, the clock of the system, and devices that are silent or stand over files.
 // How it lies: `links` has a place for each of 32 numbers: the key of the link's stream, and what is ready of it and was not
 // given yet. The streams lie under these keys in the slab of `sockets`, beside the poll and the listener. Of each of 8 devices
-// `round` has the pace, and either `silent` its sample type or `file_devices` its two files. Faults of links, devices, listens and
-// waits are counted apart. Contracts see these tables and counts; of the sockets only whether there are any.
-ghost use Rattle.std.specs.Prelude.{◌≡◌, ◌≢◌, ◌≤◌, ◌<◌, ◌^◌, ℕ, length, not, true, false, is_some, IfSome, MatchOption};
+// `devices` has the pace, and either its sample type, if it is silent, or its two files. Faults of links, devices, listens and waits
+// are counted apart. Contracts see these tables and counts; of the sockets only whether there are any.
+ghost use Rattle.std.specs.Prelude.{◌≡◌, ◌≤◌, ◌<◌, ◌^◌, ℕ, length, not, true, false, is_some, IfSome, MatchOption};
 ghost use Rattle.std.specs.declared.option.Option.TheVariants.{None};
 ghost use Rattle.std.specs.Duration.{as_nanos};
 ghost use Rattle.af_io.specs.Observed.{FaultCounted};
@@ -15,17 +15,16 @@ ghost use Rattle.af_live.specs.FileDevices.{files_of, CapturesFiles, EmitsFiles,
 ghost use Rattle.af_live.specs.Rounds.{is_paced, round_begun, round_after, whole_millis, pause_of, IsReadingBy};
 ghost use Rattle.af_live.specs.RealWorld.{RealLeadsTo, begun_world, given, listens_behind, GivesKept, LeadsRound, WakeFits};
 
-use crate::file_device::{FileDevices, capture_files, emit_files, open_files};
+use crate::devices::{Devices, NewDevice, refusal};
+use crate::file_device::{capture_files, emit_files};
 use crate::link_table::{LinkEntry, take_ready};
 use crate::links::{close_link, read_link, write_link};
 use crate::round::Round;
-use crate::silence::{capture_silence, silence, silent_at};
+use crate::silence::{capture_silence, silent_at};
 use crate::sockets::Sockets;
 use af_io::Put;
 use af_outside::{DeviceSpec, Kind, LinkGot, LinkTook, Live, Ready, Waited, Wake, Why, World};
-use af_sample::SampleType;
 use std::alloc::Global;
-use std::io::{self, ErrorKind};
 use std::marker::Model;
 use std::net::Net;
 use std::rt::Files;
@@ -48,9 +47,7 @@ pub struct MioWorld<R: Net + Clock + Files + Drop> {
     rt: R,
     sockets: Option<Sockets>,
     links: [Option<LinkEntry>; 32],
-    silent: [Option<SampleType>; 8],
-    file_devices: Option<FileDevices<R::File>>,
-    round: Round,
+    devices: Devices<R::File>,
     link_faults: u64,
     device_faults: u64,
     listen_faults: u64,
@@ -67,9 +64,9 @@ impl<R: Net + Clock + Files + Drop> Model for MioWorld<R> {
     ghost view = { λ w. record {
       listens = is_some w.sockets;
       links = w.links;
-      silent = w.silent;
-      files = files_of w.file_devices;
-      round = w.round;
+      silent = w.devices.silent;
+      files = files_of w.devices.files;
+      round = w.devices.round;
       link_faults = w.link_faults;
       device_faults = w.device_faults;
       listen_faults = w.listen_faults;
@@ -86,9 +83,7 @@ impl<R: Net + Clock + Files + Drop> MioWorld<R> {
             rt,
             sockets: None,
             links: [None; 32],
-            silent: [None; 8],
-            file_devices: None,
-            round: Round::new(),
+            devices: Devices::new(),
             link_faults: 0,
             device_faults: 0,
             listen_faults: 0,
@@ -169,10 +164,10 @@ impl<R: Net + Clock + Files + Drop> World for MioWorld<R> {
         ensures files { CapturesFiles (silent_at self.old.silent device) device result into.new self.old.files self.new.files }
         ensures rest { self.new ≡ record self.old { files = self.new.files; device_faults = self.new.device_faults } }
     {
-        if capture_silence(&self.silent, device, into) {
+        if capture_silence(&self.devices.silent, device, into) {
             return Put::Done;
         }
-        let put = capture_files(&mut self.file_devices, device, into);
+        let put = capture_files(&mut self.devices.files, device, into);
         if put == Put::Failed {
             self.device_faults = self.device_faults.saturating_add(1);
         }
@@ -187,10 +182,10 @@ impl<R: Net + Clock + Files + Drop> World for MioWorld<R> {
         ensures files { EmitsFiles (silent_at self.old.silent device) device result sound.now self.old.files self.new.files }
         ensures rest { self.new ≡ record self.old { files = self.new.files; device_faults = self.new.device_faults } }
     {
-        if silent_at(&self.silent, device).is_some() {
+        if silent_at(&self.devices.silent, device).is_some() {
             return Put::Done;
         }
-        let put = emit_files(&mut self.file_devices, device, sound);
+        let put = emit_files(&mut self.devices.files, device, sound);
         if put == Put::Failed {
             self.device_faults = self.device_faults.saturating_add(1);
         }
@@ -246,16 +241,13 @@ impl<R: Net + Clock + Files + Drop> Live for MioWorld<R> {
             { silent = self.new.silent; files = self.new.files; round = self.new.round; device_faults = self.new.device_faults } }
         ensures counts { CountsStand self.old self.new }
     {
-        let attached = put_there(
-            &self.rt,
-            alloc,
-            device,
-            spec,
+        let asked = NewDevice {
+            number: device,
+            ty: spec.ty,
+            rate: spec.rate,
             kind,
-            &mut self.silent,
-            &mut self.file_devices,
-            &mut self.round,
-        );
+        };
+        let attached = self.devices.attach(&self.rt, alloc, asked);
         if attached == Ready::Failed {
             self.device_faults = self.device_faults.saturating_add(1);
         }
@@ -280,7 +272,7 @@ impl<R: Net + Clock + Files + Drop> Live for MioWorld<R> {
             more,
             &mut self.sockets,
             &mut self.links,
-            &mut self.round,
+            &mut self.devices.round,
         );
         match next {
             Some(wake) => Waited::Woke(wake),
@@ -289,17 +281,6 @@ impl<R: Net + Clock + Files + Drop> Live for MioWorld<R> {
                 Waited::Failed
             }
         }
-    }
-}
-
-/// What a refusal of the system is to a caller.
-fn refusal(error: &io::Error) -> Ready
-    ensures { result ≢ Ready.Done }
-{
-    if error.kind() == ErrorKind::OutOfMemory {
-        Ready::OutOfMemory
-    } else {
-        Ready::Failed
     }
 }
 
@@ -322,49 +303,6 @@ fn begin_to_listen<R: Net>(
             Ready::Done
         }
         Err(e) => refusal(&e),
-    }
-}
-
-/// Attaches a device, if it is not yet.
-fn put_there<R: Files>(
-    rt: &R,
-    alloc: Global,
-    device: u8,
-    spec: &DeviceSpec,
-    kind: Kind<'_>,
-    silent: &mut [Option<SampleType>],
-    file_devices: &mut Option<FileDevices<R::File>>,
-    round: &mut Round,
-) -> Ready
-    ensures attaches { result ≡ Ready.Done → (device < 8) × (is_paced round.old device ≡ false) }
-    ensures round { round.new ≡ round_after result round.old device spec.now.rate }
-    ensures silent { silent.new ≡ silent_behind result kind.entry silent.old device spec.now.ty }
-    ensures files { AttachesFiles result kind.entry device spec.now.ty (files_of file_devices.old) (files_of file_devices.new) }
-{
-    if device >= 8 || round.is_paced(device) {
-        return Ready::Failed;
-    }
-    match kind {
-        Kind::Silent => {
-            silence(silent, device, spec.ty);
-            round.add(device, spec.rate);
-            Ready::Done
-        }
-        Kind::Files { input, output } => match open_files(
-            rt,
-            alloc,
-            device,
-            spec.ty,
-            input,
-            output,
-            file_devices,
-        ) {
-            Ok(()) => {
-                round.add(device, spec.rate);
-                Ready::Done
-            }
-            Err(e) => refusal(&e),
-        },
     }
 }
 

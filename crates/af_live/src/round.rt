@@ -1,5 +1,5 @@
 // A round over the devices, in which each has the frames that are due of it.
-ghost use Rattle.std.specs.Prelude.{◌≡◌, ◌≤◌, ◌<◌, length};
+ghost use Rattle.std.specs.Prelude.{◌≡◌, ◌<◌};
 ghost use Rattle.af_live.specs.Pacing.{begun};
 ghost use Rattle.af_live.specs.Rounds.{due_of, read_at, new_round, round_with, round_begun, is_paced, GoesOn};
 

@@ -143,7 +143,11 @@ fn assert_call<W: Live>(rt: &impl Abort, alloc: Global, world: &mut W, at: usize
 fn assert_asked<W: Live>(rt: &impl Abort, alloc: Global, world: &mut W, at: usize, asked: &Asked) {
     match asked {
         Asked::Attach(device, ty, kind, wanted) => {
-            holds(rt, at, attached(alloc, world, *device, *ty, *kind) == *wanted);
+            holds(
+                rt,
+                at,
+                attached(alloc, world, *device, *ty, *kind) == *wanted,
+            );
         }
         Asked::Capture(device, wanted, bytes) => {
             assert_capture(rt, world, at, *device, *wanted, bytes.as_slice());

@@ -1,3 +1,4 @@
+pub mod ConsumesLemmas
 pub mod LineByLine
 pub mod Utf8Lemmas
 pub mod ListedRateLemmas

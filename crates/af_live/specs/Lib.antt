@@ -6,5 +6,6 @@ pub mod Pacing
 pub mod LinkTable
 pub mod Rounds
 pub mod Silence
+pub mod FileDevices
 pub mod RealWorld
 pub mod Counting

@@ -15,14 +15,16 @@ use Rattle.af_live.specs.declared.link_table.LinkEntry.{LinkEntry}
 use Rattle.af_live.specs.declared.round.Round.{Round}
 use Rattle.af_live.specs.LinkTable.{free_entry, LinkWakeFits, GivesFirst}
 use Rattle.af_live.specs.Silence.{none_silent}
-use Rattle.af_live.specs.Rounds.{new_round, is_paced, round_begun, GoesOn}
+use Rattle.af_live.specs.FileDevices.{FileState, no_files}
+use Rattle.af_live.specs.Rounds.{new_round, is_paced, round_begun, IsReadingBy, GoesOn}
 
--- Whether it listens; the links that it holds; which devices are silent; its round over the devices; and how often each kind of
--- call has failed.
+-- Whether it listens; the links that it holds; which devices are silent, and which stand over files; its round over the devices; and
+-- how often each kind of call has failed.
 pub record RealState : Type 0 where
   pub listens : Bool
   pub links : List (Option LinkEntry)
   pub silent : List (Option SampleType)
+  pub files : List (Option FileState)
   pub round : Round
   pub link_faults : ℕ
   pub device_faults : ℕ
@@ -31,7 +33,7 @@ pub record RealState : Type 0 where
 
 -- it was just made
 abbrev pub begun_world : RealState
-begun_world = record { listens = false; links = replicate 32 free_entry; silent = none_silent; round = new_round; link_faults = 0; device_faults = 0; listen_faults = 0; wait_faults = 0 }
+begun_world = record { listens = false; links = replicate 32 free_entry; silent = none_silent; files = no_files; round = new_round; link_faults = 0; device_faults = 0; listen_faults = 0; wait_faults = 0 }
 
 -- what the server's calls leave alone, and the counts that they may raise
 pub record RealLeadsTo (old new : RealState) : Type 0 where
@@ -67,11 +69,12 @@ abbrev pub GivesKept : Option Wake → List (Option LinkEntry) → Round → Lis
 GivesKept None links round links' round' = ⊥
 GivesKept (Some w) links round links' round' = GivesFirst links (Some w) links' × (round' ≡ round)
 
--- A tick is that of the next device of the round of which frames are due. Any other wake leaves the round where it is, or comes
--- behind the last of the devices, of which none has a frame due, and begins a new round.
+-- A tick is that of the next device of the round of which frames are due, at the one reading of the round. Any other wake leaves the
+-- round where it is, or comes behind the last of the devices, of which none has a frame due then, and begins a new round.
 abbrev pub LeadsRound : Wake → Round → Round → Type 0
-LeadsRound (wake.Ticked d n) old new = (nanos : ℕ) × GoesOn nanos old (Some (d, n)) new
-LeadsRound _ old new = (new ≡ old) ⊎ ((nanos : ℕ) × (past : Round) × GoesOn nanos old None past × (new ≡ round_begun past))
+LeadsRound (wake.Ticked d n) old new = (nanos : ℕ) × IsReadingBy old.reading nanos × GoesOn nanos old (Some (d, n)) new
+LeadsRound _ old new =
+    (new ≡ old) ⊎ ((nanos : ℕ) × (past : Round) × IsReadingBy old.reading nanos × GoesOn nanos old None past × (new ≡ round_begun past))
 
 -- whether it listens behind a listen
 abbrev pub listens_behind : Ready → Bool → Bool

@@ -1,5 +1,5 @@
 -- Rounds over the devices of a world.
-use Rattle.std.specs.Prelude.{◌≡◌, ℕ, ◌+◌, ◌≤◌, ◌<◌, Bool, true, false, List, replicate, slice_index_or, slice_set, option_map, is_some, Option, Some, None}
+use Rattle.std.specs.Prelude.{◌≡◌, ℕ, ◌+◌, ◌-◌, ◌%◌, ◌≤◌, ◌<◌, Bool, ◌||◌, if◌then◌else◌, true, false, List, replicate, slice_index_or, slice_set, option_map, is_some, Option, Some, None}
 use Rattle.af_world.specs.declared.live.Ready.{Ready}
 use Rattle.af_world.specs.declared.live.Ready.TheVariants as ready
 use Rattle.af_live.specs.Pacing.{PaceState, begun, due_at, after_due}
@@ -7,7 +7,7 @@ use Rattle.af_live.specs.declared.round.Round.{Round}
 
 -- no device is attached
 abbrev pub new_round : Round
-new_round = record { paces = replicate 8 None; next = 0; ticked = false }
+new_round = record { paces = replicate 8 None; next = 0; ticked = false; reading = None }
 
 -- the pace of a device, if it is attached
 abbrev pub pace_at : Round → ℕ → Option PaceState
@@ -28,7 +28,20 @@ round_after _ r d rate = r
 
 -- a new round begins
 abbrev pub round_begun : Round → Round
-round_begun r = record r { next = 0; ticked = false }
+round_begun r = record r { next = 0; ticked = false; reading = None }
+
+-- what a clock shows, in nanoseconds, rounded down to whole milliseconds
+abbrev pub whole_millis : ℕ → ℕ
+whole_millis nanos = nanos - nanos % 1000000
+
+-- A round has one reading: what the clock showed as it came to its first device, rounded down. It keeps to that one.
+abbrev pub IsReadingBy : Option ℕ → ℕ → Type 0
+IsReadingBy None nanos = (shown : ℕ) × (nanos ≡ whole_millis shown)
+IsReadingBy (Some taken) nanos = nanos ≡ taken
+
+-- for how many nanoseconds a poll waits at most: for none if there is more to do, or a device ticked in the round
+abbrev pub pause_of : Bool → Bool → ℕ
+pause_of more ticked = if more || ticked then 0 else 10000000
 
 -- the frames of a device that are due at a reading of the clock
 abbrev pub due_of : ℕ → Option PaceState → ℕ
@@ -56,6 +69,7 @@ pub record PassesOver (nanos to : ℕ) (old new : Round) : Type 0 where
   pub none : NoneDue nanos old.next to old.paces
   pub asked : PacesAsked nanos old.next to old.paces new.paces
   pub same : new.ticked ≡ old.ticked
+  pub reading : new.reading ≡ Some nanos
 
 -- the round passes over those before a device of which frames are due, at most 4096 of them, and this one ticks
 pub record RoundTicks (nanos d n : ℕ) (old new : Round) : Type 0 where
@@ -68,6 +82,7 @@ pub record RoundTicks (nanos d n : ℕ) (old new : Round) : Type 0 where
   pub asked : PacesAsked nanos old.next (d + 1) old.paces new.paces
   pub next : new.next ≡ d + 1
   pub ticked : new.ticked ≡ true
+  pub reading : new.reading ≡ Some nanos
 
 -- The round goes on by rising number to the next device of which a frame is due, or past the last.
 abbrev pub GoesOn : ℕ → Round → Option (ℕ × ℕ) → Round → Type 0

@@ -3,6 +3,7 @@
 #![tactic(auto)]
 
 mod device;
+mod devices;
 mod fault;
 mod file_device;
 mod link_table;

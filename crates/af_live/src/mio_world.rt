@@ -1,29 +1,30 @@
 // The real outside of a server: sockets, the clock of the system, and devices that are silent or stand over files.
 // How it lies: `links` has a place for each of 32 numbers: the key of the link's stream, and what is ready of it and was not
 // given yet. The streams lie under these keys in the slab of `sockets`, beside the poll and the listener. Of each of 8 devices
-// `round` has the pace, and either `silent` its sample type or `file_devices` its two files. Faults of links, devices, listens and
-// waits are counted apart. Contracts see these tables and counts; of the sockets only whether there are any.
-ghost use Rattle.std.specs.Prelude.{◌≡◌, ◌≢◌, ◌≤◌, ◌<◌, ℕ, length, not, true, false, is_some, IfSome, MatchOption};
+// `devices` has the pace, and either its sample type, if it is silent, or its two files. Faults of links, devices, listens and waits
+// are counted apart. Contracts see these tables and counts; of the sockets only whether there are any.
+ghost use Rattle.std.specs.Prelude.{◌≡◌, ◌≤◌, ◌<◌, ◌^◌, ℕ, length, not, true, false, is_some, IfSome, MatchOption};
 ghost use Rattle.std.specs.declared.option.Option.TheVariants.{None};
+ghost use Rattle.std.specs.Duration.{as_nanos};
 ghost use Rattle.af_io.specs.Observed.{FaultCounted};
 ghost use Rattle.af_world.specs.World.{LinkGotFits, TookFits};
 ghost use Rattle.af_live.specs.LinkTable.{is_free, link_at, something_ready, AfterRead, AfterWrite, KeepsOpen, ClosesOne, LinkWakeFits, Opens};
 ghost use Rattle.af_live.specs.Counting.{CountsOne, CountsStand};
 ghost use Rattle.af_live.specs.Silence.{silent_at, silent_behind, CapturesAs, EmitsAs};
-ghost use Rattle.af_live.specs.Rounds.{is_paced, round_begun, round_after};
+ghost use Rattle.af_live.specs.FileDevices.{files_of, CapturesFiles, EmitsFiles, AttachesFiles};
+ghost use Rattle.af_live.specs.Rounds.{is_paced, round_begun, round_after, whole_millis, pause_of, IsReadingBy};
 ghost use Rattle.af_live.specs.RealWorld.{RealLeadsTo, begun_world, given, listens_behind, GivesKept, LeadsRound, WakeFits};
 
-use crate::file_device::{FileDevice, FileDevices};
+use crate::devices::{Devices, NewDevice, refusal};
+use crate::file_device::{capture_files, emit_files};
 use crate::link_table::{LinkEntry, take_ready};
 use crate::links::{close_link, read_link, write_link};
 use crate::round::Round;
-use crate::silence::{capture_silence, silence, silent_at};
+use crate::silence::{capture_silence, silent_at};
 use crate::sockets::Sockets;
 use af_io::Put;
-use af_sample::SampleType;
 use af_world::{DeviceSpec, Kind, LinkGot, LinkTook, Live, Ready, Waited, Wake, Why, World};
 use std::alloc::Global;
-use std::io::{self, ErrorKind};
 use std::marker::Model;
 use std::net::Net;
 use std::rt::Files;
@@ -31,6 +32,8 @@ use std::time::{Clock, Duration};
 
 /// How many milliseconds a wait with nothing to do waits at most, and so the longest that a device may be late.
 const LONGEST_PAUSE_MILLIS: u64 = 10;
+
+const NANOS_A_MILLISECOND: u64 = 1_000_000;
 
 /// The real outside of a server. It listens at one address, whose links it numbers from 0, at most 32 at a time; a further one is
 /// accepted and closed at once. Up to 8 devices go on by the clock of the system, a Pace for each.
@@ -44,9 +47,7 @@ pub struct MioWorld<R: Net + Clock + Files + Drop> {
     rt: R,
     sockets: Option<Sockets>,
     links: [Option<LinkEntry>; 32],
-    silent: [Option<SampleType>; 8],
-    file_devices: Option<FileDevices<R::File>>,
-    round: Round,
+    devices: Devices<R::File>,
     link_faults: u64,
     device_faults: u64,
     listen_faults: u64,
@@ -55,6 +56,7 @@ pub struct MioWorld<R: Net + Clock + Files + Drop> {
 
 impl<R: Net + Clock + Files + Drop> Model for MioWorld<R> {
     ghost use Rattle.std.specs.Prelude.{is_some};
+    ghost use Rattle.af_live.specs.FileDevices.{files_of};
     ghost use Rattle.af_live.specs.RealWorld.{RealState};
 
     ghost Value = { RealState };
@@ -62,8 +64,9 @@ impl<R: Net + Clock + Files + Drop> Model for MioWorld<R> {
     ghost view = { λ w. record {
       listens = is_some w.sockets;
       links = w.links;
-      silent = w.silent;
-      round = w.round;
+      silent = w.devices.silent;
+      files = files_of w.devices.files;
+      round = w.devices.round;
       link_faults = w.link_faults;
       device_faults = w.device_faults;
       listen_faults = w.listen_faults;
@@ -80,9 +83,7 @@ impl<R: Net + Clock + Files + Drop> MioWorld<R> {
             rt,
             sockets: None,
             links: [None; 32],
-            silent: [None; 8],
-            file_devices: None,
-            round: Round::new(),
+            devices: Devices::new(),
             link_faults: 0,
             device_faults: 0,
             listen_faults: 0,
@@ -160,15 +161,13 @@ impl<R: Net + Clock + Files + Drop> World for MioWorld<R> {
         ensures faults { CountsOne (result ≡ Put.Failed) self.old.device_faults self.new.device_faults }
         ensures leads { RealLeadsTo self.old self.new }
         ensures silence { CapturesAs (silent_at self.old.silent device) result into.new }
-        ensures rest { self.new ≡ record self.old { device_faults = self.new.device_faults } }
+        ensures files { CapturesFiles (silent_at self.old.silent device) device result into.new self.old.files self.new.files }
+        ensures rest { self.new ≡ record self.old { files = self.new.files; device_faults = self.new.device_faults } }
     {
-        if capture_silence(&self.silent, device, into) {
+        if capture_silence(&self.devices.silent, device, into) {
             return Put::Done;
         }
-        let put = match &mut self.file_devices {
-            Some(file_devices) => file_devices.capture(device, into),
-            None => Put::Failed,
-        };
+        let put = capture_files(&mut self.devices.files, device, into);
         if put == Put::Failed {
             self.device_faults = self.device_faults.saturating_add(1);
         }
@@ -180,15 +179,13 @@ impl<R: Net + Clock + Files + Drop> World for MioWorld<R> {
         ensures faults { CountsOne (result ≡ Put.Failed) self.old.device_faults self.new.device_faults }
         ensures leads { RealLeadsTo self.old self.new }
         ensures silence { EmitsAs (silent_at self.old.silent device) result }
-        ensures rest { self.new ≡ record self.old { device_faults = self.new.device_faults } }
+        ensures files { EmitsFiles (silent_at self.old.silent device) device result sound.now self.old.files self.new.files }
+        ensures rest { self.new ≡ record self.old { files = self.new.files; device_faults = self.new.device_faults } }
     {
-        if silent_at(&self.silent, device).is_some() {
+        if silent_at(&self.devices.silent, device).is_some() {
             return Put::Done;
         }
-        let put = match &mut self.file_devices {
-            Some(file_devices) => file_devices.emit(device, sound),
-            None => Put::Failed,
-        };
+        let put = emit_files(&mut self.devices.files, device, sound);
         if put == Put::Failed {
             self.device_faults = self.device_faults.saturating_add(1);
         }
@@ -239,20 +236,18 @@ impl<R: Net + Clock + Files + Drop> Live for MioWorld<R> {
         ensures attaches { result ≡ Ready.Done → (device < 8) × (is_paced self.old.round device ≡ false) }
         ensures round { self.new.round ≡ round_after result self.old.round device spec.now.rate }
         ensures silent { self.new.silent ≡ silent_behind result kind.entry self.old.silent device spec.now.ty }
-        ensures rest { self.new
-            ≡ record self.old { silent = self.new.silent; round = self.new.round; device_faults = self.new.device_faults } }
+        ensures files { AttachesFiles result kind.entry device spec.now.ty self.old.files self.new.files }
+        ensures rest { self.new ≡ record self.old
+            { silent = self.new.silent; files = self.new.files; round = self.new.round; device_faults = self.new.device_faults } }
         ensures counts { CountsStand self.old self.new }
     {
-        let attached = put_there(
-            &self.rt,
-            alloc,
-            device,
-            spec,
+        let asked = NewDevice {
+            number: device,
+            ty: spec.ty,
+            rate: spec.rate,
             kind,
-            &mut self.silent,
-            &mut self.file_devices,
-            &mut self.round,
-        );
+        };
+        let attached = self.devices.attach(&self.rt, alloc, asked);
         if attached == Ready::Failed {
             self.device_faults = self.device_faults.saturating_add(1);
         }
@@ -277,7 +272,7 @@ impl<R: Net + Clock + Files + Drop> Live for MioWorld<R> {
             more,
             &mut self.sockets,
             &mut self.links,
-            &mut self.round,
+            &mut self.devices.round,
         );
         match next {
             Some(wake) => Waited::Woke(wake),
@@ -286,17 +281,6 @@ impl<R: Net + Clock + Files + Drop> Live for MioWorld<R> {
                 Waited::Failed
             }
         }
-    }
-}
-
-/// What a refusal of the system is to a caller.
-fn refusal(error: &io::Error) -> Ready
-    ensures { result ≢ Ready.Done }
-{
-    if error.kind() == ErrorKind::OutOfMemory {
-        Ready::OutOfMemory
-    } else {
-        Ready::Failed
     }
 }
 
@@ -322,72 +306,23 @@ fn begin_to_listen<R: Net>(
     }
 }
 
-/// Attaches a device, if it is not yet.
-fn put_there<R: Files>(
-    rt: &R,
-    alloc: Global,
-    device: u8,
-    spec: &DeviceSpec,
-    kind: Kind<'_>,
-    silent: &mut [Option<SampleType>],
-    file_devices: &mut Option<FileDevices<R::File>>,
-    round: &mut Round,
-) -> Ready
-    ensures attaches { result ≡ Ready.Done → (device < 8) × (is_paced round.old device ≡ false) }
-    ensures round { round.new ≡ round_after result round.old device spec.now.rate }
-    ensures silent { silent.new ≡ silent_behind result kind.entry silent.old device spec.now.ty }
+/// What a clock shows, in nanoseconds and rounded down to whole milliseconds: no frame ticks before its time, and a round that
+/// follows another within the millisecond finds nothing due, and sleeps.
+fn whole_millis(shown: Duration) -> Option<u64>
+    ensures { MatchOption result (2 ^ 64 ≤ as_nanos shown) (λ nanos. nanos ≡ whole_millis (as_nanos shown)) }
 {
-    if device >= 8 || round.is_paced(device) {
-        return Ready::Failed;
-    }
-    match kind {
-        Kind::Silent => {
-            silence(silent, device, spec.ty);
-            round.add(device, spec.rate);
-            Ready::Done
-        }
-        Kind::Files { input, output } => match open_files(
-            rt,
-            alloc,
-            device,
-            spec.ty,
-            input,
-            output,
-            file_devices,
-        ) {
-            Ok(()) => {
-                round.add(device, spec.rate);
-                Ready::Done
-            }
-            Err(e) => refusal(&e),
-        },
-    }
+    let nanos = u64::try_from(shown.as_nanos()).ok()?;
+    Some(nanos - nanos % NANOS_A_MILLISECOND)
 }
 
-/// Opens the files of a device.
-fn open_files<R: Files>(
-    rt: &R,
-    alloc: Global,
-    device: u8,
-    ty: SampleType,
-    input: &str,
-    output: &str,
-    file_devices: &mut Option<FileDevices<R::File>>,
-) -> io::Result<()> {
-    if file_devices.is_none() {
-        *file_devices = Some(FileDevices::new(alloc)?);
+/// The reading of the clock that a round goes by: its own, or one that is taken now.
+fn reading<R: Clock>(rt: &R, round: &Round) -> Option<u64>
+    ensures { IfSome result (λ nanos. IsReadingBy round.now.reading nanos) }
+{
+    match round.reading() {
+        Some(taken) => Some(taken),
+        None => whole_millis(rt.monotonic().ok()?),
     }
-    let file_device = FileDevice::open(rt, ty, input, output)?;
-    if let Some(file_devices) = file_devices {
-        file_devices.put(device, file_device);
-    }
-    Ok(())
-}
-
-/// The nanoseconds of the clock.
-fn reading<R: Clock>(rt: &R) -> Option<u64> {
-    let since = rt.monotonic().ok()?;
-    u64::try_from(since.as_nanos()).ok()
 }
 
 /// What a poll finds first. A new round over the devices begins behind it.
@@ -436,7 +371,7 @@ fn next_wake<R: Clock>(
     if let Some(wake) = take_ready(links) {
         return Some(wake);
     }
-    let nanos = reading(rt)?;
+    let nanos = reading(rt, round)?;
     if let Some((device, frames)) = round.next_tick(nanos) {
         return Some(Wake::Ticked(device, frames));
     }
@@ -444,7 +379,9 @@ fn next_wake<R: Clock>(
 }
 
 /// How long a poll waits at most.
-fn pause(more: bool, ticked: bool) -> Duration {
+fn pause(more: bool, ticked: bool) -> Duration
+    ensures { as_nanos result ≡ pause_of more ticked }
+{
     if more || ticked {
         Duration::ZERO
     } else {

@@ -1,5 +1,5 @@
 // A round over the devices, in which each has the frames that are due of it.
-ghost use Rattle.std.specs.Prelude.{◌≡◌, ◌≤◌, ◌<◌, length};
+ghost use Rattle.std.specs.Prelude.{◌≡◌, ◌<◌};
 ghost use Rattle.af_live.specs.Pacing.{begun};
 ghost use Rattle.af_live.specs.Rounds.{due_of, read_at, new_round, round_with, round_begun, is_paced, GoesOn};
 
@@ -8,12 +8,14 @@ use crate::Pace;
 /// How many devices there may be.
 pub(crate) const MOST_DEVICES: usize = 8;
 
-/// The paces of the devices that are attached, the device that the round comes to next, and whether one ticked in it.
+/// The paces of the devices that are attached, the device that the round comes to next, whether one ticked in it, and the reading of
+/// the clock that it goes by, once it has come to a device.
 #[derive(Drop)]
 pub(crate) struct Round {
     paces: [Option<Pace>; 8],
     next: usize,
     ticked: bool,
+    reading: Option<u64>,
 }
 
 impl Round {
@@ -25,6 +27,7 @@ impl Round {
             paces: [None, None, None, None, None, None, None, None],
             next: 0,
             ticked: false,
+            reading: None,
         }
     }
 
@@ -46,10 +49,19 @@ impl Round {
         self.paces[device as usize] = Some(Pace::new(rate));
     }
 
-    /// The next device of the round of which a frame is due at this reading of the clock, and how many are.
+    /// The reading of the clock that the round goes by, once it has come to a device.
+    pub fn reading(&self) -> Option<u64>
+        ensures { result ≡ self.now.reading }
+    {
+        self.reading
+    }
+
+    /// The next device of the round of which a frame is due at this reading of the clock, and how many are. The round goes by
+    /// it from now on.
     pub fn next_tick(&mut self, nanos: u64) -> Option<(u8, u32)>
         ensures { GoesOn nanos self.old result self.new }
     {
+        self.reading = Some(nanos);
         while self.next < MOST_DEVICES {
             let device = self.next;
             self.next += 1;
@@ -75,6 +87,7 @@ impl Round {
     {
         self.next = 0;
         self.ticked = false;
+        self.reading = None;
     }
 }
 

@@ -27,7 +27,7 @@ enum Call {
 // A call of a world that is of a device, and what it gives.
 #[derive(Drop)]
 enum Asked {
-    Attach(u8, Kind<'static>, Ready),
+    Attach(u8, SampleType, Kind<'static>, Ready),
     // Of five bytes.
     Capture(u8, Put, &'static [u8; 5]),
     Emit(u8, &'static [u8], Put),
@@ -61,9 +61,15 @@ fn waited<W: Live>(world: &mut W) -> Waited {
     Waited::Woke(Wake::Idle)
 }
 
-fn attached<W: Live>(alloc: Global, world: &mut W, device: u8, kind: Kind<'_>) -> Ready {
+fn attached<W: Live>(
+    alloc: Global,
+    world: &mut W,
+    device: u8,
+    ty: SampleType,
+    kind: Kind<'_>,
+) -> Ready {
     let spec = DeviceSpec {
-        ty: SampleType::Alaw,
+        ty,
         rate: 8000,
         start: 0,
         line: false,
@@ -136,8 +142,12 @@ fn assert_call<W: Live>(rt: &impl Abort, alloc: Global, world: &mut W, at: usize
 
 fn assert_asked<W: Live>(rt: &impl Abort, alloc: Global, world: &mut W, at: usize, asked: &Asked) {
     match asked {
-        Asked::Attach(device, kind, wanted) => {
-            holds(rt, at, attached(alloc, world, *device, *kind) == *wanted);
+        Asked::Attach(device, ty, kind, wanted) => {
+            holds(
+                rt,
+                at,
+                attached(alloc, world, *device, *ty, *kind) == *wanted,
+            );
         }
         Asked::Capture(device, wanted, bytes) => {
             assert_capture(rt, world, at, *device, *wanted, bytes.as_slice());
@@ -291,24 +301,29 @@ const THERE: Kind<'static> = Kind::Files {
     output: "af_world_output",
 };
 
-const DEVICES: [Act; 16] = [
+const DEVICES: [Act; 21] = [
     Act::World(Call::Listen("localhost:0", Ready::Done)),
-    Act::Device(Asked::Attach(1, MISSING, Ready::Failed)),
-    Act::Device(Asked::Attach(1, THERE, Ready::Done)),
-    Act::Device(Asked::Attach(1, THERE, Ready::Failed)),
-    Act::Device(Asked::Attach(0, Kind::Silent, Ready::Done)),
-    Act::Device(Asked::Attach(8, Kind::Silent, Ready::Failed)),
+    Act::Device(Asked::Attach(1, SampleType::Alaw, MISSING, Ready::Failed)),
+    Act::Device(Asked::Attach(1, SampleType::Alaw, THERE, Ready::Done)),
+    Act::Device(Asked::Attach(1, SampleType::Alaw, THERE, Ready::Failed)),
+    Act::Device(Asked::Attach(2, SampleType::Mu255, THERE, Ready::Done)),
+    Act::Device(Asked::Attach(0, SampleType::Alaw, Kind::Silent, Ready::Done)),
+    Act::Device(Asked::Attach(8, SampleType::Alaw, Kind::Silent, Ready::Failed)),
     Act::World(Call::Wait(Waited::Woke(Wake::Ticked(0, 0)))),
     Act::World(Call::Wait(Waited::Woke(Wake::Ticked(1, 0)))),
-    // silence in A-law is 213
+    Act::World(Call::Wait(Waited::Woke(Wake::Ticked(2, 0)))),
+    // silence in A-law is 213, and in mu-law 255
     Act::Device(Asked::Capture(0, Put::Done, &[213; 5])),
     Act::Device(Asked::Capture(1, Put::Done, &[97, 98, 99, 213, 213])),
+    Act::Device(Asked::Capture(1, Put::Done, &[213; 5])),
+    Act::Device(Asked::Capture(2, Put::Done, &[97, 98, 99, 255, 255])),
+    Act::Device(Asked::Capture(2, Put::Done, &[255; 5])),
     Act::Device(Asked::Emit(1, b"xy", Put::Done)),
     Act::Device(Asked::Emit(1, b"z", Put::Done)),
     Act::Device(Asked::Emit(0, b"gone", Put::Done)),
     Act::Device(Asked::Hook(1, Put::Done)),
-    Act::Device(Asked::Capture(2, Put::Failed, b"-----")),
-    Act::Device(Asked::Emit(2, b"x", Put::Failed)),
+    Act::Device(Asked::Capture(3, Put::Failed, b"-----")),
+    Act::Device(Asked::Emit(3, b"x", Put::Failed)),
 ];
 
 // An input of three bytes, and an output that has a byte already.

@@ -1,5 +1,5 @@
 -- Requests of a link, at whatever place it is.
-use Rattle.std.proofs.Common.{◌≡◌, ℕ, ℤ, Bool, true, false, not, nat_lt, nat_le, ◌&&◌, cond, min, Ok, Err, [], ◌∷◌, ◌+◌, ◌-◌, ◌*◌, ◌%◌, ◌^◌, ◌<◌, ◌≤◌, List, ◌++◌, length, slice_get, slice_set, refl, sym, ap, ◌∙◌, subst, arith}
+use Rattle.std.proofs.Common.{◌≡◌, ℕ, ℤ, Bool, true, false, not, nat_lt, nat_le, ◌&&◌, cond, min, Ok, Err, [], ◌∷◌, ◌+◌, ◌-◌, ◌*◌, ◌%◌, ◌^◌, ◌<◌, ◌≤◌, List, ◌++◌, length, get_or, slice_get, slice_set, refl, sym, ap, ◌∙◌, subst, arith}
 use Rattle.std.proofs.lemmas.Bool.Decides.{nat_tests}
 use Rattle.std.specs.declared.option.Option.{Option}
 use Rattle.std.specs.declared.option.Option.TheVariants.{None, Some}
@@ -26,8 +26,8 @@ use Rattle.af_model.specs.Perform.{tell_time}
 use Rattle.af_model.proofs.BoolTestLemmas.{both-true}
 use Rattle.af_state.specs.Kept.{KeptDevice, StandsForDevice, StandForDevices}
 use Rattle.af_state.specs.Deferrals.{KeptDeferral, IsNear, StandsForDeferral, StandForDeferrals, worded}
-use Rattle.af_state.specs.Environment.{StandsForEnvironment, StandsForLink, ChangesLinkIn, ChangesLink, kept}
-use Rattle.af_state.proofs.DeviceLemmas.{Found, found, not_found, same_set, state_there, stands_length, stands_set}
+use Rattle.af_state.specs.Environment.{KeptEnvironment, StandsForEnvironment, StandsForLink, ChangesLinkIn, ChangesLink, kept}
+use Rattle.af_state.proofs.DeviceLemmas.{Found, device_at, found, not_found, same_set, state_there, stands_length, stands_set}
 use Rattle.af_state.proofs.PlayLemmas.{before-same, within-same, play_beyond-same, record_beyond-same, near_start, start_meant, horizon_bounds, completes}
 use Rattle.af_state.proofs.DeferredRequestLemmas.{play_is, record_is}
 use Rattle.af_state.proofs.DeferralLemmas.{waits_push, waits_set}
@@ -80,6 +80,13 @@ stands_here ds ks a d x s h here there =
     let r : Found a.devices d x = found ds a.devices d x here h.0 in
     let same : r.state ≡ s = let both : Some r.state ≡ Some s = sym r.here ∙ there in cc in
     subst (StandsForDevice x) same r.stands
+
+-- the same of one that is looked up at the number
+pub stands_at : (e : KeptEnvironment) (ds : List KeptDevice) (ks : List KeptDeferral) (a : EnvironmentState) (i d : ℕ) (x : KeptDevice) (s : DeviceState) → kept ds ks ≡ e → i ≡ d → d < length e.devices → x ≡ get_or ds i x →
+    StandsForEnvironment (kept ds ks) a → slice_get a.devices d ≡ Some s → StandsForDevice x s
+stands_at e ds ks a i d x s is number low found h there =
+    let some : d < length ds = subst (λ (v : KeptEnvironment). d < length v.devices) (sym is) low in
+    stands_here ds ks a d x s h (device_at ds i d x number (omega (arith, some, number)) ∙ ap (λ y. Some y) (sym found)) there
 
 -- a device that is there
 pub any_device : (ds ds' : List KeptDevice) (ks ks' : List KeptDeferral) (l l' : LinkState) (opcode d : ℕ) (f : DeviceState → OpenLink → OpenLink) → d < length ds →

@@ -1,4 +1,4 @@
-use Rattle.std.proofs.Common.{◌≡◌, ◌<◌, ◌≤◌, ◌^◌, ◌∙◌, ◌++◌, ◌∷◌, [], ap, sym, subst, length, refl, arith, rules}
+use Rattle.std.proofs.Common.{◌≡◌, ◌<◌, ◌≤◌, ◌^◌, ◌∙◌, ◌++◌, ◌∷◌, [], ap, sym, subst, length, refl, rules}
 use Rattle.std.specs.declared.option.Option.TheVariants.{Some}
 use Rattle.std.specs.Prelude.{slice_get}
 use Rattle.std.proofs.lemmas.List.{with_items_is}
@@ -6,8 +6,7 @@ use Rattle.af_buffers.specs.PlayBuffer.{accepted_at}
 use Rattle.af_model.specs.State.{deferred_play, open_link}
 use Rattle.af_model.specs.Play.{accepting, in_devices, start_play, tell_played}
 use Rattle.af_state.specs.Environment.{StandsForLink, KeptEnvironment, StandsForEnvironment, kept}
-use Rattle.af_state.proofs.DeviceLemmas.{device_at}
-use Rattle.af_perform.proofs.LinkRequestLemmas.{play_started, play_waits, stands_here}
+use Rattle.af_perform.proofs.LinkRequestLemmas.{play_started, play_waits, stands_at}
 use Rattle.af_perform.proofs.LeavesLemmas.{leaves_opened, leaves_waiting}
 use Rattle.af_perform.proofs.play.accept_or_defer.Goals as goal
 
@@ -19,9 +18,7 @@ returns-then-frames-frames_within-clause-step c = λ x bytes is a s h there.
     let word : p.start.0 < 2 ^ 32 = search rules in
     let environment = subst (λ (e : KeptEnvironment). StandsForEnvironment e a) (sym c.environment.view_is) h in
     let known : slice_get a.devices p.device ≡ Some s = ap (λ d. slice_get a.devices d) is.device ∙ there in
-    let low : p.device < length ds = subst (λ (e : KeptEnvironment). p.device < length e.devices) (sym c.environment.view_is) c.requires.there in
-    let here = device_at ds _ _ c.index-device.result.now c.from.ensures (omega (arith, low, c.from.ensures)) ∙ ap (λ d. Some d) (sym c.index-device.ensures) in
-    let stands = stands_here ds ks a p.device _ s environment here known in
+    let stands = stands_at c.args.environment.now ds ks a _ p.device c.index-device.result.now s c.environment.view_is c.from.ensures c.requires.there c.index-device.ensures environment known in
     let lent = subst (λ xs. StandsForEnvironment (kept xs ks) a) (sym c.deref_mut.ensures.value) environment in
     subst (λ xs. StandsForLink (kept xs ks) c.accept.new.link (start_play c.args.number p.quiet x p.start.0 bytes s (open_link a c.args.link.now))) (sym (with_items_is c.environment.inside.devices c.accept.new.devices (search rules)))
     (play_started ds c.accept.new.devices ks _ c.args.link.now _ c.args.number p.quiet x p.start.0 bytes p.sound.now a s word stands is.sound is.frames
@@ -42,9 +39,7 @@ returns-else-frames-frames_within-clause-step c = λ x bytes is a s h there.
     let word : p.start.0 < 2 ^ 32 = search rules in
     let environment = subst (λ (e : KeptEnvironment). StandsForEnvironment e a) (sym c.environment.view_is) h in
     let known : slice_get a.devices p.device ≡ Some s = ap (λ d. slice_get a.devices d) is.device ∙ there in
-    let low : p.device < length ds = subst (λ (e : KeptEnvironment). p.device < length e.devices) (sym c.environment.view_is) c.requires.there in
-    let here = device_at ds _ _ c.index-device.result.now c.from.ensures (omega (arith, low, c.from.ensures)) ∙ ap (λ d. Some d) (sym c.index-device.ensures) in
-    let stands = stands_here ds ks a p.device _ s environment here known in
+    let stands = stands_at c.args.environment.now ds ks a _ p.device c.index-device.result.now s c.environment.view_is c.from.ensures c.requires.there c.index-device.ensures environment known in
     play_waits ds ks _ _ c.args.link.now c.args.number p.quiet x p.start.0 bytes p.sound.now c.play_due_in-left.result a s word environment there stands is.sound is.frames c.requires.few
     (subst (λ n. n < length p.sound.now) c.frames_within.ensures c.if-frames-frames_within.false) c.play_due_in-left.ensures
     (c.begin_play.ensures

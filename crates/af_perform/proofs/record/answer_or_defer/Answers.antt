@@ -1,10 +1,9 @@
-use Rattle.std.proofs.Common.{◌<◌, ◌^◌, ◌∙◌, ◌&&◌, nat_lt, ap, sym, subst, length, refl, arith, rules}
+use Rattle.std.proofs.Common.{◌<◌, ◌^◌, ◌∙◌, ◌&&◌, nat_lt, ap, sym, subst, length, refl, rules}
 use Rattle.std.specs.declared.option.Option.TheVariants.{Some}
 use Rattle.af_time.specs.DeviceTime.{unwrap}
 use Rattle.af_model.specs.Record.{give_record, given_frames}
 use Rattle.af_state.specs.Environment.{KeptEnvironment, ChangesLink, StandsForEnvironment}
-use Rattle.af_state.proofs.DeviceLemmas.{device_at}
-use Rattle.af_perform.proofs.LinkRequestLemmas.{record_started, record_waits, stands_here}
+use Rattle.af_perform.proofs.LinkRequestLemmas.{record_started, record_waits, stands_at}
 use Rattle.af_perform.proofs.LeavesLemmas.{leaves_same, leaves_waiting}
 use Rattle.af_perform.proofs.record.answer_or_defer.Goals as goal
 
@@ -15,9 +14,7 @@ returns-then-is_to_wait-clause-step c = λ bytes all a s h there.
     let ks = c.environment.inside.waits in
     let word : r.start.0 < 2 ^ 32 = search rules in
     let environment = subst (λ (e : KeptEnvironment). StandsForEnvironment e a) (sym c.environment.view_is) h in
-    let low : r.context.device < length ds = subst (λ (e : KeptEnvironment). r.context.device < length e.devices) (sym c.environment.view_is) c.requires.there in
-    let here = device_at ds _ _ c.index-device.result.now c.from.ensures (omega (arith, low, c.from.ensures)) ∙ ap (λ d. Some d) (sym c.index-device.ensures) in
-    let stands = stands_here ds ks a r.context.device _ s environment here there in
+    let stands = stands_at c.args.environment.now ds ks a _ r.context.device c.index-device.result.now s c.environment.view_is c.from.ensures c.requires.there c.index-device.ensures environment there in
     record_waits ds ks _ c.index-device.result.now c.args.link.now c.args.number r.blocking r.context r.start.0 bytes r.frames _ a s word environment there stands all c.requires.few
     (ap (λ n. r.blocking && nat_lt n r.frames) (sym c.frames_before.ensures) ∙ sym c.is_to_wait.ensures ∙ c.if-is_to_wait.true) c.record_due_in-left.ensures c.begin_record.ensures
 
@@ -33,9 +30,7 @@ returns-else-is_to_wait-clause-step c = λ bytes all a s h there.
     let ks = c.environment.inside.waits in
     let word : r.start.0 < 2 ^ 32 = search rules in
     let environment = subst (λ (e : KeptEnvironment). StandsForEnvironment e a) (sym c.environment.view_is) h in
-    let low : r.context.device < length ds = subst (λ (e : KeptEnvironment). r.context.device < length e.devices) (sym c.environment.view_is) c.requires.there in
-    let here = device_at ds _ _ c.index-device.result.now c.from.ensures (omega (arith, low, c.from.ensures)) ∙ ap (λ d. Some d) (sym c.index-device.ensures) in
-    let stands = stands_here ds ks a r.context.device _ s environment here there in
+    let stands = stands_at c.args.environment.now ds ks a _ r.context.device c.index-device.result.now s c.environment.view_is c.from.ensures c.requires.there c.index-device.ensures environment there in
     record_started e.devices e.waits c.index-device.result.now c.args.link.now _ c.args.number r.blocking r.context r.start.0 bytes r.frames a s word h stands all
     (ap (λ n. r.blocking && nat_lt n r.frames) (sym c.frames_before.ensures) ∙ sym c.is_to_wait.ensures ∙ c.if-is_to_wait.false)
     (subst (λ n. ChangesLink (give_record r.context (unwrap s.now r.start.0) (given_frames r.blocking s r.start.0 n) s) c.args.link.now c.answer_available.new.link) all (c.answer_available.ensures.step s stands))

@@ -1,4 +1,4 @@
-use Rattle.std.proofs.Common.{◌<◌, ◌∙◌, ap, refl, sym, length, arith}
+use Rattle.std.proofs.Common.{◌<◌, ◌∙◌, ap, refl, sym, length}
 use Rattle.af_request.specs.Answer.{plain}
 use Rattle.af_model.specs.Reply.{replied}
 use Rattle.af_model.specs.DeviceRequests.{controlling, controls_refusal, set_device_controls}

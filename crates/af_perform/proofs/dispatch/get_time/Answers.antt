@@ -1,4 +1,4 @@
-use Rattle.std.proofs.Common.{◌∙◌, ap, refl, sym, arith, rules}
+use Rattle.std.proofs.Common.{◌∙◌, ap, refl, sym, rules}
 use Rattle.af_state.proofs.DeviceLemmas.{device_at}
 use Rattle.std.specs.declared.option.Option.TheVariants.{Some}
 use Rattle.af_model.specs.Perform.{tell_time}

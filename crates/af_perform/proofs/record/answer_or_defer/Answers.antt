@@ -1,5 +1,4 @@
-use Rattle.std.proofs.Common.{◌<◌, ◌^◌, ◌∙◌, ◌&&◌, nat_lt, ap, sym, subst, length, refl, rules}
-use Rattle.std.specs.declared.option.Option.TheVariants.{Some}
+use Rattle.std.proofs.Common.{◌<◌, ◌^◌, ◌∙◌, ◌&&◌, nat_lt, ap, sym, subst, refl, rules}
 use Rattle.af_time.specs.DeviceTime.{unwrap}
 use Rattle.af_model.specs.Record.{give_record, given_frames}
 use Rattle.af_state.specs.Environment.{KeptEnvironment, ChangesLink, StandsForEnvironment}

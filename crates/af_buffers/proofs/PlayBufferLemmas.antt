@@ -9,7 +9,7 @@ use Rattle.af_time.specs.DeviceTime.{unwrap}
 use Rattle.af_sample.specs.Heard.{AcceptedPlay, heard, with_entry}
 use Rattle.af_sample.proofs.HeardLemmas.{heard-push}
 use Rattle.af_buffers.specs.Horizons.{whole_time}
-use Rattle.af_buffers.specs.PlayBuffer.{Next, accepted_at, accepted_by, frames_beyond, frames_within, Plays, HandsOut, Hears}
+use Rattle.af_buffers.specs.PlayBuffer.{Next, accepted_at, accepted_by, frames_beyond, frames_within, CoversNoneFrom, Plays, HandsOut, Hears}
 use Rattle.af_buffers.proofs.HorizonLemmas.{get_or-silence}
 use Rattle.af_buffers.proofs.AcceptedPlayLemmas.{covers_past, not_covered, with_entry-later, unwrap-same}
 
@@ -50,8 +50,8 @@ hears_play b c accepted now start samples preempt h word within p =
             ∙ sym (not_covered (accepted_at now start samples preempt) (now + j) (heard accepted (now + j)) (covers_past (accepted_at now start samples preempt) (now + j) (omega arith)))
             ∙ sym (heard-push accepted (accepted_at now start samples preempt) (now + j))
       ];
-      within = subst (λ m. All (λ e. e.start + length e.samples ≤ now + m) (accepted ++ accepted_at now start samples preempt ∷ [])) (sym size)
-          (All-push (λ e. e.start + length e.samples ≤ now + length b.next) accepted (accepted_at now start samples preempt) h.within within);
+      within = subst (λ m. All (λ e. CoversNoneFrom e (now + m)) (accepted ++ accepted_at now start samples preempt ∷ [])) (sym size)
+          (All-push (λ e. CoversNoneFrom e (now + length b.next)) accepted (accepted_at now start samples preempt) h.within (λ t past. covers_past (accepted_at now start samples preempt) t (omega arith)));
     }
 
 -- how many frames end within the horizon is the same in whole times
@@ -92,7 +92,7 @@ hears_hand_out b c accepted now given h o =
                 ∙ get_or-silence (length given) (j - (length b.next - length given)) ∙ sym (get_or_past b.next (length given + j) (pos 0) past)
           ]
           ∙ h.each (length given + j) ∙ ap (heard accepted) (omega arith);
-      within = λ k d low. let one = h.within k d low in omega arith;
+      within = λ k d low t past. h.within k d low t (omega arith);
     }
 
 -- what is handed out is heard

@@ -59,13 +59,17 @@ pub record HoldsNext (b : Next) : Type 0 where
   pub next : (j : ℕ) → j < length b.next → cell b.ring (b.time + j) ≡ slice_index_or b.next j (pos 0)
   pub silent : (j : ℕ) → length b.next ≤ j → j < length b.ring → cell b.ring (b.time + j) ≡ pos 0
 
+-- an accepted play covers no time from one on; one without a sample covers none at all
+abbrev pub CoversNoneFrom : AcceptedPlay → ℕ → Type 0
+CoversNoneFrom e from = (t : ℕ) → from ≤ t → covers e t ≡ false
+
 -- a buffer stands for what is heard from a whole time on: its samples are those that the accepted
--- plays make, none of which goes past its horizon
+-- plays make, none of which covers a time past its horizon
 pub record Hears (b : Next) (accepted : List AcceptedPlay) (now : ℕ) : Type 0 where
   pub late : 2 ^ 32 ≤ now
   pub time : b.time ≡ now % 2 ^ 32
   pub each : (j : ℕ) → slice_index_or b.next j (pos 0) ≡ heard accepted (now + j)
-  pub within : All (λ e. e.start + length e.samples ≤ now + length b.next) accepted
+  pub within : All (λ e. CoversNoneFrom e (now + length b.next)) accepted
 
 -- samples are laid over the cells from a time on: mixed in, or put there
 abbrev pub OverlaysRun : List ℤ → List ℤ → ℕ → List ℤ → Bool → Type 0

@@ -22,7 +22,7 @@ use Rattle.af_model.proofs.SlotLemmas.{some_link, slot_link, links_of-set, lengt
 use Rattle.af_state.specs.Deferrals.{KeptDeferral, has_waiting}
 use Rattle.af_state.specs.Environment.{StandsForLink, KeptEnvironment, StandsForEnvironment}
 use Rattle.af_state.proofs.DeferralLemmas.{same_waiting}
-use Rattle.af_core.specs.Stands.{AreOrderly, AreSettled, StandsForSlot, IsSettled, IsSettledSlot, Kept, StandsFor, kept_of, writes_left}
+use Rattle.af_core.specs.Stands.{AreSettled, StandsForSlot, IsSettled, IsSettledSlot, Kept, StandsFor, kept_of, writes_left}
 use Rattle.af_core.specs.Simulates.{Simulates}
 use Rattle.af_core.proofs.SimulationLemmas.{simulates_nothing, simulates_one, simulates_more, simulates_then}
 
@@ -221,14 +221,6 @@ settled_set ks ks' links k link h others one j l e =
           let apart : j ≢ k = grind (arith, nat_tests) in
           subst (λ b. IsSettled b l) (sym (others j apart)) (h j l (sym (get-set_other links k j link apart) ∙ e))
     ] refl
-
--- a slot whose link is settled leaves the slots orderly
-pub one_changed : (ks : List KeptDeferral) (links : List (Option LinkState)) (k : ℕ) (link : Option LinkState) → AreOrderly ks links → IsSettledSlot (has_waiting ks k) link → AreOrderly ks (slice_set links k link)
-one_changed ks links k link orderly settled = record {
-  links = length-set links k link ∙ orderly.links;
-  settled = settled_set ks ks links k link orderly.settled (λ j apart. refl) settled;
-  later = orderly.later;
-}
 
 pub settled_here : (ks : List KeptDeferral) (links : List (Option LinkState)) (k n : ℕ) (d link : Option LinkState) → AreSettled ks links → n ≡ k → link ≡ get_or links k d → k < length links → IsSettledSlot (has_waiting ks n) link
 settled_here ks links k n d link h number is low l e =

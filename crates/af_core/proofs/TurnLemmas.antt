@@ -1,5 +1,5 @@
 -- A wake and then all links are a turn.
-use Rattle.std.proofs.Common.{◌≡◌, ℕ, zero, suc, Bool, ℤ, pos, true, false, not, cond, ◌==◌, ◌<◌, ◌≤◌, ◌+◌, ◌*◌, List, [], ◌∷◌, ◌++◌, length, map, take, get_or, slice_get, slice_set, replicate, is_some, IfSome, IsSomeAnd, refl, sym, ap, ◌∙◌, subst, arith, append_assoc}
+use Rattle.std.proofs.Common.{◌≡◌, ℕ, zero, suc, Bool, ℤ, pos, true, false, not, cond, ◌==◌, ◌<◌, ◌≤◌, ◌+◌, ◌*◌, List, [], ◌∷◌, ◌++◌, length, map, take, get_or, slice_get, slice_set, replicate, is_some, IfSome, IsSomeAnd, refl, sym, ap, ◌∙◌, subst, arith, append_assoc, length-set}
 use Rattle.std.proofs.lemmas.List.{length-map, length-replicate, take_more}
 use Rattle.std.proofs.lemmas.List.Elements.{All-cons}
 use Rattle.std.specs.List.{All}
@@ -24,13 +24,15 @@ use Rattle.af_model.proofs.RunLemmas.{wakes-append-none}
 use Rattle.af_model.proofs.WakeLemmas.{turn_lines}
 use Rattle.af_model.proofs.SlotLemmas.{slot_link, links_of-set, some_link}
 use Rattle.af_state.specs.Kept.{KeptDevice, StandsForDevice, StandForDevices}
-use Rattle.af_state.specs.Deferrals.{KeptDeferral, kept_passed, waits_of, AreLater, StandForDeferrals}
-use Rattle.af_core.specs.Stands.{AreOrderly, AreSettled, IsBetweenPhases, IsSettled, Kept, Stands, StandsFor, StandForWaiting, Turns, kept_lines, outline_of}
+use Rattle.af_state.specs.Deferrals.{KeptDeferral, has_waiting, kept_passed, waits_of, AreLater, StandForDeferrals}
+use Rattle.af_state.specs.Environment.{KeptEnvironment}
+use Rattle.af_core.specs.Stands.{AreOrderly, AreSettled, IsBetweenPhases, IsSettled, IsSettledSlot, Kept, Stands, StandsFor, StandForWaiting, Turns, kept_lines, kept_of, outline_of}
 use Rattle.af_sample.specs.SampleTypes.{width_of}
 use Rattle.af_sample.proofs.RunLemmas.{length-samples}
 use Rattle.af_core.specs.Simulates.{Simulates}
 use Rattle.af_core.specs.Live.{Passes, Ticks, TicksLive}
 use Rattle.af_io.proofs.AppendedLemmas.{appended_none, appended_on}
+use Rattle.af_core.proofs.LinkPhaseLemmas.{settled_set}
 use Rattle.af_core.proofs.SimulationLemmas.{simulates_nothing}
 use Rattle.af_state.proofs.DeviceLemmas.{found, stands_length, stands_set}
 use Rattle.af_state.proofs.DeferralLemmas.{waits_passed}
@@ -93,6 +95,10 @@ same_lines [] (s ∷ ss) h = absurd h
 same_lines (d ∷ ds) [] h = absurd h
 same_lines (d ∷ ds) (s ∷ ss) h = ap (λ (line : Option Phone). is_some line ∷ lines_of ss) (sym h.0.line) ∙ ap (λ l. is_some d.line ∷ l) (same_lines ds ss h.1)
 
+-- which wakes may come is what the state says
+pub same_outline : (kept : Kept) (s : State) → StandsFor kept s → outline s ≡ outline_of kept
+same_outline kept s h = ap (λ n. outline_with n (links_of s.slots)) (same_lines kept.devices s.devices h.devices) ∙ ap (λ l. outline_with (kept_lines kept.devices) l) h.links
+
 -- there are as many devices behind a turn as before
 same_count : (a b : State) (ds es : List KeptDevice) → lines_of b.devices ≡ lines_of a.devices → StandForDevices ds a.devices → StandForDevices es b.devices → length es ≡ length ds
 same_count a b ds es e h g =
@@ -103,7 +109,7 @@ pub turns : (a b c d : Option Log) (wake : Wake) (kept kept' kept'' : Kept) → 
     Simulates b c (StandsFor kept) (StandsFor kept') (wake_phase wake) parsed → Simulates c d (StandsFor kept') (StandsFor kept'') serve_and_hook parsed → Turns a d wake kept kept''
 unfolding turn
 turns a b c d wake kept kept' kept'' fit old new told w e =
-    let open_to : (s : State) → StandsFor kept s → fits (outline s) wake ≡ true = λ s h. ap (λ o. fits o wake) (same_outline s h) ∙ fit in
+    let open_to : (s : State) → StandsFor kept s → fits (outline s) wake ≡ true = λ s h. ap (λ o. fits o wake) (same_outline kept s h) ∙ fit in
     let leads : (s : State) (h : StandsFor kept s) (more : Log) → turn s (Woke wake ∷ (w.part ++ e.part) ++ more) ≡ parsed (e.each (w.each s h).state (w.each s h).stands).state more = λ s h more.
     let first = w.each s h in
     let second = e.each first.state first.stands in
@@ -129,9 +135,6 @@ turns a b c d wake kept kept' kept'' fit old new told w e =
             is_turn = leads s h.kept;
           };
     }
-  where
-    same_outline : (s : State) → StandsFor kept s → outline s ≡ outline_of kept
-    same_outline s h = ap (λ n. outline_with n (links_of s.slots)) (same_lines kept.devices s.devices h.devices) ∙ ap (λ l. outline_with (kept_lines kept.devices) l) h.links
 
 -- the state that is stood for behind a part
 pub simulates_leave : {a b : Option Log} (kept kept' : Kept) {f : State → Log → Option (Parsed State)} {g : State → Log → Option (Parsed State)} → Simulates a b (StandsFor kept) (StandsFor kept') f g →
@@ -203,6 +206,17 @@ stays_stop t kept = simulates_nothing t (StandsFor kept) (StandsFor kept) (wake_
 -- the same of a wake by another name
 pub at_wake : {a b : Option Log} {kept kept' : Kept} {wake wake' : Wake} → wake ≡ wake' → Simulates a b (StandsFor kept) (StandsFor kept') (wake_phase wake') parsed → Simulates a b (StandsFor kept) (StandsFor kept') (wake_phase wake) parsed
 at_wake {a} {b} {kept} {kept'} {wake} {wake'} e d = subst (λ w. Simulates a b (StandsFor kept) (StandsFor kept') (wake_phase w) parsed) (sym e) d
+
+-- what is kept behind a wake that changed one link, which is settled then
+pub wake_keeps : {a b : Option Log} (env : KeptEnvironment) (links : List (Option LinkState)) (k : ℕ) (link : Option LinkState) {f : State → Log → Option (Parsed State)} {g : State → Log → Option (Parsed State)} →
+    Simulates a b (StandsFor (kept_of env links)) (StandsFor (kept_of env (slice_set links k link))) f g → IsBetweenPhases (kept_of env links) → IsSettledSlot (has_waiting env.waits k) link → IsBetweenPhases (kept_of env (slice_set links k link))
+wake_keeps env links k link d old one =
+    simulates_keep (kept_of env links) (kept_of env (slice_set links k link)) d old
+    (record {
+      links = length-set links k link ∙ old.orderly.links;
+      settled = settled_set env.waits env.waits links k link old.orderly.settled (λ j apart. refl) one;
+      later = old.orderly.later;
+    })
 
 -- Ticks
 

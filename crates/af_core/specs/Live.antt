@@ -1,5 +1,5 @@
 -- What a live device adds to a log when it ticks.
-use Rattle.std.specs.Prelude.{◌≡◌, ℕ, ℤ, Bool, List, ◌++◌, length, true, false}
+use Rattle.std.specs.Prelude.{◌≡◌, ◌≤◌, ℕ, ℤ, Bool, List, ◌++◌, length, true, false}
 use Rattle.std.specs.declared.option.Option.{Option}
 use Rattle.std.specs.declared.option.Option.TheVariants.{None}
 use Rattle.af_io.specs.Observed.{Appended}
@@ -9,6 +9,11 @@ use Rattle.af_model.specs.Tick.{captured_samples, later, sound, tick}
 use Rattle.af_model.specs.Turn.{parsed, parse_then, parse_one, capture_by, after_capture}
 use Rattle.af_model.specs.Run.{wakes}
 use Rattle.af_state.specs.Kept.{KeptDevice, StandsForDevice}
+use Rattle.af_core.specs.declared.tick.DeviceTick.{DeviceTick}
+
+-- a tick has 1 to 4096 frames
+abbrev pub IsTick : DeviceTick → Type 0
+IsTick t = (1 ≤ t.frames) × (t.frames ≤ 4096)
 
 -- n sample periods of a device went by in which these bytes came, or none, and this sound is handed out
 pub record Passes (old new : KeptDevice) (n : ℕ) (came : Option (List ℕ)) (given : List ℕ) : Type 0 where

@@ -4,17 +4,17 @@ ghost use Rattle.std.specs.declared.option.Option.TheVariants.{None, Some};
 ghost use Rattle.af_sample.specs.Rates.{IsListedRate};
 ghost use Rattle.af_buffers.specs.PlayBuffer.{Next, Hears};
 ghost use Rattle.af_buffers.specs.RecordBuffer.{Last, Keeps};
-ghost use Rattle.af_model.specs.State.{State, LinkState, opening, slot_at};
+ghost use Rattle.af_model.specs.State.{State, LinkState, opening, outline, outline_with, slot_at};
 ghost use Rattle.af_model.specs.More.{any_wants, has_more};
 ghost use Rattle.af_model.specs.Turn.{parsed, fits, wake_phase};
 ghost use Rattle.af_core.specs.Simulates.{Simulates};
 ghost use Rattle.af_state.specs.Deferrals.{has_waiting, waits_of};
 ghost use Rattle.af_state.specs.Kept.{IsBounded, StandForDevices};
-ghost use Rattle.af_core.specs.Stands.{IsBetweenPhases, Stands, StandsFor, StandForWaiting, Turns, kept_of, link_kept, outline_of};
+ghost use Rattle.af_core.specs.Stands.{IsBetweenPhases, Stands, StandsFor, StandForWaiting, Turns, kept_lines, kept_of, link_kept, outline_of};
 
 use crate::lines::{change_line, give_hooks};
 use crate::slot::{Slot, any_wants, serve_slots};
-use crate::tick::{TICK, tick};
+use crate::tick::{DeviceTick, TICK_FRAMES, tick};
 use af_buffers::{PlayBuffer, RecordBuffer};
 use af_context::Contexts;
 use af_phone::Line;
@@ -70,6 +70,30 @@ fn make_slots(alloc: Global) -> Result<Vec<Slot>, OutOfMemory>
     Ok(slots)
 }
 
+// Whether a wake may come, as devices and links are now.
+fn fits_now(devices: &[Device], slots: &[Slot], wake: &Wake) -> bool
+    ensures { result ≡ fits (outline_with (kept_lines devices.now) slots.now) wake.now }
+{
+    match *wake {
+        Wake::Opened(number) => match slots.get(number as usize) {
+            Some(slot) => !slot.is_open(),
+            None => false,
+        },
+        Wake::Readable(number) | Wake::Writable(number) => match slots.get(number as usize) {
+            Some(slot) => slot.is_open(),
+            None => false,
+        },
+        Wake::Ticked(number, frames) => {
+            (number as usize) < devices.len() && frames >= 1 && frames <= TICK_FRAMES
+        }
+        Wake::Line(number, change) => match devices.get(number as usize) {
+            Some(device) => device.line().is_some() && change.is_possible(),
+            None => false,
+        },
+        Wake::Idle | Wake::Stop => true,
+    }
+}
+
 // What a wake does.
 fn wake_up<W: World>(
     wake: Wake,
@@ -89,7 +113,10 @@ fn wake_up<W: World>(
         Wake::Opened(number) => slots[number as usize].open(),
         Wake::Readable(number) => slots[number as usize].set_ready(),
         Wake::Writable(number) => slots[number as usize].set_writable(),
-        Wake::Ticked(number, frames) => { tick(number, frames, environment, slots, scratch, world) }
+        Wake::Ticked(device, frames) => {
+            let ticked = DeviceTick { device, frames };
+            tick(ticked, environment, slots, scratch, world)
+        }
         Wake::Line(number, change) => change_line(number, change, environment, slots),
         Wake::Idle | Wake::Stop => {}
     }
@@ -136,29 +163,10 @@ impl Core {
 
     /// Whether a wake may come now.
     pub fn fits(&self, wake: &Wake) -> bool
-        ensures { result ≡ fits (outline_of self.now) wake.now }
+        ensures kept { result ≡ fits (outline_of self.now) wake.now }
+        ensures shows { (s : State) → Stands self.now s → result ≡ fits (outline s) wake.now }
     {
-        match *wake {
-            Wake::Opened(number) => match self.slots.get(number as usize) {
-                Some(slot) => !slot.is_open(),
-                None => false,
-            },
-            Wake::Readable(number) | Wake::Writable(number) => match self
-                .slots
-                .get(number as usize)
-            {
-                Some(slot) => slot.is_open(),
-                None => false,
-            },
-            Wake::Ticked(number, frames) => {
-                (number as usize) < self.environment.devices.len() && frames >= 1 && frames <= TICK
-            }
-            Wake::Line(number, change) => match self.environment.devices.get(number as usize) {
-                Some(device) => device.line().is_some() && change.is_possible(),
-                None => false,
-            },
-            Wake::Idle | Wake::Stop => true,
-        }
+        fits_now(&self.environment.devices, &self.slots, wake)
     }
 
     /// Whether a link is open.

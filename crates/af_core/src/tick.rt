@@ -8,7 +8,7 @@ ghost use Rattle.af_io.specs.Observed.{Appended};
 ghost use Rattle.af_model.specs.Tick.{captured_samples};
 ghost use Rattle.af_model.specs.Turn.{parsed, wake_phase};
 ghost use Rattle.af_core.specs.Simulates.{Simulates};
-ghost use Rattle.af_core.specs.Live.{Passes, Ticks, TicksLive};
+ghost use Rattle.af_core.specs.Live.{IsTick, Passes, Ticks, TicksLive};
 ghost use Rattle.af_core.specs.Stands.{IsBetweenPhases, StandsFor, kept_of};
 
 use crate::complete::complete_due;
@@ -19,16 +19,23 @@ use af_state::{Device, Environment, Scratch, Work, silence};
 use af_world::World;
 
 /// How many frames a tick may have.
-pub const TICK: u32 = 4096;
+pub const TICK_FRAMES: u32 = 4096;
+
+/// A tick of a device, by its number: so many sample periods go by.
+#[derive(Clone, Copy, Debug)]
+pub struct DeviceTick {
+    pub device: u8,
+    pub frames: u32,
+}
 
 // One capture. The answer is whether it was done.
-fn capture<W: World>(number: u8, frames: u32, bytes: &mut [u8], world: &mut W) -> bool
+fn capture<W: World>(tick: DeviceTick, bytes: &mut [u8], world: &mut W) -> bool
     requires { 0 < length bytes.old }
     ensures log { Appended (W.log world.old)
-        (Captured number frames (if result then Some bytes.new else None) ∷ []) (W.log world.new) }
+        (Captured tick.device tick.frames (if result then Some bytes.new else None) ∷ []) (W.log world.new) }
     ensures leads { W.leads_to world.old world.new }
 {
-    match world.capture(number, frames, bytes) {
+    match world.capture(tick.device, tick.frames, bytes) {
         Put::Done => true,
         Put::Failed => false,
     }
@@ -75,82 +82,69 @@ fn pass(came: bool, frames: u32, device: &mut Device, bytes: &mut [u8], work: &m
 
 // A live device makes one capture and, if that was done, one emit of its sound. It is dead behind one that failed.
 fn tick_live<W: World>(
-    number: u8,
-    frames: u32,
+    tick: DeviceTick,
     device: &mut Device,
     bytes: &mut [u8],
     work: &mut Work,
     world: &mut W,
 )
-    requires some { 0 < length bytes.old }
-    requires bound { frames ≤ 4096 }
-    requires size { length bytes.old ≡ frames * width_of device.old.ty }
+    requires tick { IsTick tick }
+    requires size { length bytes.old ≡ tick.frames * width_of device.old.ty }
     requires alive { device.old.is_dead ≡ false }
-    ensures ticks { TicksLive number frames device.old device.new (W.log world.old) (W.log world.new) }
+    ensures ticks { TicksLive tick.device tick.frames device.old device.new (W.log world.old) (W.log world.new) }
     ensures leads { W.leads_to world.old world.new }
 {
-    let came = capture(number, frames, bytes, world);
-    pass(came, frames, device, bytes, work);
+    let came = capture(tick, bytes, world);
+    pass(came, tick.frames, device, bytes, work);
     if !came {
         device.set_dead();
         return;
     }
-    if !emit(number, bytes, world) {
+    if !emit(tick.device, bytes, world) {
         device.set_dead();
     }
 }
 
 // The sample periods of a device go by, with room for what it captures.
 fn tick_device<W: World>(
-    number: u8,
-    frames: u32,
+    tick: DeviceTick,
     device: &mut Device,
     input: &mut [u8],
     work: &mut Work,
     world: &mut W,
 )
-    requires some { 1 ≤ frames }
-    requires bound { frames ≤ 4096 }
+    requires tick { IsTick tick }
     requires size { length input.old ≡ 16384 }
-    ensures ticks { Ticks device.old.is_dead number frames device.old device.new (W.log world.old) (W.log world.new) }
+    ensures ticks { Ticks device.old.is_dead tick.device tick.frames device.old device.new (W.log world.old) (W.log world.new) }
     ensures leads { W.leads_to world.old world.new }
 {
-    let size = frames as usize * device.ty().width();
+    let size = tick.frames as usize * device.ty().width();
     let bytes = &mut input[..size];
     if device.is_dead() {
-        pass(false, frames, device, bytes, work);
+        pass(false, tick.frames, device, bytes, work);
     } else {
-        tick_live(number, frames, device, bytes, work, world);
+        tick_live(tick, device, bytes, work, world);
     }
 }
 
-/// The sample periods of device `number` go by, n frames, and the requests that are due then complete.
+/// The sample periods of a device go by, and the requests that are due then complete.
 pub fn tick<W: World>(
-    number: u8,
-    frames: u32,
+    tick: DeviceTick,
     environment: &mut Environment,
     slots: &mut [Slot],
     scratch: &mut Scratch,
     world: &mut W,
 )
-    requires there { number < length environment.old.devices }
-    requires some { 1 ≤ frames }
-    requires bound { frames ≤ 4096 }
+    requires there { tick.device < length environment.old.devices }
+    requires tick { IsTick tick }
     requires kept { IsBetweenPhases (kept_of environment.old slots.old) }
     ensures simulates { Simulates (W.log world.old) (W.log world.new) (StandsFor (kept_of environment.old slots.old))
-        (StandsFor (kept_of environment.new slots.new)) (wake_phase (Ticked number frames)) parsed }
+        (StandsFor (kept_of environment.new slots.new)) (wake_phase (Ticked tick.device tick.frames)) parsed }
     ensures kept { IsBetweenPhases (kept_of environment.new slots.new) }
     ensures leads { W.leads_to world.old world.new }
 {
-    let device = &mut environment.devices[number as usize];
-    tick_device(
-        number,
-        frames,
-        device,
-        &mut scratch.input,
-        &mut scratch.work,
-        world,
-    );
-    environment.waits.pass(number, frames);
-    complete_due(number, environment, slots, scratch);
+    let device = &mut environment.devices[tick.device as usize];
+    tick_device(tick, device, &mut scratch.input, &mut scratch.work, world);
+    environment.waits.pass(tick.device, tick.frames);
+    complete_due(tick.device, environment, slots, scratch);
 }

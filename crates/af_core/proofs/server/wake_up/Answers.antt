@@ -1,8 +1,8 @@
 use Rattle.std.proofs.Common.{ap, refl, slice_set, ⊎_elim}
 use Rattle.af_model.specs.Turn.{ready, writable}
 use Rattle.af_core.specs.Stands.{kept_of}
-use Rattle.af_core.proofs.LinkPhaseLemmas.{link_here, opened_settled, flag_settled, one_changed, settled_here}
-use Rattle.af_core.proofs.TurnLemmas.{opens, readies, unsticks, read_below, write_below, ready_settled, writable_settled, stays_idle, stays_stop, at_wake, simulates_keep}
+use Rattle.af_core.proofs.LinkPhaseLemmas.{link_here, opened_settled, flag_settled, settled_here}
+use Rattle.af_core.proofs.TurnLemmas.{opens, readies, unsticks, read_below, write_below, ready_settled, writable_settled, stays_idle, stays_stop, at_wake, wake_keeps}
 use Rattle.af_core.proofs.server.wake_up.Goals as goal
 
 pub returns-in-Opened-clause-simulates : goal.returns-in-Opened-clause-simulates
@@ -25,23 +25,18 @@ returns-in-Idle-clause-simulates g c = ⊎_elim (λ e. at_wake e (stays_idle _ _
 
 pub returns-in-Opened-clause-kept : goal.returns-in-Opened-clause-kept
 returns-in-Opened-clause-kept g c =
-    simulates_keep _ _ (returns-in-Opened-clause-simulates g c) c.requires.kept
-    (one_changed c.args.environment.now.waits c.args.slots.now c.in-Opened.number _ c.requires.kept.orderly (opened_settled _ _ c.open.ensures))
+    wake_keeps c.args.environment.now c.args.slots.now c.in-Opened.number _ (returns-in-Opened-clause-simulates g c) c.requires.kept (opened_settled _ _ c.open.ensures)
 
 pub returns-in-Readable-clause-kept : goal.returns-in-Readable-clause-kept
 returns-in-Readable-clause-kept g c =
-    let kept = c.requires.kept.orderly in
     let k = c.in-Readable.number in
-    let ks = c.args.environment.now.waits in
     let low = read_below _ k c.args.slots.now c.args.wake c.in-Readable.is c.requires.fits in
-    simulates_keep _ _ (returns-in-Readable-clause-simulates g c) c.requires.kept
-    (one_changed ks c.args.slots.now k _ kept (flag_settled ready _ _ _ (ready_settled _) (settled_here ks c.args.slots.now k k _ _ kept.settled refl refl low) c.set_ready.ensures))
+    wake_keeps c.args.environment.now c.args.slots.now k _ (returns-in-Readable-clause-simulates g c) c.requires.kept
+    (flag_settled ready _ _ _ (ready_settled _) (settled_here _ c.args.slots.now k k _ _ c.requires.kept.orderly.settled refl refl low) c.set_ready.ensures)
 
 pub returns-in-Writable-clause-kept : goal.returns-in-Writable-clause-kept
 returns-in-Writable-clause-kept g c =
-    let kept = c.requires.kept.orderly in
     let k = c.in-Writable.number in
-    let ks = c.args.environment.now.waits in
     let low = write_below _ k c.args.slots.now c.args.wake c.in-Writable.is c.requires.fits in
-    simulates_keep _ _ (returns-in-Writable-clause-simulates g c) c.requires.kept
-    (one_changed ks c.args.slots.now k _ kept (flag_settled writable _ _ _ (writable_settled _) (settled_here ks c.args.slots.now k k _ _ kept.settled refl refl low) c.set_writable.ensures))
+    wake_keeps c.args.environment.now c.args.slots.now k _ (returns-in-Writable-clause-simulates g c) c.requires.kept
+    (flag_settled writable _ _ _ (writable_settled _) (settled_here _ c.args.slots.now k k _ _ c.requires.kept.orderly.settled refl refl low) c.set_writable.ensures)

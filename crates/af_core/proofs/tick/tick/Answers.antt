@@ -9,7 +9,7 @@ use Rattle.af_core.proofs.tick.tick.Goals as goal
 
 pub complete_due-requires : goal.complete_due-requires
 complete_due-requires g c =
-    let d = c.args.number in
+    let d = c.args.tick.device in
     let ds = c.environment.inside.devices.items in
     let ks = c.environment.inside.waits in
     let x = c.index_mut-device.result.now in
@@ -19,20 +19,20 @@ complete_due-requires g c =
       kept = subst (λ (qs : List KeptDeferral). IsCompleting d (kept_of (record { devices = slice_set ds d c.tick_device.new.device; waits = qs }) c.args.slots.now)) (sym c.pass.ensures)
           (record {
             links = old.orderly.links;
-            settled = λ k l at. subst (λ b. IsSettled b l) (sym (passed_waiting d c.args.frames ks k)) (old.orderly.settled k l at);
-            later = later_passed d c.args.frames ks old.orderly.later;
-            stands = passed_state _ _ d c.args.frames (kept_of (record { devices = ds; waits = ks }) c.args.slots.now) x _ c.requires.bound old.orderly.later here c.tick_device.ensures.ticks old.stands;
+            settled = λ k l at. subst (λ b. IsSettled b l) (sym (passed_waiting d c.args.tick.frames ks k)) (old.orderly.settled k l at);
+            later = later_passed d c.args.tick.frames ks old.orderly.later;
+            stands = passed_state _ _ d c.args.tick.frames (kept_of (record { devices = ds; waits = ks }) c.args.slots.now) x _ c.requires.tick.1 old.orderly.later here c.tick_device.ensures.ticks old.stands;
           });
     }
 
 pub returns-clause-simulates : goal.returns-clause-simulates
 returns-clause-simulates g c =
-    let d = c.args.number in
+    let d = c.args.tick.device in
     let ds = c.environment.inside.devices.items in
     let new = c.tick_device.new.device in
     let x = c.index_mut-device.result.now in
     let here = device_kept d x c.environment.view_is c.requires.there c.index_mut-device.ensures.value in
-    ticks _ _ d c.args.frames (kept_of c.args.environment.now c.args.slots.now) _ x new c.requires.bound c.requires.kept.orderly.later here c.tick_device.ensures.ticks
+    ticks _ _ d c.args.tick.frames (kept_of c.args.environment.now c.args.slots.now) _ x new c.requires.tick.1 c.requires.kept.orderly.later here c.tick_device.ensures.ticks
     (λ s h. c.complete_due.ensures.step s
     (subst (λ (qs : List KeptDeferral). StandsFor (kept_of (record { devices = slice_set ds d new; waits = qs }) c.args.slots.now) s) (sym c.pass.ensures)
-    (subst (λ (e : KeptEnvironment). StandsFor (passed_kept d c.args.frames new (kept_of e c.args.slots.now)) s) (sym c.environment.view_is) h)))
+    (subst (λ (e : KeptEnvironment). StandsFor (passed_kept d c.args.tick.frames new (kept_of e c.args.slots.now)) s) (sym c.environment.view_is) h)))

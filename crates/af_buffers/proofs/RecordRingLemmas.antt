@@ -1,14 +1,14 @@
 -- Captures and reads, over a ring.
-use Rattle.std.proofs.Common.{◌≡◌, ℕ, ℤ, pos, ◌+◌, ◌-◌, ◌%◌, ◌^◌, ◌<◌, ◌≤◌, inl, inr, cond, nat_lt, ◌&&◌, List, ◌++◌, replicate, length, get_or, drop, refl, sym, ap, ◌∙◌, subst, arith, length-drop, length-append, get_or-drop}
+use Rattle.std.proofs.Common.{◌≡◌, ℕ, ℤ, pos, ◌+◌, ◌-◌, ◌%◌, ◌^◌, ◌<◌, ◌≤◌, inl, inr, cond, nat_lt, min, ◌&&◌, List, ◌++◌, replicate, length, get_or, drop, refl, sym, ap, ◌∙◌, subst, arith, length-drop, length-append, get_or-drop}
 use Rattle.std.proofs.lemmas.Bool.{cases_lt, le-leb, lt-leb, lt-ltb, le-ltb}
 use Rattle.std.proofs.lemmas.List.{get_or-replicate, length-replicate, ext_get_or, get_or_append_left, get_or-append_right}
 use Rattle.std.proofs.lemmas.List.FromFn.{length-map-range_with_len, get_or-map-range_with_len}
 use Rattle.af_time.specs.DeviceTime.{unwrap, IsMeant}
 use Rattle.af_time.proofs.WholeTimeLemmas.{unwrap_meant}
-use Rattle.af_ring.specs.Cells.{cell, ChangesRun, IsSize}
+use Rattle.af_ring.specs.Cells.{cell, ChangesRun, IsRunAt, IsSize}
 use Rattle.af_ring.proofs.RingStepLemmas.{same_cell, in_run, before_run}
 use Rattle.af_buffers.specs.Horizons.{IsRoomFor, whole_time}
-use Rattle.af_buffers.specs.RecordBuffer.{Last, last_of, Captures, sample_at, samples_from, HoldsLast, IsRoomOf, within_run}
+use Rattle.af_buffers.specs.RecordBuffer.{Last, last_of, Captures, sample_at, samples_from, HoldsLast, IsRoomOf, frames_before}
 use Rattle.af_buffers.proofs.HorizonLemmas.{horizon_within, silent_cell}
 
 pub length-last_of : (cells : List ℤ) (t n : ℕ) → length (last_of cells t n).last ≡ n
@@ -64,37 +64,40 @@ sample_after b t after =
     ap (λ p. cond (p && nat_lt t (whole_time b.time)) (get_or b.last (t + length b.last - whole_time b.time) (pos 0)) (pos 0)) (le-leb (whole_time b.time) (t + length b.last) (omega arith))
     ∙ ap (λ p. cond p (get_or b.last (t + length b.last - whole_time b.time) (pos 0)) (pos 0)) (le-ltb t (whole_time b.time) after)
 
--- one sample of a read
-read_at : (cells : List ℤ) (t n first start i : ℕ) → IsRoomOf cells n → t < 2 ^ 32 → start < 2 ^ 32 → first ≡ (t + (2 ^ 32 - n)) % 2 ^ 32 → i < 16000 →
-    within_run cells first n ((start + i) % 2 ^ 32) ≡ sample_at (last_of cells t n) (unwrap (whole_time t) start + i)
-read_at cells t n first start i room word word' from low =
+-- a read: silence further back than the horizon, a run of the ring, and silence from now on
+pub reads : (cells further_back kept from_now : List ℤ) (t n start begin end size : ℕ) → IsRoomOf cells n → start < 2 ^ 32 →
+    end ≡ min size (frames_before (last_of cells t n) start) → begin ≡ min end (frames_before (last_of cells t n) start - n) →
+    length further_back ≡ begin → length kept ≡ end - begin → length from_now ≡ size - end →
+    ((j : ℕ) → j < begin → get_or further_back j (pos 0) ≡ pos 0) → IsRunAt kept cells ((start + begin) % 2 ^ 32) → ((j : ℕ) → j < size - end → get_or from_now j (pos 0) ≡ pos 0) →
+    (further_back ++ kept) ++ from_now ≡ samples_from (last_of cells t n) start (length ((further_back ++ kept) ++ from_now))
+reads cells further_back kept from_now t n start begin end size room word end_is begin_is long long' long'' silent run silent' =
     let bounds : (32000 ≤ n) × (n ≤ 192000) = horizon_within n room.horizon in
-    let long : length (last_of cells t n).last ≡ n = length-last_of cells t n in
-    let meant : IsMeant (whole_time t) start (unwrap (whole_time t) start) = unwrap_meant (whole_time t) start (omega arith) word' in
+    let last : length (last_of cells t n).last ≡ n = length-last_of cells t n in
+    let meant : IsMeant (whole_time t) start (unwrap (whole_time t) start) = unwrap_meant (whole_time t) start (omega arith) word in
     let same : unwrap (whole_time t) start % 2 ^ 32 ≡ start = meant.word in
-    let early : whole_time t ≤ unwrap (whole_time t) start + 2 ^ 31 = meant.early in
-    let late : unwrap (whole_time t) start < whole_time t + 2 ^ 31 = meant.late in
-    let outside : n ≤ ((start + i) % 2 ^ 32 + (2 ^ 32 - first)) % 2 ^ 32 → within_run cells first n ((start + i) % 2 ^ 32) ≡ pos 0 =
-    λ h. ap (λ b. cond b (cell cells ((start + i) % 2 ^ 32)) (pos 0)) (le-ltb (((start + i) % 2 ^ 32 + (2 ^ 32 - first)) % 2 ^ 32) n h) in
-    elim (cases_lt (unwrap (whole_time t) start + i + n) (whole_time t)) [
-      | inl before ↦ outside (omega arith) ∙ sym (sample_before (last_of cells t n) (unwrap (whole_time t) start + i) (omega arith))
-      | inr begun ↦ elim (cases_lt (unwrap (whole_time t) start + i) (whole_time t)) [
-        | inl inside ↦
-            ap (λ b. cond b (cell cells ((start + i) % 2 ^ 32)) (pos 0)) (lt-ltb (((start + i) % 2 ^ 32 + (2 ^ 32 - first)) % 2 ^ 32) n (omega arith))
-            ∙ same_cell cells ((start + i) % 2 ^ 32) (whole_time t - n + (unwrap (whole_time t) start + i + n - whole_time t)) room.room.power (omega arith)
-            ∙ sym (sample_within (last_of cells t n) (unwrap (whole_time t) start + i) (unwrap (whole_time t) start + i + n - whole_time t) inside (omega arith)
-            ∙ get_or-last_of cells t n (unwrap (whole_time t) start + i + n - whole_time t) (omega arith))
-        | inr after ↦ outside (omega arith) ∙ sym (sample_after (last_of cells t n) (unwrap (whole_time t) start + i) after)
-      ]
-    ]
-
-pub reads : (cells out : List ℤ) (t n first start : ℕ) → IsRoomOf cells n → t < 2 ^ 32 → start < 2 ^ 32 → first ≡ (t + (2 ^ 32 - n)) % 2 ^ 32 → length out ≤ 16000 →
-    ((i : ℕ) → i < length out → get_or out i (pos 0) ≡ within_run cells first n ((start + i) % 2 ^ 32)) → out ≡ samples_from (last_of cells t n) start (length out)
-reads cells out t n first start room word word' from count each =
-    ext_get_or (pos 0) out (samples_from (last_of cells t n) start (length out))
-    (sym (length-map-range_with_len (sample_at (last_of cells t n)) (unwrap (whole_time t) start) (length out)))
-    (λ i low. each i low ∙ read_at cells t n first start i room word word' from (omega arith)
-    ∙ sym (get_or-map-range_with_len (sample_at (last_of cells t n)) (unwrap (whole_time t) start) (length out) i (unwrap (whole_time t) start + i) (pos 0) low refl))
+    let front : length (further_back ++ kept) ≡ end = length-append further_back kept ∙ omega arith in
+    let all : length ((further_back ++ kept) ++ from_now) ≡ size = length-append (further_back ++ kept) from_now ∙ omega arith in
+    let each : (i : ℕ) → i < size → get_or ((further_back ++ kept) ++ from_now) i (pos 0) ≡ sample_at (last_of cells t n) (unwrap (whole_time t) start + i) =
+    λ i low. elim (cases_lt i end) [
+      | inl before ↦
+          get_or_append_left (further_back ++ kept) from_now (pos 0) i (omega arith) ∙ elim (cases_lt i begin) [
+            | inl back ↦
+                get_or_append_left further_back kept (pos 0) i (omega arith) ∙ silent i back
+                ∙ sym (sample_before (last_of cells t n) (unwrap (whole_time t) start + i) (omega arith))
+            | inr inside ↦
+                get_or-append_right further_back kept begin i (pos 0) long inside ∙ run (i - begin) (omega arith)
+                ∙ same_cell cells ((start + begin) % 2 ^ 32 + (i - begin)) (whole_time t - n + (unwrap (whole_time t) start + i + n - whole_time t)) room.room.power (omega arith)
+                ∙ sym (sample_within (last_of cells t n) (unwrap (whole_time t) start + i) (unwrap (whole_time t) start + i + n - whole_time t) (omega arith) (omega arith)
+                ∙ get_or-last_of cells t n (unwrap (whole_time t) start + i + n - whole_time t) (omega arith))
+          ]
+      | inr after ↦
+          get_or-append_right (further_back ++ kept) from_now end i (pos 0) front after ∙ silent' (i - end) (omega arith)
+          ∙ sym (sample_after (last_of cells t n) (unwrap (whole_time t) start + i) (omega arith))
+    ] in
+    ext_get_or (pos 0) ((further_back ++ kept) ++ from_now) (samples_from (last_of cells t n) start (length ((further_back ++ kept) ++ from_now)))
+    (sym (length-map-range_with_len (sample_at (last_of cells t n)) (unwrap (whole_time t) start) (length ((further_back ++ kept) ++ from_now))))
+    (λ i low. each i (omega arith)
+    ∙ sym (get_or-map-range_with_len (sample_at (last_of cells t n)) (unwrap (whole_time t) start) (length ((further_back ++ kept) ++ from_now)) i (unwrap (whole_time t) start + i) (pos 0) low refl))
 
 -- the samples last in a silent ring
 pub last_of-silence : (cells : List ℤ) (t n size : ℕ) → cells ≡ replicate size (pos 0) → (last_of cells t n).last ≡ replicate n (pos 0)

@@ -60,7 +60,3 @@ last_of cells time n =
 pub record IsRoomOf (cells : List ℤ) (n : ℕ) : Type 0 where
   pub horizon : IsHorizon n
   pub room : IsRoomFor n (length cells)
-
--- the cell of a word that is one of the n from another on, and silence elsewhere
-abbrev pub within_run : List ℤ → ℕ → ℕ → ℕ → ℤ
-within_run cells first n t = if nat_lt ((t + (2 ^ 32 - first)) % 2 ^ 32) n then cell cells t else pos 0

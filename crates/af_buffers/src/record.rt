@@ -1,8 +1,8 @@
 // The last samples of a device.
-ghost use Rattle.std.specs.Prelude.{◌≡◌, ℕ, ◌+◌, ◌%◌, ◌^◌, ◌<◌, ◌≤◌, length, IfOk, pos, replicate, slice_index_or};
+ghost use Rattle.std.specs.Prelude.{◌≡◌, ◌≤◌, length, IfOk, pos, replicate};
 ghost use Rattle.af_ring.specs.Cells.{PutsRun};
 ghost use Rattle.af_buffers.specs.Horizons.{IsHorizon};
-ghost use Rattle.af_buffers.specs.RecordBuffer.{frames_before, frames_until_past, Captures, HoldsLast, samples_from, within_run};
+ghost use Rattle.af_buffers.specs.RecordBuffer.{frames_before, frames_until_past, Captures, HoldsLast, samples_from};
 
 use crate::room::bits_for;
 use af_ring::TimeRing;
@@ -93,29 +93,14 @@ impl RecordBuffer {
         requires { length out.old ≤ 16000 }
         ensures { out.new ≡ samples_from self.now start.0 (length out.new) }
     {
-        let first = DevTime(self.time.0.wrapping_sub(self.horizon));
-        read_window(&self.ring, first, self.horizon, start, out);
-    }
-}
-
-// The sample of a time that is one of the n from the first on, and silence elsewhere.
-fn sample_of(ring: &TimeRing, first: DevTime, n: u32, t: DevTime) -> i16
-    ensures { result ≡ within_run ring.now first.0 n t.0 }
-{
-    if t.0.wrapping_sub(first.0) < n {
-        ring.get(t)
-    } else {
-        0
-    }
-}
-
-// The samples from a time on: silence at all times but the n from the first on.
-fn read_window(ring: &TimeRing, first: DevTime, n: u32, start: DevTime, out: &mut [i16])
-    requires { length out.old ≤ 16000 }
-    ensures { (i : ℕ) → i < length out.new →
-        slice_index_or out.new i (pos 0) ≡ within_run ring.now first.0 n ((start.0 + i) % 2 ^ 32) }
-{
-    for (i, x) in out.iter_mut().enumerate() {
-        *x = sample_of(ring, first, n, start.after(i as u32));
+        // The kept samples among them are at begin..end.
+        let before = self.frames_before(start) as usize;
+        let end = out.len().min(before);
+        let begin = end.min(before.saturating_sub(self.horizon as usize));
+        let (before_now, from_now) = out.split_at_mut(end);
+        let (further_back, kept) = before_now.split_at_mut(begin);
+        further_back.fill(0);
+        self.ring.read_run(start.after(begin as u32), kept);
+        from_now.fill(0);
     }
 }

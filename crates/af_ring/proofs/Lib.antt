@@ -1,1 +1,2 @@
 pub mod RingStepLemmas
+pub mod RunPartLemmas

@@ -73,11 +73,11 @@ impl Slot {
         self.is_open.then_some(self.link.session())
     }
 
-    /// Whether the link that is open here is to be read, written or closed.
-    pub fn wants_turn(&self, waits: bool) -> bool
-        ensures { result ≡ open_wants waits self.now }
+    /// Whether the link that is open here, at this number, is to be read, written or closed.
+    pub fn wants_turn(&self, number: u8, waits: &DeferredRequests) -> bool
+        ensures { result ≡ open_wants (has_waiting waits.now number) self.now }
     {
-        self.is_open && self.link.wants_turn(waits)
+        self.is_open && self.link.wants_turn(waits.is_waiting(number))
     }
 
     /// A link is open here from now on.
@@ -171,8 +171,7 @@ pub fn any_wants(waits: &DeferredRequests, slots: &[Slot]) -> bool
     ensures { result ≡ any_wants 0 (has_waiting waits.now) slots.now }
 {
     for number in 0..slots.len() {
-        let waits = waits.is_waiting(number as u8);
-        if slots[number].wants_turn(waits) {
+        if slots[number].wants_turn(number as u8, waits) {
             return true;
         }
     }

@@ -9,7 +9,7 @@ returns-then-wants_turn c =
     let k = c.loop-number.number in
     let f = has_waiting c.args.waits.now in
     let link = c.index-slots-number.result in
-    let is = c.wants_turn.ensures ∙ ap (λ b. open_wants b link) c.is_waiting-waits.ensures ∙ ap (open_wants (f k)) c.index-slots-number.is in
+    let is = c.wants_turn.ensures ∙ ap (open_wants (f k)) c.index-slots-number.is in
     sym (c.loop-number.invariant ∙ this_wants k f c.args.slots.now link c.wants_turn.result (omega arith) is c.if-wants_turn.true)
 
 pub loop-number-preserved : goal.loop-number-preserved
@@ -17,7 +17,7 @@ loop-number-preserved c =
     let k = c.loop-number.number in
     let f = has_waiting c.args.waits.now in
     let link = c.index-slots-number.result in
-    let is = c.wants_turn.ensures ∙ ap (λ b. open_wants b link) c.is_waiting-waits.ensures ∙ ap (open_wants (f k)) c.index-slots-number.is in
+    let is = c.wants_turn.ensures ∙ ap (open_wants (f k)) c.index-slots-number.is in
     c.loop-number.invariant ∙ others_want k f c.args.slots.now link c.wants_turn.result (omega arith) is c.if-wants_turn.false
 
 pub returns : goal.returns

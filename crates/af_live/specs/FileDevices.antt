@@ -24,9 +24,9 @@ abbrev pub no_files : List (Option FileState)
 no_files = replicate 8 None
 
 -- the devices that stand over files, if room for any was taken
-abbrev pub files_of : Option (List (Option FileState)) → List (Option FileState)
-files_of None = no_files
-files_of (Some files) = files
+abbrev pub open_files_of : Option (List (Option FileState)) → List (Option FileState)
+open_files_of None = no_files
+open_files_of (Some files) = files
 
 -- the device at a number, if it stands over files
 abbrev pub files_at : List (Option FileState) → ℕ → Option FileState
@@ -47,16 +47,16 @@ pub record GaveWithin (before : Option (List ℕ)) (into : List ℕ) (after : Op
   pub within : length given ≤ length into
 
 -- what filling a room from a reader did
-abbrev pub Fills : ℕ → Put → Option (List ℕ) → List ℕ → Option (List ℕ) → Type 0
-Fills silent put.Done before into after = FilledFrom silent before into after
-Fills silent put.Failed before into after = GaveWithin before into after
+abbrev pub FillsRoom : ℕ → Put → Option (List ℕ) → List ℕ → Option (List ℕ) → Type 0
+FillsRoom silent put.Done before into after = FilledFrom silent before into after
+FillsRoom silent put.Failed before into after = GaveWithin before into after
 
 -- a device over files captures what its input gives, and nothing else of it changes; none captures nothing
 abbrev pub CapturesFrom : Option FileState → Put → List ℕ → Option FileState → Type 0
 CapturesFrom None answer into None = answer ≡ put.Failed
 CapturesFrom None answer into (Some after) = ⊥
 CapturesFrom (Some f) answer into None = ⊥
-CapturesFrom (Some f) answer into (Some after) = Fills f.silent answer f.input into after.input × (after ≡ record f { input = after.input })
+CapturesFrom (Some f) answer into (Some after) = FillsRoom f.silent answer f.input into after.input × (after ≡ record f { input = after.input })
 
 -- a device over files adds all of a piece to its output, or a prefix of it if it failed; none hands anything out
 abbrev pub EmitsTo : Option FileState → Put → List ℕ → Option FileState → Type 0

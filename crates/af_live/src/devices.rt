@@ -1,7 +1,7 @@
 // What stands behind the devices of a world, each at its number, and how one is attached.
 ghost use Rattle.std.specs.Prelude.{◌≡◌, ◌≢◌, ◌<◌, false};
 ghost use Rattle.af_live.specs.Silence.{none_silent, silent_behind};
-ghost use Rattle.af_live.specs.FileDevices.{files_of, no_files, AttachesFiles};
+ghost use Rattle.af_live.specs.FileDevices.{open_files_of, no_files, AttachesFiles};
 ghost use Rattle.af_live.specs.Rounds.{new_round, is_paced, round_after};
 
 use crate::file_device::{FileDevices, NewFiles, open_files};
@@ -34,7 +34,7 @@ impl<F: Read + Write + Drop> Devices<F> {
     /// No devices. It takes no memory.
     pub fn new() -> Devices<F>
         ensures silent { result.silent ≡ none_silent }
-        ensures files { files_of result.files ≡ no_files }
+        ensures files { open_files_of result.files ≡ no_files }
         ensures round { result.round ≡ new_round }
     {
         Devices {
@@ -55,7 +55,7 @@ impl<F: Read + Write + Drop> Devices<F> {
         ensures round { self.new.round ≡ round_after result self.old.round asked.entry.number asked.entry.rate }
         ensures silent { self.new.silent ≡ silent_behind result asked.entry.kind self.old.silent asked.entry.number asked.entry.ty }
         ensures files { AttachesFiles result asked.entry.kind asked.entry.number asked.entry.ty
-            (files_of self.old.files) (files_of self.new.files) }
+            (open_files_of self.old.files) (open_files_of self.new.files) }
     {
         if asked.number >= 8 || self.round.is_paced(asked.number) {
             return Ready::Failed;

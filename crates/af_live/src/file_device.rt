@@ -3,7 +3,7 @@ ghost use Rattle.std.specs.Prelude.{◌≡◌, ◌<◌, length, slice_set, IfOk,
 ghost use Rattle.std.specs.declared.option.Option.TheVariants.{None, Some};
 ghost use Rattle.af_io.specs.Observed.{CountsOneFault};
 ghost use Rattle.af_world.specs.Outside.{silent_byte};
-ghost use Rattle.af_live.specs.FileDevices.{no_files, files_of, Fills, CapturesFrom, EmitsTo, CapturesFiles, EmitsFiles, PutsFiles};
+ghost use Rattle.af_live.specs.FileDevices.{no_files, open_files_of, FillsRoom, CapturesFrom, EmitsTo, CapturesFiles, EmitsFiles, PutsFiles};
 
 use crate::round::MOST_DEVICES;
 use af_io::{Got, Put, Sink, Source, StdSink, StdSource};
@@ -133,8 +133,8 @@ pub(crate) fn open_files<R: Files>(
     asked: NewFiles<'_>,
     file_devices: &mut Option<FileDevices<R::File>>,
 ) -> io::Result<()>
-    ensures { MatchResult result (λ _. PutsFiles asked.entry.number asked.entry.ty (files_of file_devices.old) (files_of file_devices.new))
-        (λ _. files_of file_devices.new ≡ files_of file_devices.old) }
+    ensures { MatchResult result (λ _. PutsFiles asked.entry.number asked.entry.ty (open_files_of file_devices.old) (open_files_of file_devices.new))
+        (λ _. open_files_of file_devices.new ≡ open_files_of file_devices.old) }
 {
     if file_devices.is_none() {
         *file_devices = Some(FileDevices::new(alloc)?);
@@ -152,7 +152,7 @@ pub(crate) fn capture_files<F: Read + Write + Drop>(
     device: u8,
     into: &mut [u8],
 ) -> Put
-    ensures { CapturesFiles None device result into.new (files_of file_devices.old) (files_of file_devices.new) }
+    ensures { CapturesFiles None device result into.new (open_files_of file_devices.old) (open_files_of file_devices.new) }
 {
     match file_devices {
         Some(file_devices) => file_devices.capture(device, into),
@@ -167,7 +167,7 @@ pub(crate) fn emit_files<F: Read + Write + Drop>(
     sound: &[u8],
 ) -> Put
     requires { 0 < length sound.now }
-    ensures { EmitsFiles None device result sound.now (files_of file_devices.old) (files_of file_devices.new) }
+    ensures { EmitsFiles None device result sound.now (open_files_of file_devices.old) (open_files_of file_devices.new) }
 {
     match file_devices {
         Some(file_devices) => file_devices.emit(device, sound),
@@ -198,7 +198,7 @@ fn emit_to<F: Read + Write + Drop>(place: &mut Option<FileDevice<F>>, sound: &[u
 
 /// Fills the room with what a source gives, and with silence past its end.
 fn fill<F: Read + Drop>(source: &mut StdSource<F>, silent: u8, into: &mut [u8]) -> Put
-    ensures fills { Fills silent result source.old.remaining into.new source.new.remaining }
+    ensures fills { FillsRoom silent result source.old.remaining into.new source.new.remaining }
     ensures faults { CountsOneFault (result ≡ Put.Failed) source.old.faults source.new.faults }
 {
     let mut count = 0;

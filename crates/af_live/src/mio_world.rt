@@ -11,7 +11,7 @@ ghost use Rattle.af_world.specs.World.{LinkGotFits, TookFits};
 ghost use Rattle.af_live.specs.LinkTable.{is_free, link_at, something_ready, AfterRead, AfterWrite, KeepsOpen, ClosesOne, LinkWakeFits, Opens};
 ghost use Rattle.af_live.specs.Counting.{CountsOne, CountsStand};
 ghost use Rattle.af_live.specs.Silence.{silent_at, silent_behind, CapturesAs, EmitsAs};
-ghost use Rattle.af_live.specs.FileDevices.{files_of, CapturesFiles, EmitsFiles, AttachesFiles};
+ghost use Rattle.af_live.specs.FileDevices.{open_files_of, CapturesFiles, EmitsFiles, AttachesFiles};
 ghost use Rattle.af_live.specs.Rounds.{is_paced, round_begun, round_after, whole_millis, pause_of, IsReadingBy};
 ghost use Rattle.af_live.specs.RealWorld.{RealLeadsTo, begun_world, given, listens_behind, GivesKept, LeadsRound, WakeFits};
 
@@ -56,7 +56,7 @@ pub struct MioWorld<R: Net + Clock + Files + Drop> {
 
 impl<R: Net + Clock + Files + Drop> Model for MioWorld<R> {
     ghost use Rattle.std.specs.Prelude.{is_some};
-    ghost use Rattle.af_live.specs.FileDevices.{files_of};
+    ghost use Rattle.af_live.specs.FileDevices.{open_files_of};
     ghost use Rattle.af_live.specs.RealWorld.{RealState};
 
     ghost Value = { RealState };
@@ -65,7 +65,7 @@ impl<R: Net + Clock + Files + Drop> Model for MioWorld<R> {
       listens = is_some w.sockets;
       links = w.links;
       silent = w.devices.silent;
-      files = files_of w.devices.files;
+      files = open_files_of w.devices.files;
       round = w.devices.round;
       link_faults = w.link_faults;
       device_faults = w.device_faults;

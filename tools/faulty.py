@@ -15,8 +15,8 @@ from wire import request
 # any byte of mu-law but its two zeros, so that each is told from silence
 SOUNDING = [*range(127), *range(128, 255)]
 SILENT = b"\xff"
-# for how long a client reads nothing, in seconds
-DEAF = 3
+# for how long a client reads nothing, and for how long it asks meanwhile, in seconds
+DEAF, ASKING = 10, 1
 
 
 def parts(trial):
@@ -49,7 +49,7 @@ class Honest:
             recorded = self.recorder.stdout.read()
             self.recorder.wait(60)
             captured = self.given[self.moment:self.moment + len(self.octets) // 2]
-            self.trial.holds("a recording goes on beside what fails", recorded == heard_as(captured))
+            self.trial.holds("the recording of another client goes on", recorded == heard_as(captured))
         self.server.wait_until((self.at + len(self.octets)) % WORD)
 
     def heard(self, what):
@@ -99,7 +99,7 @@ def is_deaf(server):
     piece = GET_TIME * 1000
     sent = 0
     begun = time.monotonic()
-    while time.monotonic() - begun < DEAF / 3:
+    while time.monotonic() - begun < ASKING:
         try:
             sent += link.send(piece[sent % 4:])
         except BlockingIOError:

@@ -182,3 +182,21 @@ class TriedServer(Server):
 
     def __init__(self, folder, devices, seconds):
         self.start(["rt", "try", "--seconds", str(seconds), "--"], os.path.join(ROOT, "crates", "afd"), folder, devices, 600)
+
+
+class Trials:
+    """What a tool tries of the programs, and how much of it was not so."""
+
+    def __init__(self, name, afd, af, folder):
+        self.name, self.afd, self.af, self.folder = name, afd, af, folder
+        self.trials = self.faults = 0
+
+    def holds(self, what, true):
+        self.trials += 1
+        if not true:
+            self.faults += 1
+            print("%s: not so: %s" % (self.name, what))
+
+    def file(self, folder, name, octets):
+        with open(os.path.join(folder, name), "wb") as file:
+            file.write(octets)

@@ -125,8 +125,8 @@ completes_link env env' ds1 ks1 l l1 l2 number d deferred a s w h here first due
     let f = due_first env d s a number deferred h here due_link room in
     let same : f.waiter ≡ w = let both : Some f.waiter ≡ Some w = sym f.first ∙ first in cc in
     let left : EnvironmentState = record a { waiting = without_first (falls_due d s) a.waiting } in
-    let q : ℕ → OpenLink = λ e. answer_deferred f.waiter.deferred s (in_devices e (completing f.waiter.deferred) (open_link left l)) in
-    let done : StandsForLink (record { devices = ds1; waits = ks1 }) l1 (q d) = subst (λ ks'. StandsForLink (record { devices = ds1; waits = ks' }) l1 (q d)) (sym taken) (complete_now (without_first (kept_due d) env.waits) left s f.waiter.deferred (h.0, f.rest) here f.is f.near) in
+    let q : ℕ → OpenLink = λ e. answer_deferred f.waiter.deferred s (in_devices e (completing f.waiter.link f.waiter.deferred) (open_link left l)) in
+    let done : StandsForLink (record { devices = ds1; waits = ks1 }) l1 (q d) = subst (λ ks'. StandsForLink (record { devices = ds1; waits = ks' }) l1 (q d)) (sym taken) (complete_now f.waiter.link (without_first (kept_due d) env.waits) left s f.waiter.deferred (h.0, f.rest) here f.is f.near) in
     let goes : StandsForLink env' l2 (advance number (q d)) = subst (λ m. StandsForLink env' l2 (advance number (open_link (q d).environment m))) (sym done.1) (on (q d).environment done.0) in
     let there : slice_get a.devices f.waiter.device ≡ Some s = ap (slice_get a.devices) f.device ∙ here in
     subst (λ (v : Deferral). StandsForLink env' l2 (complete_for v (slice_get a.devices v.device) (open_link left l))) same

@@ -1,5 +1,5 @@
 -- What tests that came out true say.
-use Rattle.std.proofs.Common.{◌≡◌, ℕ, zero, suc, Bool, true, false, not, cond, ◌&&◌, ◌==◌, List, [], ◌∷◌, is_none, refl, sym, ap, ◌∙◌, eqb-true}
+use Rattle.std.proofs.Common.{◌≡◌, ℕ, zero, suc, Bool, true, false, not, cond, ◌&&◌, ◌==◌, List, [], ◌∷◌, is_none, refl, sym, ap, ◌∙◌, eqb-true, rules}
 use Rattle.std.specs.declared.option.Option.{Option}
 use Rattle.std.specs.declared.option.Option.TheVariants.{None, Some}
 use Rattle.af_world.specs.declared.happening.Why.{Why}
@@ -14,6 +14,9 @@ cond-some false x b e = absurd cc
 pub cond-true : {A : Type 0} (t : Bool) (x y b : A) → t ≡ true → cond t x y ≡ b → x ≡ b
 cond-true true x y b e h = h
 cond-true false x y b e h = absurd cc
+
+pub same_number : (k : ℕ) → (k == k) ≡ true
+same_number k = search rules
 
 pub both-true : (s t : Bool) → (s && t) ≡ true → (s ≡ true) × (t ≡ true)
 both-true true t e = (refl, e)

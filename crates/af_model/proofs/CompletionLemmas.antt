@@ -9,11 +9,10 @@ use Rattle.af_model.specs.Reply.{horizon_of}
 use Rattle.af_model.specs.Waiting.{due, falls_due}
 use Rattle.af_model.specs.Advance.{or_else}
 use Rattle.af_model.specs.Tick.{complete, complete_at, complete_by, complete_due, complete_first, completing, later, tick}
-use Rattle.af_model.proofs.BoolTestLemmas.{none_some, some_is}
+use Rattle.af_model.proofs.BoolTestLemmas.{none_some, same_number, some_is}
 use Rattle.af_model.proofs.DeviceHistoryLemmas.{AllLive, Lives, all_live_get, all_live_with, lives_completing, with_other, with_same, with_there}
 use Rattle.af_model.proofs.DueLemmas.{IsToWait}
 use Rattle.af_model.proofs.LinkInvariantLemmas.{Keeps, complete_keeps}
-use Rattle.af_model.proofs.OwedBytesLemmas.{same_number}
 use Rattle.af_model.proofs.SafeLemmas.{AwaitedIn, IsAwaited, Safe, SafeState, all_without_first, loses_alike, safe_completing, safe_fewer, safe_keeps, safe_with, slack_for}
 
 -- the one that is found is among them
@@ -27,7 +26,7 @@ found_all passes (v ∷ ws) w P e h =
 
 -- a completion keeps of devices and of those that wait what all moves of its link keep
 completed_keeps : (E : List DeviceState → List Deferral → Type 0) (w : Deferral) (s : State) → Keeps w.link (λ closing. Unit {0}) (λ p. E p.environment.devices p.environment.waiting) →
-    (E s.devices s.waiting → E (with_device w.device (completing w.deferred) s.devices) s.waiting) → E s.devices s.waiting → E (complete w s).devices (complete w s).waiting
+    (E s.devices s.waiting → E (with_device w.device (completing w.link w.deferred) s.devices) s.waiting) → E s.devices s.waiting → E (complete w s).devices (complete w s).waiting
 completed_keeps E w s kept completes h =
     let a = (slot_link_at w.link s).environment in
     elim (slot_link_at w.link s).link as (λ o. E (with_slot_link w.link s (complete_at w a o)).devices (with_slot_link w.link s (complete_at w a o)).waiting) [
@@ -140,7 +139,7 @@ few_completed n d device x s w now rate found h =
     let left = count_left passes s.waiting w found in
     let one : count_due (falls_due d device) fewer.waiting ≤ n = let all = h.few in omega (arith, alike, alike', left, all) in
     completed_keeps (Few n d device) w fewer (few_keeps w.link n d device)
-    (λ g. few_lives n d device s.devices (with_device w.device (completing w.deferred) s.devices) fewer.waiting (all_live_with w.device (completing w.deferred) s.devices (λ y is. lives_completing y w.deferred)) g)
+    (λ g. few_lives n d device s.devices (with_device w.device (completing w.link w.deferred) s.devices) fewer.waiting (all_live_with w.device (completing w.link w.deferred) s.devices (λ y is. lives_completing w.link y w.deferred)) g)
     (record { is = h.is; there = h.there; now = h.now; rate = h.rate; few = one })
 
 -- as long as one is due

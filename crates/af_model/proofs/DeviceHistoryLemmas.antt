@@ -1,17 +1,19 @@
 -- What becomes of devices: what is accepted stays, what is accepted later has a later time, no time falls, a line stays, and nothing dies
 -- but where a call failed.
-use Rattle.std.proofs.Common.{◌≡◌, ℕ, zero, suc, ◌≤◌, ◌==◌, Bool, true, false, cond, ℤ, List, [], ◌∷◌, ◌++◌, length, is_some, option_map, slice_get, slice_set, refl, sym, ap, ◌∙◌, subst, arith, append_assoc, append-nil}
+use Rattle.std.proofs.Common.{◌≡◌, ℕ, zero, suc, ◌≤◌, ◌==◌, ◌||◌, ◌⊎◌, inl, inr, Bool, true, false, cond, ℤ, List, [], ◌∷◌, ◌++◌, length, is_some, option_map, slice_get, slice_set, refl, sym, ap, ◌∙◌, subst, arith, append_assoc, append-nil}
 use Rattle.std.proofs.lemmas.Bool.{eqb-false}
-use Rattle.std.specs.List.{All, AllZip}
+use Rattle.std.specs.List.{All, AllZip, list_any}
 use Rattle.std.proofs.lemmas.List.Elements.{All-nil, All-cons, All-append, All-weaker}
 use Rattle.std.specs.declared.option.Option.{Option}
 use Rattle.std.specs.declared.option.Option.TheVariants.{None, Some}
 use Rattle.af_sample.specs.Heard.{AcceptedPlay}
 use Rattle.af_request.specs.declared.reply.Phone.{Phone}
-use Rattle.af_model.specs.State.{DeviceState, Deferred, deferred_play, deferred_record, with_device, device_set, lines_of}
+use Rattle.af_model.specs.State.{DeviceState, Deferred, deferred_play, deferred_record, with_device, device_set, has_acted, lines_of}
+use Rattle.af_phone.specs.Lines.{wanting}
+use Rattle.af_model.specs.DeviceRequests.{wanting_hook}
 use Rattle.af_model.specs.Play.{accepting}
 use Rattle.af_model.specs.Tick.{completing, later}
-use Rattle.af_model.proofs.BoolTestLemmas.{none_some, some_is}
+use Rattle.af_model.proofs.BoolTestLemmas.{none_some, same_number, some_is}
 use Rattle.af_model.proofs.ListLemmas.{get-set_other, get-set_same}
 
 -- each of these was accepted at a time or later
@@ -25,24 +27,38 @@ pub record Later (d e : DeviceState) : Type 0 where
   pub ats : AtLeast d.now more
   pub now : d.now ≤ e.now
   pub line : is_some e.line ≡ is_some d.line
+  pub acted : (j : ℕ) → has_acted j d ≡ true → has_acted j e ≡ true
 
 none_more : (t : ℕ) → AtLeast t []
 none_more t = All-nil (λ (e : AcceptedPlay). t ≤ e.at)
 
+-- who acted on a device goes on to have done so, and so has who does now
+pub still_acted : (j k : ℕ) (actors : List ℕ) → list_any (λ i. i == j) actors ≡ true → list_any (λ i. i == j) (actors ++ k ∷ []) ≡ true
+still_acted j k [] h = absurd cc
+still_acted j k (i ∷ actors) h =
+    elim (i == j) as (λ b. (b || list_any (λ i. i == j) actors) ≡ true → (b || list_any (λ i. i == j) (actors ++ k ∷ [])) ≡ true) [
+      | true ↦ λ h. refl
+      | false ↦ λ h. still_acted j k actors h
+    ] h
+
+pub now_acted : (k : ℕ) (actors : List ℕ) → list_any (λ i. i == k) (actors ++ k ∷ []) ≡ true
+now_acted k [] = ap (λ b. b || false) (same_number k)
+now_acted k (i ∷ actors) = elim (i == k) as (λ b. (b || list_any (λ i. i == k) (actors ++ k ∷ [])) ≡ true) [ true ↦ refl | false ↦ now_acted k actors ]
+
 -- a device that accepted nothing, and whose time stays
-pub later_same : (d e : DeviceState) → e.accepted ≡ d.accepted → e.now ≡ d.now → is_some e.line ≡ is_some d.line → Later d e
-later_same d e a t l = record { more = []; accepted = a ∙ sym (append-nil d.accepted); ats = none_more d.now; now = omega (arith, t); line = l }
+pub later_same : (d e : DeviceState) → e.accepted ≡ d.accepted → e.now ≡ d.now → is_some e.line ≡ is_some d.line → ((j : ℕ) → has_acted j d ≡ true → has_acted j e ≡ true) → Later d e
+later_same d e a t l acted = record { more = []; accepted = a ∙ sym (append-nil d.accepted); ats = none_more d.now; now = omega (arith, t); line = l; acted = acted }
 
 pub later_refl : (d : DeviceState) → Later d d
-later_refl d = later_same d d refl refl refl
+later_refl d = later_same d d refl refl refl (λ j h. h)
+
+line_there : (f : Phone → Phone) (o : Option Phone) → is_some (option_map f o) ≡ is_some o
+line_there f None = refl
+line_there f (Some line) = refl
 
 -- a line that becomes another is there where it was
 pub later_line : (f : Phone → Phone) (d : DeviceState) → Later d (record d { line = option_map f d.line })
-later_line f d = later_same d (record d { line = option_map f d.line }) refl refl (mapped f d.line)
-  where
-    mapped : (f : Phone → Phone) (o : Option Phone) → is_some (option_map f o) ≡ is_some o
-    mapped f None = refl
-    mapped f (Some line) = refl
+later_line f d = later_same d (record d { line = option_map f d.line }) refl refl (line_there f d.line) (λ j h. h)
 
 pub later_trans : (d e f : DeviceState) → Later d e → Later e f → Later d f
 later_trans d e f l m = record {
@@ -51,26 +67,27 @@ later_trans d e f l m = record {
   ats = All-append (λ (x : AcceptedPlay). d.now ≤ x.at) l.more m.more l.ats (All-weaker (λ (x : AcceptedPlay). e.now ≤ x.at) (λ (x : AcceptedPlay). d.now ≤ x.at) (λ x h. omega (arith, h, l.now)) m.more m.ats);
   now = omega (arith, l.now, m.now);
   line = m.line ∙ l.line;
+  acted = λ j h. m.acted j (l.acted j h);
 }
 
 -- a play that is accepted now
-pub later_accepting : (d : DeviceState) (entry : AcceptedPlay) → entry.at ≡ d.now → Later d (accepting entry d)
-later_accepting d entry at =
-    elim (length entry.samples == 0) as (λ b. Later d (record d { accepted = cond b d.accepted (d.accepted ++ entry ∷ []) })) [
-      | true ↦ later_same d (record d { accepted = d.accepted }) refl refl refl
-      | false ↦ record { more = entry ∷ []; accepted = refl; ats = All-cons (λ (x : AcceptedPlay). d.now ≤ x.at) entry [] (omega (arith, at)) (none_more d.now); now = omega arith; line = refl }
+pub later_accepting : (k : ℕ) (d : DeviceState) (entry : AcceptedPlay) → entry.at ≡ d.now → Later d (accepting k entry d)
+later_accepting k d entry at =
+    elim (length entry.samples == 0) as (λ b. Later d (record d { accepted = cond b d.accepted (d.accepted ++ entry ∷ []); actors = cond b d.actors (d.actors ++ k ∷ []) })) [
+      | true ↦ later_refl d
+      | false ↦ record { more = entry ∷ []; accepted = refl; ats = All-cons (λ (x : AcceptedPlay). d.now ≤ x.at) entry [] (omega (arith, at)) (none_more d.now); now = omega arith; line = refl; acted = λ j h. still_acted j k d.actors h }
     ]
 
 -- a request that had waited completes
-pub later_completing : (d : DeviceState) (deferred : Deferred) → Later d (completing deferred d)
-later_completing d (deferred_play quiet start sound preempt) =
-    let l = later_accepting d (record { start = start; samples = sound; preempt = preempt; at = d.now }) refl in
-    record { more = l.more; accepted = l.accepted; ats = l.ats; now = l.now; line = l.line }
-later_completing d (deferred_record c start frames) = later_same d (completing (deferred_record c start frames) d) refl refl refl
+pub later_completing : (k : ℕ) (d : DeviceState) (deferred : Deferred) → Later d (completing k deferred d)
+later_completing k d (deferred_play quiet start sound preempt) =
+    let l = later_accepting k d (record { start = start; samples = sound; preempt = preempt; at = d.now }) refl in
+    record { more = l.more; accepted = l.accepted; ats = l.ats; now = l.now; line = l.line; acted = l.acted }
+later_completing k d (deferred_record c start frames) = later_same d (completing k (deferred_record c start frames) d) refl refl refl (λ j h. h)
 
 -- sample periods go by
 pub later_passed : (d : DeviceState) (captured : List ℤ) (is_dead : Bool) → Later d (later captured is_dead d)
-later_passed d captured is_dead = record { more = []; accepted = sym (append-nil d.accepted); ats = none_more d.now; now = omega arith; line = refl }
+later_passed d captured is_dead = record { more = []; accepted = sym (append-nil d.accepted); ats = none_more d.now; now = omega arith; line = refl; acted = λ j h. h }
 
 -- A device that became later at the same time, with the same rate, and is as dead as it was, as its line is
 
@@ -99,16 +116,34 @@ lives_line f d alike = record { later = later_line f d; dead = refl; line_dead =
     mapped None = refl
     mapped (Some line) = ap (λ b. Some b) (alike line)
 
-pub lives_accepting : (d : DeviceState) (entry : AcceptedPlay) → entry.at ≡ d.now → Lives d (accepting entry d)
-lives_accepting d entry at = record { later = later_accepting d entry at; dead = refl; line_dead = refl; now = refl; rate = refl }
+-- a hook is wanted
+pub lives_wanting : (k : ℕ) (off : Bool) (d : DeviceState) → Lives d (wanting_hook k off d)
+lives_wanting k off d =
+    let line = lives_line (wanting off) d (λ line. refl) in
+    record { later = later_same d (wanting_hook k off d) refl refl (line_there (wanting off) d.line) (λ j h. still_acted j k d.actors h); dead = refl; line_dead = line.line_dead; now = refl; rate = refl }
 
-pub lives_completing : (d : DeviceState) (deferred : Deferred) → Lives d (completing deferred d)
-lives_completing d deferred = record { later = later_completing d deferred; dead = refl; line_dead = refl; now = refl; rate = refl }
+pub lives_accepting : (k : ℕ) (d : DeviceState) (entry : AcceptedPlay) → entry.at ≡ d.now → Lives d (accepting k entry d)
+lives_accepting k d entry at = record { later = later_accepting k d entry at; dead = refl; line_dead = refl; now = refl; rate = refl }
+
+pub lives_completing : (k : ℕ) (d : DeviceState) (deferred : Deferred) → Lives d (completing k deferred d)
+lives_completing k d deferred = record { later = later_completing k d deferred; dead = refl; line_dead = refl; now = refl; rate = refl }
 
 -- what a request makes of a device
-pub record Requested (d e : DeviceState) : Type 0 where
+-- link k leaves a device as it is, or acts on it
+abbrev pub Acts : ℕ → DeviceState → DeviceState → Type 0
+Acts k d e = (e ≡ d) ⊎ (has_acted k e ≡ true)
+
+pub acts_accepting : (k : ℕ) (d : DeviceState) (entry : AcceptedPlay) → Acts k d (accepting k entry d)
+acts_accepting k d entry =
+    elim (length entry.samples == 0) as (λ b. Acts k d (record d { accepted = cond b d.accepted (d.accepted ++ entry ∷ []); actors = cond b d.actors (d.actors ++ k ∷ []) })) [
+      | true ↦ inl refl
+      | false ↦ inr (now_acted k d.actors)
+    ]
+
+pub record Requested (k : ℕ) (d e : DeviceState) : Type 0 where
   pub lives : Lives d e
   pub completed : e.completed ≡ d.completed
+  pub acts : Acts k d e
 
 -- All devices
 

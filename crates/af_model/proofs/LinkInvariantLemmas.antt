@@ -39,7 +39,7 @@ pub record Keeps (k : ℕ) (May : Option Why → Type 0) (I : OpenLink → Type 
   pub sets_up : (p : OpenLink) → p.link.closing ≡ None → p.link.is_set_up ≡ false → setup_front p.link.rest ≡ front.Setup → I p → I (open_link p.environment (record (without_front 8 p.link) { is_set_up = true }))
   pub stops : (p : OpenLink) (cause : Why) → p.link.closing ≡ None → IsBadInput cause p.link → I p → I (open_link p.environment (stopped cause p.link))
   pub says : (p : OpenLink) (bytes : List ℕ) → May p.link.closing → I p → I (say p bytes)
-  pub becomes : (p : OpenLink) (d : ℕ) (device : DeviceState) (f : DeviceState → DeviceState) → slice_get p.environment.devices d ≡ Some device → Requested device (f device) → I p → I (in_devices d f p)
+  pub becomes : (p : OpenLink) (d : ℕ) (device : DeviceState) (f : DeviceState → DeviceState) → slice_get p.environment.devices d ≡ Some device → Requested k device (f device) → I p → I (in_devices d f p)
   pub waits : (p : OpenLink) (d : ℕ) (device : DeviceState) (deferred : Deferred) → slice_get p.environment.devices d ≡ Some device → IsToWait 16384 device deferred → p.link.closing ≡ None → I p → I (wait k d deferred p)
 
 pub open_undropped : (closing : Option Why) → closing ≡ None → is_dropped closing ≡ false
@@ -106,9 +106,9 @@ module _ (k : ℕ) (May : Option Why → Type 0) (I : OpenLink → Type 0) (kept
   answer_keeps (deferred_record c start frames) device p may h = kept.says p _ may h
 
   -- a request of the link that had waited completes
-  pub complete_keeps : (d : ℕ) (deferred : Deferred) (o : Option DeviceState) (p : OpenLink) → slice_get p.environment.devices d ≡ o → ((device : DeviceState) → slice_get p.environment.devices d ≡ Some device → I p → I (in_devices d (completing deferred) p)) →
+  pub complete_keeps : (d : ℕ) (deferred : Deferred) (o : Option DeviceState) (p : OpenLink) → slice_get p.environment.devices d ≡ o → ((device : DeviceState) → slice_get p.environment.devices d ≡ Some device → I p → I (in_devices d (completing k deferred) p)) →
       May p.link.closing → I p → I (complete_for (record { link = k; device = d; deferred = deferred }) o p)
   complete_keeps d deferred None p there completes may h = h
   complete_keeps d deferred (Some device) p there completes may h =
-      let q = in_devices d (completing deferred) p in
+      let q = in_devices d (completing k deferred) p in
       advance_keeps (answer_deferred deferred device q) (answer_keeps deferred device q may (completes device there h))

@@ -18,7 +18,7 @@ use Rattle.af_model.specs.Turn.{close_due}
 use Rattle.af_model.specs.LinkHistory.{LinkHistory}
 use Rattle.af_model.specs.Prefix.{is_dropped}
 use Rattle.af_model.specs.Causes.{IsCause, IsServedTo}
-use Rattle.af_model.proofs.BoolTestLemmas.{cond-some}
+use Rattle.af_model.proofs.BoolTestLemmas.{cond-some, same_number}
 use Rattle.af_model.proofs.InputLemmas.{IsBadInput, IsInput, input_more, input_set_up, input_taken}
 use Rattle.af_model.proofs.CauseLemmas.{IsUnended, Shows, ShowsBy, cause_alike, no_room, owed_at_close, shows_at_close, shows_bad, shows_owed, shows_taken, shows_unfailed}
 use Rattle.af_model.proofs.DeviceHistoryLemmas.{AllLive, Lives, all_live_refl, all_live_trans, all_live_with}
@@ -79,9 +79,6 @@ other_waits (w ∷ ws) k j other =
 
 pub still_waits : (ws vs : List Deferral) (k j : ℕ) → (k == j) ≡ false → without_waiter k vs ≡ without_waiter k ws → has_deferral ws j ≡ false → has_deferral vs j ≡ false
 still_waits ws vs k j other same e = sym (other_waits vs k j other) ∙ ap (λ l. has_deferral l j) same ∙ other_waits ws k j other ∙ e
-
-pub same_number : (k : ℕ) → (k == k) ≡ true
-same_number k = search rules
 
 -- the link of a request that waits does
 pub found_waits : (passes : Deferral → Bool) (ws : List Deferral) (w : Deferral) → find passes ws ≡ Some w → has_deferral ws w.link ≡ true

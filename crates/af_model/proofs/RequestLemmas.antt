@@ -1,5 +1,5 @@
 -- What a request comes to: one way in for all laws.
-use Rattle.std.proofs.Common.{◌≡◌, ℕ, ◌==◌, ◌≤◌, Bool, true, false, cond, nat_le, List, [], ◌∷◌, ◌++◌, length, slice_get, refl}
+use Rattle.std.proofs.Common.{◌≡◌, ℕ, ◌==◌, ◌≤◌, Bool, true, false, cond, nat_le, List, [], ◌∷◌, ◌++◌, length, slice_get, refl, inr}
 use Rattle.std.specs.declared.option.Option.{Option}
 use Rattle.std.specs.declared.option.Option.TheVariants.{None, Some}
 use Rattle.af_time.specs.DeviceTime.{unwrap}
@@ -8,7 +8,6 @@ use Rattle.af_context.specs.Contexts.{creation, reference, context_of, without_c
 use Rattle.af_request.specs.Asked.{Asked, no_op, get_time, create_ac, change_ac, free_ac, play_run, record_run, select_events, set_controls, query_controls, hook_switch, query_phone}
 use Rattle.af_request.specs.declared.reply.Phone.{Phone}
 use Rattle.af_request.specs.Answer.{plain}
-use Rattle.af_phone.specs.Lines.{wanting}
 use Rattle.af_model.specs.declared.refusal.Refusal.{Refusal}
 use Rattle.af_model.specs.State.{DeviceState, OpenLink, open_link, say, Deferred, deferred_play, deferred_record}
 use Rattle.af_model.specs.Reply.{replied}
@@ -19,7 +18,7 @@ use Rattle.af_model.specs.Waiting.{wait}
 use Rattle.af_model.specs.Play.{play, play_refusal, start_play, tell_played, accepting, entry_now, in_devices, frames_of, frames_within_horizon, sent_sound}
 use Rattle.af_model.specs.Record.{record_sound, record_refusal, start_record, give_record, given_frames, is_to_wait}
 use Rattle.af_model.specs.Perform.{done, tell_time, in_context}
-use Rattle.af_model.proofs.DeviceHistoryLemmas.{Requested, later_same, lives_accepting, lives_line}
+use Rattle.af_model.proofs.DeviceHistoryLemmas.{Requested, acts_accepting, later_same, lives_accepting, lives_wanting, now_acted, still_acted}
 use Rattle.af_model.proofs.DueLemmas.{IsToWait, most_asked, play_waits, record_waits}
 
 -- the same link with another input
@@ -35,8 +34,8 @@ chosen contexts selections p = open_link p.environment (record p.link { contexts
 module _ (k : ℕ) (p : OpenLink) (r : List ℕ) (most : ℕ) (M : OpenLink → OpenLink → Type 0)
     (stays : M p (with_rest r p))
     (says : (contexts : List Context) (selections bytes : List ℕ) → M (say (chosen contexts selections p) bytes) (say (chosen contexts selections (with_rest r p)) bytes))
-    (becomes : (d : ℕ) (device : DeviceState) (f : DeviceState → DeviceState) → slice_get p.environment.devices d ≡ Some device → Requested device (f device) → M (in_devices d f p) (in_devices d f (with_rest r p)))
-    (tells : (d : ℕ) (device : DeviceState) (f : DeviceState → DeviceState) (bytes : List ℕ) → slice_get p.environment.devices d ≡ Some device → Requested device (f device) →
+    (becomes : (d : ℕ) (device : DeviceState) (f : DeviceState → DeviceState) → slice_get p.environment.devices d ≡ Some device → Requested k device (f device) → M (in_devices d f p) (in_devices d f (with_rest r p)))
+    (tells : (d : ℕ) (device : DeviceState) (f : DeviceState → DeviceState) (bytes : List ℕ) → slice_get p.environment.devices d ≡ Some device → Requested k device (f device) →
     M (say (in_devices d f p) bytes) (say (in_devices d f (with_rest r p)) bytes))
     (waits : (d : ℕ) (device : DeviceState) (deferred : Deferred) → slice_get p.environment.devices d ≡ Some device → IsToWait most device deferred → M (wait k d deferred p) (wait k d deferred (with_rest r p))) where
   abbrev Both : (OpenLink → OpenLink) → Type 0
@@ -65,16 +64,16 @@ module _ (k : ℕ) (p : OpenLink) (r : List ℕ) (most : ℕ) (M : OpenLink → 
   line_both opcode d f None h = answers _
   line_both opcode d f (Some line) h = h line
 
-  played_both : (quiet : Bool) (d : ℕ) (device : DeviceState) (f : DeviceState → DeviceState) → slice_get p.environment.devices d ≡ Some device → Requested device (f device) → Both (λ q. tell_played quiet device (in_devices d f q))
+  played_both : (quiet : Bool) (d : ℕ) (device : DeviceState) (f : DeviceState → DeviceState) → slice_get p.environment.devices d ≡ Some device → Requested k device (f device) → Both (λ q. tell_played quiet device (in_devices d f q))
   played_both true d device f there l = becomes d device f there l
   played_both false d device f there l = tells d device f _ there l
 
   play_both : (quiet : Bool) (c : Context) (time : ℕ) (bytes : List ℕ) (device : DeviceState) → slice_get p.environment.devices c.device ≡ Some device → length bytes ≤ most → Both (play k quiet c time bytes device)
   play_both quiet c time bytes device there short =
       refused_both 6 (play_refusal c (length bytes)) (start_play k quiet c time bytes device)
-      (λ whole. either_both (nat_le (frames_of c (length bytes)) (frames_within_horizon device time)) (λ q. tell_played quiet device (in_devices c.device (accepting (entry_now c device time bytes)) q))
+      (λ whole. either_both (nat_le (frames_of c (length bytes)) (frames_within_horizon device time)) (λ q. tell_played quiet device (in_devices c.device (accepting k (entry_now c device time bytes)) q))
       (wait k c.device (deferred_play quiet (unwrap device.now time) (sent_sound c bytes) c.preempt))
-      (λ within. played_both quiet c.device device (accepting (entry_now c device time bytes)) there (record { lives = lives_accepting device (entry_now c device time bytes) refl; completed = refl }))
+      (λ within. played_both quiet c.device device (accepting k (entry_now c device time bytes)) there (record { lives = lives_accepting k device (entry_now c device time bytes) refl; completed = refl; acts = acts_accepting k device (entry_now c device time bytes) }))
       (λ beyond. waits c.device device (deferred_play quiet (unwrap device.now time) (sent_sound c bytes) c.preempt) there (play_waits quiet c device time bytes most whole short beyond)))
 
   record_both : (blocking : Bool) (c : Context) (time bytes : ℕ) (device : DeviceState) → slice_get p.environment.devices c.device ≡ Some device → 16000 ≤ most → Both (record_sound k blocking c time bytes device)
@@ -101,15 +100,15 @@ module _ (k : ℕ) (p : OpenLink) (r : List ℕ) (most : ℕ) (M : OpenLink → 
       device_both 8 d (λ device. on_line 8 d (λ line. select d mask) device.line) (slice_get p.environment.devices d) refl
       (λ device there. line_both 8 d (λ line. select d mask) device.line (λ line. says p.link.contexts _ _))
   done_both (set_controls d mask input_on output_on input_gain output_gain) short =
-      let f = controlling mask input_on output_on input_gain output_gain in
-      device_both 9 d (set_device_controls d mask input_on output_on input_gain output_gain) (slice_get p.environment.devices d) refl
+      let f = controlling k mask input_on output_on input_gain output_gain in
+      device_both 9 d (set_device_controls k d mask input_on output_on input_gain output_gain) (slice_get p.environment.devices d) refl
       (λ device there. refused_both 9 (controls_refusal mask input_on output_on input_gain output_gain) (λ q. replied 9 plain (in_devices d f q)) (λ allowed. tells d device f _ there
-      (record { lives = record { later = later_same device (f device) refl refl refl; dead = refl; line_dead = refl; now = refl; rate = refl }; completed = refl })))
+      (record { lives = record { later = later_same device (f device) refl refl refl (λ j h. still_acted j k device.actors h); dead = refl; line_dead = refl; now = refl; rate = refl }; completed = refl; acts = inr (now_acted k device.actors) })))
   done_both (query_controls d) short = device_both 10 d tell_controls (slice_get p.environment.devices d) refl (λ device there. answers _)
   done_both (hook_switch d off) short =
-      let f = wanting_hook (off == 1) in
-      device_both 11 d (λ device. on_line 11 d (switch_hook d off) device.line) (slice_get p.environment.devices d) refl
-      (λ device there. line_both 11 d (switch_hook d off) device.line
-      (λ line. refused_both 11 (switch_refusal d off line) (λ q. replied 11 plain (in_devices d f q)) (λ allowed. tells d device f _ there (record { lives = lives_line (wanting (off == 1)) device (λ line. refl); completed = refl }))))
+      let f = wanting_hook k (off == 1) in
+      device_both 11 d (λ device. on_line 11 d (switch_hook k d off) device.line) (slice_get p.environment.devices d) refl
+      (λ device there. line_both 11 d (switch_hook k d off) device.line
+      (λ line. refused_both 11 (switch_refusal d off line) (λ q. replied 11 plain (in_devices d f q)) (λ allowed. tells d device f _ there (record { lives = lives_wanting k (off == 1) device; completed = refl; acts = inr (now_acted k device.actors) }))))
   done_both (query_phone d) short =
       device_both 12 d (λ device. on_line 12 d tell_phone device.line) (slice_get p.environment.devices d) refl (λ device there. line_both 12 d tell_phone device.line (λ line. answers _))

@@ -127,11 +127,11 @@ whole_now device (deferred_play quiet start sound preempt) slack few rate h = om
 whole_now device (deferred_record c start frames) slack few rate h = omega (arith, few, rate, h.soon, h.ever, h.short)
 
 pub safe_completing : (slack c : ℕ) (w : Deferral) (ds : List DeviceState) (ws : List Deferral) → slack ≤ 4096 → AwaitedIn slack c ds w → Safe slack c ds ws →
-    Safe slack c (with_device w.device (completing w.deferred) ds) ws
+    Safe slack c (with_device w.device (completing w.link w.deferred) ds) ws
 safe_completing slack c w ds ws few one h =
-    safe_becomes slack c w.device (completing w.deferred) ds ws (λ device there. (refl, refl)) (λ device there safe. record {
+    safe_becomes slack c w.device (completing w.link w.deferred) ds ws (λ device there. (refl, refl)) (λ device there safe. record {
       rate = safe.rate;
-      loses_none = All-push (λ x. IsWholeAt (horizon_of device) x.at x.deferred) device.completed (record { deferred = w.deferred; at = device.now }) safe.loses_none
+      loses_none = All-push (λ x. IsWholeAt (horizon_of device) x.at x.deferred) device.completed (record { link = w.link; deferred = w.deferred; at = device.now }) safe.loses_none
           (whole_now device w.deferred (slack_for slack c w) (within (w.device == c)) safe.rate (one device there));
     }) h
   where

@@ -21,13 +21,13 @@ use Rattle.af_model.specs.Events.{dropped}
 use Rattle.af_model.specs.Turn.{parsed, parse_then, wants_read, read_phase, after_read, wants_write, sent, write_by, write_offered, write_taken, write_phase, after_write, close_phase, serve_link, serve_open, serve_at, serve_from}
 use Rattle.af_model.specs.LinkHistory.{LinkHistory, noted, read_noted, write_noted}
 use Rattle.af_model.specs.Dead.{fails_device, fails_line}
-use Rattle.af_model.proofs.BoolTestLemmas.{both-true, cond-some, none_some, same_bytes-true, some_is}
+use Rattle.af_model.proofs.BoolTestLemmas.{both-true, cond-some, none_some, same_bytes-true, same_number, some_is}
 use Rattle.af_model.proofs.ListLemmas.{get-set_other, get-set_same}
 use Rattle.af_model.proofs.DeviceHistoryLemmas.{AllLive, Laters, all_live_refl, all_live_trans, laters_refl, laters_trans, live_laters}
 use Rattle.af_model.proofs.DeadLemmas.{DeadAs, DeadIn, NoneFails, died, died_device, died_line, lives_dead, none_fails-append}
 use Rattle.af_model.proofs.LinkInvariantLemmas.{advance_keeps, takes_more_open}
 use Rattle.af_model.proofs.SafeLemmas.{SafeIn, SafeState, safe_dropped}
-use Rattle.af_model.proofs.OwedBytesLemmas.{Moved, Owing, OwingAt, QueuedSlot, OwingLink, moved_of, queued_closed, queued_ended, queued_failed, queued_given, queued_taken, queueing_fewer, queueing_keeps, same_number, sending_undropped, own_left, still_waits, SameOthers}
+use Rattle.af_model.proofs.OwedBytesLemmas.{Moved, Owing, OwingAt, QueuedSlot, OwingLink, moved_of, queued_closed, queued_ended, queued_failed, queued_given, queued_taken, queueing_fewer, queueing_keeps, sending_undropped, own_left, still_waits, SameOthers}
 use Rattle.af_model.proofs.PhasePartLemmas.{Takes, close_takes, read_takes, takes_chain, takes_nothing, takes_then, write_takes}
 
 -- A happening within a turn, behind its wake and its emit

@@ -70,7 +70,7 @@ completed passes s w found =
           let device = slice_get s.devices w.device in
           put_goes k s l (enter (complete_for w device p)) [] is (λ c sofar. (refl, refl))
           (complete_keeps k (λ closing. Unit {0}) (λ q. AllLive s.devices q.environment.devices) (grows_keeps k s.devices) w.device w.deferred device p refl
-          (λ x there h. all_live_trans s.devices s.devices (with_device w.device (completing w.deferred) s.devices) h (all_live_with w.device (completing w.deferred) s.devices (λ d is. lives_completing d w.deferred))) tt (all_live_refl s.devices))
+          (λ x there h. all_live_trans s.devices s.devices (with_device w.device (completing w.link w.deferred) s.devices) h (all_live_with w.device (completing w.link w.deferred) s.devices (λ d is. lives_completing w.link d w.deferred))) tt (all_live_refl s.devices))
           (λ g h.
           let here : OwingLink k g a.said (Some l) s.waiting = subst (λ o. OwingLink k g a.said o s.waiting) is h in
           let undropped = waiting_undropped k g a.said l s.waiting (found_waits passes s.waiting w found) here in

@@ -1,5 +1,5 @@
 -- SelectEvents, SetControls, QueryControls, HookSwitch and QueryPhone: the controls of a device, and its telephone line.
-use Rattle.std.specs.Prelude.{ℕ, ◌==◌, nat_lt, Bool, ℤ, [], ◌∷◌, slice_set, unwrap_or, option_map, if◌then◌else◌}
+use Rattle.std.specs.Prelude.{ℕ, ◌==◌, nat_lt, Bool, ℤ, [], ◌∷◌, ◌++◌, slice_set, unwrap_or, option_map, if◌then◌else◌}
 use Rattle.std.specs.declared.option.Option.{Option}
 use Rattle.std.specs.declared.option.Option.TheVariants.{None, Some}
 use Rattle.af_request.specs.declared.reply.Controls.{Controls}
@@ -40,28 +40,30 @@ with_named mask input_on output_on input_gain output_gain c = record {
   output_gain = unwrap_or (named_gain mask 2 output_gain) c.output_gain;
 }
 
-abbrev pub controlling : ℕ → ℕ → ℕ → ℤ → ℤ → DeviceState → DeviceState
-controlling mask input_on output_on input_gain output_gain device =
-    record device { controls = with_named mask input_on output_on input_gain output_gain device.controls }
+-- link k sets them
+abbrev pub controlling : ℕ → ℕ → ℕ → ℕ → ℤ → ℤ → DeviceState → DeviceState
+controlling k mask input_on output_on input_gain output_gain device =
+    record device { controls = with_named mask input_on output_on input_gain output_gain device.controls; actors = device.actors ++ k ∷ [] }
 
-abbrev pub set_device_controls : ℕ → ℕ → ℕ → ℕ → ℤ → ℤ → DeviceState → OpenLink → OpenLink
-set_device_controls d mask input_on output_on input_gain output_gain device p =
+abbrev pub set_device_controls : ℕ → ℕ → ℕ → ℕ → ℕ → ℤ → ℤ → DeviceState → OpenLink → OpenLink
+set_device_controls k d mask input_on output_on input_gain output_gain device p =
     refused_or 9 (controls_refusal mask input_on output_on input_gain output_gain)
-    (λ q. replied 9 plain (in_devices d (controlling mask input_on output_on input_gain output_gain) q)) p
+    (λ q. replied 9 plain (in_devices d (controlling k mask input_on output_on input_gain output_gain) q)) p
 
 -- QueryControls
 abbrev pub tell_controls : DeviceState → OpenLink → OpenLink
 tell_controls device p = replied 10 (controls device.controls) p
 
--- HookSwitch: a line that is dead is as one that is not there; the hook is wanted off or on
+-- HookSwitch: a line that is dead is as one that is not there; link k wants the hook off or on
 abbrev pub switch_refusal : ℕ → ℕ → Phone → Option Refusal
 switch_refusal d off line = first_refusal (check line.dead BadLine d ∷ check (nat_lt 1 off) BadValue off ∷ [])
 
-abbrev pub wanting_hook : Bool → DeviceState → DeviceState
-wanting_hook off device = record device { line = option_map (wanting off) device.line }
+abbrev pub wanting_hook : ℕ → Bool → DeviceState → DeviceState
+wanting_hook k off device = record device { line = option_map (wanting off) device.line; actors = device.actors ++ k ∷ [] }
 
-abbrev pub switch_hook : ℕ → ℕ → Phone → OpenLink → OpenLink
-switch_hook d off line p = refused_or 11 (switch_refusal d off line) (λ q. replied 11 plain (in_devices d (wanting_hook (off == 1)) q)) p
+abbrev pub switch_hook : ℕ → ℕ → ℕ → Phone → OpenLink → OpenLink
+switch_hook k d off line p =
+    refused_or 11 (switch_refusal d off line) (λ q. replied 11 plain (in_devices d (wanting_hook k (off == 1)) q)) p
 
 -- QueryPhone
 abbrev pub tell_phone : Phone → OpenLink → OpenLink

@@ -42,9 +42,9 @@ done k (play_run quiet ac start bytes) p = in_context 6 ac (λ c. play k quiet c
 done k (record_run blocking ac start bytes) p = in_context 7 ac (λ c. record_sound k blocking c start bytes) (context_of p.link.contexts ac) p
 done k (select_events d mask) p = in_device 8 d (λ device. on_line 8 d (λ line. select d mask) device.line) (slice_get p.environment.devices d) p
 done k (set_controls d mask input_on output_on input_gain output_gain) p =
-    in_device 9 d (set_device_controls d mask input_on output_on input_gain output_gain) (slice_get p.environment.devices d) p
+    in_device 9 d (set_device_controls k d mask input_on output_on input_gain output_gain) (slice_get p.environment.devices d) p
 done k (query_controls d) p = in_device 10 d tell_controls (slice_get p.environment.devices d) p
-done k (hook_switch d off) p = in_device 11 d (λ device. on_line 11 d (switch_hook d off) device.line) (slice_get p.environment.devices d) p
+done k (hook_switch d off) p = in_device 11 d (λ device. on_line 11 d (switch_hook k d off) device.line) (slice_get p.environment.devices d) p
 done k (query_phone d) p = in_device 12 d (λ device. on_line 12 d tell_phone device.line) (slice_get p.environment.devices d) p
 
 -- link k makes a request

@@ -44,9 +44,13 @@ entry_now c device time bytes =
 abbrev pub with_play : AcceptedPlay → List AcceptedPlay → List AcceptedPlay
 with_play e accepted = if length e.samples == 0 then accepted else accepted ++ e ∷ []
 
--- a device accepts a play
-abbrev pub accepting : AcceptedPlay → DeviceState → DeviceState
-accepting e device = record device { accepted = with_play e device.accepted }
+-- its link has acted, unless it says nothing
+abbrev pub with_actor : ℕ → List ℤ → List ℕ → List ℕ
+with_actor k samples actors = if length samples == 0 then actors else actors ++ k ∷ []
+
+-- a device accepts a play of link k
+abbrev pub accepting : ℕ → AcceptedPlay → DeviceState → DeviceState
+accepting k e device = record device { accepted = with_play e device.accepted; actors = with_actor k e.samples device.actors }
 
 -- something becomes of a device in a link's environment
 abbrev pub in_devices : ℕ → (DeviceState → DeviceState) → OpenLink → OpenLink
@@ -60,7 +64,7 @@ tell_played quiet device p = if quiet then p else replied 6 (played (device.now 
 abbrev pub start_play : ℕ → Bool → Context → ℕ → List ℕ → DeviceState → OpenLink → OpenLink
 start_play k quiet c time bytes device p =
     if nat_le (frames_of c (length bytes)) (frames_within_horizon device time)
-    then tell_played quiet device (in_devices c.device (accepting (entry_now c device time bytes)) p)
+    then tell_played quiet device (in_devices c.device (accepting k (entry_now c device time bytes)) p)
     else wait k c.device (deferred_play quiet (unwrap device.now time) (sent_sound c bytes) c.preempt) p
 
 abbrev pub play : ℕ → Bool → Context → ℕ → List ℕ → DeviceState → OpenLink → OpenLink

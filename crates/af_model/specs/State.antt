@@ -1,5 +1,6 @@
 -- The state of the abstract server: its devices, its links, what was ever said to each link, and the requests that wait.
-use Rattle.std.specs.Prelude.{ℕ, ◌+◌, ◌^◌, ℤ, pos, Bool, true, false, if◌then◌else◌, List, [], ◌++◌, map, replicate, slice_get, slice_set, is_some}
+use Rattle.std.specs.Prelude.{ℕ, ◌+◌, ◌^◌, ◌==◌, ℤ, pos, Bool, true, false, if◌then◌else◌, List, [], ◌++◌, map, replicate, slice_get, slice_set, is_some}
+use Rattle.std.specs.List.{list_any}
 use Rattle.std.specs.declared.option.Option.{Option}
 use Rattle.std.specs.declared.option.Option.TheVariants.{None, Some}
 use Rattle.af_sample.specs.declared.sample_type.SampleType.{SampleType}
@@ -23,15 +24,17 @@ pub record Deferral : Type 0 where
   pub device : ℕ
   pub deferred : Deferred
 
--- a request that had waited, and the device's time when it was completed
+-- a request of a link that had waited, and the device's time when it was completed
 pub record Completion : Type 0 where
+  pub link : ℕ
   pub deferred : Deferred
   pub at : ℕ
 
 -- A device. Its time is unbounded, and begins 2^32 above the stated start, so that times before the start are natural
 -- numbers too: only differences of times, and times modulo 2^32, are ever seen.
 -- What was accepted, captured and completed is history: all plays in the order of their acceptance, all samples since the
--- begin, and all requests that had waited.
+-- begin, and all requests that had waited. So are its actors, the numbers of the links that acted on it: of each that had a play
+-- with a frame accepted, set its controls, or moved its hook, in that order. None of it goes with the link.
 -- Its controls act on what it captures and hands out. Its line, if it has one, has flags of its own.
 -- A device is dead once a capture or an emit of it has failed.
 pub record DeviceState : Type 0 where
@@ -40,11 +43,16 @@ pub record DeviceState : Type 0 where
   pub begin : ℕ
   pub now : ℕ
   pub accepted : List AcceptedPlay
+  pub actors : List ℕ
   pub captured : List ℤ
   pub completed : List Completion
   pub controls : Controls
   pub line : Option Phone
   pub is_dead : Bool
+
+-- whether link k acted on a device
+abbrev pub has_acted : ℕ → DeviceState → Bool
+has_acted k device = list_any (λ j. j == k) device.actors
 
 -- An open link: its unread input, its unsent output, whether it may have something to read, whether it is stuck, as its last
 -- write took less than was offered, why it is to be closed, how many requests it has made, modulo 2^16, its contexts in order
@@ -127,6 +135,7 @@ opening_device d = record {
   begin = d.start + 2 ^ 32;
   now = d.start + 2 ^ 32;
   accepted = [];
+  actors = [];
   captured = [];
   completed = [];
   controls = opening_controls;

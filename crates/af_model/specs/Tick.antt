@@ -10,7 +10,7 @@ use Rattle.af_wait.specs.Waits.{without_first}
 use Rattle.af_model.specs.State.{DeviceState, Deferred, deferred_play, deferred_record, LinkState, State, Deferral, EnvironmentState, OpenLink, open_link, SlotLink, link_in_slot, slot_link_at, with_slot_link, with_device}
 use Rattle.af_model.specs.Controls.{through_output_control, through_input_control}
 use Rattle.af_model.specs.Waiting.{falls_due}
-use Rattle.af_model.specs.Play.{in_devices, tell_played, with_play}
+use Rattle.af_model.specs.Play.{in_devices, tell_played, with_actor, with_play}
 use Rattle.af_model.specs.Record.{give_record}
 use Rattle.af_model.specs.Advance.{advance, or_else}
 
@@ -37,10 +37,17 @@ abbrev pub with_deferred : Deferred → ℕ → List AcceptedPlay → List Accep
 with_deferred (deferred_play quiet start sound preempt) now accepted = with_play (record { start = start; samples = sound; preempt = preempt; at = now }) accepted
 with_deferred (deferred_record c start frames) now accepted = accepted
 
-abbrev pub completing : Deferred → DeviceState → DeviceState
-completing deferred device = record device {
+-- who has acted on it then
+abbrev pub with_deferred_actor : ℕ → Deferred → List ℕ → List ℕ
+with_deferred_actor k (deferred_play quiet start sound preempt) actors = with_actor k sound actors
+with_deferred_actor k (deferred_record c start frames) actors = actors
+
+-- a device completes a request of link k that had waited
+abbrev pub completing : ℕ → Deferred → DeviceState → DeviceState
+completing k deferred device = record device {
   accepted = with_deferred deferred device.now device.accepted;
-  completed = device.completed ++ record { deferred = deferred; at = device.now } ∷ [];
+  actors = with_deferred_actor k deferred device.actors;
+  completed = device.completed ++ record { link = k; deferred = deferred; at = device.now } ∷ [];
 }
 
 -- what a link is answered then
@@ -51,7 +58,7 @@ answer_deferred (deferred_record c start frames) device p = give_record c start 
 -- a link's request completes, and then those that the link may then make
 abbrev pub complete_for : Deferral → Option DeviceState → OpenLink → OpenLink
 complete_for w None p = p
-complete_for w (Some device) p = advance w.link (answer_deferred w.deferred device (in_devices w.device (completing w.deferred) p))
+complete_for w (Some device) p = advance w.link (answer_deferred w.deferred device (in_devices w.device (completing w.link w.deferred) p))
 
 abbrev pub enter : OpenLink → SlotLink
 enter p = link_in_slot p.environment (Some p.link)

@@ -26,10 +26,10 @@ pub changed_replied : (ds : List KeptDevice) (ks : List KeptDeferral) (i : ℕ) 
 changed_replied ds ks i x' l l' opcode d answer f a s number h there stands now rate e =
     subst (λ i. StandsForLink (kept (slice_set ds i x') ks) l' (replied opcode answer (in_devices d f (open_link a l)))) (sym number) (device_changes ds ks d x' a s f h there stands now rate, sym e)
 
-pub controlled : (x x' : KeptDevice) (c : Controls) (s : DeviceState) (mask input_on output_on : ℕ) (input_gain output_gain : ℤ) → StandsForDevice x s → c ≡ with_named mask input_on output_on input_gain output_gain x.controls → x' ≡ record x { controls = c } →
-    StandsForDevice x' (controlling mask input_on output_on input_gain output_gain s)
-controlled x x' c s mask input_on output_on input_gain output_gain h is e =
-    subst (λ (y : KeptDevice). StandsForDevice y (controlling mask input_on output_on input_gain output_gain s)) (sym e)
+pub controlled : (k : ℕ) (x x' : KeptDevice) (c : Controls) (s : DeviceState) (mask input_on output_on : ℕ) (input_gain output_gain : ℤ) → StandsForDevice x s → c ≡ with_named mask input_on output_on input_gain output_gain x.controls → x' ≡ record x { controls = c } →
+    StandsForDevice x' (controlling k mask input_on output_on input_gain output_gain s)
+controlled k x x' c s mask input_on output_on input_gain output_gain h is e =
+    subst (λ (y : KeptDevice). StandsForDevice y (controlling k mask input_on output_on input_gain output_gain s)) (sym e)
     (record {
       ty = h.ty;
       rate = h.rate;
@@ -44,10 +44,10 @@ controlled x x' c s mask input_on output_on input_gain output_gain h is e =
       dead = h.dead;
     })
 
--- the line of a device becomes another
-pub relined : (f : Phone → Phone) (x x' : KeptDevice) (line : Option Phone) (s : DeviceState) → StandsForDevice x s → line ≡ option_map f x.line → x' ≡ record x { line = line } → StandsForDevice x' (record s { line = option_map f s.line })
-relined f x x' line s h is e =
-    subst (λ (y : KeptDevice). StandsForDevice y (record s { line = option_map f s.line })) (sym e)
+-- the hook of a device's line is wanted
+pub relined : (k : ℕ) (off : Bool) (x x' : KeptDevice) (line : Option Phone) (s : DeviceState) → StandsForDevice x s → line ≡ option_map (wanting off) x.line → x' ≡ record x { line = line } → StandsForDevice x' (wanting_hook k off s)
+relined k off x x' line s h is e =
+    subst (λ (y : KeptDevice). StandsForDevice y (wanting_hook k off s)) (sym e)
     (record {
       ty = h.ty;
       rate = h.rate;
@@ -58,7 +58,7 @@ relined f x x' line s h is e =
       keeps = h.keeps;
       whole = h.whole;
       controls = h.controls;
-      line = is ∙ ap (option_map f) h.line;
+      line = is ∙ ap (option_map (wanting off)) h.line;
       dead = h.dead;
     })
 

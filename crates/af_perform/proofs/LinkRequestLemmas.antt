@@ -161,13 +161,13 @@ play_told ds ks i x' l l' quiet d t f a s number h there stands now rate is e =
 -- a play that ends within the horizon is accepted
 pub play_started : (ds ds' : List KeptDevice) (ks : List KeptDeferral) (x : KeptDevice) (l l' : LinkState) (k : ℕ) (quiet : Bool) (c : Context) (start : ℕ) (bytes : List ℕ) (sound : List ℤ) (a : EnvironmentState) (s : DeviceState) → start < 2 ^ 32 → StandsForDevice x s →
     sound ≡ sent_sound c bytes → length sound ≡ frames_of c (length bytes) → length sound ≤ frames_within x.next start →
-    StandsForLink (kept ds' ks) l' (tell_played quiet s (in_devices c.device (accepting (accepted_at s.now start sound c.preempt)) (open_link a l))) → StandsForLink (kept ds' ks) l' (start_play k quiet c start bytes s (open_link a l))
+    StandsForLink (kept ds' ks) l' (tell_played quiet s (in_devices c.device (accepting k (accepted_at s.now start sound c.preempt)) (open_link a l))) → StandsForLink (kept ds' ks) l' (start_play k quiet c start bytes s (open_link a l))
 play_started ds ds' ks x l l' k quiet c start bytes sound a s word h is size within at =
     let same = within-same x s start word h in
     let test : nat_le (frames_of c (length bytes)) (s.now + s.rate * 4 - unwrap s.now start) ≡ true = grind (arith, nat_tests) in
-    either_at ds' ks l' (nat_le (frames_of c (length bytes)) (s.now + s.rate * 4 - unwrap s.now start)) true (tell_played quiet s (in_devices c.device (accepting (entry_now c s start bytes)) (open_link a l)))
+    either_at ds' ks l' (nat_le (frames_of c (length bytes)) (s.now + s.rate * 4 - unwrap s.now start)) true (tell_played quiet s (in_devices c.device (accepting k (entry_now c s start bytes)) (open_link a l)))
     (wait k c.device (deferred_play quiet (unwrap s.now start) (sent_sound c bytes) c.preempt) (open_link a l)) test
-    (subst (λ xs. StandsForLink (kept ds' ks) l' (tell_played quiet s (in_devices c.device (accepting (accepted_at s.now start xs c.preempt)) (open_link a l)))) is at)
+    (subst (λ xs. StandsForLink (kept ds' ks) l' (tell_played quiet s (in_devices c.device (accepting k (accepted_at s.now start xs c.preempt)) (open_link a l)))) is at)
 
 -- and any other waits
 pub play_waits : (ds : List KeptDevice) (ks ks' : List KeptDeferral) (x : KeptDevice) (l : LinkState) (k : ℕ) (quiet : Bool) (c : Context) (start : ℕ) (bytes : List ℕ) (sound : List ℤ) (left : ℕ) (a : EnvironmentState) (s : DeviceState) → start < 2 ^ 32 → StandsForEnvironment (kept ds ks) a →
@@ -191,31 +191,31 @@ play_waits ds ks ks' x l k quiet c start bytes sound left a s word h there stand
       left = omega arith;
       near = (omega arith, late, few);
     } in
-    either_at ds ks' l (nat_le (frames_of c (length bytes)) (s.now + s.rate * 4 - unwrap s.now start)) false (tell_played quiet s (in_devices c.device (accepting (entry_now c s start bytes)) (open_link a l)))
+    either_at ds ks' l (nat_le (frames_of c (length bytes)) (s.now + s.rate * 4 - unwrap s.now start)) false (tell_played quiet s (in_devices c.device (accepting k (entry_now c s start bytes)) (open_link a l)))
     (wait k c.device (deferred_play quiet (unwrap s.now start) (sent_sound c bytes) c.preempt) (open_link a l)) test
     (subst (λ xs. StandsForLink (kept ds ks') l (wait k c.device (deferred_play quiet (unwrap s.now start) xs c.preempt) (open_link a l))) is
     (subst (λ qs. StandsForLink (kept ds qs) l (wait k c.device (deferred_play quiet (unwrap s.now start) sound c.preempt) (open_link a l))) (sym e)
     ((h.0, waits_push a.devices ks a.waiting (record { wait = record { link = k; device = c.device; left = left }; deferred = deferred_play quiet start sound c.preempt }) (record { link = k; device = c.device; deferred = deferred_play quiet (unwrap s.now start) sound c.preempt }) h.1 one), refl)))
 
 -- a play that had waited
-play_completed : (ds : List KeptDevice) (ks : List KeptDeferral) (i : ℕ) (x' : KeptDevice) (x : KeptDevice) (l l' : LinkState) (quiet : Bool) (d start t : ℕ) (sound : List ℤ) (preempt : Bool) (a : EnvironmentState) (s : DeviceState) (whole : ℕ) → i ≡ d → StandsForEnvironment (kept ds ks) a →
-    slice_get a.devices d ≡ Some s → StandsForDevice x s → start ≡ whole % 2 ^ 32 → IsNear (s.rate * 4) s.now (deferred_play quiet whole sound preempt) → StandsForDevice x' (accepting (accepted_at s.now start sound preempt) s) → t ≡ x'.next.time →
-    l' ≡ cond quiet l (record l { pending = l.pending ++ reply_message 6 (played t) l.sequence }) → StandsForLink (kept (slice_set ds i x') ks) l' (answer_deferred (deferred_play quiet whole sound preempt) s (in_devices d (completing (deferred_play quiet whole sound preempt)) (open_link a l)))
-play_completed ds ks i x' x l l' quiet d start t sound preempt a s whole number h there stands word near accepted is e =
+play_completed : (k : ℕ) (ds : List KeptDevice) (ks : List KeptDeferral) (i : ℕ) (x' : KeptDevice) (x : KeptDevice) (l l' : LinkState) (quiet : Bool) (d start t : ℕ) (sound : List ℤ) (preempt : Bool) (a : EnvironmentState) (s : DeviceState) (whole : ℕ) → i ≡ d → StandsForEnvironment (kept ds ks) a →
+    slice_get a.devices d ≡ Some s → StandsForDevice x s → start ≡ whole % 2 ^ 32 → IsNear (s.rate * 4) s.now (deferred_play quiet whole sound preempt) → StandsForDevice x' (accepting k (accepted_at s.now start sound preempt) s) → t ≡ x'.next.time →
+    l' ≡ cond quiet l (record l { pending = l.pending ++ reply_message 6 (played t) l.sequence }) → StandsForLink (kept (slice_set ds i x') ks) l' (answer_deferred (deferred_play quiet whole sound preempt) s (in_devices d (completing k (deferred_play quiet whole sound preempt)) (open_link a l)))
+play_completed k ds ks i x' x l l' quiet d start t sound preempt a s whole number h there stands word near accepted is e =
     let deferred : Deferred = deferred_play quiet whole sound preempt in
     let early = near.0 in
     let means : unwrap s.now start ≡ whole = near_start x s start whole stands word (omega arith) near.1 in
     let entry : ℕ → AcceptedPlay = λ w. record { start = w; samples = sound; preempt = preempt; at = s.now } in
-    play_told ds ks i x' l l' quiet d t (completing deferred) a s number h there
-    (completes x' s deferred (subst (λ w. StandsForDevice x' (accepting (entry w) s)) means accepted) early) refl refl is e
+    play_told ds ks i x' l l' quiet d t (completing k deferred) a s number h there
+    (completes k x' s deferred (subst (λ w. StandsForDevice x' (accepting k (entry w) s)) means accepted) early) refl refl is e
 
-pub play_completes : (ds : List KeptDevice) (ks : List KeptDeferral) (i : ℕ) (x' : KeptDevice) (x : KeptDevice) (l l' : LinkState) (quiet : Bool) (d start t : ℕ) (sound : List ℤ) (preempt : Bool) (a : EnvironmentState) (s : DeviceState) (deferred : Deferred) → i ≡ d → StandsForEnvironment (kept ds ks) a →
-    slice_get a.devices d ≡ Some s → StandsForDevice x s → deferred_play quiet start sound preempt ≡ worded deferred → IsNear (s.rate * 4) s.now deferred → StandsForDevice x' (accepting (accepted_at s.now start sound preempt) s) → t ≡ x'.next.time →
-    l' ≡ cond quiet l (record l { pending = l.pending ++ reply_message 6 (played t) l.sequence }) → StandsForLink (kept (slice_set ds i x') ks) l' (answer_deferred deferred s (in_devices d (completing deferred) (open_link a l)))
-play_completes ds ks i x' x l l' quiet d start t sound preempt a s deferred number h there stands word near accepted is e =
+pub play_completes : (k : ℕ) (ds : List KeptDevice) (ks : List KeptDeferral) (i : ℕ) (x' : KeptDevice) (x : KeptDevice) (l l' : LinkState) (quiet : Bool) (d start t : ℕ) (sound : List ℤ) (preempt : Bool) (a : EnvironmentState) (s : DeviceState) (deferred : Deferred) → i ≡ d → StandsForEnvironment (kept ds ks) a →
+    slice_get a.devices d ≡ Some s → StandsForDevice x s → deferred_play quiet start sound preempt ≡ worded deferred → IsNear (s.rate * 4) s.now deferred → StandsForDevice x' (accepting k (accepted_at s.now start sound preempt) s) → t ≡ x'.next.time →
+    l' ≡ cond quiet l (record l { pending = l.pending ++ reply_message 6 (played t) l.sequence }) → StandsForLink (kept (slice_set ds i x') ks) l' (answer_deferred deferred s (in_devices d (completing k deferred) (open_link a l)))
+play_completes k ds ks i x' x l l' quiet d start t sound preempt a s deferred number h there stands word near accepted is e =
     let r = play_is deferred quiet start sound preempt word in
-    subst (λ (y : Deferred). StandsForLink (kept (slice_set ds i x') ks) l' (answer_deferred y s (in_devices d (completing y) (open_link a l)))) (sym r.1)
-    (play_completed ds ks i x' x l l' quiet d start t sound preempt a s r.0 number h there stands r.2 (subst (IsNear (s.rate * 4) s.now) r.1 near) accepted is e)
+    subst (λ (y : Deferred). StandsForLink (kept (slice_set ds i x') ks) l' (answer_deferred y s (in_devices d (completing k y) (open_link a l)))) (sym r.1)
+    (play_completed k ds ks i x' x l l' quiet d start t sound preempt a s r.0 number h there stands r.2 (subst (IsNear (s.rate * 4) s.now) r.1 near) accepted is e)
 
 -- Records
 
@@ -273,25 +273,25 @@ record_waits ds ks ks' x l k blocking c start bytes frames left a s word h there
     ((h.0, waits_push a.devices ks a.waiting (record { wait = record { link = k; device = c.device; left = left }; deferred = deferred_record c start frames }) (record { link = k; device = c.device; deferred = deferred_record c (unwrap s.now start) frames }) h.1 one), refl)))
 
 -- a record that had waited
-record_completed : (ds : List KeptDevice) (ks : List KeptDeferral) (x : KeptDevice) (l l' : LinkState) (c : Context) (d start frames : ℕ) (a : EnvironmentState) (s : DeviceState) (whole : ℕ) → slice_get ds d ≡ Some x → StandsForEnvironment (kept ds ks) a →
+record_completed : (k : ℕ) (ds : List KeptDevice) (ks : List KeptDeferral) (x : KeptDevice) (l l' : LinkState) (c : Context) (d start frames : ℕ) (a : EnvironmentState) (s : DeviceState) (whole : ℕ) → slice_get ds d ≡ Some x → StandsForEnvironment (kept ds ks) a →
     slice_get a.devices d ≡ Some s → StandsForDevice x s → start ≡ whole % 2 ^ 32 → IsNear (s.rate * 4) s.now (deferred_record c whole frames) → ChangesLink (give_record c (unwrap s.now start) frames s) l l' →
-    StandsForLink (kept ds ks) l' (answer_deferred (deferred_record c whole frames) s (in_devices d (completing (deferred_record c whole frames)) (open_link a l)))
-record_completed ds ks x l l' c d start frames a s whole here h there stands word near leads =
+    StandsForLink (kept ds ks) l' (answer_deferred (deferred_record c whole frames) s (in_devices d (completing k (deferred_record c whole frames)) (open_link a l)))
+record_completed k ds ks x l l' c d start frames a s whole here h there stands word near leads =
     let deferred : Deferred = deferred_record c whole frames in
     let bounds = horizon_bounds s x stands in
     let wide = bounds.1 in
     let early = near.0 in
     let means : unwrap s.now start ≡ whole = near_start x s start whole stands word (omega arith) near.1 in
-    let environment = (in_devices d (completing deferred) (open_link a l)).environment in
+    let environment = (in_devices d (completing k deferred) (open_link a l)).environment in
     let gives : ChangesLink (give_record c whole frames s) l l' = subst (λ w. ChangesLink (give_record c w frames s) l l') means leads in
-    let changed = device_changes ds ks d x a s (completing deferred) h there (completes x s deferred stands early) refl refl in
+    let changed = device_changes ds ks d x a s (completing k deferred) h there (completes k x s deferred stands early) refl refl in
     leads_at ds ks l l' (give_record c whole frames s) environment (gives environment)
     (subst (λ xs. StandForDevices xs environment.devices × StandForDeferrals environment.devices ks a.waiting) (same_set ds d x here) changed)
 
-pub record_completes : (ds : List KeptDevice) (ks : List KeptDeferral) (x : KeptDevice) (l l' : LinkState) (c : Context) (d start frames : ℕ) (a : EnvironmentState) (s : DeviceState) (deferred : Deferred) → slice_get ds d ≡ Some x → StandsForEnvironment (kept ds ks) a →
+pub record_completes : (k : ℕ) (ds : List KeptDevice) (ks : List KeptDeferral) (x : KeptDevice) (l l' : LinkState) (c : Context) (d start frames : ℕ) (a : EnvironmentState) (s : DeviceState) (deferred : Deferred) → slice_get ds d ≡ Some x → StandsForEnvironment (kept ds ks) a →
     slice_get a.devices d ≡ Some s → StandsForDevice x s → deferred_record c start frames ≡ worded deferred → IsNear (s.rate * 4) s.now deferred → ChangesLink (give_record c (unwrap s.now start) frames s) l l' →
-    StandsForLink (kept ds ks) l' (answer_deferred deferred s (in_devices d (completing deferred) (open_link a l)))
-record_completes ds ks x l l' c d start frames a s deferred here h there stands word near leads =
+    StandsForLink (kept ds ks) l' (answer_deferred deferred s (in_devices d (completing k deferred) (open_link a l)))
+record_completes k ds ks x l l' c d start frames a s deferred here h there stands word near leads =
     let r = record_is deferred c start frames word in
-    subst (λ (y : Deferred). StandsForLink (kept ds ks) l' (answer_deferred y s (in_devices d (completing y) (open_link a l)))) (sym r.1)
-    (record_completed ds ks x l l' c d start frames a s r.0 here h there stands r.2 (subst (IsNear (s.rate * 4) s.now) r.1 near) leads)
+    subst (λ (y : Deferred). StandsForLink (kept ds ks) l' (answer_deferred y s (in_devices d (completing k y) (open_link a l)))) (sym r.1)
+    (record_completed k ds ks x l l' c d start frames a s r.0 here h there stands r.2 (subst (IsNear (s.rate * 4) s.now) r.1 near) leads)

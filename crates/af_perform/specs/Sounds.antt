@@ -37,17 +37,17 @@ start_play_of k p = start_play k p.quiet p.context p.start.0 p.bytes.now
 abbrev pub record_by_context : ℕ → ContextRecord → DeviceState → OpenLink → OpenLink
 record_by_context k r = record_sound k r.blocking r.context r.start.0 r.bytes
 
--- a device accepts a play, and the link is replied to
-abbrev pub accept_now : Play → DeviceState → OpenLink → OpenLink
-accept_now play s p = tell_played play.quiet s
-    (in_devices play.device (accepting (accepted_at s.now play.start.0 play.sound.now play.preempt)) p)
+-- a device accepts a play of link k, and the link is replied to
+abbrev pub accept_now : ℕ → Play → DeviceState → OpenLink → OpenLink
+accept_now k play s p = tell_played play.quiet s
+    (in_devices play.device (accepting k (accepted_at s.now play.start.0 play.sound.now play.preempt)) p)
 
 abbrev pub AcceptsPlay : Play → List KeptDevice → LinkState → List KeptDevice → LinkState → Type 0
-AcceptsPlay play ds l ds' l' = (ks : List KeptDeferral) → StepsLinkFor play.device (accept_now play) (kept ds ks) l (kept ds' ks) l'
+AcceptsPlay play ds l ds' l' = (k : ℕ) (ks : List KeptDeferral) → StepsLinkFor play.device (accept_now k play) (kept ds ks) l (kept ds' ks) l'
 
--- a request that waited for a device completes, whatever whole start its word means
+-- a request of a link that waited for a device completes, whatever whole start its word means
 abbrev pub CompletesDeferred : Deferred → ℕ → List KeptDevice → LinkState → List KeptDevice → LinkState → Type 0
 CompletesDeferred word d ds l ds' l' =
-    (ks : List KeptDeferral) (a : EnvironmentState) (s : DeviceState) (deferred : Deferred) → StandsForEnvironment (kept ds ks) a →
+    (k : ℕ) (ks : List KeptDeferral) (a : EnvironmentState) (s : DeviceState) (deferred : Deferred) → StandsForEnvironment (kept ds ks) a →
     slice_get a.devices d ≡ Some s → word ≡ worded deferred → IsNear (horizon_of s) s.now deferred →
-    StandsForLink (kept ds' ks) l' (answer_deferred deferred s (in_devices d (completing deferred) (open_link a l)))
+    StandsForLink (kept ds' ks) l' (answer_deferred deferred s (in_devices d (completing k deferred) (open_link a l)))

@@ -129,8 +129,8 @@ fn control(asked: NewControls, devices: &mut [Device], link: &mut ServedLink, wo
     requires room { length link.old.pending ≤ 16384 }
     requires there { asked.device < length devices.old }
     requires passes { controls_refusal asked.mask asked.input_on asked.output_on asked.input_gain asked.output_gain ≡ None }
-    ensures step { (ks : List KeptDeferral) → StepsLinkFor asked.device
-        (set_device_controls asked.device asked.mask asked.input_on asked.output_on asked.input_gain asked.output_gain)
+    ensures step { (k : ℕ) (ks : List KeptDeferral) → StepsLinkFor asked.device
+        (set_device_controls k asked.device asked.mask asked.input_on asked.output_on asked.input_gain asked.output_gain)
         (kept devices.old ks) link.old (kept devices.new ks) link.new }
     ensures rest { link.new.rest ≡ link.old.rest }
 {
@@ -202,7 +202,7 @@ fn wanting(off: bool, line: Option<Line>) -> Option<Line>
 fn want_hook(device: u8, off: bool, devices: &mut [Device], link: &mut ServedLink, work: &mut Work)
     requires room { length link.old.pending ≤ 16384 }
     requires there { device < length devices.old }
-    ensures step { (ks : List KeptDeferral) → StepsLinkFor device (λ s p. replied 11 plain (in_devices device (wanting_hook off) p))
+    ensures step { (k : ℕ) (ks : List KeptDeferral) → StepsLinkFor device (λ s p. replied 11 plain (in_devices device (wanting_hook k off) p))
         (kept devices.old ks) link.old (kept devices.new ks) link.new }
     ensures rest { link.new.rest ≡ link.old.rest }
 {

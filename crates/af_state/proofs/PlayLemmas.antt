@@ -76,18 +76,18 @@ pub horizon_bounds : (s : DeviceState) (d : KeptDevice) → StandsForDevice d s 
 horizon_bounds s d h = horizon_within (s.rate * 4) (horizon_of_rate s.rate h.listed)
 
 -- a play without a sample is none
-pub accepts_nothing : (d : KeptDevice) (start : ℕ) (sound : List ℤ) (preempt : Bool) (s : DeviceState) → length sound ≡ 0 → StandsForDevice d s → StandsForDevice d (accepting (accepted_at s.now start sound preempt) s)
-accepts_nothing d start sound preempt s none h =
-    subst (λ n. StandsForDevice d (record s { accepted = cond (n == 0) s.accepted (s.accepted ++ accepted_at s.now start sound preempt ∷ []) })) (sym none) h
+pub accepts_nothing : (k : ℕ) (d : KeptDevice) (start : ℕ) (sound : List ℤ) (preempt : Bool) (s : DeviceState) → length sound ≡ 0 → StandsForDevice d s → StandsForDevice d (accepting k (accepted_at s.now start sound preempt) s)
+accepts_nothing k d start sound preempt s none h =
+    subst (λ n. StandsForDevice d (record s { accepted = cond (n == 0) s.accepted (s.accepted ++ accepted_at s.now start sound preempt ∷ []); actors = cond (n == 0) s.actors (s.actors ++ k ∷ []) })) (sym none) h
 
 -- a play
-pub accepts : (d : KeptDevice) (next : Next) (start : ℕ) (sound : List ℤ) (preempt : Bool) → start < 2 ^ 32 → 0 < length sound → length sound ≤ frames_within d.next start →
-    Plays d.next next (accepted_by d.next start sound preempt) → (s : DeviceState) → StandsForDevice d s → StandsForDevice (record d { next = next }) (accepting (accepted_at s.now start sound preempt) s)
-accepts d next start sound preempt word some few p s h =
+pub accepts : (k : ℕ) (d : KeptDevice) (next : Next) (start : ℕ) (sound : List ℤ) (preempt : Bool) → start < 2 ^ 32 → 0 < length sound → length sound ≤ frames_within d.next start →
+    Plays d.next next (accepted_by d.next start sound preempt) → (s : DeviceState) → StandsForDevice d s → StandsForDevice (record d { next = next }) (accepting k (accepted_at s.now start sound preempt) s)
+accepts k d next start sound preempt word some few p s h =
     let within : unwrap s.now start + length sound ≤ s.now + length d.next.next = let e = frames_within-same d.next s.accepted s.now start h.hears word in omega (arith, e, few, some) in
     let heard = hears_play d.next next s.accepted s.now start sound preempt h.hears word within p in
     let not_none : (length sound == 0) ≡ false = grind (arith, nat_tests) in
-    subst (λ b. StandsForDevice (record d { next = next }) (record s { accepted = cond b s.accepted (s.accepted ++ accepted_at s.now start sound preempt ∷ []) })) (sym not_none)
+    subst (λ b. StandsForDevice (record d { next = next }) (record s { accepted = cond b s.accepted (s.accepted ++ accepted_at s.now start sound preempt ∷ []); actors = cond b s.actors (s.actors ++ k ∷ []) })) (sym not_none)
     (record {
       ty = h.ty;
       rate = h.rate;
@@ -103,8 +103,8 @@ accepts d next start sound preempt word some few p s h =
     })
 
 -- a request that had waited, of which nothing is lost
-pub completes : (d : KeptDevice) (s : DeviceState) (deferred : Deferred) → StandsForDevice d (record s { accepted = with_deferred deferred s.now s.accepted }) → IsWholeAt (s.rate * 4) s.now deferred → StandsForDevice d (completing deferred s)
-completes d s deferred h whole = record {
+pub completes : (k : ℕ) (d : KeptDevice) (s : DeviceState) (deferred : Deferred) → StandsForDevice d (record s { accepted = with_deferred deferred s.now s.accepted }) → IsWholeAt (s.rate * 4) s.now deferred → StandsForDevice d (completing k deferred s)
+completes k d s deferred h whole = record {
   ty = h.ty;
   rate = h.rate;
   listed = h.listed;
@@ -112,7 +112,7 @@ completes d s deferred h whole = record {
   back = h.back;
   hears = h.hears;
   keeps = h.keeps;
-  whole = All-push (λ c. IsWholeAt (s.rate * 4) c.at c.deferred) s.completed (record { deferred = deferred; at = s.now }) h.whole whole;
+  whole = All-push (λ c. IsWholeAt (s.rate * 4) c.at c.deferred) s.completed (record { link = k; deferred = deferred; at = s.now }) h.whole whole;
   controls = h.controls;
   line = h.line;
   dead = h.dead;

@@ -164,8 +164,8 @@ impl Device {
     pub fn accept(&mut self, start: DevTime, sound: &[i16], preempt: bool)
         requires few { length sound.now ≤ 16368 }
         requires within { length sound.now ≤ frames_within self.old.next start.0 }
-        ensures { (s : DeviceState) → StandsForDevice self.old s →
-            StandsForDevice self.new (accepting (accepted_at s.now start.0 sound.now preempt) s) }
+        ensures { (k : ℕ) (s : DeviceState) → StandsForDevice self.old s →
+            StandsForDevice self.new (accepting k (accepted_at s.now start.0 sound.now preempt) s) }
     {
         if sound.is_empty() {
             return;

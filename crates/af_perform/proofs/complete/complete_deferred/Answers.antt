@@ -12,13 +12,13 @@ accept-requires-clause-within c = λ d here.
     subst (λ (x : Deferred). DeferredEndsWithin d x) same (c.requires.fits d here)
 
 pub returns-in-Play-clause-step : goal.returns-in-Play-clause-step
-returns-in-Play-clause-step c = λ ks a s deferred h there word near.
+returns-in-Play-clause-step c = λ k ks a s deferred h there word near.
     let r = c.parts-what.result in
     let same : c.args.deferred.now ≡ deferred_play c.in-Play.quiet r.1.0 r.2.now c.in-Play.preempt = c.parts-what.ensures.deferred ∙ ap (λ (what : DeferredWork). deferred_as what r.1.0 r.2.now) c.in-Play.is in
-    c.accept.ensures.completes ks a s deferred h there (sym same ∙ word) near
+    c.accept.ensures.completes k ks a s deferred h there (sym same ∙ word) near
 
 pub returns-in-Record-clause-step : goal.returns-in-Record-clause-step
-returns-in-Record-clause-step c = λ ks a s deferred h there word near.
+returns-in-Record-clause-step c = λ k ks a s deferred h there word near.
     let r = c.parts-what.result in
     let same : c.args.deferred.now ≡ deferred_record c.in-Record.context r.1.0 c.in-Record.frames = c.parts-what.ensures.deferred ∙ ap (λ (what : DeferredWork). deferred_as what r.1.0 r.2.now) c.in-Record.is in
-    c.complete_record.ensures.step ks a s deferred h there (sym same ∙ word) near
+    c.complete_record.ensures.step k ks a s deferred h there (sym same ∙ word) near

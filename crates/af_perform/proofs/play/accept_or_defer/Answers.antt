@@ -22,9 +22,9 @@ returns-then-frames-frames_within-clause-step c = λ x bytes is a s h there.
     subst (λ xs. StandsForLink (kept xs ks) c.accept.new.link (start_play c.args.number p.quiet x p.start.0 bytes s (open_link a c.args.link.now))) (sym (with_items_is c.environment.inside.devices c.accept.new.devices (search rules)))
     (play_started ds c.accept.new.devices ks _ c.args.link.now _ c.args.number p.quiet x p.start.0 bytes p.sound.now a s word here.1 is.sound is.frames
     (subst (λ n. length p.sound.now ≤ n) c.frames_within.ensures c.if-frames-frames_within.true)
-    (subst (λ d. StandsForLink (kept c.accept.new.devices ks) c.accept.new.link (tell_played p.quiet s (in_devices d (accepting (accepted_at s.now p.start.0 p.sound.now x.preempt)) (open_link a c.args.link.now)))) is.device
-    (subst (λ b. StandsForLink (kept c.accept.new.devices ks) c.accept.new.link (tell_played p.quiet s (in_devices p.device (accepting (accepted_at s.now p.start.0 p.sound.now b)) (open_link a c.args.link.now)))) is.preempt
-    (c.accept.ensures.accepts ks a s lent known))))
+    (subst (λ d. StandsForLink (kept c.accept.new.devices ks) c.accept.new.link (tell_played p.quiet s (in_devices d (accepting c.args.number (accepted_at s.now p.start.0 p.sound.now x.preempt)) (open_link a c.args.link.now)))) is.device
+    (subst (λ b. StandsForLink (kept c.accept.new.devices ks) c.accept.new.link (tell_played p.quiet s (in_devices p.device (accepting c.args.number (accepted_at s.now p.start.0 p.sound.now b)) (open_link a c.args.link.now)))) is.preempt
+    (c.accept.ensures.accepts c.args.number ks a s lent known))))
 
 pub returns-then-frames-frames_within-clause-leaves : goal.returns-then-frames-frames_within-clause-leaves
 returns-then-frames-frames_within-clause-leaves c =

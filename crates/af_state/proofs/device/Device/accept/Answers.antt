@@ -5,10 +5,10 @@ use Rattle.af_state.proofs.PlayLemmas.{accepts, accepts_nothing}
 use Rattle.af_state.proofs.device.Device.accept.Goals as goal
 
 pub returns-then-is_empty : goal.returns-then-is_empty
-returns-then-is_empty c = λ s h. accepts_nothing _ c.args.start.0 c.args.sound.now c.args.preempt s (grind (arith, rules)) h
+returns-then-is_empty c = λ k s h. accepts_nothing k _ c.args.start.0 c.args.sound.now c.args.preempt s (grind (arith, rules)) h
 
 pub returns : goal.returns
-returns c = λ s h.
+returns c = λ k s h.
     let word : c.args.start.0 < 2 ^ 32 = search rules in
     let within = subst (λ (v : KeptDevice). length c.args.sound.now ≤ frames_within v.next c.args.start.0) (sym c.self.view_is) c.requires.within in
-    accepts _ _ c.args.start.0 c.args.sound.now c.args.preempt word (search rules) within c.play.ensures.next s (subst (λ (v : KeptDevice). StandsForDevice v s) (sym c.self.view_is) h)
+    accepts k _ _ c.args.start.0 c.args.sound.now c.args.preempt word (search rules) within c.play.ensures.next s (subst (λ (v : KeptDevice). StandsForDevice v s) (sym c.self.view_is) h)

@@ -21,5 +21,4 @@ pub mod Prefix
 pub mod Causes
 pub mod Dead
 pub mod Fold
-pub mod Laws
 pub mod Script

@@ -1,0 +1,2 @@
+pub mod OtherLinkLemmas
+pub mod OwnLinkLemmas

@@ -1,0 +1,1 @@
+-- What link k does changes nothing but itself, unless it acts.

@@ -1,0 +1,3 @@
+pub mod Without
+pub mod Isolation
+pub mod Laws

@@ -1,6 +1,26 @@
 -- What another link does is the same without link k.
-use Rattle.std.proofs.Common.{◌≡◌, ℕ, ◌==◌, Bool, true, false, not, List, map, filter, refl}
-use Rattle.af_model.specs.State.{EnvironmentState, OpenLink, open_link, SlotLink, link_in_slot}
+use Rattle.std.proofs.Common.{◌≡◌, ℕ, zero, suc, ◌==◌, Bool, true, false, not, cond, ◌||◌, nat_le, is_none, length, take, List, [], ◌∷◌, ◌++◌, map, filter, slice_get, slice_set, option_map, refl, sym, ap, ◌∙◌, subst, eqb-true}
+use Rattle.std.proofs.lemmas.Bool.{eqb-false}
+use Rattle.std.proofs.lemmas.Option.{slice_get-map}
+use Rattle.std.proofs.lemmas.List.Elements.{filter-append}
+use Rattle.std.specs.declared.option.Option.{Option}
+use Rattle.std.specs.declared.option.Option.TheVariants.{None, Some}
+use Rattle.af_time.specs.DeviceTime.{unwrap}
+use Rattle.af_context.specs.declared.Context.{Context}
+use Rattle.af_context.specs.Contexts.{creation, reference, context_of, without_context}
+use Rattle.af_request.specs.Asked.{Asked, no_op, get_time, create_ac, change_ac, free_ac, play_run, record_run, select_events, set_controls, query_controls, hook_switch, query_phone}
+use Rattle.af_request.specs.declared.reply.Phone.{Phone}
+use Rattle.af_request.specs.Answer.{plain}
+use Rattle.af_model.specs.declared.refusal.Refusal.{Refusal}
+use Rattle.af_model.specs.State.{DeviceState, Deferral, EnvironmentState, OpenLink, open_link, SlotLink, link_in_slot, Deferred, deferred_play, deferred_record, Completion, device_set, with_device}
+use Rattle.af_model.specs.Waiting.{has_deferral, wait}
+use Rattle.af_model.specs.Reply.{infos_of, info_of, replied}
+use Rattle.af_model.specs.Checks.{refused_or, in_device, context_refusal}
+use Rattle.af_model.specs.ContextRequests.{creation_refusal, described, create, change_refusal, change, with_contexts}
+use Rattle.af_model.specs.DeviceRequests.{controlling, controls_refusal, on_line, select, set_device_controls, switch_hook, switch_refusal, tell_controls, tell_phone, wanting_hook}
+use Rattle.af_model.specs.Play.{play, play_refusal, start_play, tell_played, accepting, entry_now, in_devices, frames_of, frames_within_horizon, sent_sound}
+use Rattle.af_model.specs.Record.{record_sound, record_refusal, recorded_bytes, start_record, give_record, given_frames, is_to_wait}
+use Rattle.af_model.specs.Perform.{done, perform, request_counted, tell_time, in_context}
 use Rattle.af_model.specs.Events.{without_waiter}
 use Rattle.af_laws.specs.Without.{device_without}
 
@@ -13,3 +33,164 @@ open_without k p = open_link (environment_without k p.environment) p.link
 
 abbrev pub slot_without : ℕ → SlotLink → SlotLink
 slot_without k d = link_in_slot (environment_without k d.environment) d.link
+
+-- Lists
+
+-- the devices, one by one
+pub device_at_without : (k : ℕ) (devices : List DeviceState) (d : ℕ) → slice_get (map (device_without k) devices) d ≡ option_map (device_without k) (slice_get devices d)
+device_at_without k devices d = slice_get-map (device_without k) devices d
+
+pub devices_count : (k : ℕ) (devices : List DeviceState) → length (map (device_without k) devices) ≡ length devices
+devices_count k [] = refl
+devices_count k (device ∷ devices) = ap suc (devices_count k devices)
+
+-- what a setup is told of the devices
+pub infos_without : (k : ℕ) (devices : List DeviceState) → infos_of (map (device_without k) devices) ≡ infos_of devices
+infos_without k [] = refl
+infos_without k (device ∷ devices) = ap (λ infos. info_of device ∷ infos) (infos_without k devices)
+
+set_without : (k : ℕ) (devices : List DeviceState) (d : ℕ) (device : DeviceState) → slice_set (map (device_without k) devices) d (device_without k device) ≡ map (device_without k) (slice_set devices d device)
+set_without k [] d device = refl
+set_without k (x ∷ devices) zero device = refl
+set_without k (x ∷ devices) (suc d) device = ap (λ l. device_without k x ∷ l) (set_without k devices d device)
+
+-- one device becomes another, with link k as without it
+pub with_device_without : (k d : ℕ) (f g : DeviceState → DeviceState) (devices : List DeviceState) → ((device : DeviceState) → slice_get devices d ≡ Some device → f (device_without k device) ≡ device_without k (g device)) →
+    with_device d f (map (device_without k) devices) ≡ map (device_without k) (with_device d g devices)
+with_device_without k d f g devices same =
+    ap (device_set d f (map (device_without k) devices)) (device_at_without k devices d)
+    ∙ elim (slice_get devices d) as (λ o. slice_get devices d ≡ o → device_set d f (map (device_without k) devices) (option_map (device_without k) o) ≡ map (device_without k) (device_set d g devices o)) [
+      | None ↦ λ there. refl
+      | Some device ↦ λ there. ap (slice_set (map (device_without k) devices) d) (same device there) ∙ set_without k devices d (g device)
+    ] refl
+
+-- two numbers differ in either order
+pub apart : (j k : ℕ) → (j == k) ≡ false → (k == j) ≡ false
+apart j k other =
+    elim (k == j) as (λ t. (k == j) ≡ t → t ≡ false) [ true ↦ λ e. absurd (eqb-false j k other (sym (eqb-true k j e))) | false ↦ λ e. refl ] refl
+
+-- another link waits where it did
+pub waits_without : (k j : ℕ) → (j == k) ≡ false → (waiting : List Deferral) → has_deferral (without_waiter k waiting) j ≡ has_deferral waiting j
+waits_without k j other [] = refl
+waits_without k j other (w ∷ waiting) =
+    elim (w.link == k) as (λ t. (w.link == k) ≡ t → has_deferral (cond (not t) (w ∷ without_waiter k waiting) (without_waiter k waiting)) j ≡ has_deferral (w ∷ waiting) j) [
+      | true ↦ λ e. waits_without k j other waiting ∙ sym (ap (λ t. t || has_deferral waiting j) (ap (λ n. n == j) (eqb-true w.link k e) ∙ apart j k other))
+      | false ↦ λ e. ap (λ t. (w.link == j) || t) (waits_without k j other waiting)
+    ] refl
+
+-- another link begins to wait
+pub waiting_without : (k : ℕ) (w : Deferral) → (w.link == k) ≡ false → (waiting : List Deferral) → without_waiter k (waiting ++ w ∷ []) ≡ without_waiter k waiting ++ w ∷ []
+waiting_without k w other waiting = filter-append (λ v. not (v.link == k)) waiting (w ∷ []) ∙ ap (λ t. without_waiter k waiting ++ cond (not t) (w ∷ []) []) other
+
+-- two links leave in either order
+left_without : (k j : ℕ) (w : Deferral) (waiting : List Deferral) (s t : Bool) → (w.link == k) ≡ s → (w.link == j) ≡ t →
+    without_waiter j (cond (not s) (w ∷ waiting) waiting) ≡ cond (not s) (cond (not t) (w ∷ without_waiter j waiting) (without_waiter j waiting)) (without_waiter j waiting)
+left_without k j w waiting true t a b = refl
+left_without k j w waiting false t a b = ap (λ t. cond (not t) (w ∷ without_waiter j waiting) (without_waiter j waiting)) b
+
+pub left_both : (k j : ℕ) (waiting : List Deferral) → without_waiter j (without_waiter k waiting) ≡ without_waiter k (without_waiter j waiting)
+left_both k j [] = refl
+left_both k j (w ∷ waiting) =
+    left_without k j w (without_waiter k waiting) (w.link == k) (w.link == j) refl refl ∙ swapped (w.link == k) (w.link == j) (without_waiter j (without_waiter k waiting)) (without_waiter k (without_waiter j waiting)) (left_both k j waiting)
+    ∙ sym (left_without j k w (without_waiter j waiting) (w.link == j) (w.link == k) refl refl)
+  where
+    swapped : (s t : Bool) (x y : List Deferral) → x ≡ y → cond (not s) (cond (not t) (w ∷ x) x) x ≡ cond (not t) (cond (not s) (w ∷ y) y) y
+    swapped true true x y e = e
+    swapped true false x y e = e
+    swapped false true x y e = e
+    swapped false false x y e = ap (λ l. w ∷ l) e
+
+-- Requests
+
+-- whatever becomes of a device that does not look at what it completed
+pub in_devices_without : (k d : ℕ) (f : DeviceState → DeviceState) → ((device : DeviceState) → f (device_without k device) ≡ device_without k (f device)) → (p : OpenLink) → in_devices d f (open_without k p) ≡ open_without k (in_devices d f p)
+in_devices_without k d f same p =
+    ap (λ devices. open_link (record (environment_without k p.environment) { devices = devices }) p.link) (with_device_without k d f f p.environment.devices (λ device there. same device))
+
+-- another link begins to wait
+wait_without : (k j : ℕ) → (j == k) ≡ false → (d : ℕ) (deferred : Deferred) (p : OpenLink) → wait j d deferred (open_without k p) ≡ open_without k (wait j d deferred p)
+wait_without k j other d deferred p =
+    ap (λ waiting. open_link (record (environment_without k p.environment) { waiting = waiting }) p.link) (sym (waiting_without k (record { link = j; device = d; deferred = deferred }) other p.environment.waiting))
+
+module _ (k : ℕ) (p : OpenLink) where
+  -- something does the same without link k
+  abbrev Same : (OpenLink → OpenLink) → Type 0
+  Same f = f (open_without k p) ≡ open_without k (f p)
+
+  either_same : (b : Bool) (f g : OpenLink → OpenLink) → Same f → Same g → cond b (f (open_without k p)) (g (open_without k p)) ≡ open_without k (cond b (f p) (g p))
+  either_same true f g a b = a
+  either_same false f g a b = b
+
+  refused_same : (opcode : ℕ) (o : Option Refusal) (f : OpenLink → OpenLink) → Same f → Same (refused_or opcode o f)
+  refused_same opcode None f same = same
+  refused_same opcode (Some refusal) f same = refl
+
+  device_same : (opcode d : ℕ) (f : DeviceState → OpenLink → OpenLink) → ((device : DeviceState) → f (device_without k device) (open_without k p) ≡ open_without k (f device p)) →
+      in_device opcode d f (slice_get (map (device_without k) p.environment.devices) d) (open_without k p) ≡ open_without k (in_device opcode d f (slice_get p.environment.devices d) p)
+  device_same opcode d f same =
+      ap (λ o. in_device opcode d f o (open_without k p)) (device_at_without k p.environment.devices d)
+      ∙ elim (slice_get p.environment.devices d) as (λ o. in_device opcode d f (option_map (device_without k) o) (open_without k p) ≡ open_without k (in_device opcode d f o p)) [
+        | None ↦ refl
+        | Some device ↦ same device
+      ]
+
+  context_same : (opcode ac : ℕ) (f : Context → DeviceState → OpenLink → OpenLink) (o : Option Context) → ((c : Context) (device : DeviceState) → f c (device_without k device) (open_without k p) ≡ open_without k (f c device p)) → Same (in_context opcode ac f o)
+  context_same opcode ac f None same = refl
+  context_same opcode ac f (Some c) same = device_same opcode c.device (f c) (same c)
+
+  line_same : (opcode d : ℕ) (f : Phone → OpenLink → OpenLink) (o : Option Phone) → ((line : Phone) → Same (f line)) → Same (on_line opcode d f o)
+  line_same opcode d f None same = refl
+  line_same opcode d f (Some line) same = same line
+
+played_without : (k : ℕ) (quiet : Bool) (device : DeviceState) (p : OpenLink) → tell_played quiet (device_without k device) (open_without k p) ≡ open_without k (tell_played quiet device p)
+played_without k true device p = refl
+played_without k false device p = refl
+
+module _ (k j : ℕ) (other : (j == k) ≡ false) (p : OpenLink) where
+  play_same : (quiet : Bool) (c : Context) (time : ℕ) (bytes : List ℕ) (device : DeviceState) → play j quiet c time bytes (device_without k device) (open_without k p) ≡ open_without k (play j quiet c time bytes device p)
+  play_same quiet c time bytes device =
+      let f = accepting j (entry_now c device time bytes) in
+      refused_same k p 6 (play_refusal c (length bytes)) (start_play j quiet c time bytes device)
+      (either_same k p (nat_le (frames_of c (length bytes)) (frames_within_horizon device time)) (λ q. tell_played quiet device (in_devices c.device f q)) (wait j c.device (deferred_play quiet (unwrap device.now time) (sent_sound c bytes) c.preempt))
+      (ap (tell_played quiet device) (in_devices_without k c.device f (λ device. refl) p) ∙ played_without k quiet device (in_devices c.device f p))
+      (wait_without k j other c.device (deferred_play quiet (unwrap device.now time) (sent_sound c bytes) c.preempt) p))
+
+  record_same : (blocking : Bool) (c : Context) (time bytes : ℕ) (device : DeviceState) → record_sound j blocking c time bytes (device_without k device) (open_without k p) ≡ open_without k (record_sound j blocking c time bytes device p)
+  unfolding recorded_bytes
+  record_same blocking c time bytes device =
+      refused_same k p 7 (record_refusal c bytes) (start_record j blocking c time bytes device)
+      (either_same k p (is_to_wait blocking device time (frames_of c bytes)) (wait j c.device (deferred_record c (unwrap device.now time) (frames_of c bytes)))
+      (give_record c (unwrap device.now time) (given_frames blocking device time (frames_of c bytes)) device)
+      (wait_without k j other c.device (deferred_record c (unwrap device.now time) (frames_of c bytes)) p) refl)
+
+pub done_other : (k j : ℕ) → (j == k) ≡ false → (request : Asked) (p : OpenLink) → done j request (open_without k p) ≡ open_without k (done j request p)
+done_other k j other no_op p = refl
+done_other k j other (get_time d) p = device_same k p 2 d tell_time (λ device. refl)
+done_other k j other (create_ac d ac ty channels preempt play_gain record_gain) p =
+    let c = described d ac ty preempt play_gain record_gain in
+    let q = open_without k p in
+    ap (λ n. refused_or 3 (creation_refusal n d ty channels preempt play_gain record_gain) (create c) q) (devices_count k p.environment.devices)
+    ∙ refused_same k p 3 (creation_refusal (length p.environment.devices) d ty channels preempt play_gain record_gain) (create c)
+    (refused_same k p 3 (context_refusal c.ac (creation p.link.contexts c.ac)) (λ q. replied 3 plain (with_contexts (q.link.contexts ++ c ∷ []) q)) refl)
+done_other k j other (change_ac mask ac preempt play_gain record_gain) p =
+    refused_same k p 4 (change_refusal p.link.contexts mask ac preempt play_gain record_gain) (change mask ac preempt play_gain record_gain) refl
+done_other k j other (free_ac ac) p = refused_same k p 5 (context_refusal ac (reference p.link.contexts ac)) (λ q. replied 5 plain (with_contexts (without_context q.link.contexts ac) q)) refl
+done_other k j other (play_run quiet ac start bytes) p = context_same k p 6 ac (λ c. play j quiet c start bytes) (context_of p.link.contexts ac) (λ c device. play_same k j other p quiet c start bytes device)
+done_other k j other (record_run blocking ac start bytes) p =
+    context_same k p 7 ac (λ c. record_sound j blocking c start bytes) (context_of p.link.contexts ac) (λ c device. record_same k j other p blocking c start bytes device)
+done_other k j other (select_events d mask) p =
+    device_same k p 8 d (λ device. on_line 8 d (λ line. select d mask) device.line) (λ device. line_same k p 8 d (λ line. select d mask) device.line (λ line. refl))
+done_other k j other (set_controls d mask input_on output_on input_gain output_gain) p =
+    let f = controlling j mask input_on output_on input_gain output_gain in
+    device_same k p 9 d (set_device_controls j d mask input_on output_on input_gain output_gain)
+    (λ device. refused_same k p 9 (controls_refusal mask input_on output_on input_gain output_gain) (λ q. replied 9 plain (in_devices d f q)) (ap (replied 9 plain) (in_devices_without k d f (λ device. refl) p)))
+done_other k j other (query_controls d) p = device_same k p 10 d tell_controls (λ device. refl)
+done_other k j other (hook_switch d off) p =
+    let f = wanting_hook j (off == 1) in
+    device_same k p 11 d (λ device. on_line 11 d (switch_hook j d off) device.line)
+    (λ device. line_same k p 11 d (switch_hook j d off) device.line
+    (λ line. refused_same k p 11 (switch_refusal d off line) (λ q. replied 11 plain (in_devices d f q)) (ap (replied 11 plain) (in_devices_without k d f (λ device. refl) p))))
+done_other k j other (query_phone d) p = device_same k p 12 d (λ device. on_line 12 d tell_phone device.line) (λ device. line_same k p 12 d tell_phone device.line (λ line. refl))
+
+pub perform_other : (k j : ℕ) → (j == k) ≡ false → (request : Asked) (p : OpenLink) → perform j request (open_without k p) ≡ open_without k (perform j request p)
+perform_other k j other request p = done_other k j other request (open_link p.environment (request_counted p.link))

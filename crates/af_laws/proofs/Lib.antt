@@ -1,2 +1,3 @@
 pub mod OtherLinkLemmas
 pub mod OwnLinkLemmas
+pub mod SlotWithoutLemmas

@@ -1,5 +1,5 @@
 -- What another link does is the same without link k.
-use Rattle.std.proofs.Common.{◌≡◌, ℕ, zero, suc, ◌==◌, Bool, true, false, not, cond, ◌||◌, nat_le, is_none, length, take, List, [], ◌∷◌, ◌++◌, map, filter, slice_get, slice_set, option_map, refl, sym, ap, ◌∙◌, subst, eqb-true}
+use Rattle.std.proofs.Common.{◌≡◌, ℕ, zero, suc, ◌+◌, ◌==◌, Bool, true, false, not, cond, ◌||◌, nat_le, is_none, length, take, List, [], ◌∷◌, ◌++◌, map, filter, slice_get, slice_set, option_map, refl, sym, ap, ◌∙◌, subst, eqb-true}
 use Rattle.std.proofs.lemmas.Bool.{eqb-false}
 use Rattle.std.proofs.lemmas.Option.{slice_get-map}
 use Rattle.std.proofs.lemmas.List.Elements.{filter-append}
@@ -10,18 +10,34 @@ use Rattle.af_context.specs.declared.Context.{Context}
 use Rattle.af_context.specs.Contexts.{creation, reference, context_of, without_context}
 use Rattle.af_request.specs.Asked.{Asked, no_op, get_time, create_ac, change_ac, free_ac, play_run, record_run, select_events, set_controls, query_controls, hook_switch, query_phone}
 use Rattle.af_request.specs.declared.reply.Phone.{Phone}
-use Rattle.af_request.specs.Answer.{plain}
+use Rattle.af_request.specs.Requests.{asked_in}
+use Rattle.af_request.specs.Answer.{plain, setup}
+use Rattle.af_phone.specs.Lines.{selects}
+use Rattle.af_wire.specs.declared.event.Event.{Event}
+use Rattle.af_wire.specs.Event.{event_bytes}
+use Rattle.af_wire.specs.declared.front.Front.{Front}
+use Rattle.af_wire.specs.declared.front.Front.TheVariants.{NeedMore, Frame, Malformed}
+use Rattle.af_wire.specs.declared.front.SetupFront.{SetupFront}
+use Rattle.af_wire.specs.declared.front.SetupFront.TheVariants as front
+use Rattle.af_wire.specs.Front.{setup_front, frame_front}
+use Rattle.af_world.specs.declared.happening.ReadGot.{ReadGot}
+use Rattle.af_world.specs.declared.happening.ReadGot.TheVariants.{Given, NotYet, Ended, Failed}
+use Rattle.af_world.specs.declared.happening.Why.{Why}
+use Rattle.af_world.specs.declared.happening.Why.TheVariants as why
 use Rattle.af_model.specs.declared.refusal.Refusal.{Refusal}
-use Rattle.af_model.specs.State.{DeviceState, Deferral, EnvironmentState, OpenLink, open_link, SlotLink, link_in_slot, Deferred, deferred_play, deferred_record, Completion, device_set, with_device}
+use Rattle.af_model.specs.State.{DeviceState, Deferral, EnvironmentState, OpenLink, open_link, SlotLink, link_in_slot, say, none_selected, Deferred, deferred_play, deferred_record, Completion, device_set, with_device}
 use Rattle.af_model.specs.Waiting.{has_deferral, wait}
-use Rattle.af_model.specs.Reply.{infos_of, info_of, replied}
+use Rattle.af_model.specs.Reply.{infos_of, info_of, replied, reply_message}
 use Rattle.af_model.specs.Checks.{refused_or, in_device, context_refusal}
 use Rattle.af_model.specs.ContextRequests.{creation_refusal, described, create, change_refusal, change, with_contexts}
 use Rattle.af_model.specs.DeviceRequests.{controlling, controls_refusal, on_line, select, set_device_controls, switch_hook, switch_refusal, tell_controls, tell_phone, wanting_hook}
 use Rattle.af_model.specs.Play.{play, play_refusal, start_play, tell_played, accepting, entry_now, in_devices, frames_of, frames_within_horizon, sent_sound}
 use Rattle.af_model.specs.Record.{record_sound, record_refusal, recorded_bytes, start_record, give_record, given_frames, is_to_wait}
 use Rattle.af_model.specs.Perform.{done, perform, request_counted, tell_time, in_context}
-use Rattle.af_model.specs.Events.{without_waiter}
+use Rattle.af_model.specs.Events.{dropped, mask_of, tell_link, tell_selected, without_waiter}
+use Rattle.af_model.specs.Advance.{advance, advance_by, advance_step, absorb, after_frame, after_front, after_setup, or_else, requested, takes_more, without_front}
+use Rattle.af_model.specs.Tick.{answer_deferred, complete_for, completing}
+use Rattle.af_model.specs.Turn.{after_read, after_write, sent}
 use Rattle.af_laws.specs.Without.{device_without}
 
 -- the environment of a link, without link k
@@ -194,3 +210,101 @@ done_other k j other (query_phone d) p = device_same k p 12 d (λ device. on_lin
 
 pub perform_other : (k j : ℕ) → (j == k) ≡ false → (request : Asked) (p : OpenLink) → perform j request (open_without k p) ≡ open_without k (perform j request p)
 perform_other k j other request p = done_other k j other request (open_link p.environment (request_counted p.link))
+
+-- Advancing
+
+module _ (k j : ℕ) (other : (j == k) ≡ false) where
+  requested_other : (o : Option Asked) (p : OpenLink) → requested j o (open_without k p) ≡ open_without k (requested j o p)
+  requested_other None p = refl
+  requested_other (Some request) p = perform_other k j other request p
+
+  frame_other : (f : Front) (p : OpenLink) → after_frame j f (open_without k p) ≡ option_map (open_without k) (after_frame j f p)
+  frame_other NeedMore p = refl
+  frame_other Malformed p = refl
+  frame_other (Frame n) p = ap (λ q. Some q) (requested_other (asked_in (take n p.link.rest)) (open_link p.environment (without_front n p.link)))
+
+  setup_other : (f : SetupFront) (p : OpenLink) → after_setup f (open_without k p) ≡ option_map (open_without k) (after_setup f p)
+  setup_other front.NeedMore p = refl
+  setup_other front.Setup p =
+      ap (λ infos. Some (say (open_link (environment_without k p.environment) (record (without_front 8 p.link) { is_set_up = true })) (reply_message 0 (setup infos) 0))) (infos_without k p.environment.devices)
+  setup_other (front.BadSetup value) p = refl
+
+  front_other : (is_set_up : Bool) (p : OpenLink) → cond is_set_up (after_frame j (frame_front p.link.rest) (open_without k p)) (after_setup (setup_front p.link.rest) (open_without k p)) ≡
+      option_map (open_without k) (cond is_set_up (after_frame j (frame_front p.link.rest) p) (after_setup (setup_front p.link.rest) p))
+  front_other true p = frame_other (frame_front p.link.rest) p
+  front_other false p = setup_other (setup_front p.link.rest) p
+
+  step_other : (p : OpenLink) → advance_step j (open_without k p) ≡ option_map (open_without k) (advance_step j p)
+  step_other p =
+      ap (λ waits. cond (takes_more waits p.link) (after_front j (open_without k p)) None) (waits_without k j other p.environment.waiting)
+      ∙ elim (takes_more (has_deferral p.environment.waiting j) p.link) as (λ t. cond t (after_front j (open_without k p)) None ≡ option_map (open_without k) (cond t (after_front j p) None)) [
+        | true ↦ front_other p.link.is_set_up p
+        | false ↦ refl
+      ]
+
+  by_other : (n : ℕ) (p : OpenLink) → advance_by n j (open_without k p) ≡ open_without k (advance_by n j p)
+  by_other zero p = refl
+  by_other (suc n) p =
+      ap (or_else (open_without k p) (advance_by n j)) (step_other p)
+      ∙ elim (advance_step j p) as (λ o. or_else (open_without k p) (advance_by n j) (option_map (open_without k) o) ≡ open_without k (or_else p (advance_by n j) o)) [ None ↦ refl | Some q ↦ by_other n q ]
+
+  pub advance_other : (p : OpenLink) → advance j (open_without k p) ≡ open_without k (advance j p)
+  unfolding advance
+  advance_other p = by_other (length p.link.rest) p
+
+-- Reads, writes and events
+
+pub dropped_other : (k j : ℕ) (cause : Why) (p : OpenLink) → dropped j cause (open_without k p) ≡ open_without k (dropped j cause p)
+dropped_other k j cause p = ap (λ waiting. open_link (record (environment_without k p.environment) { waiting = waiting }) (dropped j cause p).link) (left_both k j p.environment.waiting)
+
+module _ (k j : ℕ) (other : (j == k) ≡ false) where
+  absorb_other : (bytes : List ℕ) (p : OpenLink) → absorb j bytes (open_without k p) ≡ open_without k (absorb j bytes p)
+  absorb_other bytes p =
+      let more = open_link p.environment (record p.link { rest = p.link.rest ++ bytes }) in
+      elim (is_none p.link.closing) as (λ t. cond t (advance j (open_without k more)) (open_without k p) ≡ open_without k (cond t (advance j more) p)) [ true ↦ advance_other k j other more | false ↦ refl ]
+
+  pub after_read_other : (got : ReadGot) (p : OpenLink) → after_read j got (open_without k p) ≡ open_without k (after_read j got p)
+  after_read_other (Given bytes) p = absorb_other bytes p
+  after_read_other NotYet p = refl
+  after_read_other Ended p = refl
+  after_read_other Failed p = dropped_other k j why.LinkFault p
+
+  pub after_write_other : (bytes : List ℕ) (p : OpenLink) → after_write j bytes (open_without k p) ≡ open_without k (after_write j bytes p)
+  after_write_other bytes p = advance_other k j other (open_link p.environment (sent (length bytes) p.link))
+
+pub tell_link_other : (k j : ℕ) (e : Event) (p : OpenLink) → tell_link j e (open_without k p) ≡ open_without k (tell_link j e p)
+tell_link_other k j e p =
+    elim (selects (mask_of p.link e.device) e.kind) as (λ t. cond t (tell_selected j e (open_without k p)) (open_without k p) ≡ open_without k (cond t (tell_selected j e p) p)) [
+      | true ↦ elim (nat_le (length p.link.pending + 20) 49152) as (λ t. cond t (say (open_without k p) (event_bytes e p.link.sequence)) (dropped j why.Overrun (open_without k p)) ≡ open_without k (cond t (say p (event_bytes e p.link.sequence)) (dropped j why.Overrun p))) [
+        | true ↦ refl
+        | false ↦ dropped_other k j why.Overrun p
+      ]
+      | false ↦ refl
+    ]
+
+-- Completions
+
+-- a device keeps that it completed a request of another link
+completing_without : (k j : ℕ) → (j == k) ≡ false → (deferred : Deferred) (device : DeviceState) → completing j deferred (device_without k device) ≡ device_without k (completing j deferred device)
+completing_without k j other deferred device =
+    let c : Completion = record { link = j; deferred = deferred; at = device.now } in
+    let kept = filter-append (λ (c : Completion). not (c.link == k)) device.completed (c ∷ []) ∙ ap (λ t. (device_without k device).completed ++ cond (not t) (c ∷ []) []) other in
+    ap (λ completed. record (completing j deferred device) { completed = completed }) (sym kept)
+
+answer_without : (k : ℕ) (deferred : Deferred) (device : DeviceState) (p : OpenLink) → answer_deferred deferred (device_without k device) (open_without k p) ≡ open_without k (answer_deferred deferred device p)
+unfolding recorded_bytes
+answer_without k (deferred_play quiet start sound preempt) device p = played_without k quiet device p
+answer_without k (deferred_record c start frames) device p = refl
+
+pub complete_other : (k : ℕ) (w : Deferral) → (w.link == k) ≡ false → (p : OpenLink) →
+    complete_for w (slice_get (environment_without k p.environment).devices w.device) (open_without k p) ≡ open_without k (complete_for w (slice_get p.environment.devices w.device) p)
+complete_other k w other p =
+    let f = completing w.link w.deferred in
+    let q = in_devices w.device f p in
+    ap (λ o. complete_for w o (open_without k p)) (device_at_without k p.environment.devices w.device)
+    ∙ elim (slice_get p.environment.devices w.device) as (λ o. complete_for w (option_map (device_without k) o) (open_without k p) ≡ open_without k (complete_for w o p)) [
+      | None ↦ refl
+      | Some device ↦
+        ap (λ r. advance w.link (answer_deferred w.deferred (device_without k device) r)) (in_devices_without k w.device f (completing_without k w.link other w.deferred) p)
+        ∙ ap (advance w.link) (answer_without k w.deferred device q) ∙ advance_other k w.link other (answer_deferred w.deferred device q)
+    ]

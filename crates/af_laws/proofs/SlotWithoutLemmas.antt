@@ -65,19 +65,26 @@ other_put k j s d other =
     ap (λ slots. record { devices = map (device_without k) d.environment.devices; slots = slots; waiting = without_waiter k d.environment.waiting })
     (set_swaps s.slots j k (record { link = d.link; said = d.environment.said }) closed_slot (eqb-false j k other))
 
+-- a slot becomes another
+pub own_becomes : (k : ℕ) (slot : SlotState) (s : State) → state_without k (with_slot k slot s) ≡ state_without k s
+own_becomes k slot s = ap (λ slots. record (state_without k s) { slots = slots }) (set_again s.slots k slot closed_slot)
+
+pub other_becomes : (k j : ℕ) (slot : SlotState) (s : State) → (j == k) ≡ false → with_slot j slot (state_without k s) ≡ state_without k (with_slot j slot s)
+other_becomes k j slot s other = ap (λ slots. record (state_without k s) { slots = slots }) (set_swaps s.slots j k slot closed_slot (eqb-false j k other))
+
 -- Events
 
-tell_open_other : (k j : ℕ) (e : Event) (d : SlotLink) → (j == k) ≡ false → tell_open j e (environment_without k d.environment) d.link ≡ slot_without k (tell_open j e d.environment d.link)
-tell_open_other k j e d other = by_link d.link
+tell_open_other : (k j : ℕ) (e : Event) (d : SlotLink) → tell_open j e (environment_without k d.environment) d.link ≡ slot_without k (tell_open j e d.environment d.link)
+tell_open_other k j e d = by_link d.link
   where
     by_link : (o : Option LinkState) → tell_open j e (environment_without k d.environment) o ≡ slot_without k (tell_open j e d.environment o)
     by_link None = refl
-    by_link (Some l) = ap (λ q. link_in_slot q.environment (Some q.link)) (tell_link_other k j other e (open_link d.environment l))
+    by_link (Some l) = ap (λ q. link_in_slot q.environment (Some q.link)) (tell_link_other k j e (open_link d.environment l))
 
 tell_at_other : (k j : ℕ) (e : Event) (s : State) → (j == k) ≡ false → tell_at j e (state_without k s) ≡ state_without k (tell_at j e s)
 tell_at_other k j e s other =
     ap (λ d. with_slot_link j (state_without k s) (tell_open j e d.environment d.link)) (other_link_at k j s other)
-    ∙ ap (with_slot_link j (state_without k s)) (tell_open_other k j e (slot_link_at j s) other)
+    ∙ ap (with_slot_link j (state_without k s)) (tell_open_other k j e (slot_link_at j s))
     ∙ other_put k j s (tell_open j e (slot_link_at j s).environment (slot_link_at j s).link) other
 
 tell_at_own : (k : ℕ) (e : Event) (s : State) → tell_at k e (state_without k s) ≡ state_without k (tell_at k e s)

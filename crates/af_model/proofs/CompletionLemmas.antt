@@ -75,7 +75,7 @@ count_push : (passes : Deferral → Bool) (ws : List Deferral) (w : Deferral) �
 count_push passes [] w e = ap (λ t. cond t 1 0) e
 count_push passes (v ∷ ws) w e = ap (λ n. cond (passes v) (suc n) n) (count_push passes ws w e)
 
-count_alike : (passes other : Deferral → Bool) (ws : List Deferral) → ((w : Deferral) → other w ≡ passes w) → count_due other ws ≡ count_due passes ws
+pub count_alike : (passes other : Deferral → Bool) (ws : List Deferral) → ((w : Deferral) → other w ≡ passes w) → count_due other ws ≡ count_due passes ws
 count_alike passes other [] same = refl
 count_alike passes other (w ∷ ws) same = ap (λ n. cond (other w) (suc n) n) (count_alike passes other ws same) ∙ ap (λ t. cond t (suc (count_due passes ws)) (count_due passes ws)) (same w)
 
@@ -87,7 +87,7 @@ pub record Few (n d : ℕ) (device : DeviceState) (ds : List DeviceState) (ws : 
   pub rate : is.rate ≡ device.rate
   pub few : count_due (falls_due d device) ws ≤ n
 
-same_due : (d : ℕ) (a b : DeviceState) (w : Deferral) → b.now ≡ a.now → b.rate ≡ a.rate → falls_due d b w ≡ falls_due d a w
+pub same_due : (d : ℕ) (a b : DeviceState) (w : Deferral) → b.now ≡ a.now → b.rate ≡ a.rate → falls_due d b w ≡ falls_due d a w
 same_due d a b w now rate = ap (λ r. w.device == d && nat_le (due (r * 4) w.deferred) b.now) rate ∙ ap (λ n. w.device == d && nat_le (due (a.rate * 4) w.deferred) n) now
 
 not_due : (a b : ℕ) → a < b → nat_le b a ≡ false

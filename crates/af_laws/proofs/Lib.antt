@@ -1,2 +1,3 @@
 pub mod OtherLinkLemmas
+pub mod OtherLinkPhaseLemmas
 pub mod OwnLinkLemmas

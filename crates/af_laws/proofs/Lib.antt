@@ -1,3 +1,4 @@
 pub mod OtherLinkLemmas
 pub mod OtherLinkPhaseLemmas
 pub mod OwnLinkLemmas
+pub mod SlotWithoutLemmas

@@ -45,11 +45,11 @@ completed_safe slack c passes s w few found h =
 
 -- How many are due
 
-abbrev count_due : (Deferral → Bool) → List Deferral → ℕ
+abbrev pub count_due : (Deferral → Bool) → List Deferral → ℕ
 count_due passes [] = 0
 count_due passes (w ∷ ws) = cond (passes w) (suc (count_due passes ws)) (count_due passes ws)
 
-count_most : (passes : Deferral → Bool) (ws : List Deferral) → count_due passes ws ≤ length ws
+pub count_most : (passes : Deferral → Bool) (ws : List Deferral) → count_due passes ws ≤ length ws
 count_most passes [] = omega arith
 count_most passes (w ∷ ws) =
     let le = count_most passes ws in
@@ -63,7 +63,7 @@ count_none passes (w ∷ ws) e =
       | false ↦ λ e. count_none passes ws e
     ] e
 
-count_left : (passes : Deferral → Bool) (ws : List Deferral) (w : Deferral) → find passes ws ≡ Some w → suc (count_due passes (without_first passes ws)) ≡ count_due passes ws
+pub count_left : (passes : Deferral → Bool) (ws : List Deferral) (w : Deferral) → find passes ws ≡ Some w → suc (count_due passes (without_first passes ws)) ≡ count_due passes ws
 count_left passes [] w e = absurd (none_some e)
 count_left passes (v ∷ ws) w e =
     elim (passes v) as (λ t. passes v ≡ t → cond t (Some v) (find passes ws) ≡ Some w → suc (count_due passes (cond t ws (v ∷ without_first passes ws))) ≡ cond t (suc (count_due passes ws)) (count_due passes ws)) [
@@ -80,12 +80,12 @@ count_alike passes other [] same = refl
 count_alike passes other (w ∷ ws) same = ap (λ n. cond (other w) (suc n) n) (count_alike passes other ws same) ∙ ap (λ t. cond t (suc (count_due passes ws)) (count_due passes ws)) (same w)
 
 -- At most n of those that wait are due for device d, whose time and rate are those of this one.
-record Few (n d : ℕ) (device : DeviceState) (ds : List DeviceState) (ws : List Deferral) : Type 0 where
-  is : DeviceState
-  there : slice_get ds d ≡ Some is
-  now : is.now ≡ device.now
-  rate : is.rate ≡ device.rate
-  few : count_due (falls_due d device) ws ≤ n
+pub record Few (n d : ℕ) (device : DeviceState) (ds : List DeviceState) (ws : List Deferral) : Type 0 where
+  pub is : DeviceState
+  pub there : slice_get ds d ≡ Some is
+  pub now : is.now ≡ device.now
+  pub rate : is.rate ≡ device.rate
+  pub few : count_due (falls_due d device) ws ≤ n
 
 same_due : (d : ℕ) (a b : DeviceState) (w : Deferral) → b.now ≡ a.now → b.rate ≡ a.rate → falls_due d b w ≡ falls_due d a w
 same_due d a b w now rate = ap (λ r. w.device == d && nat_le (due (r * 4) w.deferred) b.now) rate ∙ ap (λ n. w.device == d && nat_le (due (a.rate * 4) w.deferred) n) now
@@ -93,7 +93,7 @@ same_due d a b w now rate = ap (λ r. w.device == d && nat_le (due (r * 4) w.def
 not_due : (a b : ℕ) → a < b → nat_le b a ≡ false
 not_due a b lt = grind arith
 
-few_lives : (n d : ℕ) (device : DeviceState) (ds es : List DeviceState) (ws : List Deferral) → AllLive ds es → Few n d device ds ws → Few n d device es ws
+pub few_lives : (n d : ℕ) (device : DeviceState) (ds es : List DeviceState) (ws : List Deferral) → AllLive ds es → Few n d device ds ws → Few n d device es ws
 few_lives n d device ds es ws l h = let got = all_live_get ds es d h.is l h.there in record { is = got.0; there = got.1; now = got.2.now ∙ h.now; rate = got.2.rate ∙ h.rate; few = h.few }
 
 -- one that begins to wait is not due
@@ -129,7 +129,7 @@ few_keeps k n d device = record {
 }
 
 -- one fewer is due behind a completion
-few_completed : (n d : ℕ) (device x : DeviceState) (s : State) (w : Deferral) → x.now ≡ device.now → x.rate ≡ device.rate → find (falls_due d x) s.waiting ≡ Some w → Few (suc n) d device s.devices s.waiting →
+pub few_completed : (n d : ℕ) (device x : DeviceState) (s : State) (w : Deferral) → x.now ≡ device.now → x.rate ≡ device.rate → find (falls_due d x) s.waiting ≡ Some w → Few (suc n) d device s.devices s.waiting →
     Few n d device (complete w (record s { waiting = without_first (falls_due d x) s.waiting })).devices (complete w (record s { waiting = without_first (falls_due d x) s.waiting })).waiting
 few_completed n d device x s w now rate found h =
     let passes = falls_due d x in

@@ -99,7 +99,7 @@ first_goes d s device =
 step_goes : (d : ℕ) (s : State) → GoesTo s (complete_step d s)
 step_goes d s = elim (slice_get s.devices d) as (λ o. GoesTo s (option_and_then (complete_first d s) o)) [ None ↦ tt | Some device ↦ first_goes d s device ]
 
-by_goes : (n d : ℕ) (s : State) → Goes s [] (complete_by n d s)
+pub by_goes : (n d : ℕ) (s : State) → Goes s [] (complete_by n d s)
 by_goes zero d s = goes_refl s
 by_goes (suc n) d s =
     elim (complete_step d s) as (λ o. GoesTo s o → Goes s [] (or_else s (complete_by n d) o)) [
@@ -201,13 +201,13 @@ hooked_at : (d : ℕ) (o : Option DeviceState) (s : State) → Takes (hook_at d 
 hooked_at d None s = takes_nothing s (Within s) (within_refl s)
 hooked_at d (Some device) s = hook_takes d device s (Within s) (within_refl s) (λ wanted off done. record { inside = refl; goes = hook_goes d wanted off done device s })
 
-hooked_from : (n d : ℕ) (s : State) → Takes (hook_from n d s) (Within s)
+pub hooked_from : (n d : ℕ) (s : State) → Takes (hook_from n d s) (Within s)
 unfolding hook_from
 hooked_from zero d s = takes_nothing s (Within s) (within_refl s)
 hooked_from (suc n) d s = takes_chain (λ s log. hook_at d (slice_get s.devices d) s log) (hook_from n (d + 1)) Within Within Within within_trans (λ s. hooked_at d (slice_get s.devices d) s) (hooked_from n (d + 1)) s
 
 -- what follows a wake
-after_wake : (s : State) → Takes (serve_and_hook s) (Within s)
+pub after_wake : (s : State) → Takes (serve_and_hook s) (Within s)
 after_wake s = takes_chain serve_all hook_all Within Within Within within_trans (λ s. served_from (length s.slots) 0 s) (λ s. hooked_from (length s.devices) 0 s) s
 
 -- Wakes

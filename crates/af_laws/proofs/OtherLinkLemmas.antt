@@ -1,5 +1,5 @@
 -- What another link does is the same without link k.
-use Rattle.std.proofs.Common.{◌≡◌, ℕ, zero, suc, ◌+◌, ◌==◌, Bool, true, false, not, cond, ◌||◌, nat_le, is_none, length, take, List, [], ◌∷◌, ◌++◌, map, filter, slice_get, slice_set, option_map, refl, sym, ap, ◌∙◌, subst, eqb-true}
+use Rattle.std.proofs.Common.{◌≡◌, ℕ, zero, suc, ◌+◌, ◌==◌, Bool, true, false, not, cond, ◌||◌, nat_le, is_none, length, take, List, [], ◌∷◌, ◌++◌, map, slice_get, slice_set, option_map, refl, sym, ap, ◌∙◌, eqb-true}
 use Rattle.std.proofs.lemmas.Bool.{eqb-false}
 use Rattle.std.proofs.lemmas.Option.{slice_get-map}
 use Rattle.std.proofs.lemmas.List.Elements.{filter-append}
@@ -25,7 +25,7 @@ use Rattle.af_world.specs.declared.happening.ReadGot.TheVariants.{Given, NotYet,
 use Rattle.af_world.specs.declared.happening.Why.{Why}
 use Rattle.af_world.specs.declared.happening.Why.TheVariants as why
 use Rattle.af_model.specs.declared.refusal.Refusal.{Refusal}
-use Rattle.af_model.specs.State.{DeviceState, Deferral, EnvironmentState, OpenLink, open_link, SlotLink, link_in_slot, say, none_selected, Deferred, deferred_play, deferred_record, Completion, device_set, with_device}
+use Rattle.af_model.specs.State.{DeviceState, Deferral, EnvironmentState, OpenLink, open_link, SlotLink, link_in_slot, say, Deferred, deferred_play, deferred_record, Completion, device_set, with_device}
 use Rattle.af_model.specs.Waiting.{has_deferral, wait}
 use Rattle.af_model.specs.Reply.{infos_of, info_of, replied, reply_message}
 use Rattle.af_model.specs.Checks.{refused_or, in_device, context_refusal}
@@ -44,18 +44,21 @@ use Rattle.af_laws.specs.Without.{device_without}
 abbrev pub environment_without : ℕ → EnvironmentState → EnvironmentState
 environment_without k a = record a { devices = map (device_without k) a.devices; waiting = without_waiter k a.waiting }
 
+-- an open link with that environment
 abbrev pub open_without : ℕ → OpenLink → OpenLink
 open_without k p = open_link (environment_without k p.environment) p.link
 
+-- the same of a number whose link may be closed
 abbrev pub slot_without : ℕ → SlotLink → SlotLink
 slot_without k d = link_in_slot (environment_without k d.environment) d.link
 
 -- Lists
 
--- the devices, one by one
+-- each device stands where it did
 pub device_at_without : (k : ℕ) (devices : List DeviceState) (d : ℕ) → slice_get (map (device_without k) devices) d ≡ option_map (device_without k) (slice_get devices d)
 device_at_without k devices d = slice_get-map (device_without k) devices d
 
+-- there are as many devices
 pub devices_count : (k : ℕ) (devices : List DeviceState) → length (map (device_without k) devices) ≡ length devices
 devices_count k [] = refl
 devices_count k (device ∷ devices) = ap suc (devices_count k devices)
@@ -65,12 +68,13 @@ pub infos_without : (k : ℕ) (devices : List DeviceState) → infos_of (map (de
 infos_without k [] = refl
 infos_without k (device ∷ devices) = ap (λ infos. info_of device ∷ infos) (infos_without k devices)
 
+-- a device is put in its place
 set_without : (k : ℕ) (devices : List DeviceState) (d : ℕ) (device : DeviceState) → slice_set (map (device_without k) devices) d (device_without k device) ≡ map (device_without k) (slice_set devices d device)
 set_without k [] d device = refl
 set_without k (x ∷ devices) zero device = refl
 set_without k (x ∷ devices) (suc d) device = ap (λ l. device_without k x ∷ l) (set_without k devices d device)
 
--- one device becomes another, with link k as without it
+-- The device at a number becomes another, where what becomes of it without link k is the same without link k.
 pub with_device_without : (k d : ℕ) (f g : DeviceState → DeviceState) (devices : List DeviceState) → ((device : DeviceState) → slice_get devices d ≡ Some device → f (device_without k device) ≡ device_without k (g device)) →
     with_device d f (map (device_without k) devices) ≡ map (device_without k) (with_device d g devices)
 with_device_without k d f g devices same =
@@ -98,12 +102,13 @@ waits_without k j other (w ∷ waiting) =
 pub waiting_without : (k : ℕ) (w : Deferral) → (w.link == k) ≡ false → (waiting : List Deferral) → without_waiter k (waiting ++ w ∷ []) ≡ without_waiter k waiting ++ w ∷ []
 waiting_without k w other waiting = filter-append (λ v. not (v.link == k)) waiting (w ∷ []) ∙ ap (λ t. without_waiter k waiting ++ cond (not t) (w ∷ []) []) other
 
--- two links leave in either order
+-- of one that waits: two links leave
 left_without : (k j : ℕ) (w : Deferral) (waiting : List Deferral) (s t : Bool) → (w.link == k) ≡ s → (w.link == j) ≡ t →
     without_waiter j (cond (not s) (w ∷ waiting) waiting) ≡ cond (not s) (cond (not t) (w ∷ without_waiter j waiting) (without_waiter j waiting)) (without_waiter j waiting)
 left_without k j w waiting true t a b = refl
 left_without k j w waiting false t a b = ap (λ t. cond (not t) (w ∷ without_waiter j waiting) (without_waiter j waiting)) b
 
+-- two links leave in either order
 pub left_both : (k j : ℕ) (waiting : List Deferral) → without_waiter j (without_waiter k waiting) ≡ without_waiter k (without_waiter j waiting)
 left_both k j [] = refl
 left_both k j (w ∷ waiting) =
@@ -133,14 +138,17 @@ module _ (k : ℕ) (p : OpenLink) where
   abbrev Same : (OpenLink → OpenLink) → Type 0
   Same f = f (open_without k p) ≡ open_without k (f p)
 
+  -- either of two things
   either_same : (b : Bool) (f g : OpenLink → OpenLink) → Same f → Same g → cond b (f (open_without k p)) (g (open_without k p)) ≡ open_without k (cond b (f p) (g p))
   either_same true f g a b = a
   either_same false f g a b = b
 
+  -- a request that is done where its checks pass
   refused_same : (opcode : ℕ) (o : Option Refusal) (f : OpenLink → OpenLink) → Same f → Same (refused_or opcode o f)
   refused_same opcode None f same = same
   refused_same opcode (Some refusal) f same = refl
 
+  -- a request that names a device
   device_same : (opcode d : ℕ) (f : DeviceState → OpenLink → OpenLink) → ((device : DeviceState) → f (device_without k device) (open_without k p) ≡ open_without k (f device p)) →
       in_device opcode d f (slice_get (map (device_without k) p.environment.devices) d) (open_without k p) ≡ open_without k (in_device opcode d f (slice_get p.environment.devices d) p)
   device_same opcode d f same =
@@ -150,19 +158,23 @@ module _ (k : ℕ) (p : OpenLink) where
         | Some device ↦ same device
       ]
 
+  -- a request that names a context
   context_same : (opcode ac : ℕ) (f : Context → DeviceState → OpenLink → OpenLink) (o : Option Context) → ((c : Context) (device : DeviceState) → f c (device_without k device) (open_without k p) ≡ open_without k (f c device p)) → Same (in_context opcode ac f o)
   context_same opcode ac f None same = refl
   context_same opcode ac f (Some c) same = device_same opcode c.device (f c) (same c)
 
+  -- a request that names a line
   line_same : (opcode d : ℕ) (f : Phone → OpenLink → OpenLink) (o : Option Phone) → ((line : Phone) → Same (f line)) → Same (on_line opcode d f o)
   line_same opcode d f None same = refl
   line_same opcode d f (Some line) same = same line
 
+-- a play is replied to
 played_without : (k : ℕ) (quiet : Bool) (device : DeviceState) (p : OpenLink) → tell_played quiet (device_without k device) (open_without k p) ≡ open_without k (tell_played quiet device p)
 played_without k true device p = refl
 played_without k false device p = refl
 
 module _ (k j : ℕ) (other : (j == k) ≡ false) (p : OpenLink) where
+  -- a play is accepted or waits
   play_same : (quiet : Bool) (c : Context) (time : ℕ) (bytes : List ℕ) (device : DeviceState) → play j quiet c time bytes (device_without k device) (open_without k p) ≡ open_without k (play j quiet c time bytes device p)
   play_same quiet c time bytes device =
       let f = accepting j (entry_now c device time bytes) in
@@ -171,6 +183,7 @@ module _ (k j : ℕ) (other : (j == k) ≡ false) (p : OpenLink) where
       (ap (tell_played quiet device) (in_devices_without k c.device f (λ device. refl) p) ∙ played_without k quiet device (in_devices c.device f p))
       (wait_without k j other c.device (deferred_play quiet (unwrap device.now time) (sent_sound c bytes) c.preempt) p))
 
+  -- a record is answered or waits
   record_same : (blocking : Bool) (c : Context) (time bytes : ℕ) (device : DeviceState) → record_sound j blocking c time bytes (device_without k device) (open_without k p) ≡ open_without k (record_sound j blocking c time bytes device p)
   unfolding recorded_bytes
   record_same blocking c time bytes device =
@@ -179,6 +192,7 @@ module _ (k j : ℕ) (other : (j == k) ≡ false) (p : OpenLink) where
       (give_record c (unwrap device.now time) (given_frames blocking device time (frames_of c bytes)) device)
       (wait_without k j other c.device (deferred_record c (unwrap device.now time) (frames_of c bytes)) p) refl)
 
+-- whatever another link requests
 pub done_other : (k j : ℕ) → (j == k) ≡ false → (request : Asked) (p : OpenLink) → done j request (open_without k p) ≡ open_without k (done j request p)
 done_other k j other no_op p = refl
 done_other k j other (get_time d) p = device_same k p 2 d tell_time (λ device. refl)
@@ -208,32 +222,38 @@ done_other k j other (hook_switch d off) p =
     (λ line. refused_same k p 11 (switch_refusal d off line) (λ q. replied 11 plain (in_devices d f q)) (ap (replied 11 plain) (in_devices_without k d f (λ device. refl) p))))
 done_other k j other (query_phone d) p = device_same k p 12 d (λ device. on_line 12 d tell_phone device.line) (λ device. line_same k p 12 d tell_phone device.line (λ line. refl))
 
+-- and its request is counted
 pub perform_other : (k j : ℕ) → (j == k) ≡ false → (request : Asked) (p : OpenLink) → perform j request (open_without k p) ≡ open_without k (perform j request p)
 perform_other k j other request p = done_other k j other request (open_link p.environment (request_counted p.link))
 
 -- Advancing
 
 module _ (k j : ℕ) (other : (j == k) ≡ false) where
+  -- a frame is a request, or closes the link
   requested_other : (o : Option Asked) (p : OpenLink) → requested j o (open_without k p) ≡ open_without k (requested j o p)
   requested_other None p = refl
   requested_other (Some request) p = perform_other k j other request p
 
+  -- what stands at the front of its input
   frame_other : (f : Front) (p : OpenLink) → after_frame j f (open_without k p) ≡ option_map (open_without k) (after_frame j f p)
   frame_other NeedMore p = refl
   frame_other Malformed p = refl
   frame_other (Frame n) p = ap (λ q. Some q) (requested_other (asked_in (take n p.link.rest)) (open_link p.environment (without_front n p.link)))
 
+  -- and before it is set up
   setup_other : (f : SetupFront) (p : OpenLink) → after_setup f (open_without k p) ≡ option_map (open_without k) (after_setup f p)
   setup_other front.NeedMore p = refl
   setup_other front.Setup p =
       ap (λ infos. Some (say (open_link (environment_without k p.environment) (record (without_front 8 p.link) { is_set_up = true })) (reply_message 0 (setup infos) 0))) (infos_without k p.environment.devices)
   setup_other (front.BadSetup value) p = refl
 
+  -- either of them
   front_other : (is_set_up : Bool) (p : OpenLink) → cond is_set_up (after_frame j (frame_front p.link.rest) (open_without k p)) (after_setup (setup_front p.link.rest) (open_without k p)) ≡
       option_map (open_without k) (cond is_set_up (after_frame j (frame_front p.link.rest) p) (after_setup (setup_front p.link.rest) p))
   front_other true p = frame_other (frame_front p.link.rest) p
   front_other false p = setup_other (setup_front p.link.rest) p
 
+  -- one is taken off, if another link may take more
   step_other : (p : OpenLink) → advance_step j (open_without k p) ≡ option_map (open_without k) (advance_step j p)
   step_other p =
       ap (λ waits. cond (takes_more waits p.link) (after_front j (open_without k p)) None) (waits_without k j other p.environment.waiting)
@@ -242,36 +262,43 @@ module _ (k j : ℕ) (other : (j == k) ≡ false) where
         | false ↦ refl
       ]
 
+  -- as long as there is one to take
   by_other : (n : ℕ) (p : OpenLink) → advance_by n j (open_without k p) ≡ open_without k (advance_by n j p)
   by_other zero p = refl
   by_other (suc n) p =
       ap (or_else (open_without k p) (advance_by n j)) (step_other p)
       ∙ elim (advance_step j p) as (λ o. or_else (open_without k p) (advance_by n j) (option_map (open_without k) o) ≡ open_without k (or_else p (advance_by n j) o)) [ None ↦ refl | Some q ↦ by_other n q ]
 
+  -- another link advances
   pub advance_other : (p : OpenLink) → advance j (open_without k p) ≡ open_without k (advance j p)
   unfolding advance
   advance_other p = by_other (length p.link.rest) p
 
 -- Reads, writes and events
 
+-- a link is dropped
 pub dropped_other : (k j : ℕ) (cause : Why) (p : OpenLink) → dropped j cause (open_without k p) ≡ open_without k (dropped j cause p)
 dropped_other k j cause p = ap (λ waiting. open_link (record (environment_without k p.environment) { waiting = waiting }) (dropped j cause p).link) (left_both k j p.environment.waiting)
 
 module _ (k j : ℕ) (other : (j == k) ≡ false) where
+  -- it absorbs what a read gave
   absorb_other : (bytes : List ℕ) (p : OpenLink) → absorb j bytes (open_without k p) ≡ open_without k (absorb j bytes p)
   absorb_other bytes p =
       let more = open_link p.environment (record p.link { rest = p.link.rest ++ bytes }) in
       elim (is_none p.link.closing) as (λ t. cond t (advance j (open_without k more)) (open_without k p) ≡ open_without k (cond t (advance j more) p)) [ true ↦ advance_other k j other more | false ↦ refl ]
 
+  -- whatever a read answered
   pub after_read_other : (got : ReadGot) (p : OpenLink) → after_read j got (open_without k p) ≡ open_without k (after_read j got p)
   after_read_other (Given bytes) p = absorb_other bytes p
   after_read_other NotYet p = refl
   after_read_other Ended p = refl
   after_read_other Failed p = dropped_other k j why.LinkFault p
 
+  -- a write took some bytes
   pub after_write_other : (bytes : List ℕ) (p : OpenLink) → after_write j bytes (open_without k p) ≡ open_without k (after_write j bytes p)
   after_write_other bytes p = advance_other k j other (open_link p.environment (sent (length bytes) p.link))
 
+-- a link is told an event, or is dropped for it
 pub tell_link_other : (k j : ℕ) (e : Event) (p : OpenLink) → tell_link j e (open_without k p) ≡ open_without k (tell_link j e p)
 tell_link_other k j e p =
     elim (selects (mask_of p.link e.device) e.kind) as (λ t. cond t (tell_selected j e (open_without k p)) (open_without k p) ≡ open_without k (cond t (tell_selected j e p) p)) [
@@ -291,11 +318,13 @@ completing_without k j other deferred device =
     let kept = filter-append (λ (c : Completion). not (c.link == k)) device.completed (c ∷ []) ∙ ap (λ t. (device_without k device).completed ++ cond (not t) (c ∷ []) []) other in
     ap (λ completed. record (completing j deferred device) { completed = completed }) (sym kept)
 
+-- it is answered
 answer_without : (k : ℕ) (deferred : Deferred) (device : DeviceState) (p : OpenLink) → answer_deferred deferred (device_without k device) (open_without k p) ≡ open_without k (answer_deferred deferred device p)
 unfolding recorded_bytes
 answer_without k (deferred_play quiet start sound preempt) device p = played_without k quiet device p
 answer_without k (deferred_record c start frames) device p = refl
 
+-- a request of another link completes, and then those that it may make
 pub complete_other : (k : ℕ) (w : Deferral) → (w.link == k) ≡ false → (p : OpenLink) →
     complete_for w (slice_get (environment_without k p.environment).devices w.device) (open_without k p) ≡ open_without k (complete_for w (slice_get p.environment.devices w.device) p)
 complete_other k w other p =
@@ -305,6 +334,6 @@ complete_other k w other p =
     ∙ elim (slice_get p.environment.devices w.device) as (λ o. complete_for w (option_map (device_without k) o) (open_without k p) ≡ open_without k (complete_for w o p)) [
       | None ↦ refl
       | Some device ↦
-        ap (λ r. advance w.link (answer_deferred w.deferred (device_without k device) r)) (in_devices_without k w.device f (completing_without k w.link other w.deferred) p)
-        ∙ ap (advance w.link) (answer_without k w.deferred device q) ∙ advance_other k w.link other (answer_deferred w.deferred device q)
+          ap (λ r. advance w.link (answer_deferred w.deferred (device_without k device) r)) (in_devices_without k w.device f (completing_without k w.link other w.deferred) p)
+          ∙ ap (advance w.link) (answer_without k w.deferred device q) ∙ advance_other k w.link other (answer_deferred w.deferred device q)
     ]

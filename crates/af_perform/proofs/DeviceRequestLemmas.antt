@@ -1,5 +1,5 @@
 -- Requests on the controls of a device, and on its line.
-use Rattle.std.proofs.Common.{◌≡◌, ℕ, ℤ, zero, suc, ◌<◌, ◌≤◌, List, [], ◌∷◌, ◌++◌, length, slice_get, slice_set, option_map, Ok, Err, refl, sym, ap, ◌∙◌, subst, arith}
+use Rattle.std.proofs.Common.{◌≡◌, ℕ, ℤ, Bool, zero, suc, ◌<◌, ◌≤◌, List, [], ◌∷◌, ◌++◌, length, slice_get, slice_set, option_map, Ok, Err, refl, sym, ap, ◌∙◌, subst, arith}
 use Rattle.std.specs.declared.option.Option.{Option}
 use Rattle.std.specs.declared.option.Option.TheVariants.{None, Some}
 use Rattle.af_request.specs.declared.reply.Controls.{Controls}
@@ -10,7 +10,8 @@ use Rattle.af_model.specs.declared.refusal.Refusal.{Refusal}
 use Rattle.af_model.specs.State.{DeviceState, LinkState, EnvironmentState, OpenLink, open_link}
 use Rattle.af_model.specs.Reply.{reply_message, replied}
 use Rattle.af_model.specs.Checks.{in_device}
-use Rattle.af_model.specs.DeviceRequests.{controlling, on_line, tell_controls, with_named}
+use Rattle.af_model.specs.DeviceRequests.{controlling, on_line, tell_controls, wanting_hook, with_named}
+use Rattle.af_phone.specs.Lines.{wanting}
 use Rattle.af_model.specs.Play.{in_devices}
 use Rattle.af_state.specs.Kept.{KeptDevice, StandsForDevice}
 use Rattle.af_perform.specs.Lines.{device_line_or, line_at, line_or}

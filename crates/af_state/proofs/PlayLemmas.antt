@@ -25,7 +25,7 @@ use Rattle.af_model.specs.Record.{recorded_bytes}
 use Rattle.af_request.specs.declared.reply.Controls.{Controls}
 use Rattle.af_request.specs.declared.reply.Phone.{Phone}
 use Rattle.af_model.specs.Controls.{through_output_control, through_control, through_input_control}
-use Rattle.af_model.specs.Tick.{completing, later, next_sound, with_deferred}
+use Rattle.af_model.specs.Tick.{completing, later, next_sound, with_deferred, with_deferred_actor}
 use Rattle.af_model.specs.NoLoss.{IsWholeAt}
 use Rattle.af_state.specs.Kept.{KeptDevice, StandsForDevice}
 
@@ -103,7 +103,7 @@ accepts k d next start sound preempt word some few p s h =
     })
 
 -- a request that had waited, of which nothing is lost
-pub completes : (k : ℕ) (d : KeptDevice) (s : DeviceState) (deferred : Deferred) → StandsForDevice d (record s { accepted = with_deferred deferred s.now s.accepted }) → IsWholeAt (s.rate * 4) s.now deferred → StandsForDevice d (completing k deferred s)
+pub completes : (k : ℕ) (d : KeptDevice) (s : DeviceState) (deferred : Deferred) → StandsForDevice d (record s { accepted = with_deferred deferred s.now s.accepted; actors = with_deferred_actor k deferred s.actors }) → IsWholeAt (s.rate * 4) s.now deferred → StandsForDevice d (completing k deferred s)
 completes k d s deferred h whole = record {
   ty = h.ty;
   rate = h.rate;

@@ -6,3 +6,4 @@ pub mod TickWithoutLemmas
 pub mod ServeWithoutLemmas
 pub mod PhaseWithoutLemmas
 pub mod RunWithoutLemmas
+pub mod LawsLemmas

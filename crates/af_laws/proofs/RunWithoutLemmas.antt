@@ -149,8 +149,8 @@ calls_without k (Emitted d sound done ∷ log) = ap (λ l. Emitted d sound done 
 calls_without k (Hooked d off done ∷ log) = ap (λ l. Hooked d off done ∷ l) (calls_without k log)
 
 -- A silent link changes nothing
-pub isolates : (config : List DeviceSpec) (log : Log) → IsolatesLinks config log
-isolates config log =
+pub isolates_links : (config : List DeviceSpec) (log : Log) → IsolatesLinks config log
+isolates_links config log =
     elim (end_state config log) as (λ o. end_state config log ≡ o → IfSome o (λ end. (k : ℕ) → acted_on k end.devices ≡ false → ChangesNothing config log k end)) [
       | None ↦ λ r. tt
       | Some end ↦ λ r k silent. record {

@@ -19,10 +19,7 @@ use Rattle.af_model.proofs.NoLossLemmas.{opening_loses_none}
 use Rattle.af_model.proofs.RunLemmas.{TurnsTo, turns_end_state, joined, joined-more, turns_more, turns_run, answers_more, replayed_answers}
 use Rattle.af_model.proofs.OpenLinkLemmas.{Agree}
 use Rattle.af_model.proofs.WakeLemmas.{turn_lines}
-use Rattle.af_model.proofs.PrefixLawLemmas.{takes_in_order}
-use Rattle.af_model.proofs.FoldLawLemmas.{mixes_all}
-use Rattle.af_model.proofs.CauseLawLemmas.{closes_for_causes}
-use Rattle.af_model.proofs.DeadLawLemmas.{is_dead_where_failed}
+use Rattle.af_laws.proofs.LawsLemmas.{keeps_laws}
 use Rattle.af_model.proofs.StepLemmas.{agree_start, line_of, step_fits}
 use Rattle.af_model.proofs.OneLogLemmas.{turn_alike, one_log}
 use Rattle.af_core.specs.Stands.{Kept, Stands, Turns, kept_lines, outline_of}
@@ -184,4 +181,4 @@ plays_end config steps kept tape after p t =
     let is_log : ScriptLog config steps log = record { is_run = turns_run config p.state p.parts p.turns; end = tape.outside; answers = subst (λ l. AnswersTo (outside_start config) log l tape.outside) all p.answers } in
     let one : OneLog config steps log = record { is_log = is_log; only = λ other o. one_log config steps other log o is_log } in
     let lossless : RunLosesNone config log = subst (λ o. IfSome o StateLosesNone) (sym (turns_end_state config p.state p.parts p.turns)) p.lossless in
-    subst (λ l. HasOneLog config steps l) (sym (ap (λ (x : TapeState). x.log) none.1 ∙ p.told)) (record { one = one; laws = record { takes_in_order = takes_in_order config log; mixes_all = mixes_all config log; loses_none = lossless; closes_for_causes = closes_for_causes config log; is_dead_where_failed = is_dead_where_failed config log } })
+    subst (λ l. HasOneLog config steps l) (sym (ap (λ (x : TapeState). x.log) none.1 ∙ p.told)) (record { one = one; laws = keeps_laws config log lossless })

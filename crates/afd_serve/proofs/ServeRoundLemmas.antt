@@ -15,10 +15,7 @@ use Rattle.af_model.specs.Run.{wakes}
 use Rattle.af_model.specs.More.{has_more}
 use Rattle.af_model.specs.NoLoss.{StateLosesNone}
 use Rattle.af_model.proofs.RunLemmas.{TurnsTo, joined, joined-more, turns_end_state, turns_more, turns_run}
-use Rattle.af_model.proofs.PrefixLawLemmas.{takes_in_order}
-use Rattle.af_model.proofs.FoldLawLemmas.{mixes_all}
-use Rattle.af_model.proofs.CauseLawLemmas.{closes_for_causes}
-use Rattle.af_model.proofs.DeadLawLemmas.{is_dead_where_failed}
+use Rattle.af_laws.proofs.LawsLemmas.{keeps_laws}
 use Rattle.af_core.specs.Stands.{Kept, Stands, Turns, kept_lines, outline_of}
 use Rattle.af_core.proofs.TurnLemmas.{same_lines}
 use Rattle.af_model.proofs.NoLossLemmas.{opening_loses_none}
@@ -155,13 +152,7 @@ module _ (config : List DeviceSpec) where
       serves = r.serves;
       told = appended_on outer outer1 outer2 (map entry_of r.waits) (last_entry end r.state) r.told last;
       is_run = turns_run config r.state r.parts r.turns;
-      laws = record {
-        takes_in_order = takes_in_order config (joined r.parts);
-        mixes_all = mixes_all config (joined r.parts);
-        loses_none = subst (λ o. IfSome o StateLosesNone) (sym (turns_end_state config r.state r.parts r.turns)) r.lossless;
-        closes_for_causes = closes_for_causes config (joined r.parts);
-        is_dead_where_failed = is_dead_where_failed config (joined r.parts);
-      };
+      laws = keeps_laws config (joined r.parts) (subst (λ o. IfSome o StateLosesNone) (sym (turns_end_state config r.state r.parts r.turns)) r.lossless);
     };
   }
 

@@ -15,7 +15,7 @@ use Rattle.af_model.specs.State.{State, opening, outline}
 use Rattle.af_model.specs.Turn.{IsTurn, fits}
 use Rattle.af_model.specs.Run.{wakes, IsRun}
 use Rattle.af_model.specs.More.{has_more}
-use Rattle.af_model.specs.Laws.{KeepsLaws}
+use Rattle.af_laws.specs.Laws.{KeepsLaws}
 
 -- a wait: whether it was asked with more to do, and the wake that it gave
 pub record WaitMade : Type 0 where

@@ -7,3 +7,4 @@ pub mod ServeWithoutLemmas
 pub mod PhaseWithoutLemmas
 pub mod RunWithoutLemmas
 pub mod LawsLemmas
+pub mod Example

@@ -45,10 +45,10 @@ controlled k x x' c s mask input_on output_on input_gain output_gain h is e =
       dead = h.dead;
     })
 
--- the hook of a device's line is wanted
-pub relined : (k : ℕ) (off : Bool) (x x' : KeptDevice) (line : Option Phone) (s : DeviceState) → StandsForDevice x s → line ≡ option_map (wanting off) x.line → x' ≡ record x { line = line } → StandsForDevice x' (wanting_hook k off s)
-relined k off x x' line s h is e =
-    subst (λ (y : KeptDevice). StandsForDevice y (wanting_hook k off s)) (sym e)
+-- the line of a device becomes another
+pub relined : (f : Phone → Phone) (x x' : KeptDevice) (line : Option Phone) (s : DeviceState) → StandsForDevice x s → line ≡ option_map f x.line → x' ≡ record x { line = line } → StandsForDevice x' (record s { line = option_map f s.line })
+relined f x x' line s h is e =
+    subst (λ (y : KeptDevice). StandsForDevice y (record s { line = option_map f s.line })) (sym e)
     (record {
       ty = h.ty;
       rate = h.rate;
@@ -59,9 +59,30 @@ relined k off x x' line s h is e =
       keeps = h.keeps;
       whole = h.whole;
       controls = h.controls;
-      line = is ∙ ap (option_map (wanting off)) h.line;
+      line = is ∙ ap (option_map f) h.line;
       dead = h.dead;
     })
+
+-- who acted on a device is not kept
+pub whoever_acted : (x : KeptDevice) (s : DeviceState) (actors : List ℕ) → StandsForDevice x s → StandsForDevice x (record s { actors = actors })
+whoever_acted x s actors h = record {
+  ty = h.ty;
+  rate = h.rate;
+  listed = h.listed;
+  ahead = h.ahead;
+  back = h.back;
+  hears = h.hears;
+  keeps = h.keeps;
+  whole = h.whole;
+  controls = h.controls;
+  line = h.line;
+  dead = h.dead;
+}
+
+-- the hook of a device's line is wanted
+pub hook_wanted : (k : ℕ) (off : Bool) (x x' : KeptDevice) (line : Option Phone) (s : DeviceState) → StandsForDevice x s → line ≡ option_map (wanting off) x.line → x' ≡ record x { line = line } → StandsForDevice x' (wanting_hook k off s)
+hook_wanted k off x x' line s h is e =
+    whoever_acted x' (record s { line = option_map (wanting off) s.line }) (s.actors ++ k ∷ []) (relined (wanting off) x x' line s h is e)
 
 -- the controls that are kept are those that are told
 pub controls_told : (l l' : LinkState) (x : KeptDevice) (c : Controls) → c ≡ x.controls → l' ≡ record l { pending = l.pending ++ reply_message 10 (controls c) l.sequence } → (s : DeviceState) → StandsForDevice x s → ChangesLink (tell_controls s) l l'

@@ -28,6 +28,7 @@ use Rattle.af_core.specs.Stands.{StandsForSlot, Kept, OnlyDrops, StandsFor, kept
 use Rattle.af_core.specs.Simulates.{Simulates}
 use Rattle.af_io.proofs.AppendedLemmas.{appended_none}
 use Rattle.af_core.proofs.SimulationLemmas.{simulates_nothing, simulates_more}
+use Rattle.af_model.specs.Sizes.{event_limit}
 
 -- a link is dropped
 pub drops_at : (env : KeptEnvironment) (ks' : List KeptDeferral) (k : ℕ) (cause : Why) (a : EnvironmentState) (l l' : LinkState) → ks' ≡ kept_without k env.waits →
@@ -36,7 +37,7 @@ drops_at env ks' k cause a l l' waits is h =
     ((h.0, subst (λ qs. StandForDeferrals a.devices qs (without_waiter k a.waiting)) (sym waits) (without_waits a.devices k env.waits a.waiting h.1)), sym is)
 
 -- a link that has no room for an event is
-pub overruns_at : (env' : KeptEnvironment) (k : ℕ) (e : Event) (a : EnvironmentState) (l l' : LinkState) → nat_le (length l.pending + 20) 49152 ≡ false →
+pub overruns_at : (env' : KeptEnvironment) (k : ℕ) (e : Event) (a : EnvironmentState) (l l' : LinkState) → nat_le (length l.pending + 20) event_limit ≡ false →
     StandsForLink env' l' (dropped k why.Overrun (open_link a l)) → StandsForLink env' l' (tell_selected k e (open_link a l))
 overruns_at env' k e a l l' full h =
     subst (λ b. StandsForLink env' l' (cond b (say (open_link a l) (event_bytes e l.sequence)) (dropped k why.Overrun (open_link a l)))) (sym full) h

@@ -25,6 +25,8 @@ use Rattle.af_state.proofs.DeferralLemmas.{same_waiting}
 use Rattle.af_core.specs.Stands.{AreSettled, StandsForSlot, IsSettled, IsSettledSlot, Kept, StandsFor, kept_of, writes_left}
 use Rattle.af_core.specs.Simulates.{Simulates}
 use Rattle.af_core.proofs.SimulationLemmas.{simulates_nothing, simulates_one, simulates_more, simulates_then}
+use Rattle.af_world.specs.Sizes.{longest_read}
+use Rattle.af_model.specs.Sizes.{most_to_send}
 
 -- what holds of a link in whatever environment holds of each open link
 pub at_open_link : (env env' : KeptEnvironment) (l l' : LinkState) (f : OpenLink → OpenLink) → ((a : EnvironmentState) → StandsForEnvironment env a → StandsForLink env' l' (f (open_link a l))) → (p : OpenLink) → StandsForLink env l p → StandsForLink env' l' (f p)
@@ -52,7 +54,7 @@ reads a b k env env' l l' got wants fits told step =
     simulates_one (Read k got) (StandsForLink env l) (StandsForLink env' l') (read_phase k) parsed (λ p. after_read k got p) refl told step
     (λ p s log. ap (λ b. cond b (parse_one (read_by k p) (Read k got ∷ log)) (parsed p (Read k got ∷ log))) (reads_same env k l p s ∙ wants) ∙ rw (eq-refl k, fits))
 
-pub given_fits : (n : ℕ) (xs : List ℕ) → 1 ≤ n → n ≤ length xs → length xs ≡ 16384 → is_read (Given (take n xs)) ≡ true
+pub given_fits : (n : ℕ) (xs : List ℕ) → 1 ≤ n → n ≤ length xs → length xs ≡ longest_read → is_read (Given (take n xs)) ≡ true
 given_fits n xs some within room = let e : length (take n xs) ≡ n = length-take-le n xs within in rw e (grind arith)
 
 -- bytes that come are taken in and then what they complete is taken off
@@ -60,7 +62,7 @@ pub absorbed : (k : ℕ) (env env' : KeptEnvironment) (l l1 l' : LinkState) (byt
     ((a : EnvironmentState) → StandsForEnvironment env a → StandsForLink env' l' (advance k (open_link a l1))) → (a : EnvironmentState) → StandsForEnvironment env a → StandsForLink env' l' (absorb k bytes (open_link a l))
 absorbed k env env' l l1 l' bytes wants e step a h =
     let waits = has_waiting env.waits k in
-    let open_to : is_none l.closing ≡ true = (both-true (is_none l.closing) (nat_le (length l.pending) 16384) (both-true (not waits) (is_none l.closing && nat_le (length l.pending) 16384) (both-true l.is_ready (takes_more waits l) wants).1).1).0 in
+    let open_to : is_none l.closing ≡ true = (both-true (is_none l.closing) (nat_le (length l.pending) most_to_send) (both-true (not waits) (is_none l.closing && nat_le (length l.pending) most_to_send) (both-true l.is_ready (takes_more waits l) wants).1).1).0 in
     subst (λ b. StandsForLink env' l' (cond b (advance k (open_link a (record l { rest = l.rest ++ bytes }))) (open_link a l))) (sym open_to)
     (subst (λ m. StandsForLink env' l' (advance k (open_link a m))) e (step a h))
 

@@ -18,6 +18,8 @@ use Rattle.af_model.specs.NoLoss.{StateLosesNone}
 use Rattle.af_state.specs.Kept.{KeptDevice, StandForDevices, IsBounded}
 use Rattle.af_state.specs.Deferrals.{KeptDeferral, has_waiting, kept_without, AreLater, AreLaterBut, StandForDeferrals, LeavesOthers}
 use Rattle.af_state.specs.Environment.{StandsForLink, KeptEnvironment, StandsForEnvironment}
+use Rattle.af_wire.specs.Sizes.{longest_frame}
+use Rattle.af_model.specs.Sizes.{event_limit}
 
 -- a slot, open or not, with its environment
 abbrev pub StandsForSlot : KeptEnvironment → Option LinkState → SlotLink → Type 0
@@ -43,8 +45,8 @@ Advances taken f e l e' l' = (a : EnvironmentState) → StandsForEnvironment e a
 -- that it waits for.
 pub record IsSettled (waits : Bool) (l : LinkState) : Type 0 where
   pub bounds : IsBounded l
-  pub short : IsTrue (takes_more waits l) → length l.rest < 16384
-  pub room : IsTrue waits → length l.pending ≤ 49152
+  pub short : IsTrue (takes_more waits l) → length l.rest < longest_frame
+  pub room : IsTrue waits → length l.pending ≤ event_limit
 
 -- the link that is open at a number is so, if one is
 abbrev pub IsSettledSlot : Bool → Option LinkState → Type 0

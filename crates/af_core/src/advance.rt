@@ -12,6 +12,9 @@ ghost use Rattle.af_state.specs.Kept.{kept_info, IsBounded};
 ghost use Rattle.af_state.specs.Deferrals.{has_waiting, OnlyQueues};
 ghost use Rattle.af_state.specs.Environment.{StepsLink, MayAsk};
 ghost use Rattle.af_core.specs.Stands.{IsSettled, Advances};
+ghost use Rattle.af_wire.specs.Sizes.{longest_frame, longest_message};
+ghost use Rattle.af_world.specs.Sizes.{longest_read};
+ghost use Rattle.af_model.specs.Sizes.{most_to_send, event_limit};
 
 use af_perform::perform;
 use af_request::{Devices, Reply, read_request, write_reply};
@@ -36,8 +39,8 @@ fn infos_of(devices: &[Device]) -> Devices
 // The reply to a setup.
 fn reply_setup(devices: &[Device], link: &mut ServedLink, message: &mut [u8])
     requires count { length devices.now ≤ 8 }
-    requires room { length link.old.pending ≤ 16384 }
-    requires size { length message.old ≡ 16016 }
+    requires room { length link.old.pending ≤ most_to_send }
+    requires size { length message.old ≡ longest_message }
     ensures { link.new ≡ record link.old { pending = link.old.pending ++ reply_message 0 (setup (map kept_info devices.now)) 0 } }
 {
     let reply = Reply::Setup {
@@ -49,7 +52,7 @@ fn reply_setup(devices: &[Device], link: &mut ServedLink, message: &mut [u8])
 
 // A bad setup is answered, and closes the link.
 fn refuse_setup(value: u32, link: &mut ServedLink)
-    requires room { length link.old.pending ≤ 16384 }
+    requires room { length link.old.pending ≤ most_to_send }
     ensures { link.new ≡ record (stopped why.BadSetup link.old) { pending = link.old.pending ++ error 1 value 0 0 } }
 {
     let mut message = [0; 16];
@@ -60,11 +63,11 @@ fn refuse_setup(value: u32, link: &mut ServedLink)
 
 // A setup is taken off, if one is there.
 fn setup_once(environment: &Environment, link: &mut ServedLink, work: &mut Work) -> bool
-    requires room { length link.old.pending ≤ 16384 }
+    requires room { length link.old.pending ≤ most_to_send }
     ensures step { Advances result (after_setup (setup_front link.old.rest)) environment.now link.old environment.now link.new }
     ensures same { IsFalse result → link.new ≡ link.old }
     ensures shorter { IsTrue result → length link.new.rest < length link.old.rest }
-    ensures short { IsFalse result → length link.new.rest < 16384 }
+    ensures short { IsFalse result → length link.new.rest < longest_frame }
 {
     match setup_of(link.rest()) {
         SetupFront::NeedMore => false,
@@ -91,11 +94,11 @@ fn perform_front(
     requires asks { MayAsk number environment.old link.old }
     requires there { length frame.old ≤ length link.old.rest }
     requires some { 0 < length frame.old }
-    requires few { length frame.old ≤ 16384 }
+    requires few { length frame.old ≤ longest_frame }
     ensures step { Advances true (after_frame number (Frame (length frame.old))) environment.old link.old environment.new link.new }
     ensures shorter { length link.new.rest < length link.old.rest }
     ensures only_queues { OnlyQueues number environment.old.waits environment.new.waits }
-    ensures small_pending { IsTrue (has_waiting environment.new.waits number) → length link.new.pending ≤ 16384 }
+    ensures small_pending { IsTrue (has_waiting environment.new.waits number) → length link.new.pending ≤ most_to_send }
 {
     link.take_front(frame);
     match read_request(frame) {
@@ -113,14 +116,14 @@ fn frame_once(
     work: &mut Work,
 ) -> bool
     requires asks { MayAsk number environment.old link.old }
-    requires size { length input.old ≡ 16384 }
+    requires size { length input.old ≡ longest_read }
     ensures step { Advances result (after_frame number (frame_front link.old.rest))
         environment.old link.old environment.new link.new }
     ensures same { IsFalse result → (environment.new ≡ environment.old) × (link.new ≡ link.old) }
     ensures shorter { IsTrue result → length link.new.rest < length link.old.rest }
-    ensures short { IsFalse result → length link.new.rest < 16384 }
+    ensures short { IsFalse result → length link.new.rest < longest_frame }
     ensures only_queues { OnlyQueues number environment.old.waits environment.new.waits }
-    ensures small_pending { IsTrue (has_waiting environment.new.waits number) → length link.new.pending ≤ 16384 }
+    ensures small_pending { IsTrue (has_waiting environment.new.waits number) → length link.new.pending ≤ most_to_send }
 {
     match frame_at(link.rest()) {
         Front::NeedMore => false,
@@ -147,10 +150,10 @@ fn advance_once(
     ensures same { IsFalse result → (environment.new ≡ environment.old) × (link.new ≡ link.old) }
     ensures shorter { IsTrue result → length link.new.rest < length link.old.rest }
     ensures short { IsFalse result → IsTrue (takes_more (has_waiting environment.new.waits number) link.new) →
-        length link.new.rest < 16384 }
+        length link.new.rest < longest_frame }
     ensures bounds { IsFalse result → IsBounded link.new }
     ensures only_queues { OnlyQueues number environment.old.waits environment.new.waits }
-    ensures small_pending { IsTrue result → IsTrue (has_waiting environment.new.waits number) → length link.new.pending ≤ 16384 }
+    ensures small_pending { IsTrue result → IsTrue (has_waiting environment.new.waits number) → length link.new.pending ≤ most_to_send }
 {
     if !link.takes_more(environment.waits.is_waiting(number)) {
         return false;
@@ -176,7 +179,7 @@ pub fn advance(
     scratch: &mut Scratch,
 )
     requires number { number < 32 }
-    requires room { IsTrue (has_waiting environment.old.waits number) → length link.old.pending ≤ 49152 }
+    requires room { IsTrue (has_waiting environment.old.waits number) → length link.old.pending ≤ event_limit }
     ensures step { StepsLink (advance number) environment.old link.old environment.new link.new }
     ensures settled { IsSettled (has_waiting environment.new.waits number) link.new }
     ensures answered { (link.new ≡ link.old) ⊎ (length link.new.rest < length link.old.rest) }

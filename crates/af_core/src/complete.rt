@@ -8,6 +8,7 @@ ghost use Rattle.af_state.specs.Deferrals.{has_waiting, kept_due, OnlyQueues};
 ghost use Rattle.af_state.proofs.DeferralLemmas.{dues};
 ghost use Rattle.af_state.specs.Environment.{StandsForLink, StandsForEnvironment};
 ghost use Rattle.af_core.specs.Stands.{CompletesTo, IsBetweenPhases, IsCompleting, IsSettled, StepsAll, OfFirstDue, StandsFor, kept_of};
+ghost use Rattle.af_model.specs.Sizes.{event_limit};
 
 use crate::advance::advance;
 use crate::slot::Slot;
@@ -24,7 +25,7 @@ pub fn complete_link(
 )
     requires number { number < 32 }
     requires due { option_map (λ k. k.wait.link) (find (kept_due device) environment.old.waits) ≡ Some number }
-    requires room { length link.old.pending ≤ 49152 }
+    requires room { length link.old.pending ≤ event_limit }
     requires stands { (a : EnvironmentState) × StandsForEnvironment environment.old a }
     ensures step { OfFirstDue device environment.old (λ w a. StandsForLink environment.new link.new
         (complete_for w (slice_get a.devices w.device) (open_link a link.old))) }

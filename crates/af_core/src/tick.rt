@@ -10,6 +10,7 @@ ghost use Rattle.af_model.specs.Turn.{parsed, wake_phase};
 ghost use Rattle.af_core.specs.Simulates.{Simulates};
 ghost use Rattle.af_core.specs.Live.{IsTick, Passes, Ticks, TicksLive};
 ghost use Rattle.af_core.specs.Stands.{IsBetweenPhases, StandsFor, kept_of};
+ghost use Rattle.af_world.specs.Sizes.{longest_read};
 
 use crate::complete::complete_due;
 use crate::slot::Slot;
@@ -114,7 +115,7 @@ fn tick_device<W: World>(
     world: &mut W,
 )
     requires tick { IsTick tick }
-    requires size { length input.old ≡ 16384 }
+    requires size { length input.old ≡ longest_read }
     ensures ticks { Ticks device.old.is_dead tick.device tick.frames device.old device.new (W.log world.old) (W.log world.new) }
     ensures leads { W.leads_to world.old world.new }
 {

@@ -5,6 +5,8 @@ ghost use Rattle.af_request.specs.Asked.{request_meaning};
 ghost use Rattle.af_request.specs.Requests.{request_bytes, FitsFrame};
 ghost use Rattle.af_world.specs.Outside.{IsStep};
 ghost use Rattle.af_exercise.specs.Exercise.{generated, exercised, first_steps, greeting, repeated, preempts, seeded, steps_drawn, start_time, sample_bytes, drawn, moved_on, turn_step, tick_drawn, play_drawn, record_drawn, sends, digit_drawn, room_drawn, frames_ticked};
+ghost use Rattle.af_sample.specs.Sizes.{longest_play};
+ghost use Rattle.af_wire.specs.Sizes.{longest_frame};
 
 use af_io::Bytes;
 use af_phone::LineChange;
@@ -26,8 +28,8 @@ const START_TIME: u32 = 4294960000;
 /// The links of an exercise.
 const LINKS: [u8; 4] = [0, 1, 2, 3];
 
-/// How many bytes the longest request has.
-const LONGEST_REQUEST: usize = 16384;
+/// How many bytes the longest frame has.
+const LONGEST_FRAME: usize = 16384;
 
 /// Makes the script of an exercise: four links that greet, and then a step for each of n turns, 1 to 10000, each of
 /// which is drawn by a generator of this seed.
@@ -38,7 +40,7 @@ pub fn make_script(alloc: Global, seed: u64, turns: u32) -> Result<Script, OutOf
     ensures rates { IfOk result (λ s. All (λ device. IsListedRate device.rate) s.config.items) }
     ensures steps { IfOk result (λ s. All (IsStep s.config.items) s.steps) }
 {
-    let mut room = vec![in alloc; 0u8; LONGEST_REQUEST]?;
+    let mut room = vec![in alloc; 0u8; LONGEST_FRAME]?;
     let steps = all_steps(alloc, seed, turns, &mut room)?;
     Ok(Script {
         config: device(),
@@ -53,7 +55,7 @@ fn all_steps(
     turns: u32,
     room: &mut [u8],
 ) -> Result<Vec<Step>, OutOfMemory>
-    requires { 16384 ≤ length room.old }
+    requires { longest_frame ≤ length room.old }
     ensures value { IfOk result (λ steps. steps.items ≡ first_steps ++ steps_drawn turns (seeded seed) start_time) }
     ensures fits { IfOk result (λ steps. All (IsStep exercised) steps.items) }
 {
@@ -104,7 +106,7 @@ fn device() -> Config
 /// The steps in which the links are opened and greet.
 #[tactic(auto, unfolding(crate::specs::Exercise::first_steps))]
 fn greetings(alloc: Global, room: &mut [u8]) -> Result<Vec<Step>, OutOfMemory>
-    requires { 16384 ≤ length room.old }
+    requires { longest_frame ≤ length room.old }
     ensures { IfOk result (λ steps. steps.items ≡ first_steps) }
 {
     let mut steps = Vec::new(alloc);
@@ -121,7 +123,7 @@ fn greetings(alloc: Global, room: &mut [u8]) -> Result<Vec<Step>, OutOfMemory>
 /// What a link sends first.
 #[tactic(auto, unfolding(crate::specs::Exercise::greeting))]
 fn greeting(alloc: Global, link: u8, room: &mut [u8]) -> Result<Bytes, OutOfMemory>
-    requires { 16384 ≤ length room.old }
+    requires { longest_frame ≤ length room.old }
     ensures { IfOk result (λ bytes. bytes ≡ greeting link) }
 {
     let mut bytes = Vec::from_slice(alloc, &SETUP)?;
@@ -157,7 +159,7 @@ fn add_request(
     room: &mut [u8],
 ) -> Result<(), OutOfMemory>
     requires samples { FitsFrame (request_meaning request.now) }
-    requires room { 16384 ≤ length room.old }
+    requires room { longest_frame ≤ length room.old }
     ensures { OnOk result (bytes.new.items ≡ bytes.old.items ++ request_bytes (request_meaning request.now)) }
 {
     let length = write_request(request, room);
@@ -174,7 +176,7 @@ fn step_of_turn(
     time: DevTime,
     room: &mut [u8],
 ) -> Result<Step, OutOfMemory>
-    requires { 16384 ≤ length room.old }
+    requires { longest_frame ≤ length room.old }
     ensures value { IfOk result (λ s. s ≡ turn_step x y time.0) }
     ensures fits { IfOk result (λ s. IsStep exercised s) }
 {
@@ -208,7 +210,7 @@ fn tick(alloc: Global, y: u32) -> Result<Step, OutOfMemory>
 #[tactic(auto, unfolding(crate::specs::Exercise::play_drawn))]
 fn play(y: u32, time: DevTime, samples: &[u8]) -> Request<'_>
     requires samples { samples.now ≡ repeated 100 (sample_bytes y) }
-    requires few { length samples.now ≤ 16368 }
+    requires few { length samples.now ≤ longest_play }
     ensures value { request_meaning result ≡ play_drawn y time.0 }
     ensures fits { FitsFrame (request_meaning result) }
 {
@@ -273,7 +275,7 @@ fn send(
     room: &mut [u8],
 ) -> Result<Step, OutOfMemory>
     requires samples { FitsFrame (request_meaning request.now) }
-    requires room { 16384 ≤ length room.old }
+    requires room { longest_frame ≤ length room.old }
     requires link { link < 4 }
     ensures value { IfOk result (λ s. s ≡ sends link (request_meaning request.now)) }
     ensures fits { IfOk result (λ s. IsStep exercised s) }

@@ -21,6 +21,7 @@ use Rattle.af_script.specs.Words.{number_of, number_within, only_if, then_some, 
 use Rattle.af_script.specs.Statement.{line_kind_of, is_device_kind, type_of, rate_of, line_stated, device_at, device_with, device_of, link_of, device_number, line_number, switch_of, digit_of, with_link, send_of, room_stated, room_of, capture_of, tick_of, switched, dial_of, with_number, fail_hook_of, idle_of, step_of_kind, step_of, is_device_line}
 use Rattle.af_script.specs.Script.{StatedScript, ScriptLine, most_devices, device_lines, with_first, each_says, first_number, with_steps, with_config, stated_by, script_of, entries}
 use Rattle.af_script.specs.Lines.{lines}
+use Rattle.af_world.specs.Sizes.{longest_send}
 
 abbrev some_or : {A : Type 0} → A → Option A → A
 some_or d None = d
@@ -108,10 +109,10 @@ send_from config [] s e = cc e
 send_from config (link ∷ []) s e = cc e
 send_from config (link ∷ hex ∷ w ∷ ws) s e = cc e
 send_from config (link ∷ hex ∷ []) s e =
-    let a = and_then_from (λ k. option_map (step.Send k) (bytes_within 1 16384 hex)) (link_of link) s e in
-    let b = map_from (step.Send a.0) (bytes_within 1 16384 hex) s a.2 in
+    let a = and_then_from (λ k. option_map (step.Send k) (bytes_within 1 longest_send hex)) (link_of link) s e in
+    let b = map_from (step.Send a.0) (bytes_within 1 longest_send hex) s a.2 in
     let n = number_from 0 31 link a.0 a.1 in
-    let size = bytes_from 1 16384 hex b.0 b.1 in
+    let size = bytes_from 1 longest_send hex b.0 b.1 in
     subst (IsStep config) b.2 (omega (arith, n.1), size.0, size.1)
 
 room_stated_from : (word : List ℕ) (room : Option ℕ) → room_stated word ≡ Some room → IsRoom room

@@ -12,6 +12,7 @@ use Rattle.af_script.specs.declared.statement.LineKind.{LineKind}
 use Rattle.af_script.specs.declared.statement.LineKind.TheVariants as kind
 pub use Rattle.af_text.specs.Sound.{type_of, rate_of}
 use Rattle.af_script.specs.Words.{number_of, number_within, only_if, bytes_within}
+use Rattle.af_world.specs.Sizes.{longest_send}
 
 -- the kind of a line by its first word
 abbrev pub line_kind_of : List ℕ → Option LineKind
@@ -117,7 +118,7 @@ open_of arguments = with_link step.Open arguments
 
 -- the step of `send K HEX`
 abbrev pub send_of : List (List ℕ) → Option Step
-send_of (link ∷ hex ∷ []) = option_and_then (λ k. option_map (step.Send k) (bytes_within 1 16384 hex)) (link_of link)
+send_of (link ∷ hex ∷ []) = option_and_then (λ k. option_map (step.Send k) (bytes_within 1 longest_send hex)) (link_of link)
 send_of _ = None
 
 -- the step of `end K`

@@ -5,6 +5,7 @@ use Rattle.af_state.specs.Deferrals.{has_waiting}
 use Rattle.af_state.specs.Environment.{KeptEnvironment}
 use Rattle.af_model.specs.State.{LinkState, open_link}
 use Rattle.af_core.proofs.advance.advance.Goals as goal
+use Rattle.af_model.specs.Sizes.{event_limit}
 
 pub loop-preserved : goal.loop-preserved
 loop-preserved c = record {
@@ -31,5 +32,5 @@ returns-clause-settled c = record {
   short = c.loop-test.ensures.short refl;
   room = λ waits.
       let same = c.loop-test.ensures.same refl in
-      subst (λ (l : LinkState). length l.pending ≤ 49152) (sym same.1) (c.loop.invariant.room (subst (λ (e : KeptEnvironment). IsTrue (has_waiting e.waits c.args.number)) same.0 waits));
+      subst (λ (l : LinkState). length l.pending ≤ event_limit) (sym same.1) (c.loop.invariant.room (subst (λ (e : KeptEnvironment). IsTrue (has_waiting e.waits c.args.number)) same.0 waits));
 }

@@ -4,12 +4,13 @@ use Rattle.af_model.specs.Advance.{advance}
 use Rattle.af_state.specs.Deferrals.{has_waiting, OnlyQueues}
 use Rattle.af_state.specs.Environment.{StandsForEnvironment}
 use Rattle.af_core.proofs.advance.advance.Given as goal
+use Rattle.af_model.specs.Sizes.{event_limit}
 
 abbrev pub invariant-loop : goal.invariant-loop
 invariant-loop l = record {
   number : l.number < 32;
   answered : (l.link ≡ l.initial.link) ⊎ (length l.link.rest < length l.initial.link.rest);
-  room : IsTrue (has_waiting l.environment.waits l.number) → length l.link.pending ≤ 49152;
+  room : IsTrue (has_waiting l.environment.waits l.number) → length l.link.pending ≤ event_limit;
   only_queues : OnlyQueues l.number l.initial.environment.waits l.environment.waits;
   step : (a : EnvironmentState) → StandsForEnvironment l.initial.environment a →
       (now : EnvironmentState) × StandsForEnvironment l.environment now × (advance l.number (open_link now l.link) ≡ advance l.number (open_link a l.initial.link));

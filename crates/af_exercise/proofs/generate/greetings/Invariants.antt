@@ -2,6 +2,7 @@ use Rattle.std.proofs.Common.{◌≡◌, ◌≤◌, ◌++◌, length, take, map}
 use Rattle.af_world.specs.declared.script.Step.TheVariants as step
 use Rattle.af_exercise.specs.Exercise.{links, greeting}
 use Rattle.af_exercise.proofs.generate.greetings.Given as goal
+use Rattle.af_wire.specs.Sizes.{longest_frame}
 
 abbrev pub invariant-loop-link : goal.invariant-loop-link
 invariant-loop-link l = l.steps.items ≡ map step.Open (take l.link-index links)
@@ -9,5 +10,5 @@ invariant-loop-link l = l.steps.items ≡ map step.Open (take l.link-index links
 abbrev pub invariant-loop-link-2 : goal.invariant-loop-link-2
 invariant-loop-link-2 l = record {
   same : l.steps.items ≡ map step.Open links ++ map (λ k. step.Send k (greeting k)) (take l.link-index links);
-  room : 16384 ≤ length l.room;
+  room : longest_frame ≤ length l.room;
 }

@@ -25,6 +25,7 @@ use Rattle.af_world.specs.declared.happening.ReadGot.TheVariants.{Given, NotYet,
 use Rattle.af_world.specs.declared.happening.Why.{Why}
 use Rattle.af_world.specs.declared.happening.Why.TheVariants as why
 use Rattle.af_model.specs.declared.refusal.Refusal.{Refusal}
+use Rattle.af_model.specs.Sizes.{event_limit}
 use Rattle.af_model.specs.State.{DeviceState, Deferral, EnvironmentState, OpenLink, open_link, SlotLink, link_in_slot, say, Deferred, deferred_play, deferred_record, Completion, device_set, with_device}
 use Rattle.af_model.specs.Waiting.{has_deferral, wait}
 use Rattle.af_model.specs.Reply.{infos_of, info_of, replied, reply_message}
@@ -302,7 +303,7 @@ module _ (k j : ℕ) (other : (j == k) ≡ false) where
 pub tell_link_other : (k j : ℕ) (e : Event) (p : OpenLink) → tell_link j e (open_without k p) ≡ open_without k (tell_link j e p)
 tell_link_other k j e p =
     elim (selects (mask_of p.link e.device) e.kind) as (λ t. cond t (tell_selected j e (open_without k p)) (open_without k p) ≡ open_without k (cond t (tell_selected j e p) p)) [
-      | true ↦ elim (nat_le (length p.link.pending + 20) 49152) as (λ t. cond t (say (open_without k p) (event_bytes e p.link.sequence)) (dropped j why.Overrun (open_without k p)) ≡ open_without k (cond t (say p (event_bytes e p.link.sequence)) (dropped j why.Overrun p))) [
+      | true ↦ elim (nat_le (length p.link.pending + 20) event_limit) as (λ t. cond t (say (open_without k p) (event_bytes e p.link.sequence)) (dropped j why.Overrun (open_without k p)) ≡ open_without k (cond t (say p (event_bytes e p.link.sequence)) (dropped j why.Overrun p))) [
         | true ↦ refl
         | false ↦ dropped_other k j why.Overrun p
       ]

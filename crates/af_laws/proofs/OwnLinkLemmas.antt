@@ -15,6 +15,7 @@ use Rattle.af_world.specs.Log.{Log}
 use Rattle.af_phone.specs.Lines.{selects}
 use Rattle.af_wire.specs.declared.event.Event.{Event}
 use Rattle.af_wire.specs.Event.{event_bytes}
+use Rattle.af_model.specs.Sizes.{event_limit}
 use Rattle.af_model.specs.State.{Completion, DeviceState, Deferral, Deferred, deferred_play, deferred_record, EnvironmentState, LinkState, OpenLink, open_link, say, SlotLink, device_set, with_device, has_acted}
 use Rattle.af_model.specs.Waiting.{wait}
 use Rattle.af_model.specs.Play.{in_devices}
@@ -162,7 +163,7 @@ tell_own k e a None = (refl, refl)
 tell_own k e a (Some l) =
     let p = open_link a l in
     elim (selects (mask_of l e.device) e.kind) as (λ t. Untouched k a (cond t (tell_selected k e p) p).environment) [
-      | true ↦ elim (nat_le (length l.pending + 20) 49152) as (λ t. Untouched k a (cond t (say p (event_bytes e l.sequence)) (dropped k why.Overrun p)).environment) [
+      | true ↦ elim (nat_le (length l.pending + 20) event_limit) as (λ t. Untouched k a (cond t (say p (event_bytes e l.sequence)) (dropped k why.Overrun p)).environment) [
         | true ↦ (refl, refl)
         | false ↦ (refl, without_twice k a.waiting)
       ]

@@ -1,6 +1,9 @@
 // A link is served: a read, writes, and a close.
-ghost use Rattle.std.specs.Prelude.{◌<◌, IsTrue, if◌then◌else◌};
+ghost use Rattle.std.specs.Prelude.{◌≡◌, ◌<◌, ◌≤◌, IsTrue, if◌then◌else◌, length, [], ◌∷◌};
 ghost use Rattle.std.specs.declared.option.Option.TheVariants.{None, Some};
+ghost use Rattle.af_io.specs.Observed.{Appended};
+ghost use Rattle.af_world.specs.World.{took_of, TookFits};
+ghost use Rattle.af_world.specs.declared.happening.Happening.TheVariants.{Wrote};
 ghost use Rattle.af_model.specs.Turn.{parsed, wants_write, read_phase, write_phase, close_phase, serve_link};
 ghost use Rattle.af_state.specs.Environment.{StandsForLink, KeptEnvironment};
 ghost use Rattle.af_core.specs.Simulates.{Simulates};
@@ -43,6 +46,22 @@ fn read_link<W: World>(
     }
 }
 
+// All that waits to be sent is offered: where it lies, if that is in one piece, and else copied into one.
+fn offer<W: World>(number: u8, link: &mut ServedLink, world: &mut W) -> LinkTook
+    requires some { 0 < length link.old.pending }
+    requires bound { length link.old.pending ≤ 65536 }
+    ensures log { Appended (W.log world.old)
+        (Wrote number (length link.old.pending) (took_of result link.old.pending) ∷ []) (W.log world.new) }
+    ensures bound { TookFits result (length link.old.pending) }
+    ensures kept { link.new ≡ link.old }
+    ensures leads { W.leads_to world.old world.new }
+{
+    match link.pending_piece() {
+        Some(piece) => world.write(number, piece),
+        None => world.write(number, link.pending()),
+    }
+}
+
 // One write of all that waits to be sent.
 fn write_once<W: World>(
     number: u8,
@@ -59,7 +78,7 @@ fn write_once<W: World>(
     ensures fewer { writes_left link.new < writes_left link.old }
     ensures leads { W.leads_to world.old world.new }
 {
-    match world.write(number, link.pending()) {
+    match offer(number, link, world) {
         LinkTook::Took(n) => {
             link.took(n);
             advance(number, environment, link, scratch);

@@ -3,7 +3,7 @@
 // only when room is needed, so what is unread is one piece, and read in place. Output is a ring, which takes bytes at its back
 // and gives up at its front those that went, moves none, and may wrap; as a world is offered one piece, `pending` copies it into
 // the third block. Contracts see two lists, the rest and what is pending, and of no byte where it lies.
-ghost use Rattle.std.specs.Prelude.{◌≡◌, ◌+◌, ◌≤◌, [], ◌++◌, length, drop, vec_capacity, IfOk};
+ghost use Rattle.std.specs.Prelude.{◌≡◌, ◌+◌, ◌≤◌, [], ◌++◌, length, drop, vec_capacity, IfOk, IfSome};
 ghost use Rattle.std.specs.Borrow.{sem};
 ghost use Rattle.af_session.specs.Flows.{no_flow, IsFlow};
 
@@ -95,6 +95,15 @@ impl Session {
         ensures bounds { IsFlow self.now }
     {
         self.output.len()
+    }
+
+    /// The bytes that are to go out, where they lie, if that is in one piece: a ring that wraps has two.
+    pub fn pending_piece(&self) -> Option<&[u8]>
+        ensures piece { IfSome result (λ piece. piece.now ≡ self.now.pending) }
+        ensures bounds { IsFlow self.now }
+    {
+        let (first, second) = self.output.as_slices();
+        if second.is_empty() { Some(first) } else { None }
     }
 
     /// The bytes that are to go out, in one piece. It copies them, and changes nothing.

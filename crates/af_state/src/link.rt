@@ -3,7 +3,7 @@
 // same number uses it again. The 16 contexts are in order of creation. The masks of the events that it selects stand by the
 // numbers of the devices. That it waits with a request is not noted here, but in the list of those that wait, so `wants_read` and
 // `takes_more` are told. Contracts see the link of the abstract server, field by field.
-ghost use Rattle.std.specs.Prelude.{◌≡◌, ◌+◌, ◌≤◌, nat_le, [], ◌∷◌, ◌++◌, length, drop, take, slice_set, true, false, IfOk, OnOk, OnErr};
+ghost use Rattle.std.specs.Prelude.{◌≡◌, ◌+◌, ◌≤◌, nat_le, [], ◌∷◌, ◌++◌, length, drop, take, slice_set, true, false, IfOk, IfSome, OnOk, OnErr};
 ghost use Rattle.std.specs.declared.option.Option.TheVariants.{Some};
 ghost use Rattle.std.specs.Borrow.{sem};
 ghost use Rattle.af_context.specs.Contexts.{context_of, creation, is_in_use, reference, with_changed, with_settings, without_context};
@@ -347,7 +347,14 @@ impl ServedLink {
         self.is_ready = true;
     }
 
-    /// All of its output, in one piece.
+    /// All of its output, where it lies, if that is in one piece.
+    pub fn pending_piece(&self) -> Option<&[u8]>
+        ensures { IfSome result (λ piece. piece.now ≡ self.now.pending) }
+    {
+        self.session.pending_piece()
+    }
+
+    /// All of its output, copied into one piece.
     pub fn pending(&mut self) -> &[u8]
         ensures* kept { sem 𝓛 (unchanged_after_loan self.entry) }
         ensures pending { result.now ≡ self.old.pending }

@@ -18,15 +18,15 @@ returns-in-Took-clause-simulates g c =
     let l = c.args.link.now in
     let n = c.in-Took.n in
     let took : c.took.new.self ≡ sent n l = search rules in
-    let bound : n ≤ length l.pending = subst (λ (xs : List ℕ). n ≤ length xs) c.pending.ensures.pending c.in-Took.ensures.bound in
-    let log = subst (λ (xs : List ℕ). Appended (g.W.World.log c.args.world.now) (Wrote k (length xs) (Some (take n xs)) ∷ []) (g.W.World.log c.write.new.self)) c.pending.ensures.pending c.in-Took.ensures.log in
+    let bound : n ≤ length l.pending = c.in-Took.ensures.bound in
+    let log = c.in-Took.ensures.log in
     writes _ _ k c.args.environment.now _ l _ (Some (take n l.pending)) (λ p. advance k (open_link p.environment (sent n p.link))) c.requires.wants (λ a. first_taken k n (open_link a l) bound) log
     (λ a h. subst (λ m. StandsForLink c.advance.new.environment c.advance.new.link (advance k (open_link a m))) took (c.advance.ensures.step a h))
 
 pub returns-in-Failed-clause-simulates : goal.returns-in-Failed-clause-simulates
 returns-in-Failed-clause-simulates g c =
     let k = c.args.number in
-    let log = subst (λ (xs : List ℕ). Appended (g.W.World.log c.args.world.now) (Wrote k (length xs) None ∷ []) (g.W.World.log c.write.new.self)) c.pending.ensures.pending c.in-Failed.ensures.log in
+    let log = c.in-Failed.ensures.log in
     let step : StepsLink (dropped k why.LinkFault) c.args.environment.now c.args.link.now c.drop_link.new.environment c.drop_link.new.link = search rules in
     writes _ _ k c.args.environment.now _ c.args.link.now _ None (dropped k why.LinkFault) c.requires.wants (λ a. refl) log step
 
@@ -39,7 +39,7 @@ returns-in-Failed-clause-link g c = record { settled = c.drop_link.ensures.settl
 pub returns-in-Took-clause-fewer : goal.returns-in-Took-clause-fewer
 returns-in-Took-clause-fewer g c =
     let took : c.took.new.self ≡ sent c.in-Took.n c.args.link.now = search rules in
-    let bound = subst (λ (xs : List ℕ). c.in-Took.n ≤ length xs) c.pending.ensures.pending c.in-Took.ensures.bound in
+    let bound = c.in-Took.ensures.bound in
     fewer_writes c.in-Took.n c.args.link.now _ bound c.requires.wants
     (⊎_elim (λ e. inl (e ∙ took)) (λ less. inr (subst (λ (m : LinkState). length c.advance.new.link.rest < length m.rest) took less)) c.advance.ensures.answered)
 

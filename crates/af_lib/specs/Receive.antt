@@ -12,7 +12,7 @@ use Rattle.af_lib.specs.declared.receive.Framed.TheVariants as framed
 use Rattle.af_lib.specs.declared.receive.Taken.{Taken}
 use Rattle.af_lib.specs.declared.receive.Taken.TheVariants as taken
 use Rattle.af_lib.specs.Ring.{RingState}
-use Rattle.af_lib.specs.Incoming.{Incoming, event, other, incoming, rest_of, awaited}
+use Rattle.af_lib.specs.Incoming.{Incoming, event, other, incoming, behind_message, awaited}
 use Rattle.af_lib.specs.Observed.{BothTold}
 
 -- a slice was filled; or fewer bytes than it has room for were left, and were all given
@@ -63,7 +63,7 @@ IsTakenWithin _ most = ⊤
 
 -- the first message was taken, and nothing behind it
 abbrev pub Takes : Result Taken ConnFault → List ℕ → Option (List ℕ) → Option (List ℕ) → Type 0
-Takes result into before after = BothTold before after (λ b a. (taken_as result into ≡ incoming b) × (a ≡ rest_of b))
+Takes result into before after = BothTold before after (λ b a. (taken_as result into ≡ incoming b) × (a ≡ behind_message b))
 
 -- the message that was found, which stands in a buffer
 abbrev pub found_as : Result ℕ ConnFault → List ℕ → Result (List ℕ) ConnFault

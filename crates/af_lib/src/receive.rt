@@ -1,6 +1,6 @@
 // Receiving messages: bytes, one message, and the first message that is no event.
 ghost use Rattle.std.specs.Prelude.{◌≡◌, ◌≢◌, ◌≤◌, ◌<◌, length, IfOk, Ok, Err};
-ghost use Rattle.af_lib.specs.Incoming.{bad_reply, first_bytes, message_in, rest_of};
+ghost use Rattle.af_lib.specs.Incoming.{bad_reply, first_bytes, message_in, behind_message};
 ghost use Rattle.af_lib.specs.Calls.{event_of, event_only, IsFresh, IsOfMessage};
 ghost use Rattle.af_lib.specs.Observed.{BothTold, OnlyRead};
 ghost use Rattle.af_lib.specs.Ring.{Gained};
@@ -160,7 +160,7 @@ pub fn await_message<L: Link>(
 pub fn take_event<L: Link>(link: &mut L, input: &mut [u8]) -> Result<Event, ConnFault>
     requires { 16016 ≤ length input.old }
     ensures takes { result ≢ Err ConnFault.LinkFault →
-        BothTold (L.left link.old) (L.left link.new) (λ b a. (result ≡ event_of b) × (a ≡ rest_of b)) }
+        BothTold (L.left link.old) (L.left link.new) (λ b a. (result ≡ event_of b) × (a ≡ behind_message b)) }
     ensures message { IsOfMessage result }
     ensures reads { OnlyRead L.left L.sent L.faults (result ≡ Err ConnFault.LinkFault) link.old link.new }
 {

@@ -11,7 +11,7 @@ ghost use Rattle.af_relay.specs.Ran.{RunsBetween};
 ghost use Rattle.af_options.specs.Ranges.{IsPaced};
 ghost use Rattle.af_relay.specs.Pass.{begins_both, ends_contexts, pace_of, passed_between, passed_text};
 
-use crate::pass::{RelayPace, pass_blocks};
+use crate::pass::{RelayPace, RelayPlan, pass_blocks};
 use af_io::{Link, Sink};
 use af_lib::Conn;
 use af_options::PassJob;
@@ -88,7 +88,8 @@ fn pass_between<L: Link + Drop, M: Link + Drop>(
     let pace = pace_of(job, ty, device.rate);
     let start = begin_both(job, ty, from, to)?;
     let block = &mut room[..pace.size as usize];
-    let passed = pass_blocks(job, pace, start, from, to, block)?;
+    let plan = RelayPlan { job: *job, pace };
+    let passed = pass_blocks(&plan, start, from, to, block)?;
     finish_both(from, to)?;
     Ok(passed.resynced)
 }

@@ -9,7 +9,7 @@ ghost use Rattle.af_tools.specs.Ways.{is_of_writer, is_of_records};
 ghost use Rattle.af_tools.specs.Reading.{ObservedPartWriting};
 ghost use Rattle.af_tools.specs.Ran.{LacksDevice, RunsTool};
 
-use crate::record::record_blocks;
+use crate::record::{Recording, record_blocks};
 use af_io::{Link, Sink};
 use af_lib::Conn;
 use af_options::RecordJob;
@@ -65,7 +65,7 @@ fn record_on<L: Link + Drop, K: Sink>(
     let ty = context.ty;
     let now = begin(conn, context)?;
     let start = start_of(job, now);
-    record_blocks(job, conn, sink, room, ty, start)?;
+    record_blocks(job, Recording { ty, start }, conn, sink, room)?;
     finish(conn)
 }
 

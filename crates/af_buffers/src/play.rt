@@ -1,6 +1,7 @@
 // The next samples of a device.
 ghost use Rattle.std.specs.Prelude.{◌≡◌, ◌≤◌, length, IfOk, pos, replicate};
 ghost use Rattle.af_ring.specs.Cells.{ClearsRun};
+ghost use Rattle.af_sample.specs.Sizes.{longest_play};
 ghost use Rattle.af_buffers.specs.Horizons.{IsHorizon};
 ghost use Rattle.af_buffers.specs.PlayBuffer.{accepted_by, frames_beyond, frames_within, ChangesCovered, EndsWithin, HandsOut, HoldsNext, OverlaysRun, Plays};
 
@@ -69,7 +70,7 @@ impl PlayBuffer {
     /// How many sample periods go by until n frames from a time on, at most 16368, end within
     /// the horizon: none where they do.
     pub fn frames_beyond(&self, start: DevTime, frames: u32) -> u32
-        requires { frames ≤ 16368 }
+        requires { frames ≤ longest_play }
         ensures { result ≡ frames_beyond self.now start.0 frames }
     {
         let ahead = start.0.wrapping_sub(self.time.0);
@@ -91,7 +92,7 @@ impl PlayBuffer {
     /// Mixes samples from a time on into the next ones, each sum saturated, or puts them there. What
     /// they say of times before now is dropped. At most 16368 samples, which end within the horizon.
     pub fn play(&mut self, start: DevTime, samples: &[i16], preempt: bool)
-        requires count { length samples.now ≤ 16368 }
+        requires count { length samples.now ≤ longest_play }
         requires within { EndsWithin self.old start.0 (length samples.now) }
         ensures next { Plays self.old self.new (accepted_by self.old start.0 samples.now preempt) }
         ensures ring { ChangesCovered self.old self.new (accepted_by self.old start.0 samples.now preempt) }

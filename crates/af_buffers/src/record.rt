@@ -1,6 +1,7 @@
 // The last samples of a device.
 ghost use Rattle.std.specs.Prelude.{◌≡◌, ◌≤◌, length, IfOk, pos, replicate};
 ghost use Rattle.af_ring.specs.Cells.{PutsRun};
+ghost use Rattle.af_sample.specs.Sizes.{longest_record};
 ghost use Rattle.af_buffers.specs.Horizons.{IsHorizon};
 ghost use Rattle.af_buffers.specs.RecordBuffer.{frames_before, frames_until_past, Captures, HoldsLast, samples_from};
 
@@ -67,7 +68,7 @@ impl RecordBuffer {
     /// How many sample periods go by until n frames from a time on, at most 16000, are before
     /// the buffer's time: none where they are.
     pub fn frames_beyond(&self, start: DevTime, frames: u32) -> u32
-        requires { frames ≤ 16000 }
+        requires { frames ≤ longest_record }
         ensures { result ≡ frames_until_past self.now start.0 frames }
     {
         if start.is_before(self.time) {
@@ -90,7 +91,7 @@ impl RecordBuffer {
     /// Reads the samples from a time on, at most 16000: silence further back than the horizon, and
     /// from now on.
     pub fn read(&self, start: DevTime, out: &mut [i16])
-        requires { length out.old ≤ 16000 }
+        requires { length out.old ≤ longest_record }
         ensures { out.new ≡ samples_from self.now start.0 (length out.new) }
     {
         // The kept samples among them are at begin..end.

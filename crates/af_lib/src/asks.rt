@@ -11,6 +11,7 @@ ghost use Rattle.af_lib.specs.Answers.{value_or_bad};
 ghost use Rattle.af_lib.specs.Exchange.{HasBuffers};
 ghost use Rattle.af_lib.specs.Ring.{Gained};
 ghost use Rattle.af_lib.specs.Calls.{as_controls, as_devices, as_done, as_phone, as_recorded, as_time, listed, opcode_of, recorded_in, stored_in, value_in, Answers, IsFresh, KeepsTail, IsStoredIn, Sends};
+ghost use Rattle.af_wire.specs.Sizes.{longest_message};
 
 use crate::exchange::{Exchange, ask, await_setup, opcode_of};
 use crate::fault::ConnFault;
@@ -238,7 +239,7 @@ pub fn set_up<L: Link>(
     ring: &mut Ring,
     input: &mut [u8],
 ) -> Result<Devices, ConnFault>
-    requires { 16016 ≤ length input.old }
+    requires { longest_message ≤ length input.old }
     ensures answers { Answers as_devices 0 0 (listed result) ring.old ring.new (L.left link.old) (L.left link.new) }
     ensures stated { IfOk result (λ devices. IsReplyTo 0 (setup devices.items)) }
     ensures fresh { IsFresh result }

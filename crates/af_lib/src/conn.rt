@@ -6,6 +6,8 @@ ghost use Rattle.af_request.specs.Asked.{request_meaning, create_ac, free_ac, ge
 ghost use Rattle.af_request.specs.Requests.{FitsFrame};
 ghost use Rattle.af_request.specs.Replies.{IsDeviceInfo};
 ghost use Rattle.af_lib.specs.Calls.{as_controls, as_done, as_phone, as_recorded, as_time, bit_if, controls_changed, flag_or_zero, gain_or_zero, recorded_in, settings_changed, Called, Connects, KeepsTail, EventAwaited};
+ghost use Rattle.af_sample.specs.Sizes.{longest_play, longest_record};
+ghost use Rattle.af_wire.specs.Sizes.{longest_frame, longest_message};
 
 use crate::asks::{Stated, ask_recorded, ask_value, set_up};
 use crate::exchange::{Exchange, cause_of};
@@ -183,7 +185,7 @@ impl<L: Link + Drop> Conn<L> {
 
     /// Plays samples of a context from a time on: at most 16368 bytes. It answers the device's time, once they are taken.
     pub fn play_run(&mut self, ac: u32, time: DevTime, samples: &[u8]) -> Result<DevTime, ConnFault>
-        requires { length samples.now ≤ 16368 }
+        requires { length samples.now ≤ longest_play }
         ensures { Called L.left L.sent L.faults (play_run false ac time.0 samples.now) as_time self.old self.new result }
     {
         self.ask(&Request::PlayRun {
@@ -203,7 +205,7 @@ impl<L: Link + Drop> Conn<L> {
         blocking: bool,
         into: &mut [u8],
     ) -> Result<(DevTime, usize), ConnFault>
-        requires { length into.old ≤ 16000 }
+        requires { length into.old ≤ longest_record }
         ensures called { Called L.left L.sent L.faults (record_run blocking ac time.0 (length into.old))
             (as_recorded blocking (length into.old)) self.old self.new (recorded_in result into.new) }
         ensures kept { KeepsTail result into.old into.new }
@@ -338,7 +340,7 @@ const LONGEST_FRAME: usize = 16384;
 // A ring for events, and a buffer for one message each way.
 fn room(alloc: Global) -> Result<(Ring, Vec<u8>, Vec<u8>), OutOfMemory>
     ensures { IfOk result (λ r. (r.0 ≡ record { events = []; lost = 0 })
-        × (length r.1.items ≡ 16016) × (length r.2.items ≡ 16384)) }
+        × (length r.1.items ≡ longest_message) × (length r.2.items ≡ longest_frame)) }
 {
     let ring = Ring::new(alloc)?;
     let input = vec![in alloc; 0u8; LONGEST_MESSAGE]?;

@@ -10,6 +10,7 @@ ghost use Rattle.af_lib.specs.Calls.{cause_of, held_in, opcode_of, IsFresh, Send
 ghost use Rattle.af_lib.specs.Exchange.{Finds, HasBuffers};
 ghost use Rattle.af_lib.specs.Ring.{Gained};
 ghost use Rattle.af_lib.specs.Observed.{OnlyRead};
+ghost use Rattle.af_wire.specs.Sizes.{longest_frame, longest_message};
 
 use crate::fault::{Cause, ConnFault};
 use crate::receive::{await_message, bad_reply};
@@ -107,11 +108,11 @@ pub fn await_answer<L: Link>(
     opcode: u8,
     sequence: u16,
 ) -> Result<usize, ConnFault>
-    requires { 16016 ≤ length input.old }
+    requires { longest_message ≤ length input.old }
     ensures finds { result ≢ Err ConnFault.LinkFault →
         Finds opcode sequence result input.new ring.old ring.new (L.left link.old) (L.left link.new) }
     ensures gained { Gained ring.old ring.new }
-    ensures within { IfOk result (λ n. (8 ≤ n) × (n ≤ 16016)) }
+    ensures within { IfOk result (λ n. (8 ≤ n) × (n ≤ longest_message)) }
     ensures fresh { IsFresh result }
     ensures reads { OnlyRead L.left L.sent L.faults (result ≡ Err ConnFault.LinkFault) link.old link.new }
 {
@@ -125,7 +126,7 @@ pub fn await_answer<L: Link>(
 // Sends a request.
 fn send<L: Link>(link: &mut L, output: &mut [u8], request: &Request<'_>) -> Put
     requires samples { FitsFrame (request_meaning request.now) }
-    requires room { 16384 ≤ length output.old }
+    requires room { longest_frame ≤ length output.old }
     ensures written { Written result (L.sent link.old) (request_bytes (request_meaning request.now)) (L.sent link.new) }
     ensures gives { L.left link.new ≡ L.left link.old }
     ensures tells { IsSome (L.left link.old) → IsSome (L.left link.new) }
@@ -147,7 +148,7 @@ pub fn ask<L: Link + Drop>(
     ensures finds { result ≢ Err ConnFault.LinkFault → Finds (opcode_of (request_meaning request.now)) sequence result
         exchange.new.input.items exchange.old.ring exchange.new.ring (L.left exchange.old.link) (L.left exchange.new.link) }
     ensures gained { Gained exchange.old.ring exchange.new.ring }
-    ensures within { IfOk result (λ n. (8 ≤ n) × (n ≤ 16016)) }
+    ensures within { IfOk result (λ n. (8 ≤ n) × (n ≤ longest_message)) }
     ensures fresh { IsFresh result }
     ensures sends { Sends result (L.sent exchange.old.link) (request_bytes (request_meaning request.now)) (L.sent exchange.new.link) }
     ensures tells { IsSome (L.left exchange.old.link) → IsSome (L.left exchange.new.link) }
@@ -172,10 +173,10 @@ pub fn await_setup<L: Link>(
     ring: &mut Ring,
     input: &mut [u8],
 ) -> Result<usize, ConnFault>
-    requires { 16016 ≤ length input.old }
+    requires { longest_message ≤ length input.old }
     ensures finds { result ≢ Err ConnFault.LinkFault →
         Finds 0 0 result input.new ring.old ring.new (L.left link.old) (L.left link.new) }
-    ensures within { IfOk result (λ n. (8 ≤ n) × (n ≤ 16016)) }
+    ensures within { IfOk result (λ n. (8 ≤ n) × (n ≤ longest_message)) }
     ensures fresh { IsFresh result }
     ensures sends { Sends result (L.sent link.old) setup_bytes (L.sent link.new) }
     ensures tells { IsSome (L.left link.old) → IsSome (L.left link.new) }

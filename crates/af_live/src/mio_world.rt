@@ -14,6 +14,7 @@ ghost use Rattle.af_live.specs.Silence.{silent_at, silent_behind, CapturesAs, Em
 ghost use Rattle.af_live.specs.FileDevices.{open_files_of, CapturesFiles, EmitsFiles, AttachesFiles};
 ghost use Rattle.af_live.specs.Rounds.{is_paced, round_begun, round_after, whole_millis, pause_of, IsReadingBy};
 ghost use Rattle.af_live.specs.RealWorld.{RealLeadsTo, begun_world, given, listens_behind, GivesKept, LeadsRound, WakeFits};
+ghost use Rattle.af_world.specs.Sizes.{longest_read};
 
 use crate::devices::{Devices, NewDevice, refusal};
 use crate::file_device::{capture_files, emit_files};
@@ -114,7 +115,7 @@ impl<R: Net + Clock + Files + Drop> World for MioWorld<R> {
     fn woke(&mut self, _wake: Wake) {}
 
     fn read(&mut self, link: u8, into: &mut [u8]) -> LinkGot
-        requires { length into.old ≡ 16384 }
+        requires { length into.old ≡ longest_read }
         ensures bound { LinkGotFits result (length into.new) }
         ensures faults { CountsOne (result ≡ LinkGot.Failed) self.old.link_faults self.new.link_faults }
         ensures leads { RealLeadsTo self.old self.new }

@@ -11,6 +11,7 @@ use Rattle.af_model.specs.LinkHistory.{LinkHistory}
 use Rattle.af_model.specs.Prefix.{is_dropped}
 use Rattle.af_model.specs.Causes.{IsCause, IsServedTo}
 use Rattle.af_model.proofs.InputLemmas.{IsInput, IsBadInput}
+use Rattle.af_model.specs.Sizes.{event_limit}
 
 -- the input of a link that nothing has ended
 pub record IsUnended (h : LinkHistory) (is_set_up : Bool) (rest : List ℕ) : Type 0 where
@@ -75,7 +76,7 @@ shows_bad h owed why.LinkFault l bad s = absurd bad
 shows_bad h owed why.Overrun l bad s = absurd bad
 
 -- no event finds room that is not below the bound
-pub no_room : (n : ℕ) → nat_le (n + 20) 49152 ≡ false → 49152 < n + 20
+pub no_room : (n : ℕ) → nat_le (n + 20) event_limit ≡ false → event_limit < n + 20
 no_room n e = grind arith
 
 -- the cause of a link that is closed: if it was not dropped, nothing is owed to it
@@ -102,7 +103,7 @@ one_cause a b h n s t = one a b s t
         true_false : true ≡ false → ⊥
         true_false e = cc
 
-    no_owed : {A : Type 0} → 49152 < n + 20 → n ≡ 0 → A
+    no_owed : {A : Type 0} → event_limit < n + 20 → n ≡ 0 → A
     no_owed e f = absurd (omega (arith, e, f))
 
     not_set_up : {A : Type 0} (value : ℕ) → setup_front h.gave ≡ front.BadSetup value → setup_front h.gave ≡ front.Setup → A

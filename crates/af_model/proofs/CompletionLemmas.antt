@@ -15,6 +15,7 @@ use Rattle.af_model.proofs.DueLemmas.{IsToWait}
 use Rattle.af_model.proofs.LinkInvariantLemmas.{Keeps, complete_keeps}
 use Rattle.af_model.proofs.OwedBytesLemmas.{same_number}
 use Rattle.af_model.proofs.SafeLemmas.{AwaitedIn, IsAwaited, Safe, SafeState, all_without_first, loses_alike, safe_completing, safe_fewer, safe_keeps, safe_with, slack_for}
+use Rattle.af_wire.specs.Sizes.{longest_frame}
 
 -- the one that is found is among them
 pub found_all : (passes : Deferral → Bool) (ws : List Deferral) (w : Deferral) (P : Deferral → Type 0) → find passes ws ≡ Some w → All P ws → P w
@@ -98,7 +99,7 @@ few_lives : (n d : ℕ) (device : DeviceState) (ds es : List DeviceState) (ws : 
 few_lives n d device ds es ws l h = let got = all_live_get ds es d h.is l h.there in record { is = got.0; there = got.1; now = got.2.now ∙ h.now; rate = got.2.rate ∙ h.rate; few = h.few }
 
 -- one that begins to wait is not due
-not_due_yet : (d : ℕ) (device is x : DeviceState) (ds : List DeviceState) (k e : ℕ) (deferred : Deferred) → slice_get ds d ≡ Some is → is.now ≡ device.now → is.rate ≡ device.rate → slice_get ds e ≡ Some x → IsToWait 16384 x deferred →
+not_due_yet : (d : ℕ) (device is x : DeviceState) (ds : List DeviceState) (k e : ℕ) (deferred : Deferred) → slice_get ds d ≡ Some is → is.now ≡ device.now → is.rate ≡ device.rate → slice_get ds e ≡ Some x → IsToWait longest_frame x deferred →
     falls_due d device (record { link = k; device = e; deferred = deferred }) ≡ false
 not_due_yet d device is x ds k e deferred there now rate is_there w =
     elim (e == d) as (λ t. (e == d) ≡ t → (t && nat_le (due (device.rate * 4) deferred) device.now) ≡ false) [

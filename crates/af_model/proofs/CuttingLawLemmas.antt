@@ -21,6 +21,7 @@ use Rattle.af_model.specs.Cutting.{CutsAlike}
 use Rattle.af_model.proofs.AdvanceLemmas.{IsShorter, advance-none, advance-some, frame_within, perform_closing, setup_within, step_shorter}
 use Rattle.af_model.proofs.DueLemmas.{most_asked}
 use Rattle.af_model.proofs.RequestLemmas.{done_both, with_rest}
+use Rattle.af_model.specs.Sizes.{most_to_send}
 
 -- Fronts and more bytes: what is decided stays so
 
@@ -128,7 +129,7 @@ step_more k p b e =
 
 closed_step : (k : ℕ) (p : OpenLink) → is_none p.link.closing ≡ false → advance_step k p ≡ None
 closed_step k p e =
-    elim (has_deferral p.environment.waiting k) as (λ w. cond (takes_more w p.link) (after_front k p) None ≡ None) [ true ↦ refl | false ↦ ap (λ c. cond (c && nat_le (length p.link.pending) 16384) (after_front k p) None) e ]
+    elim (has_deferral p.environment.waiting k) as (λ w. cond (takes_more w p.link) (after_front k p) None ≡ None) [ true ↦ refl | false ↦ ap (λ c. cond (c && nat_le (length p.link.pending) most_to_send) (after_front k p) None) e ]
 
 cut_none : (k : ℕ) (p : OpenLink) (b : List ℕ) → is_none p.link.closing ≡ true → advance_step k p ≡ None → absorb k b (advance k p) ≡ advance k (more_bytes p b)
 cut_none k p b e s = ap (absorb k b) (advance-none k p s) ∙ ap (λ t. cond t (advance k (more_bytes p b)) p) e

@@ -19,6 +19,7 @@ use Rattle.af_model.specs.Waiting.{due}
 use Rattle.af_model.specs.Play.{are_frames, frames_of, frames_within_horizon, play_refusal, sent_sound}
 use Rattle.af_model.specs.Record.{frames_before_now, is_to_wait, record_refusal}
 use Rattle.af_model.proofs.BoolTestLemmas.{both-true, none_some}
+use Rattle.af_sample.specs.Sizes.{longest_record}
 
 -- how many frames a request has that waits
 abbrev pub frames_deferred : Deferred → ℕ
@@ -28,7 +29,7 @@ frames_deferred (deferred_record c start frames) = frames
 -- how many it may have, of those that can wait: a play no more than its bytes, a record no more than the bytes of its reply
 abbrev pub most_asked : Asked → ℕ
 most_asked (play_run quiet ac start bytes) = length bytes
-most_asked (record_run blocking ac start bytes) = 16000
+most_asked (record_run blocking ac start bytes) = longest_record
 most_asked _ = 0
 
 pub record IsToWait (most : ℕ) (device : DeviceState) (deferred : Deferred) : Type 0 where
@@ -65,12 +66,12 @@ play_waits quiet c device time bytes most whole short beyond =
     past now horizon start sound frames same e = grind arith
 
 -- a record of what is not there yet
-pub record_waits : (blocking : Bool) (c : Context) (device : DeviceState) (time bytes most : ℕ) → record_refusal c bytes ≡ None → 16000 ≤ most → is_to_wait blocking device time (frames_of c bytes) ≡ true →
+pub record_waits : (blocking : Bool) (c : Context) (device : DeviceState) (time bytes most : ℕ) → record_refusal c bytes ≡ None → longest_record ≤ most → is_to_wait blocking device time (frames_of c bytes) ≡ true →
     IsToWait most device (deferred_record c (unwrap device.now time) (frames_of c bytes))
 unfolding record_refusal
 record_waits blocking c device time bytes most allowed most_is waits =
     let test = (both-true blocking (nat_lt (frames_before_now device time) (frames_of c bytes)) waits).1 in
-    let few : nat_lt 16000 bytes ≡ false = first (check (not (are_frames c bytes)) BadValue bytes ∷ []) (nat_lt 16000 bytes) allowed in
+    let few : nat_lt longest_record bytes ≡ false = first (check (not (are_frames c bytes)) BadValue bytes ∷ []) (nat_lt longest_record bytes) allowed in
     let fewer = div-le_self bytes (width_of c.ty) in
     record { later = past device.now (unwrap device.now time) (frames_of c bytes) test; short = bounded bytes (frames_of c bytes) few fewer }
   where
@@ -81,5 +82,5 @@ record_waits blocking c device time bytes most allowed most_is waits =
     past : (now start frames : ℕ) → nat_lt (now - start) frames ≡ true → now < start + frames
     past now start frames e = grind arith
 
-    bounded : (bytes frames : ℕ) → nat_lt 16000 bytes ≡ false → frames ≤ bytes → frames ≤ most
-    bounded bytes frames e le = let m : 16000 ≤ most = most_is in grind arith
+    bounded : (bytes frames : ℕ) → nat_lt longest_record bytes ≡ false → frames ≤ bytes → frames ≤ most
+    bounded bytes frames e le = let m : longest_record ≤ most = most_is in grind arith

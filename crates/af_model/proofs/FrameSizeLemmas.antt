@@ -11,10 +11,11 @@ use Rattle.af_request.specs.Fields.{u8_at, u32_at}
 use Rattle.af_request.specs.Requests.{Row, asked_by, asked_in, row_of}
 use Rattle.af_model.proofs.BoolTestLemmas.{cond-some, none_some, some_is}
 use Rattle.af_model.proofs.DueLemmas.{most_asked}
+use Rattle.af_wire.specs.Sizes.{longest_frame}
 
 abbrev AtMost : Front → Type 0
 AtMost NeedMore = Unit {0}
-AtMost (Frame n) = n ≤ 16384
+AtMost (Frame n) = n ≤ longest_frame
 AtMost Malformed = Unit {0}
 
 frame_at_most : (xs : List ℕ) → AtMost (frame_front xs)
@@ -27,7 +28,7 @@ frame_at_most (a ∷ b ∷ c ∷ d ∷ xs) = grind arith
 -- what the row of an opcode asks
 abbrev AsksFew : Option Row → Type 0
 AsksFew None = Unit {0}
-AsksFew (Some r) = most_asked r.asked ≤ 16384
+AsksFew (Some r) = most_asked r.asked ≤ longest_frame
 
 either : (b : Bool) (x y : Option Row) → AsksFew x → AsksFew y → AsksFew (cond b x y)
 either true x y h i = h
@@ -36,21 +37,21 @@ either false x y h i = i
 slice_within : (xs : List ℕ) (a b : ℕ) → length (slice_range xs a b) ≤ length xs
 slice_within xs a b = omega (arith, length-take (b - a) (drop a xs), length-drop a xs)
 
-row_asks : (opcode : ℕ) (frame : List ℕ) → length frame ≤ 16384 → AsksFew (row_of opcode frame)
+row_asks : (opcode : ℕ) (frame : List ℕ) → length frame ≤ longest_frame → AsksFew (row_of opcode frame)
 row_asks opcode frame short =
     let within = slice_within frame 16 (16 + u32_at 12 frame) in
-    let none : 0 ≤ 16384 = omega arith in
+    let none : 0 ≤ longest_frame = omega arith in
     either (opcode == 1) _ _ none (either (opcode == 2) _ _ none (either (opcode == 3) _ _ none (either (opcode == 4) _ _ none (either (opcode == 5) _ _ none (either (opcode == 6) _ _ (omega (arith, within, short))
     (either (opcode == 7) _ _ (omega arith) (either (opcode == 8) _ _ none (either (opcode == 9) _ _ none (either (opcode == 10) _ _ none (either (opcode == 11) _ _ none (either (opcode == 12) _ _ none tt)))))))))))
 
 -- a request that is a frame at the front of some bytes has few frames
-pub frame_asks : (xs : List ℕ) (n : ℕ) (request : Asked) → frame_front xs ≡ Frame n → asked_in (take n xs) ≡ Some request → most_asked request ≤ 16384
+pub frame_asks : (xs : List ℕ) (n : ℕ) (request : Asked) → frame_front xs ≡ Frame n → asked_in (take n xs) ≡ Some request → most_asked request ≤ longest_frame
 frame_asks xs n request e asked =
-    let few : n ≤ 16384 = subst AtMost e (frame_at_most xs) in
-    let short : length (take n xs) ≤ 16384 = omega (arith, few, length-take n xs) in
-    elim (row_of (u8_at 0 (take n xs)) (take n xs)) as (λ o. AsksFew o → option_and_then (asked_by (take n xs)) o ≡ Some request → most_asked request ≤ 16384) [
+    let few : n ≤ longest_frame = subst AtMost e (frame_at_most xs) in
+    let short : length (take n xs) ≤ longest_frame = omega (arith, few, length-take n xs) in
+    elim (row_of (u8_at 0 (take n xs)) (take n xs)) as (λ o. AsksFew o → option_and_then (asked_by (take n xs)) o ≡ Some request → most_asked request ≤ longest_frame) [
       | None ↦ λ h e. absurd (none_some e)
       | Some r ↦ λ h e.
           let i = cond-some (length (take n xs) == 4 * r.words) (Some r.asked) request e in
-          subst (λ a. most_asked a ≤ 16384) (some_is i.1) h
+          subst (λ a. most_asked a ≤ longest_frame) (some_is i.1) h
     ] (row_asks (u8_at 0 (take n xs)) (take n xs) short) asked

@@ -17,6 +17,7 @@ use Rattle.af_model.specs.Script.{AnswersTo}
 use Rattle.af_model.proofs.BoolTestLemmas.{cond-some, cond-true, both-true, not_true, none_some, same_bytes-true, same_why-true}
 use Rattle.af_model.proofs.AlikeLemmas.{GoesAlike, Agreed, TakesOne, headed, go_inv, alike_then, alike_one, alike_nothing}
 use Rattle.af_model.proofs.OpenLinkLemmas.{opens, open_links, Agree, AtPlace, StandsForSlot, opens-set, set-set, opens_stay, open_links-set, open_links-same}
+use Rattle.af_world.specs.Sizes.{longest_read}
 
 -- Calls on a link
 
@@ -63,7 +64,7 @@ called o o' k call e =
 -- the one answer of a read that does not fail
 expected_given : List ℕ → ScriptedClient → ReadGot
 expected_given [] client = cond client.ends Ended NotYet
-expected_given (x ∷ xs) client = Given (take 16384 (x ∷ xs))
+expected_given (x ∷ xs) client = Given (take longest_read (x ∷ xs))
 
 -- the one answer of a read
 expected : ScriptedClient → ReadGot
@@ -78,7 +79,7 @@ failed_is Failed client q e = refl
 given_is : (got : ReadGot) (xs : List ℕ) (client q : ScriptedClient) → given_from got xs client ≡ Some q → got ≡ expected_given xs client
 unfolding expected_given
 given_is (Given bytes) [] client q e = absurd (none_some e)
-given_is (Given bytes) (x ∷ xs) client q e = ap Given (same_bytes-true bytes (take 16384 (x ∷ xs)) (cond-some (same_bytes bytes (take 16384 (x ∷ xs))) (Some (record client { gives = drop 16384 (x ∷ xs) })) q e).0)
+given_is (Given bytes) (x ∷ xs) client q e = ap Given (same_bytes-true bytes (take longest_read (x ∷ xs)) (cond-some (same_bytes bytes (take longest_read (x ∷ xs))) (Some (record client { gives = drop longest_read (x ∷ xs) })) q e).0)
 given_is NotYet [] client q e = elim client.ends as (λ b. cond b None (Some client) ≡ Some q → NotYet ≡ cond b Ended NotYet) [ true ↦ λ e. absurd (none_some e) | false ↦ λ e. refl ] e
 given_is NotYet (x ∷ xs) client q e = absurd (none_some e)
 given_is Ended [] client q e = elim client.ends as (λ b. cond b (Some client) None ≡ Some q → Ended ≡ cond b Ended NotYet) [ true ↦ λ e. refl | false ↦ λ e. absurd (none_some e) ] e

@@ -28,6 +28,8 @@ use Rattle.af_model.proofs.DueLemmas.{IsToWait, most_asked}
 use Rattle.af_model.proofs.FrameSizeLemmas.{frame_asks}
 use Rattle.af_model.proofs.InputLemmas.{IsBadInput}
 use Rattle.af_model.proofs.RequestLemmas.{chosen, done_both}
+use Rattle.af_wire.specs.Sizes.{longest_frame}
+use Rattle.af_model.specs.Sizes.{most_to_send}
 
 -- What goes on to hold at each move of link k: something of it changes but its input and its output, and it is not closing before
 -- and behind; a request, or a setup, is taken off its input; it is to be closed for what its input begins with; something is said to
@@ -40,22 +42,22 @@ pub record Keeps (k : ℕ) (May : Option Why → Type 0) (I : OpenLink → Type 
   pub stops : (p : OpenLink) (cause : Why) → p.link.closing ≡ None → IsBadInput cause p.link → I p → I (open_link p.environment (stopped cause p.link))
   pub says : (p : OpenLink) (bytes : List ℕ) → May p.link.closing → I p → I (say p bytes)
   pub becomes : (p : OpenLink) (d : ℕ) (device : DeviceState) (f : DeviceState → DeviceState) → slice_get p.environment.devices d ≡ Some device → Requested device (f device) → I p → I (in_devices d f p)
-  pub waits : (p : OpenLink) (d : ℕ) (device : DeviceState) (deferred : Deferred) → slice_get p.environment.devices d ≡ Some device → IsToWait 16384 device deferred → p.link.closing ≡ None → I p → I (wait k d deferred p)
+  pub waits : (p : OpenLink) (d : ℕ) (device : DeviceState) (deferred : Deferred) → slice_get p.environment.devices d ≡ Some device → IsToWait longest_frame device deferred → p.link.closing ≡ None → I p → I (wait k d deferred p)
 
 pub open_undropped : (closing : Option Why) → closing ≡ None → is_dropped closing ≡ false
 open_undropped closing e = ap is_dropped e
 
 pub takes_more_open : (waits : Bool) (l : LinkState) → takes_more waits l ≡ true → l.closing ≡ None
 takes_more_open waits l e =
-    none-true l.closing (both-true (is_none l.closing) (nat_le (length l.pending) 16384) (both-true (not waits) (is_none l.closing && nat_le (length l.pending) 16384) e).1).0
+    none-true l.closing (both-true (is_none l.closing) (nat_le (length l.pending) most_to_send) (both-true (not waits) (is_none l.closing && nat_le (length l.pending) most_to_send) e).1).0
 
 module _ (k : ℕ) (May : Option Why → Type 0) (I : OpenLink → Type 0) (kept : Keeps k May I) where
-  request_keeps : (request : Asked) (p : OpenLink) → most_asked request ≤ 16384 → p.link.closing ≡ None → I p → I (perform k request p)
+  request_keeps : (request : Asked) (p : OpenLink) → most_asked request ≤ longest_frame → p.link.closing ≡ None → I p → I (perform k request p)
   request_keeps request p short none h =
       let q = open_link p.environment (request_counted p.link) in
       let i : I q = kept.link p (request_counted p.link) none none refl refl refl h in
       let may = kept.may p.link.closing (open_undropped p.link.closing none) in
-      done_both k q q.link.rest 16384 (λ u v. I u) i
+      done_both k q q.link.rest longest_frame (λ u v. I u) i
       (λ contexts selections bytes. kept.says (chosen contexts selections q) bytes may (kept.link q (chosen contexts selections q).link none none refl refl refl i))
       (λ d device f there l. kept.becomes q d device f there l i)
       (λ d device f bytes there l. kept.says (in_devices d f q) bytes may (kept.becomes q d device f there l i))

@@ -24,6 +24,7 @@ use Rattle.af_model.proofs.BoolTestLemmas.{both-true, cond-some, none-true, none
 use Rattle.af_model.proofs.PhasePartLemmas.{then_inv}
 use Rattle.af_model.proofs.ServeLemmas.{served_link}
 use Rattle.af_model.proofs.AdvanceLemmas.{perform_closing}
+use Rattle.af_model.specs.Sizes.{most_to_send}
 
 -- the environment of a link, what is queued for it, and that nothing more of its input is read
 abbrev pub ClosesAlone : OpenLink → OpenLink → Type 0
@@ -63,8 +64,8 @@ pub closes_alone : (k : ℕ) (p q : OpenLink) → advance_step k p ≡ Some q �
 closes_alone k p q e =
     let waits = has_deferral p.environment.waiting k in
     let i = cond-some (takes_more waits p.link) (after_front k p) q e in
-    let open_to = (both-true (not waits) (is_none p.link.closing && nat_le (length p.link.pending) 16384) i.0).1 in
-    let none = none-true p.link.closing (both-true (is_none p.link.closing) (nat_le (length p.link.pending) 16384) open_to).0 in
+    let open_to = (both-true (not waits) (is_none p.link.closing && nat_le (length p.link.pending) most_to_send) i.0).1 in
+    let none = none-true p.link.closing (both-true (is_none p.link.closing) (nat_le (length p.link.pending) most_to_send) open_to).0 in
     front_alone p.link.is_set_up k p q none i.1
 
 -- Serving a link changes no other

@@ -24,6 +24,7 @@ use Rattle.af_model.proofs.CauseLemmas.{IsUnended, Shows, ShowsBy, cause_alike, 
 use Rattle.af_model.proofs.DeviceHistoryLemmas.{AllLive, Lives, all_live_refl, all_live_trans, all_live_with}
 use Rattle.af_model.proofs.SafeLemmas.{SafeIn, safe_dropped, safe_keeps}
 use Rattle.af_model.proofs.LinkInvariantLemmas.{Keeps, open_undropped}
+use Rattle.af_model.specs.Sizes.{event_limit}
 
 pub not_both : {A : Type 0} (t : Bool) → t ≡ false → t ≡ true → A
 not_both true e f = absurd cc
@@ -289,10 +290,10 @@ pub queued_failed : (k : ℕ) (g : LinkHistory) (p : OpenLink) → Owing k g p �
 queued_failed k g p h = queued_dropped k g (record g { has_failed = true }) why.LinkFault p refl refl refl h refl
 
 -- an event found no room
-pub queued_overrun : (k : ℕ) (g : LinkHistory) (p : OpenLink) → is_dropped p.link.closing ≡ false → nat_le (length p.link.pending + 20) 49152 ≡ false → Owing k g p → Owing k g (dropped k why.Overrun p)
+pub queued_overrun : (k : ℕ) (g : LinkHistory) (p : OpenLink) → is_dropped p.link.closing ≡ false → nat_le (length p.link.pending + 20) event_limit ≡ false → Owing k g p → Owing k g (dropped k why.Overrun p)
 queued_overrun k g p stays full h =
     queued_dropped k g g why.Overrun p refl refl refl h
-    (shows_unfailed g h.rest p.link.is_set_up p.link.rest p.link.closing stays h.shows, subst (λ l. 49152 < length l + 20) (sym (h.queued stays)) (no_room (length p.link.pending) full))
+    (shows_unfailed g h.rest p.link.is_set_up p.link.rest p.link.closing stays h.shows, subst (λ l. event_limit < length l + 20) (sym (h.queued stays)) (no_room (length p.link.pending) full))
 
 -- a link to which nothing waits to be sent is closed for its cause
 pub queued_closed : (k : ℕ) (g : LinkHistory) (p : OpenLink) (cause : Why) → close_due p.link ≡ Some cause → Owing k g p → OwingLink k (record g { closed = Some cause }) p.environment.said None p.environment.waiting
@@ -398,7 +399,7 @@ moved_of j p q go = record {
 }
 
 -- an event found no room
-pub moved_overrun : (k : ℕ) (p : OpenLink) → ((g : LinkHistory) → Owing k g p → is_dropped p.link.closing ≡ false) → nat_le (length p.link.pending + 20) 49152 ≡ false → Moved k (enter p) (enter (dropped k why.Overrun p))
+pub moved_overrun : (k : ℕ) (p : OpenLink) → ((g : LinkHistory) → Owing k g p → is_dropped p.link.closing ≡ false) → nat_le (length p.link.pending + 20) event_limit ≡ false → Moved k (enter p) (enter (dropped k why.Overrun p))
 moved_overrun k p stays full = record {
   devices = all_live_refl p.environment.devices;
   own = λ g h. queued_overrun k g p (stays g h) full h;

@@ -21,6 +21,7 @@ use Rattle.af_model.specs.Record.{record_sound, record_refusal, start_record, gi
 use Rattle.af_model.specs.Perform.{done, tell_time, in_context}
 use Rattle.af_model.proofs.DeviceHistoryLemmas.{Requested, later_same, lives_accepting, lives_line}
 use Rattle.af_model.proofs.DueLemmas.{IsToWait, most_asked, play_waits, record_waits}
+use Rattle.af_sample.specs.Sizes.{longest_record}
 
 -- the same link with another input
 abbrev pub with_rest : List ℕ → OpenLink → OpenLink
@@ -77,7 +78,7 @@ module _ (k : ℕ) (p : OpenLink) (r : List ℕ) (most : ℕ) (M : OpenLink → 
       (λ within. played_both quiet c.device device (accepting (entry_now c device time bytes)) there (record { lives = lives_accepting device (entry_now c device time bytes) refl; completed = refl }))
       (λ beyond. waits c.device device (deferred_play quiet (unwrap device.now time) (sent_sound c bytes) c.preempt) there (play_waits quiet c device time bytes most whole short beyond)))
 
-  record_both : (blocking : Bool) (c : Context) (time bytes : ℕ) (device : DeviceState) → slice_get p.environment.devices c.device ≡ Some device → 16000 ≤ most → Both (record_sound k blocking c time bytes device)
+  record_both : (blocking : Bool) (c : Context) (time bytes : ℕ) (device : DeviceState) → slice_get p.environment.devices c.device ≡ Some device → longest_record ≤ most → Both (record_sound k blocking c time bytes device)
   record_both blocking c time bytes device there short =
       refused_both 7 (record_refusal c bytes) (start_record k blocking c time bytes device)
       (λ allowed. either_both (is_to_wait blocking device time (frames_of c bytes)) (wait k c.device (deferred_record c (unwrap device.now time) (frames_of c bytes)))

@@ -15,6 +15,7 @@ use Rattle.af_model.proofs.BoolTestLemmas.{some_is}
 use Rattle.af_model.proofs.DeviceHistoryLemmas.{zip_back, zip_with}
 use Rattle.af_model.proofs.DueLemmas.{IsToWait, frames_deferred}
 use Rattle.af_model.proofs.LinkInvariantLemmas.{Keeps}
+use Rattle.af_wire.specs.Sizes.{longest_frame}
 
 -- a device that keeps sound for long enough, and completed no request that lost a sample
 pub record IsSafe (device : DeviceState) : Type 0 where
@@ -25,7 +26,7 @@ pub record IsSafe (device : DeviceState) : Type 0 where
 pub record IsAwaited (slack : ℕ) (device : DeviceState) (deferred : Deferred) : Type 0 where
   pub soon : device.now < due (horizon_of device) deferred + slack
   pub ever : 0 < due (horizon_of device) deferred
-  pub short : frames_deferred deferred ≤ 16384
+  pub short : frames_deferred deferred ≤ longest_frame
 
 -- of those that wait, the ones that wait for a device have slack
 abbrev pub slack_for : ℕ → ℕ → Deferral → ℕ
@@ -116,7 +117,7 @@ safe_keeps k slack c = record {
   };
 }
   where
-    to_wait : (device : DeviceState) (deferred : Deferred) (slack : ℕ) → IsToWait 16384 device deferred → IsAwaited slack device deferred
+    to_wait : (device : DeviceState) (deferred : Deferred) (slack : ℕ) → IsToWait longest_frame device deferred → IsAwaited slack device deferred
     to_wait device deferred slack w = record { soon = omega (arith, w.later); ever = omega (arith, w.later); short = w.short }
 
 -- A request completes

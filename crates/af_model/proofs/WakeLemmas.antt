@@ -38,6 +38,7 @@ use Rattle.af_model.proofs.LinkInvariantLemmas.{complete_keeps}
 use Rattle.af_model.proofs.OwedBytesLemmas.{Moved, Owed, moved_overrun, OwingAt, OwingLink, Owing, SameOthers, found_waits, grows_keeps, queueing_fewer, queueing_keeps, others_keep, still_waits, selects_undropped, waiting_undropped, waits_left}
 use Rattle.af_model.proofs.PhasePartLemmas.{Takes, hook_takes, live_takes, takes_chain, takes_map, takes_nothing, takes_then}
 use Rattle.af_model.proofs.ServeLemmas.{Goes, Within, goes_refl, goes_trans, inner, put_goes, same_door, served_from, slot_other, within_refl, within_trans}
+use Rattle.af_model.specs.Sizes.{event_limit}
 
 -- Devices change
 
@@ -136,7 +137,7 @@ ticks d captured is_dead s device there few =
 told : (k : ℕ) (e : Event) (p : OpenLink) → Moved k (enter p) (enter (tell_link k e p))
 told k e p =
     elim (selects (mask_of p.link e.device) e.kind) as (λ t. selects (mask_of p.link e.device) e.kind ≡ t → Moved k (enter p) (enter (cond t (tell_selected k e p) p))) [
-      | true ↦ λ t. elim (nat_le (length p.link.pending + 20) 49152) as (λ u. nat_le (length p.link.pending + 20) 49152 ≡ u → Moved k (enter p) (enter (cond u (say p (event_bytes e p.link.sequence)) (dropped k why.Overrun p)))) [
+      | true ↦ λ t. elim (nat_le (length p.link.pending + 20) event_limit) as (λ u. nat_le (length p.link.pending + 20) event_limit ≡ u → Moved k (enter p) (enter (cond u (say p (event_bytes e p.link.sequence)) (dropped k why.Overrun p)))) [
         | true ↦ λ u. record {
           devices = all_live_refl p.environment.devices;
           own = λ g h. (queueing_keeps k g).says p (event_bytes e p.link.sequence) (selects_undropped k e.device e.kind g p t h) h;

@@ -16,6 +16,7 @@ use Rattle.af_model.specs.State.{LinkState, OpenLink, open_link, say, stopped}
 use Rattle.af_model.specs.Waiting.{has_deferral}
 use Rattle.af_model.specs.Reply.{reply_message, infos_of}
 use Rattle.af_model.specs.Perform.{perform}
+use Rattle.af_model.specs.Sizes.{most_to_send}
 
 -- n bytes are taken off the front of the input
 abbrev pub without_front : ℕ → LinkState → LinkState
@@ -42,7 +43,7 @@ after_setup (front.BadSetup value) p = Some (say (open_link p.environment (stopp
 
 -- nothing is taken off while a link waits or is closing, or while more than 16384 bytes wait to be sent to it
 abbrev pub takes_more : Bool → LinkState → Bool
-takes_more waits l = not waits && (is_none l.closing && nat_le (length l.pending) 16384)
+takes_more waits l = not waits && (is_none l.closing && nat_le (length l.pending) most_to_send)
 
 abbrev pub after_front : ℕ → OpenLink → Option OpenLink
 after_front k p =

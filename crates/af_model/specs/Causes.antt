@@ -12,6 +12,7 @@ use Rattle.af_world.specs.Log.{Log}
 use Rattle.af_model.specs.State.{slot_at}
 use Rattle.af_model.specs.LinkHistory.{LinkHistory, history}
 use Rattle.af_model.specs.Run.{end_state}
+use Rattle.af_model.specs.Sizes.{event_limit}
 
 -- requests of so many bytes each are the first of these bytes, and then there is a rest
 abbrev pub AreRequests : List ℕ → List ℕ → List ℕ → Type 0
@@ -41,7 +42,7 @@ pub record ShowsNoOther (h : LinkHistory) (owed : ℕ) : Type 0 where
 -- behind a good setup and requests its bytes are malformed.
 abbrev pub IsCause : Why → LinkHistory → ℕ → Type 0
 IsCause why.LinkFault h owed = h.has_failed ≡ true
-IsCause why.Overrun h owed = (h.has_failed ≡ false) × (49152 < owed + 20)
+IsCause why.Overrun h owed = (h.has_failed ≡ false) × (event_limit < owed + 20)
 IsCause why.Ended h owed = (h.has_failed ≡ false) × (h.has_ended ≡ true) × (owed ≡ 0)
 IsCause why.BadSetup h owed = ShowsNoOther h owed × (value : ℕ) × (setup_front h.gave ≡ front.BadSetup value)
 IsCause why.Malformed h owed = ShowsNoOther h owed × (rest : List ℕ) × IsServedTo h.gave rest × (is_malformed (frame_front rest) rest ≡ true)

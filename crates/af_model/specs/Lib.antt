@@ -1,3 +1,4 @@
+pub mod Sizes
 pub mod State
 pub mod Reply
 pub mod Checks

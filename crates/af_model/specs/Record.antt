@@ -14,6 +14,7 @@ use Rattle.af_model.specs.Reply.{replied, horizon_of}
 use Rattle.af_model.specs.Checks.{check, first_refusal, refused_or}
 use Rattle.af_model.specs.Waiting.{wait}
 use Rattle.af_model.specs.Play.{frames_of, are_frames}
+use Rattle.af_sample.specs.Sizes.{longest_record}
 
 -- how many frames from a time on are before now
 abbrev pub frames_before_now : DeviceState → ℕ → ℕ
@@ -21,7 +22,7 @@ frames_before_now device time = device.now - unwrap device.now time
 
 -- a record has at most 16000 bytes, in whole frames
 unfoldable pub record_refusal : Context → ℕ → Option Refusal
-record_refusal c bytes = first_refusal (check (nat_lt 16000 bytes) BadValue bytes ∷ check (not (are_frames c bytes)) BadValue bytes ∷ [])
+record_refusal c bytes = first_refusal (check (nat_lt longest_record bytes) BadValue bytes ∷ check (not (are_frames c bytes)) BadValue bytes ∷ [])
 
 -- how many of the frames from a time on are given: all, or, of a record that does not block, those before now
 abbrev pub given_frames : Bool → DeviceState → ℕ → ℕ → ℕ

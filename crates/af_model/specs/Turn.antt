@@ -22,6 +22,7 @@ use Rattle.af_model.specs.Waiting.{has_deferral}
 use Rattle.af_model.specs.Advance.{advance, absorb, takes_more}
 use Rattle.af_model.specs.Tick.{sound, captured_samples, tick}
 use Rattle.af_model.specs.Events.{dropped, hook_given, hook_refused, line_changes}
+use Rattle.af_world.specs.Sizes.{longest_read}
 
 -- a state, and the log that is left behind it
 pub record Parsed (S : Type 0) : Type 0 where
@@ -53,7 +54,7 @@ wants_read waits l = l.is_ready && takes_more waits l
 
 -- a read gives 1 to 16384 bytes
 abbrev pub is_read : ReadGot → Bool
-is_read (Given bytes) = nat_lt 0 (length bytes) && nat_le (length bytes) 16384
+is_read (Given bytes) = nat_lt 0 (length bytes) && nat_le (length bytes) longest_read
 is_read NotYet = true
 is_read Ended = true
 is_read Failed = true

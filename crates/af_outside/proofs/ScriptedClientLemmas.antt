@@ -7,22 +7,23 @@ use Rattle.af_world.specs.declared.happening.ReadGot.TheVariants.{Given, NotYet,
 use Rattle.af_world.specs.Outside.{ScriptedClient, client_answered, failed_from, fresh_client, given_from, read_from, same_bytes, written_to}
 use Rattle.af_outside.specs.Tape.{client_where}
 use Rattle.af_world.proofs.EqualityTestLemmas.{eq-refl, same_bytes-refl}
+use Rattle.af_world.specs.Sizes.{longest_read}
 
 drop_taken : (n : ℕ) (xs : List ℕ) → drop (length (take n xs)) xs ≡ drop n xs
 drop_taken zero xs = refl
 drop_taken (suc n) [] = refl
 drop_taken (suc n) (x ∷ xs) = drop_taken n xs
 
-first_given : (xs bytes : List ℕ) (client : ScriptedClient) → 0 < length (take 16384 xs) → bytes ≡ take 16384 xs → given_from (Given bytes) xs client ≡ Some (record client { gives = drop 16384 xs })
+first_given : (xs bytes : List ℕ) (client : ScriptedClient) → 0 < length (take longest_read xs) → bytes ≡ take longest_read xs → given_from (Given bytes) xs client ≡ Some (record client { gives = drop longest_read xs })
 first_given [] bytes client some e = absurd (omega (arith, some))
 first_given (x ∷ xs) bytes client some e =
-    ap (λ t. if t then Some (record client { gives = drop 16384 (x ∷ xs) }) else None) (ap (λ b. same_bytes b (take 16384 (x ∷ xs))) e ∙ same_bytes-refl (take 16384 (x ∷ xs)))
+    ap (λ t. if t then Some (record client { gives = drop longest_read (x ∷ xs) }) else None) (ap (λ b. same_bytes b (take longest_read (x ∷ xs))) e ∙ same_bytes-refl (take longest_read (x ∷ xs)))
 
-none_given : (xs : List ℕ) (client : ScriptedClient) → length (take 16384 xs) ≡ 0 → client.ends ≡ false → given_from NotYet xs client ≡ Some client
+none_given : (xs : List ℕ) (client : ScriptedClient) → length (take longest_read xs) ≡ 0 → client.ends ≡ false → given_from NotYet xs client ≡ Some client
 none_given [] client none e = ap (λ t. if t then None else Some client) e
 none_given (x ∷ xs) client none e = absurd (omega (arith, none))
 
-end_given : (xs : List ℕ) (client : ScriptedClient) → length (take 16384 xs) ≡ 0 → client.ends ≡ true → given_from Ended xs client ≡ Some client
+end_given : (xs : List ℕ) (client : ScriptedClient) → length (take longest_read xs) ≡ 0 → client.ends ≡ true → given_from Ended xs client ≡ Some client
 end_given [] client none e = ap (λ t. if t then Some client else None) e
 end_given (x ∷ xs) client none e = absurd (omega (arith, none))
 
@@ -35,12 +36,12 @@ unfailing true client client' got opened flag gives =
     ∙ ap (option_map (λ (p : ScriptedClient). Some p)) gives
 
 -- the first bytes that are left are the answer to a read
-pub read_first : (is_open : Bool) (client : ScriptedClient) (n room : ℕ) (bytes rest : List ℕ) → is_open ≡ true → client.fails_read ≡ false → room ≡ 16384 → n ≡ length (take room client.gives) →
+pub read_first : (is_open : Bool) (client : ScriptedClient) (n room : ℕ) (bytes rest : List ℕ) → is_open ≡ true → client.fails_read ≡ false → room ≡ longest_read → n ≡ length (take room client.gives) →
     0 < n → bytes ≡ take room client.gives → rest ≡ drop n client.gives →
     client_answered (read_from (Given bytes)) (client_where is_open client) ≡ Some (client_where is_open (record client { gives = rest }))
 read_first is_open client n room bytes rest opened flag whole count some given left =
-    let count' : n ≡ length (take 16384 client.gives) = count ∙ ap (λ m. length (take m client.gives)) whole in
-    let rest' : drop 16384 client.gives ≡ rest = sym (left ∙ ap (λ m. drop m client.gives) count' ∙ drop_taken 16384 client.gives) in
+    let count' : n ≡ length (take longest_read client.gives) = count ∙ ap (λ m. length (take m client.gives)) whole in
+    let rest' : drop longest_read client.gives ≡ rest = sym (left ∙ ap (λ m. drop m client.gives) count' ∙ drop_taken longest_read client.gives) in
     unfailing is_open client _ (Given bytes) opened flag
     (first_given client.gives bytes client (omega arith) (given ∙ ap (λ m. take m client.gives) whole) ∙ ap (λ (xs : List ℕ). Some (record client { gives = xs })) rest')
 
@@ -49,7 +50,7 @@ as_before : (client : ScriptedClient) (n : ℕ) (rest : List ℕ) → rest ≡ d
 as_before client n rest left none = ap (λ (xs : List ℕ). (let p : ScriptedClient = record client { gives = xs } in p)) (sym (left ∙ ap (λ m. drop m client.gives) none))
 
 -- NotYet is the answer to a read where no byte is left, and no end is stated
-pub read_nothing : (is_open : Bool) (client : ScriptedClient) (n room : ℕ) (rest : List ℕ) → is_open ≡ true → client.fails_read ≡ false → room ≡ 16384 → n ≡ length (take room client.gives) →
+pub read_nothing : (is_open : Bool) (client : ScriptedClient) (n room : ℕ) (rest : List ℕ) → is_open ≡ true → client.fails_read ≡ false → room ≡ longest_read → n ≡ length (take room client.gives) →
     n ≡ 0 → client.ends ≡ false → rest ≡ drop n client.gives →
     client_answered (read_from NotYet) (client_where is_open client) ≡ Some (client_where is_open (record client { gives = rest }))
 read_nothing is_open client n room rest opened flag whole count none ends left =
@@ -57,7 +58,7 @@ read_nothing is_open client n room rest opened flag whole count none ends left =
     (none_given client.gives client (sym (count ∙ ap (λ m. length (take m client.gives)) whole) ∙ none) ends ∙ ap (λ (p : ScriptedClient). Some p) (as_before client n rest left none))
 
 -- Ended is the answer to a read where no byte is left, and an end is stated
-pub read_end : (is_open : Bool) (client : ScriptedClient) (n room : ℕ) (rest : List ℕ) → is_open ≡ true → client.fails_read ≡ false → room ≡ 16384 → n ≡ length (take room client.gives) →
+pub read_end : (is_open : Bool) (client : ScriptedClient) (n room : ℕ) (rest : List ℕ) → is_open ≡ true → client.fails_read ≡ false → room ≡ longest_read → n ≡ length (take room client.gives) →
     n ≡ 0 → client.ends ≡ true → rest ≡ drop n client.gives →
     client_answered (read_from Ended) (client_where is_open client) ≡ Some (client_where is_open (record client { gives = rest }))
 read_end is_open client n room rest opened flag whole count none ends left =

@@ -6,6 +6,7 @@ ghost use Rattle.af_world.specs.declared.script.Step.{Step};
 ghost use Rattle.af_world.specs.World.{got_of, took_of, LinkGotFits, TookFits};
 ghost use Rattle.af_world.specs.Outside.{adjusted, answered_as_stated, client_at, stated_of, stepped, wake_of, wake_where_open, ScriptedDevice};
 ghost use Rattle.af_outside.specs.Tape.{HasRoomForSteps, clients_of, outside_of, sent_by, sent_in};
+ghost use Rattle.af_world.specs.Sizes.{longest_read};
 
 use crate::scripted_link::ScriptedLink;
 use crate::{LinkGot, LinkTook, Step, Wake, Why};
@@ -104,7 +105,7 @@ pub(crate) fn adjust(links: &mut [ScriptedLink], link: u8, step: &Step, wake: Wa
 
 /// Answers a read of a link; of one that is not open there is nothing to read yet.
 pub(crate) fn read(links: &mut [ScriptedLink], link: u8, into: &mut [u8]) -> LinkGot
-    requires { length into.old ≡ 16384 }
+    requires { length into.old ≡ longest_read }
     ensures answered { (devices : List ScriptedDevice)
         → answered_as_stated (outside_of links.old devices) (Read link (got_of result into.new))
         ≡ Some (outside_of links.new devices) }

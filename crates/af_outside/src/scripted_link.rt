@@ -4,6 +4,7 @@ ghost use Rattle.std.specs.declared.option.Option.TheVariants.{None, Some};
 ghost use Rattle.af_world.specs.World.{got_of, took_of, LinkGotFits, TookFits};
 ghost use Rattle.af_world.specs.Outside.{client_answered, read_from, written_to, fresh_client, stated_of};
 ghost use Rattle.af_outside.specs.Tape.{sent_in};
+ghost use Rattle.af_world.specs.Sizes.{longest_read};
 
 use crate::{LinkGot, LinkTook, Step};
 use af_io::copy_first;
@@ -112,7 +113,7 @@ impl ScriptedLink {
 
     /// Answers a read: with the first bytes that are left, as many as fit, if it is not to fail.
     pub(crate) fn read(&mut self, into: &mut [u8]) -> LinkGot
-        requires { length into.old ≡ 16384 }
+        requires { length into.old ≡ longest_read }
         ensures answered { client_answered (read_from (got_of result into.new)) self.old.client ≡ Some self.new.client }
         ensures bound { LinkGotFits result (length into.new) }
         ensures room { self.new.room ≡ self.old.room }

@@ -11,6 +11,7 @@ ghost use Rattle.af_world.specs.Outer.{attached, listened, waited};
 ghost use Rattle.af_outside.specs.TapeState.{made, TakesStep, TapeLeadsTo, left_after, outer_told, NoCountFalls, wait_answer, wait_fails, waited_outside};
 ghost use Rattle.af_outside.specs.OuterState.{is_stated, was_refused};
 ghost use Rattle.af_outside.specs.Tape.{HasRoomForSteps, outside_of, devices_of, read_failed, write_failed};
+ghost use Rattle.af_world.specs.Sizes.{longest_read};
 
 use crate::happenings::{capture_of, emit_of, hook_of, read_of, write_of};
 use crate::logbook::Logbook;
@@ -233,7 +234,7 @@ impl World for Tape {
     }
 
     fn read(&mut self, link: u8, into: &mut [u8]) -> LinkGot
-        requires { length into.old ≡ 16384 }
+        requires { length into.old ≡ longest_read }
         ensures log { Appended self.old.log (Read link (got_of result into.new) ∷ []) self.new.log }
         ensures bound { LinkGotFits result (length into.new) }
         ensures cause { result ≡ LinkGot.Failed → FaultCounted self.old.link_faults self.new.link_faults }

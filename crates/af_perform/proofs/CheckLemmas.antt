@@ -13,6 +13,7 @@ use Rattle.af_model.specs.declared.refusal.Refusal.{Refusal}
 use Rattle.af_model.specs.Checks.{check, first_refusal}
 use Rattle.af_model.specs.Play.{are_frames}
 use Rattle.af_model.specs.Record.{record_refusal}
+use Rattle.af_sample.specs.Sizes.{longest_record}
 
 pub pass_first : (b : Bool) (cause : RefusalCause) (value : ℕ) (o : Option Refusal) (checks : List (Option Refusal)) → o ≡ check b cause value → first_refusal (o ∷ checks) ≡ None → (b ≡ false) × (first_refusal checks ≡ None)
 pass_first true cause value o checks is e = absurd (let f : first_refusal (check true cause value ∷ checks) ≡ None = subst (λ x. first_refusal (x ∷ checks) ≡ None) is e in cc)
@@ -25,11 +26,11 @@ not_false false e = absurd cc
 not_lt : (a b : ℕ) → nat_lt a b ≡ false → b ≤ a
 not_lt a b e = grind (arith, nat_tests)
 
-pub record_passes : (c : Context) (bytes : ℕ) → record_refusal c bytes ≡ None → bytes ≤ 16000
+pub record_passes : (c : Context) (bytes : ℕ) → record_refusal c bytes ≡ None → bytes ≤ longest_record
 unfolding record_refusal
 record_passes c bytes e =
-    let one = pass_first (nat_lt 16000 bytes) BadValue bytes (check (nat_lt 16000 bytes) BadValue bytes) (check (not (are_frames c bytes)) BadValue bytes ∷ []) refl e in
-    not_lt 16000 bytes one.0
+    let one = pass_first (nat_lt longest_record bytes) BadValue bytes (check (nat_lt longest_record bytes) BadValue bytes) (check (not (are_frames c bytes)) BadValue bytes ∷ []) refl e in
+    not_lt longest_record bytes one.0
 
 -- bytes that are whole frames
 pub whole_frames : (ty : SampleType) (n : ℕ) → n % width_of ty ≡ 0 → n ≡ n / width_of ty * width_of ty

@@ -11,6 +11,8 @@ use Rattle.af_request.specs.Fields.{u8_at, u32_at}
 use Rattle.af_request.specs.Requests.{Row, row_of, asked_by, asked_in, FitsFrame, no_op_row, get_time_row, create_ac_row, change_ac_row, free_ac_row, play_run_row, record_run_row, select_events_row, set_controls_row, query_controls_row, hook_switch_row, query_phone_row}
 use Rattle.af_perform.specs.Asked.{is_done_at_once}
 use denote.Bor.{Bor}
+use Rattle.af_sample.specs.Sizes.{longest_play}
+use Rattle.af_wire.specs.Sizes.{longest_frame}
 
 -- a request that is no play and no record
 pub at_once : (r : Request) → ((quiet : Bool) (ac : ℕ) (time : DevTime) (samples : Bor (List ℕ)) → r ≡ code.PlayRun quiet ac time samples → ⊥) →
@@ -41,13 +43,13 @@ either frame false x y p q = q
 a_row : (frame : List ℕ) (r : Row) → FitsFrame r.asked → Fits frame (Some r)
 a_row frame r room = elim (length frame == 4 * r.words) as (λ b. IfSome (cond b (Some r.asked) None) FitsFrame) [ true ↦ room | false ↦ tt ]
 
-play_room : (frame : List ℕ) (count : ℕ) → length frame ≤ 16384 → length (take (16 + count - 16) (drop 16 frame)) ≤ 16368
+play_room : (frame : List ℕ) (count : ℕ) → length frame ≤ longest_frame → length (take (16 + count - 16) (drop 16 frame)) ≤ longest_play
 play_room frame count few =
     let left = length-drop 16 frame in
     let all = length-take (16 + count - 16) (drop 16 frame) in
     omega (arith, left, all, few)
 
-row_room : (opcode : ℕ) (frame : List ℕ) → length frame ≤ 16384 → Fits frame (row_of opcode frame)
+row_room : (opcode : ℕ) (frame : List ℕ) → length frame ≤ longest_frame → Fits frame (row_of opcode frame)
 row_room opcode frame few =
     either frame (opcode == 1) _ _ (a_row frame (no_op_row frame) tt)
     (either frame (opcode == 2) _ _ (a_row frame (get_time_row frame) tt)
@@ -62,5 +64,5 @@ row_room opcode frame few =
     (either frame (opcode == 11) _ _ (a_row frame (hook_switch_row frame) tt)
     (either frame (opcode == 12) _ _ (a_row frame (query_phone_row frame) tt) tt)))))))))))
 
-pub asked_room : (frame : List ℕ) (a : Asked) → length frame ≤ 16384 → Some a ≡ asked_in frame → FitsFrame a
+pub asked_room : (frame : List ℕ) (a : Asked) → length frame ≤ longest_frame → Some a ≡ asked_in frame → FitsFrame a
 asked_room frame a few e = subst (λ o. IfSome o FitsFrame) (sym e) (row_room (u8_at 0 frame) frame few)

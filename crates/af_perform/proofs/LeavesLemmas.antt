@@ -5,6 +5,7 @@ use Rattle.af_state.specs.Kept.{KeptDevice}
 use Rattle.af_state.specs.Deferrals.{KeptDeferral, has_waiting}
 use Rattle.af_state.specs.Environment.{StandsForLink, KeptEnvironment, StepsDevices, StepsLink, Leaves, StandsForEnvironment, kept}
 use Rattle.af_state.proofs.DeferralLemmas.{only_queues_nothing}
+use Rattle.af_model.specs.Sizes.{most_to_send}
 
 -- what touches devices alone, in an environment
 pub leads_opened : (e : KeptEnvironment) (ds lent ds' back : List KeptDevice) (ks : List KeptDeferral) (l l' : LinkState) (f : OpenLink → OpenLink) → kept ds ks ≡ e → lent ≡ ds → back ≡ ds' → StepsDevices f lent l ds' l' → StepsLink f e l (kept back ks) l'
@@ -29,7 +30,7 @@ leaves_opened k e ds ds' ks l l' view free rest =
     (record { rest = rest; only_queues = only_queues_nothing k ks; small_pending = λ waits. absurd cc })
 
 -- the link begins to wait
-pub leaves_waiting : (k : ℕ) (e : KeptEnvironment) (ds : List KeptDevice) (ks ks' : List KeptDeferral) (l : LinkState) (w : KeptDeferral) → kept ds ks ≡ e → w.wait.link ≡ k → 0 < w.wait.left → ks' ≡ ks ++ w ∷ [] → length l.pending ≤ 16384 → Leaves k e l (kept ds ks') l
+pub leaves_waiting : (k : ℕ) (e : KeptEnvironment) (ds : List KeptDevice) (ks ks' : List KeptDeferral) (l : LinkState) (w : KeptDeferral) → kept ds ks ≡ e → w.wait.link ≡ k → 0 < w.wait.left → ks' ≡ ks ++ w ∷ [] → length l.pending ≤ most_to_send → Leaves k e l (kept ds ks') l
 leaves_waiting k e ds ks ks' l w view link later is room =
     subst (λ (v : KeptEnvironment). Leaves k v l (kept ds ks') l) view
     (record { rest = refl; only_queues = record { more = w ∷ []; is = is; are_new = (link, later, tt) }; small_pending = λ waits. room })

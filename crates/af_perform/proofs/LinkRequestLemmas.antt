@@ -32,6 +32,7 @@ use Rattle.af_state.proofs.PlayLemmas.{before-same, within-same, play_beyond-sam
 use Rattle.af_state.proofs.DeferredRequestLemmas.{play_is, record_is}
 use Rattle.af_state.proofs.DeferralLemmas.{waits_push, waits_set}
 use Rattle.af_perform.proofs.CheckLemmas.{pass_first, not_false}
+use Rattle.af_sample.specs.Sizes.{longest_play, longest_record}
 
 -- what leads a link, leads it at each place
 pub leads_at : (ds : List KeptDevice) (ks : List KeptDeferral) (l l' : LinkState) (f : OpenLink → OpenLink) (a : EnvironmentState) → ChangesLinkIn a f l l' → StandsForEnvironment (kept ds ks) a → StandsForLink (kept ds ks) l' (f (open_link a l))
@@ -171,7 +172,7 @@ play_started ds ds' ks x l l' k quiet c start bytes sound a s word h is size wit
 
 -- and any other waits
 pub play_waits : (ds : List KeptDevice) (ks ks' : List KeptDeferral) (x : KeptDevice) (l : LinkState) (k : ℕ) (quiet : Bool) (c : Context) (start : ℕ) (bytes : List ℕ) (sound : List ℤ) (left : ℕ) (a : EnvironmentState) (s : DeviceState) → start < 2 ^ 32 → StandsForEnvironment (kept ds ks) a →
-    slice_get a.devices c.device ≡ Some s → StandsForDevice x s → sound ≡ sent_sound c bytes → length sound ≡ frames_of c (length bytes) → length sound ≤ 16368 → frames_within x.next start < length sound → left ≡ play_beyond x.next start (length sound) →
+    slice_get a.devices c.device ≡ Some s → StandsForDevice x s → sound ≡ sent_sound c bytes → length sound ≡ frames_of c (length bytes) → length sound ≤ longest_play → frames_within x.next start < length sound → left ≡ play_beyond x.next start (length sound) →
     ks' ≡ ks ++ record { wait = record { link = k; device = c.device; left = left }; deferred = deferred_play quiet start sound c.preempt } ∷ [] → StandsForLink (kept ds ks') l (start_play k quiet c start bytes s (open_link a l))
 play_waits ds ks ks' x l k quiet c start bytes sound left a s word h there stands is size few past count e =
     let same = within-same x s start word stands in
@@ -244,7 +245,7 @@ record_started ds ks x l l' k blocking c start bytes frames a s word h stands al
 
 -- and one that waits
 pub record_waits : (ds : List KeptDevice) (ks ks' : List KeptDeferral) (x : KeptDevice) (l : LinkState) (k : ℕ) (blocking : Bool) (c : Context) (start bytes frames left : ℕ) (a : EnvironmentState) (s : DeviceState) → start < 2 ^ 32 → StandsForEnvironment (kept ds ks) a →
-    slice_get a.devices c.device ≡ Some s → StandsForDevice x s → frames ≡ frames_of c bytes → frames ≤ 16000 → (blocking && nat_lt (frames_before x.last start) frames) ≡ true → left ≡ record_beyond x.last start frames →
+    slice_get a.devices c.device ≡ Some s → StandsForDevice x s → frames ≡ frames_of c bytes → frames ≤ longest_record → (blocking && nat_lt (frames_before x.last start) frames) ≡ true → left ≡ record_beyond x.last start frames →
     ks' ≡ ks ++ record { wait = record { link = k; device = c.device; left = left }; deferred = deferred_record c start frames } ∷ [] → StandsForLink (kept ds ks') l (start_record k blocking c start bytes s (open_link a l))
 record_waits ds ks ks' x l k blocking c start bytes frames left a s word h there stands all few waits count e =
     let before = before-same x s start word stands in

@@ -6,6 +6,8 @@ ghost use Rattle.af_state.specs.Deferred.{deferred_of_record};
 ghost use Rattle.af_state.specs.Kept.{KeptDevice};
 ghost use Rattle.af_state.specs.Deferrals.{DeferredEndsWithin};
 ghost use Rattle.af_perform.specs.Sounds.{CompletesDeferred};
+ghost use Rattle.af_sample.specs.Sizes.{longest_record};
+ghost use Rattle.af_model.specs.Sizes.{event_limit};
 
 use crate::play::accept;
 use crate::record::answer_record;
@@ -19,8 +21,8 @@ fn complete_record(
     link: &mut ServedLink,
     work: &mut Work,
 )
-    requires room { length link.old.pending ≤ 49152 }
-    requires fits { asked.frames * width_of asked.context.ty ≤ 16000 }
+    requires room { length link.old.pending ≤ event_limit }
+    requires fits { asked.frames * width_of asked.context.ty ≤ longest_record }
     requires there { device < length devices.now }
     ensures step { CompletesDeferred (deferred_of_record asked) device devices.now link.old devices.now link.new }
     ensures rest { link.new.rest ≡ link.old.rest }
@@ -36,7 +38,7 @@ pub fn complete_deferred(
     link: &mut ServedLink,
     work: &mut Work,
 )
-    requires room { length link.old.pending ≤ 49152 }
+    requires room { length link.old.pending ≤ event_limit }
     requires there { device < length devices.old }
     requires fits { (d : KeptDevice) → slice_get devices.old device ≡ Some d → DeferredEndsWithin d deferred.now }
     ensures step { CompletesDeferred deferred.now device devices.old link.old devices.new link.new }

@@ -7,6 +7,7 @@ ghost use Rattle.af_model.specs.ContextRequests.{creation_refusal, described, cr
 ghost use Rattle.af_model.specs.Perform.{done};
 ghost use Rattle.af_state.specs.Environment.{StepsDevices, ChangesLink};
 ghost use Rattle.af_perform.specs.Asked.{new_context, new_settings};
+ghost use Rattle.af_model.specs.Sizes.{most_to_send};
 
 use crate::checks::{
     check, check_gain, context_refusal, first_refusal, named_gain, names, where_named,
@@ -90,7 +91,7 @@ fn described(asked: NewContext) -> Context
 
 // One context more, if the number is free and there is room.
 fn create(context: Context, link: &mut ServedLink, work: &mut Work)
-    requires room { length link.old.pending ≤ 16384 }
+    requires room { length link.old.pending ≤ most_to_send }
     ensures step { ChangesLink (create context) link.old link.new }
     ensures rest { link.new.rest ≡ link.old.rest }
 {
@@ -103,7 +104,7 @@ fn create(context: Context, link: &mut ServedLink, work: &mut Work)
 
 /// CreateAC.
 pub fn create_ac(asked: NewContext, devices: &[Device], link: &mut ServedLink, work: &mut Work)
-    requires room { length link.old.pending ≤ 16384 }
+    requires room { length link.old.pending ≤ most_to_send }
     ensures step { (k : ℕ) → StepsDevices (done k (new_context asked)) devices.now link.old devices.now link.new }
     ensures rest { link.new.rest ≡ link.old.rest }
 {
@@ -142,7 +143,7 @@ fn named_preempt(mask: u8, preempt: u8) -> Option<bool>
 
 // The fields that the mask names are changed.
 fn change(asked: NewSettings, link: &mut ServedLink, work: &mut Work)
-    requires room { length link.old.pending ≤ 16384 }
+    requires room { length link.old.pending ≤ most_to_send }
     requires passes { change_refusal link.old.contexts asked.mask asked.ac asked.preempt asked.play_gain asked.record_gain
         ≡ None }
     ensures step { ChangesLink (change asked.mask asked.ac asked.preempt asked.play_gain asked.record_gain) link.old link.new }
@@ -159,7 +160,7 @@ fn change(asked: NewSettings, link: &mut ServedLink, work: &mut Work)
 
 /// ChangeAC.
 pub fn change_ac(asked: NewSettings, link: &mut ServedLink, work: &mut Work)
-    requires room { length link.old.pending ≤ 16384 }
+    requires room { length link.old.pending ≤ most_to_send }
     ensures step { (k : ℕ) → ChangesLink (done k (new_settings asked)) link.old link.new }
     ensures rest { link.new.rest ≡ link.old.rest }
 {
@@ -171,7 +172,7 @@ pub fn change_ac(asked: NewSettings, link: &mut ServedLink, work: &mut Work)
 
 /// FreeAC.
 pub fn free_ac(ac: u32, link: &mut ServedLink, work: &mut Work)
-    requires room { length link.old.pending ≤ 16384 }
+    requires room { length link.old.pending ≤ most_to_send }
     ensures step { (k : ℕ) → ChangesLink (done k (free_ac ac)) link.old link.new }
     ensures rest { link.new.rest ≡ link.old.rest }
 {

@@ -14,6 +14,7 @@ ghost use Rattle.af_perform.specs.Asked.{new_controls};
 ghost use Rattle.af_perform.specs.Lines.{line_at};
 ghost use Rattle.af_state.specs.Deferrals.{KeptDeferral};
 ghost use Rattle.af_state.specs.Environment.{kept, StepsDevices, StepsLinkFor, ChangesLink};
+ghost use Rattle.af_model.specs.Sizes.{most_to_send};
 
 use crate::checks::{
     check, check_gain, first_refusal, is_missing, named_gain, names, no_device, no_line,
@@ -51,7 +52,7 @@ fn line_at(device: u8, devices: &[Device]) -> Result<Phone, Refusal>
 
 // The mask of the events of a device is replaced.
 fn select(device: u8, mask: u32, link: &mut ServedLink, work: &mut Work)
-    requires room { length link.old.pending ≤ 16384 }
+    requires room { length link.old.pending ≤ most_to_send }
     ensures step { ChangesLink (select device mask) link.old link.new }
     ensures rest { link.new.rest ≡ link.old.rest }
 {
@@ -67,7 +68,7 @@ pub fn select_events(
     link: &mut ServedLink,
     work: &mut Work,
 )
-    requires room { length link.old.pending ≤ 16384 }
+    requires room { length link.old.pending ≤ most_to_send }
     ensures step { (k : ℕ) → StepsDevices (done k (select_events device mask)) devices.now link.old devices.now link.new }
     ensures rest { link.new.rest ≡ link.old.rest }
 {
@@ -126,7 +127,7 @@ fn with_named(asked: NewControls, old: Controls) -> Controls
 
 // The controls of a device that is there are changed.
 fn control(asked: NewControls, devices: &mut [Device], link: &mut ServedLink, work: &mut Work)
-    requires room { length link.old.pending ≤ 16384 }
+    requires room { length link.old.pending ≤ most_to_send }
     requires there { asked.device < length devices.old }
     requires passes { controls_refusal asked.mask asked.input_on asked.output_on asked.input_gain asked.output_gain ≡ None }
     ensures step { (ks : List KeptDeferral) → StepsLinkFor asked.device
@@ -147,7 +148,7 @@ pub fn set_controls(
     link: &mut ServedLink,
     work: &mut Work,
 )
-    requires room { length link.old.pending ≤ 16384 }
+    requires room { length link.old.pending ≤ most_to_send }
     ensures step { (k : ℕ) → StepsDevices (done k (new_controls asked)) devices.old link.old devices.new link.new }
     ensures rest { link.new.rest ≡ link.old.rest }
 {
@@ -163,7 +164,7 @@ pub fn set_controls(
 
 /// QueryControls.
 pub fn query_controls(device: u8, devices: &[Device], link: &mut ServedLink, work: &mut Work)
-    requires room { length link.old.pending ≤ 16384 }
+    requires room { length link.old.pending ≤ most_to_send }
     ensures step { (k : ℕ) → StepsDevices (done k (query_controls device)) devices.now link.old devices.now link.new }
     ensures rest { link.new.rest ≡ link.old.rest }
 {
@@ -200,7 +201,7 @@ fn wanting(off: bool, line: Option<Line>) -> Option<Line>
 
 // The hook of a device that is there, and has a line, is wanted off or on.
 fn want_hook(device: u8, off: bool, devices: &mut [Device], link: &mut ServedLink, work: &mut Work)
-    requires room { length link.old.pending ≤ 16384 }
+    requires room { length link.old.pending ≤ most_to_send }
     requires there { device < length devices.old }
     ensures step { (ks : List KeptDeferral) → StepsLinkFor device (λ s p. replied 11 plain (in_devices device (wanting_hook off) p))
         (kept devices.old ks) link.old (kept devices.new ks) link.new }
@@ -219,7 +220,7 @@ pub fn hook_switch(
     link: &mut ServedLink,
     work: &mut Work,
 )
-    requires room { length link.old.pending ≤ 16384 }
+    requires room { length link.old.pending ≤ most_to_send }
     ensures step { (k : ℕ) → StepsDevices (done k (hook_switch device off)) devices.old link.old devices.new link.new }
     ensures rest { link.new.rest ≡ link.old.rest }
 {
@@ -234,7 +235,7 @@ pub fn hook_switch(
 
 /// QueryPhone.
 pub fn query_phone(device: u8, devices: &[Device], link: &mut ServedLink, work: &mut Work)
-    requires room { length link.old.pending ≤ 16384 }
+    requires room { length link.old.pending ≤ most_to_send }
     ensures step { (k : ℕ) → StepsDevices (done k (query_phone device)) devices.now link.old devices.now link.new }
     ensures rest { link.new.rest ≡ link.old.rest }
 {

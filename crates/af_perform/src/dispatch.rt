@@ -5,6 +5,7 @@ ghost use Rattle.af_request.specs.Requests.{FitsFrame};
 ghost use Rattle.af_model.specs.Perform.{done, perform};
 ghost use Rattle.af_state.specs.Environment.{StepsLink, StepsDevices, Leaves, MayAsk};
 ghost use Rattle.af_perform.specs.Asked.{is_done_at_once};
+ghost use Rattle.af_model.specs.Sizes.{most_to_send};
 
 use crate::checks::{is_missing, no_device};
 use crate::context_requests::{NewContext, NewSettings, change_ac, create_ac, free_ac};
@@ -19,7 +20,7 @@ use af_state::{Device, Environment, ServedLink, Work};
 
 // The time of a device is replied, or the device is not there.
 fn get_time(device: u8, devices: &[Device], link: &mut ServedLink, work: &mut Work)
-    requires room { length link.old.pending ≤ 16384 }
+    requires room { length link.old.pending ≤ most_to_send }
     ensures step { (k : ℕ) → StepsDevices (done k (get_time device)) devices.now link.old devices.now link.new }
     ensures rest { link.new.rest ≡ link.old.rest }
 {
@@ -33,7 +34,7 @@ fn get_time(device: u8, devices: &[Device], link: &mut ServedLink, work: &mut Wo
 
 // What a request does that leaves all but its link as it is.
 fn done_at_once(request: &Request<'_>, devices: &[Device], link: &mut ServedLink, work: &mut Work)
-    requires room { length link.old.pending ≤ 16384 }
+    requires room { length link.old.pending ≤ most_to_send }
     ensures step { (k : ℕ) → IsTrue (is_done_at_once (request_meaning request.now)) →
         StepsDevices (done k (request_meaning request.now)) devices.now link.old devices.now link.new }
     ensures rest { link.new.rest ≡ link.old.rest }

@@ -13,6 +13,9 @@ ghost use Rattle.af_state.specs.Kept.{KeptDevice};
 ghost use Rattle.af_state.specs.Environment.{StepsLink, StepsLinkFor, Leaves, MayAsk};
 ghost use Rattle.af_perform.specs.Asked.{new_play};
 ghost use Rattle.af_perform.specs.Sounds.{play_by_context, start_play_of, with_named_device, AcceptsPlay, CompletesDeferred, IsSoundOf};
+ghost use Rattle.af_sample.specs.Sizes.{longest_play};
+ghost use Rattle.af_wire.specs.Sizes.{longest_message};
+ghost use Rattle.af_model.specs.Sizes.{event_limit};
 
 use crate::checks::{check, is_missing, no_context, no_device};
 use crate::opcode;
@@ -43,7 +46,7 @@ pub struct ContextPlay<'a> {
 
 // A play has whole frames.
 fn play_refusal(context: &Context, bytes: usize) -> Option<Refusal>
-    requires few { bytes ≤ 16368 }
+    requires few { bytes ≤ longest_play }
     ensures { result ≡ play_refusal context.now bytes }
 {
     check(
@@ -67,8 +70,8 @@ fn read_sound(context: &Context, bytes: &[u8], samples: &mut [i16])
 
 // A play is replied to with the device's time, unless it is quiet.
 fn tell_played(quiet: bool, time: DevTime, link: &mut ServedLink, message: &mut [u8])
-    requires room { length link.old.pending ≤ 49152 }
-    requires size { length message.old ≡ 16016 }
+    requires room { length link.old.pending ≤ event_limit }
+    requires size { length message.old ≡ longest_message }
     ensures { link.new ≡ (if quiet then link.old else
         record link.old { pending = link.old.pending ++ reply_message 6 (played time.0) link.old.sequence }) }
 {
@@ -79,9 +82,9 @@ fn tell_played(quiet: bool, time: DevTime, link: &mut ServedLink, message: &mut 
 
 /// Its device accepts a play that ends within the horizon, and it is replied to.
 pub fn accept(play: &Play<'_>, devices: &mut [Device], link: &mut ServedLink, message: &mut [u8])
-    requires room { length link.old.pending ≤ 49152 }
-    requires size { length message.old ≡ 16016 }
-    requires few { length play.now.sound.now ≤ 16368 }
+    requires room { length link.old.pending ≤ event_limit }
+    requires size { length message.old ≡ longest_message }
+    requires few { length play.now.sound.now ≤ longest_play }
     requires there { play.now.device < length devices.old }
     requires within { (d : KeptDevice) → slice_get devices.old play.now.device ≡ Some d →
         length play.now.sound.now ≤ frames_within d.next play.now.start.0 }
@@ -104,8 +107,8 @@ fn accept_or_defer(
     message: &mut [u8],
 )
     requires asks { MayAsk number environment.old link.old }
-    requires size { length message.old ≡ 16016 }
-    requires few { length play.now.sound.now ≤ 16368 }
+    requires size { length message.old ≡ longest_message }
+    requires few { length play.now.sound.now ≤ longest_play }
     requires there { play.now.device < length environment.old.devices }
     ensures step { (c : Context) (bytes : List ℕ) → IsSoundOf play.now c bytes →
         StepsLinkFor c.device (start_play number play.now.quiet c play.now.start.0 bytes)
@@ -131,7 +134,7 @@ fn convert_play(
     work: &mut Work,
 )
     requires asks { MayAsk number environment.old link.old }
-    requires few { length asked.now.bytes.now ≤ 16368 }
+    requires few { length asked.now.bytes.now ≤ longest_play }
     requires there { asked.now.context.device < length environment.old.devices }
     requires whole { length asked.now.bytes.now % width_of asked.now.context.ty ≡ 0 }
     ensures step { StepsLinkFor asked.now.context.device (start_play_of number asked.now)
@@ -159,7 +162,7 @@ fn check_play(
     work: &mut Work,
 )
     requires asks { MayAsk number environment.old link.old }
-    requires few { length asked.now.bytes.now ≤ 16368 }
+    requires few { length asked.now.bytes.now ≤ longest_play }
     ensures step { StepsLink (with_named_device 6 asked.now.context.device (play_by_context number asked.now))
         environment.old link.old environment.new link.new }
     ensures leaves { Leaves number environment.old link.old environment.new link.new }
@@ -183,7 +186,7 @@ pub fn perform_play(
     work: &mut Work,
 )
     requires asks { MayAsk number environment.old link.old }
-    requires few { length asked.now.bytes.now ≤ 16368 }
+    requires few { length asked.now.bytes.now ≤ longest_play }
     ensures step { StepsLink (done number (new_play asked.now)) environment.old link.old environment.new link.new }
     ensures leaves { Leaves number environment.old link.old environment.new link.new }
 {

@@ -10,6 +10,9 @@ ghost use Rattle.af_state.specs.Kept.{StandsForDevice};
 ghost use Rattle.af_state.specs.Environment.{StepsLink, StepsLinkFor, ChangesLink, Leaves, MayAsk};
 ghost use Rattle.af_perform.specs.Asked.{new_record};
 ghost use Rattle.af_perform.specs.Sounds.{record_by_context, with_named_device};
+ghost use Rattle.af_sample.specs.Sizes.{longest_record};
+ghost use Rattle.af_wire.specs.Sizes.{longest_frame};
+ghost use Rattle.af_model.specs.Sizes.{most_to_send, event_limit};
 
 use crate::checks::{check, first_refusal, is_missing, no_context, no_device};
 use crate::opcode;
@@ -61,10 +64,10 @@ fn given_frames(blocking: bool, before: u32, frames: u32) -> u32
 
 // The frames of a record come to stand at the front of `bytes`, and their samples at that of `samples`.
 fn read_frames(asked: Record, device: &Device, samples: &mut [i16], bytes: &mut [u8])
-    requires few { asked.frames ≤ 16000 }
-    requires fits { asked.frames * width_of asked.context.ty ≤ 16000 }
-    requires samples { length samples.old ≡ 16384 }
-    requires bytes { length bytes.old ≡ 16384 }
+    requires few { asked.frames ≤ longest_record }
+    requires fits { asked.frames * width_of asked.context.ty ≤ longest_record }
+    requires samples { length samples.old ≡ longest_frame }
+    requires bytes { length bytes.old ≡ longest_frame }
     ensures { (s : DeviceState) → StandsForDevice device.now s →
         take (asked.frames * width_of asked.context.ty) bytes.new
         ≡ recorded_bytes asked.context s (unwrap s.now asked.start.0) asked.frames }
@@ -78,9 +81,9 @@ fn read_frames(asked: Record, device: &Device, samples: &mut [i16], bytes: &mut 
 
 /// A record is answered with its frames.
 pub fn answer_record(asked: Record, device: &Device, link: &mut ServedLink, work: &mut Work)
-    requires room { length link.old.pending ≤ 49152 }
-    requires few { asked.frames ≤ 16000 }
-    requires fits { asked.frames * width_of asked.context.ty ≤ 16000 }
+    requires room { length link.old.pending ≤ event_limit }
+    requires few { asked.frames ≤ longest_record }
+    requires fits { asked.frames * width_of asked.context.ty ≤ longest_record }
     ensures step { (s : DeviceState) → StandsForDevice device.now s →
         ChangesLink (give_record asked.context (unwrap s.now asked.start.0) asked.frames s) link.old link.new }
     ensures rest { link.new.rest ≡ link.old.rest }
@@ -97,9 +100,9 @@ pub fn answer_record(asked: Record, device: &Device, link: &mut ServedLink, work
 
 // A record is answered with all of its frames, or, if it does not block, with those before now.
 fn answer_available(asked: Record, device: &Device, link: &mut ServedLink, work: &mut Work)
-    requires room { length link.old.pending ≤ 16384 }
-    requires few { asked.frames ≤ 16000 }
-    requires fits { asked.frames * width_of asked.context.ty ≤ 16000 }
+    requires room { length link.old.pending ≤ most_to_send }
+    requires few { asked.frames ≤ longest_record }
+    requires fits { asked.frames * width_of asked.context.ty ≤ longest_record }
     ensures step { (s : DeviceState) → StandsForDevice device.now s → ChangesLink
         (give_record asked.context (unwrap s.now asked.start.0) (given_frames asked.blocking s asked.start.0 asked.frames) s)
         link.old link.new }
@@ -127,8 +130,8 @@ fn answer_or_defer(
 )
     requires asks { MayAsk number environment.old link.old }
     requires there { asked.context.device < length environment.old.devices }
-    requires few { asked.frames ≤ 16000 }
-    requires fits { asked.frames * width_of asked.context.ty ≤ 16000 }
+    requires few { asked.frames ≤ longest_record }
+    requires fits { asked.frames * width_of asked.context.ty ≤ longest_record }
     ensures step { (bytes : ℕ) → asked.frames ≡ frames_of asked.context bytes →
         StepsLinkFor asked.context.device (start_record number asked.blocking asked.context asked.start.0 bytes)
         environment.old link.old environment.new link.new }

@@ -4,6 +4,7 @@ ghost use Rattle.std.specs.declared.option.Option.TheVariants.{None};
 ghost use Rattle.af_tool.specs.Ends.{is_of_link};
 ghost use Rattle.af_relay.specs.Pass.{has_drifted, in_step, none_passed, after_block, passes, passes_block, moment_of};
 ghost use Rattle.af_relay.specs.RelayParts.{ObservedRelayPartOver, KeepsConnections};
+ghost use Rattle.af_options.specs.Sizes.{greatest_block};
 
 use af_io::Link;
 use af_lib::Conn;
@@ -102,7 +103,7 @@ fn pass_block<L: Link + Drop, M: Link + Drop>(
     block: &mut [u8],
 ) -> Result<RelayProgress, ToolEnd>
     requires usable { (from.old.cause ≡ None) × (to.old.cause ≡ None) }
-    requires block { (length block.old ≡ plan.now.pace.size) × (length block.old ≤ 16000) }
+    requires block { (length block.old ≡ plan.now.pace.size) × (length block.old ≤ greatest_block) }
     requires pace { plan.now.pace.delay < 2 ^ 40 }
     requires few { passed.resynced + 1 < 2 ^ 32 }
     ensures goes { ObservedRelayPartOver L.left L.sent M.left M.sent from.old from.new to.old to.new
@@ -128,7 +129,7 @@ pub fn pass_blocks<L: Link + Drop, M: Link + Drop>(
     block: &mut [u8],
 ) -> Result<RelayProgress, ToolEnd>
     requires usable { (from.old.cause ≡ None) × (to.old.cause ≡ None) }
-    requires block { (length block.old ≡ plan.now.pace.size) × (length block.old ≤ 16000) }
+    requires block { (length block.old ≡ plan.now.pace.size) × (length block.old ≤ greatest_block) }
     requires pace { plan.now.pace.delay < 2 ^ 40 }
     ensures goes { ObservedRelayPartOver L.left L.sent M.left M.sent from.old from.new to.old to.new
         (λ v w. passes plan.now.job.blocks plan.now.job plan.now.pace (none_passed start) v w) result }

@@ -9,6 +9,7 @@ use Rattle.af_wire.proofs.MessageRoundTrips.{head_framed, head_one}
 use Rattle.af_request.specs.Answer.{Answer, setup, plain, time, played, recorded, controls, phone}
 use Rattle.af_request.specs.Replies.{body_bytes, body_words, is_plain, reply_bytes, IsReplyTo}
 use Rattle.af_request.proofs.ReplyRoundTrips.{length-body}
+use Rattle.af_sample.specs.Sizes.{longest_record}
 
 -- the opcode of a reply that a client takes
 IsOpcode : ℕ → Type 0
@@ -37,7 +38,7 @@ few_words opcode (setup devices) is = let few : length devices ≤ 8 = is.2 in o
 few_words opcode plain is = omega arith
 few_words opcode (time now) is = omega arith
 few_words opcode (played now) is = omega arith
-few_words opcode (recorded now samples) is = let few : length samples ≤ 16000 = is.2 in omega arith
+few_words opcode (recorded now samples) is = let few : length samples ≤ longest_record = is.2 in omega arith
 few_words opcode (controls c) is = omega arith
 few_words opcode (phone p) is = omega arith
 

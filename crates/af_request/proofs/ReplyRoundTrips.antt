@@ -20,6 +20,7 @@ use Rattle.af_request.specs.Answer.{Answer, setup, plain, time, played, recorded
 use Rattle.af_request.specs.Fields.{flag_byte, u32_bytes, i16_bytes, words_for, padded}
 use Rattle.af_request.specs.Replies.{answer_in, body_bytes, body_words, controls_of, phone_of, reply_bytes, device_bytes, device_in, device_info_of, device_then, devices_in, flag_of, is_plain, is_zero, IsReplyTo, IsDeviceInfo}
 use Rattle.af_request.proofs.FieldRoundTrips.{ap_2, ap_3, u32_again, i16_again, length-padded, take-padded}
+use Rattle.af_sample.specs.Sizes.{longest_record}
 
 flag_again : (set : Bool) → flag_of (flag_byte set) ≡ Some set
 flag_again true = refl
@@ -60,10 +61,10 @@ record_read now t count n body samples start size whole zeros kept =
     ∙ ap_2 (λ a s. Some (recorded a s)) start (ap (λ k. take k (drop 8 body)) m ∙ kept)
 
 -- a count of samples that a reply has room for is below 2^32
-below : (n : ℕ) → n ≤ 16000 → n < 2 ^ 32
+below : (n : ℕ) → n ≤ longest_record → n < 2 ^ 32
 below n low = omega arith
 
-recorded_again : (now : ℕ) (samples : List ℕ) → now < 2 ^ 32 → length samples ≤ 16000 →
+recorded_again : (now : ℕ) (samples : List ℕ) → now < 2 ^ 32 → length samples ≤ longest_record →
     answer_in 7 (body_bytes (recorded now samples)) ≡ Some (recorded now samples)
 recorded_again now samples low most =
     let n : ℕ = length samples in

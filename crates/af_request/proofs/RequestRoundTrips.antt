@@ -10,9 +10,10 @@ use Rattle.af_request.specs.Asked.{Asked, no_op, get_time, create_ac, change_ac,
 use Rattle.af_request.specs.Fields.{u32_bytes, i16_bytes, flag_byte, words_for, padded}
 use Rattle.af_request.specs.Requests.{row, asked_by, asked_in, request_bytes, front, IsOneRequest, IsWritable}
 use Rattle.af_request.proofs.FieldRoundTrips.{ap_2, ap_3, u32_again, i16_again, length-padded, take-padded}
+use Rattle.af_sample.specs.Sizes.{longest_play}
 
 -- a count of samples that a frame has room for is below 2^32
-below : (n : ℕ) → n ≤ 16368 → n < 2 ^ 32
+below : (n : ℕ) → n ≤ longest_play → n < 2 ^ 32
 below n low = omega arith
 
 -- what a play has before its samples
@@ -88,7 +89,7 @@ request_framed (change_ac mask ac preempt play_gain record_gain) rest fits =
     framed 4 mask 4 (u32_bytes ac ++ (preempt ∷ 0 ∷ 0 ∷ 0 ∷ []) ++ i16_bytes play_gain ++ i16_bytes record_gain) rest (omega arith) (omega arith) refl
 request_framed (free_ac ac) rest fits = framed 5 0 2 (u32_bytes ac) rest (omega arith) (omega arith) refl
 request_framed (play_run quiet ac time samples) rest fits =
-    let most : length samples ≤ 16368 = fits.2 in
+    let most : length samples ≤ longest_play = fits.2 in
     framed 6 (flag_byte quiet) (4 + words_for (length samples)) (u32_bytes ac ++ u32_bytes time ++ u32_bytes (length samples) ++ padded samples) rest
     (omega arith) (omega arith) (length-play (flag_byte quiet) ac time samples)
 request_framed (record_run blocking ac time nbytes) rest fits =

@@ -10,6 +10,7 @@ use Rattle.af_request.specs.declared.reply.DeviceInfo.{DeviceInfo}
 use Rattle.af_request.specs.declared.reply.Phone.{Phone}
 use Rattle.af_request.specs.Answer.{Answer, setup, plain, time, played, recorded, controls, phone}
 use Rattle.af_request.specs.Fields.{u8_at, u16_at, u32_at, i16_at, u32_bytes, i16_bytes, flag_byte, words_for, padded}
+use Rattle.af_sample.specs.Sizes.{longest_record}
 
 -- whether all bytes are zero, as padding is
 abbrev pub is_zero : List ℕ → Bool
@@ -142,7 +143,7 @@ reply_bytes opcode answer sequence = head 1 opcode sequence (body_words answer) 
 
 -- a reply whose record has at most the samples that the longest reply has room for
 abbrev pub FitsMessage : Answer → Type 0
-FitsMessage (recorded now samples) = length samples ≤ 16000
+FitsMessage (recorded now samples) = length samples ≤ longest_record
 FitsMessage _ = ⊤
 
 -- a device as the reply to a setup may state it
@@ -157,6 +158,6 @@ IsReplyTo opcode (setup devices) = (opcode ≡ 0) × (1 ≤ length devices) × (
 IsReplyTo opcode plain = IsTrue (is_plain opcode)
 IsReplyTo opcode (time now) = (opcode ≡ 2) × (now < 2 ^ 32)
 IsReplyTo opcode (played now) = (opcode ≡ 6) × (now < 2 ^ 32)
-IsReplyTo opcode (recorded now samples) = (opcode ≡ 7) × (now < 2 ^ 32) × (length samples ≤ 16000)
+IsReplyTo opcode (recorded now samples) = (opcode ≡ 7) × (now < 2 ^ 32) × (length samples ≤ longest_record)
 IsReplyTo opcode (controls c) = (opcode ≡ 10) × IsGain c.input_gain × IsGain c.output_gain
 IsReplyTo opcode (phone p) = opcode ≡ 12

@@ -5,6 +5,7 @@ use Rattle.af_wire.specs.declared.front.Front.TheVariants.{Frame}
 use Rattle.af_wire.specs.Front.{frame_front}
 use Rattle.af_request.specs.Asked.{Asked, no_op, get_time, create_ac, change_ac, free_ac, play_run, record_run, select_events, set_controls, query_controls, hook_switch, query_phone}
 use Rattle.af_request.specs.Fields.{u8_at, u32_at, i16_at, u32_bytes, i16_bytes, flag_byte, words_for, padded}
+use Rattle.af_sample.specs.Sizes.{longest_play}
 
 -- a row of the grammar, at the bytes of a frame: how many words such a request has, and what it asks
 pub record Row : Type 0 where
@@ -124,7 +125,7 @@ request_bytes (query_phone device) = front 12 device 1
 
 -- a request whose play has at most the samples that the longest frame has room for
 abbrev pub FitsFrame : Asked → Type 0
-FitsFrame (play_run quiet ac time samples) = length samples ≤ 16368
+FitsFrame (play_run quiet ac time samples) = length samples ≤ longest_play
 FitsFrame _ = ⊤
 
 -- a request whose numbers fit their fields, with room for its samples
@@ -134,7 +135,7 @@ IsWritable (create_ac device ac ty channels preempt play_gain record_gain) =
 IsWritable (change_ac mask ac preempt play_gain record_gain) =
     (ac < 2 ^ 32) × FitsSigned w16 play_gain × FitsSigned w16 record_gain
 IsWritable (free_ac ac) = ac < 2 ^ 32
-IsWritable (play_run quiet ac time samples) = (ac < 2 ^ 32) × (time < 2 ^ 32) × (length samples ≤ 16368)
+IsWritable (play_run quiet ac time samples) = (ac < 2 ^ 32) × (time < 2 ^ 32) × (length samples ≤ longest_play)
 IsWritable (record_run blocking ac time nbytes) = (ac < 2 ^ 32) × (time < 2 ^ 32) × (nbytes < 2 ^ 32)
 IsWritable (select_events device mask) = mask < 2 ^ 32
 IsWritable (set_controls device mask input_on output_on input_gain output_gain) =

@@ -6,6 +6,8 @@ ghost use Rattle.af_request.specs.Answer.{reply_meaning, recorded, setup};
 ghost use Rattle.af_request.specs.Answer.{controls as controls_answer, phone as phone_answer};
 ghost use Rattle.af_request.specs.Fields.{i16_bytes, words_for};
 ghost use Rattle.af_request.specs.Replies.{answer_in, body_bytes, body_words, device_bytes, reply_bytes, FitsMessage, IsReplyTo};
+ghost use Rattle.af_sample.specs.Sizes.{longest_record};
+ghost use Rattle.af_wire.specs.Sizes.{longest_message};
 
 use crate::put::{put, put_zeros};
 use crate::reply::{Controls, DeviceInfo, Phone, Reply};
@@ -16,9 +18,9 @@ use af_wire::write_head;
 /// samples have at most 16000 bytes.
 pub fn write_reply(opcode: u8, reply: &Reply<'_>, sequence: u16, out: &mut [u8]) -> usize
     requires samples { FitsMessage (reply_meaning reply.now) }
-    requires room { 16016 ≤ length out.old }
+    requires room { longest_message ≤ length out.old }
     ensures size { result ≡ 8 + 4 * body_words (reply_meaning reply.now) }
-    ensures most { result ≤ 16016 }
+    ensures most { result ≤ longest_message }
     ensures bytes { take result out.new ≡ reply_bytes opcode (reply_meaning reply.now) sequence }
     ensures one { IsReplyTo opcode (reply_meaning reply.now) → IsOneMessage 1 opcode sequence (take result out.new) }
     ensures again { IsReplyTo opcode (reply_meaning reply.now) →
@@ -116,7 +118,7 @@ fn put_device(out: &mut [u8], at: usize, device: DeviceInfo) -> usize
 
 // The time, the count of the bytes, and the bytes padded with zeros to a word.
 fn put_recorded(out: &mut [u8], at: usize, time: u32, samples: &[u8]) -> usize
-    requires samples { length samples.now ≤ 16000 }
+    requires samples { length samples.now ≤ longest_record }
     requires room { at + 16008 ≤ length out.old }
     ensures end { result ≡ at + 8 + 4 * words_for (length samples.now) }
     ensures bytes { take result out.new ≡ take at out.old ++ body_bytes (recorded time samples.now) }

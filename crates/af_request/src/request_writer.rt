@@ -3,6 +3,8 @@ ghost use Rattle.std.specs.Prelude.{◌≡◌, ◌≤◌, ◌+◌, ◌*◌, ◌+
 ghost use Rattle.af_request.specs.Asked.{request_meaning, play_run, record_run};
 ghost use Rattle.af_request.specs.Fields.{u32_bytes, i16_bytes, words_for};
 ghost use Rattle.af_request.specs.Requests.{asked_in, front, request_bytes, FitsFrame, IsOneRequest};
+ghost use Rattle.af_sample.specs.Sizes.{longest_play};
+ghost use Rattle.af_wire.specs.Sizes.{longest_frame};
 
 use crate::Request;
 use crate::put::{put, put_zeros};
@@ -12,9 +14,9 @@ use crate::put::{put, put_zeros};
 #[tactic(auto, using(crate::proofs::RequestRoundTrips::spelled_again, crate::proofs::RequestRoundTrips::spelled_one))]
 pub fn write_request(request: &Request<'_>, out: &mut [u8]) -> usize
     requires samples { FitsFrame (request_meaning request.now) }
-    requires room { 16384 ≤ length out.old }
+    requires room { longest_frame ≤ length out.old }
     ensures size { result ≡ length (request_bytes (request_meaning request.now)) }
-    ensures most { result ≤ 16384 }
+    ensures most { result ≤ longest_frame }
     ensures bytes { take result out.new ≡ request_bytes (request_meaning request.now) }
     ensures one { IsOneRequest (request_meaning request.now) (take result out.new) }
     ensures again { asked_in (take result out.new) ≡ Some (request_meaning request.now) }
@@ -135,8 +137,8 @@ fn put_run(out: &mut [u8], kind: [u8; 2], words: u16, run: [u32; 3]) -> usize
 // A play, its samples padded with zeros to a word.
 #[tactic(auto, using(crate::proofs::RequestRoundTrips::spelled_again, crate::proofs::RequestRoundTrips::spelled_one))]
 fn put_play(out: &mut [u8], quiet: bool, ac: u32, time: u32, samples: &[u8]) -> usize
-    requires samples { length samples.now ≤ 16368 }
-    requires room { 16384 ≤ length out.old }
+    requires samples { length samples.now ≤ longest_play }
+    requires room { longest_frame ≤ length out.old }
     ensures end { result ≡ 16 + 4 * words_for (length samples.now) }
     ensures bytes { take result out.new ≡ request_bytes (play_run quiet ac time samples.now) }
     ensures one { IsOneRequest (play_run quiet ac time samples.now) (take result out.new) }

@@ -8,6 +8,7 @@ use Rattle.af_model.specs.Reply.{horizon_of}
 use Rattle.af_model.specs.Waiting.{due}
 use Rattle.af_buffers.specs.PlayBuffer.{frames_within}
 use Rattle.af_state.specs.Kept.{KeptDevice}
+use Rattle.af_sample.specs.Sizes.{longest_play, longest_record}
 
 -- a link that waits: how long it has to, and for what; of the start only the 32-bit word is kept
 pub record KeptDeferral : Type 0 where
@@ -75,8 +76,8 @@ worded (deferred_record c start frames) = deferred_record c (start % 2 ^ 32) fra
 -- A request is near a time: completed then it loses nothing, its word means its start, and it has no more than a play or a record
 -- may.
 abbrev pub IsNear : ℕ → ℕ → Deferred → Type 0
-IsNear horizon now (deferred_play quiet start sound preempt) = (now ≤ start) × (start < now + 2 ^ 31) × (length sound ≤ 16368)
-IsNear horizon now (deferred_record c start frames) = (now ≤ start + horizon) × (start < now + 2 ^ 31) × (frames ≤ 16000)
+IsNear horizon now (deferred_play quiet start sound preempt) = (now ≤ start) × (start < now + 2 ^ 31) × (length sound ≤ longest_play)
+IsNear horizon now (deferred_record c start frames) = (now ≤ start + horizon) × (start < now + 2 ^ 31) × (frames ≤ longest_record)
 
 -- a play ends within a device's horizon
 abbrev pub DeferredEndsWithin : KeptDevice → Deferred → Type 0

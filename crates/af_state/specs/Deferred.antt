@@ -6,6 +6,7 @@ use Rattle.af_state.specs.declared.deferred_request.Play.{Play as SoundPlay}
 use Rattle.af_state.specs.declared.deferred_request.Record.{Record as FrameRecord}
 use Rattle.af_state.specs.declared.deferred_request.DeferredWork.{DeferredWork}
 use Rattle.af_state.specs.declared.deferred_request.DeferredWork.TheVariants.{Play, Record}
+use Rattle.af_sample.specs.Sizes.{longest_record}
 
 -- a play and a record as they are held
 abbrev pub deferred_of_play : SoundPlay → Deferred
@@ -22,4 +23,4 @@ deferred_as (Record context frames) start sound = deferred_record context start 
 -- a record has no more bytes than it may
 abbrev pub IsDeferred : DeferredWork → Type 0
 IsDeferred (Play quiet preempt) = Unit {0}
-IsDeferred (Record context frames) = frames * width_of context.ty ≤ 16000
+IsDeferred (Record context frames) = frames * width_of context.ty ≤ longest_record

@@ -4,6 +4,7 @@ use Rattle.std.specs.declared.option.Option.TheVariants.{Some}
 use Rattle.af_model.specs.State.{EnvironmentState, DeviceState, LinkState, OpenLink, open_link}
 use Rattle.af_state.specs.Kept.{KeptDevice, StandForDevices}
 use Rattle.af_state.specs.Deferrals.{OnlyQueues, KeptDeferral, StandForDeferrals, has_waiting}
+use Rattle.af_model.specs.Sizes.{most_to_send}
 
 -- what all links share, as the server keeps it
 pub record KeptEnvironment : Type 0 where
@@ -47,11 +48,11 @@ ChangesLink f l l' = (a : EnvironmentState) → ChangesLinkIn a f l l'
 pub record MayAsk (k : ℕ) (e : KeptEnvironment) (l : LinkState) : Type 0 where
   pub number : k < 32
   pub free : has_waiting e.waits k ≡ false
-  pub room : length l.pending ≤ 16384
+  pub room : length l.pending ≤ most_to_send
 
 -- What a request leaves of its link and of what waits: no input is taken, at most this link begins to wait, and if it does
 -- what it has to send still leaves room for a reply.
 pub record Leaves (k : ℕ) (e : KeptEnvironment) (l : LinkState) (e' : KeptEnvironment) (l' : LinkState) : Type 0 where
   pub rest : l'.rest ≡ l.rest
   pub only_queues : OnlyQueues k e.waits e'.waits
-  pub small_pending : IsTrue (has_waiting e'.waits k) → length l'.pending ≤ 16384
+  pub small_pending : IsTrue (has_waiting e'.waits k) → length l'.pending ≤ most_to_send

@@ -11,6 +11,8 @@ use Rattle.af_request.specs.declared.reply.Phone.{Phone}
 use Rattle.af_model.specs.State.{DeviceState, LinkState}
 use Rattle.af_model.specs.Reply.{horizon_of}
 use Rattle.af_model.specs.NoLoss.{LosesNone}
+use Rattle.af_wire.specs.Sizes.{longest_message}
+use Rattle.af_model.specs.Sizes.{event_limit}
 
 -- A device: the samples next from its time on, and the last ones up to then. The time is that of both.
 pub record KeptDevice : Type 0 where
@@ -53,4 +55,4 @@ kept_info d = record { ty = d.ty; channels = 1; line = is_some d.line; rate = d.
 -- than these wait to be sent.
 pub record IsBounded (l : LinkState) : Type 0 where
   pub rest : length l.rest ≤ 32768
-  pub pending : length l.pending ≤ 49152 + 16016
+  pub pending : length l.pending ≤ event_limit + longest_message

@@ -6,5 +6,5 @@ use Rattle.af_model.specs.State.{LinkState}
 use Rattle.af_state.specs.contracts.link.ServedLink.{the_row}
 
 -- once the loan is over, the link is as it was before
-abbrev pub keeps : MutBor LinkState → Fml
-keeps link = follows_so the_row the_row link.ghost_name none (λ _ _. ⊤) (λ l. l ≡ link.now)
+abbrev pub unchanged_after_loan : MutBor LinkState → Fml
+unchanged_after_loan link = follows_so the_row the_row link.ghost_name none (λ _ _. ⊤) (λ l. l ≡ link.now)

@@ -2,6 +2,7 @@
 ghost use Rattle.std.specs.Prelude.{◌≡◌, ◌≤◌, ◌*◌, length};
 ghost use Rattle.af_sample.specs.SampleTypes.{width_of};
 ghost use Rattle.af_state.specs.Deferred.{deferred_as, deferred_of_play, deferred_of_record, IsDeferred};
+ghost use Rattle.af_sample.specs.Sizes.{longest_play, longest_record};
 
 use af_context::Context;
 use af_time::{DevTime, OutOfMemory};
@@ -9,7 +10,7 @@ use std::alloc::Global;
 use std::marker::Model;
 
 /// The most samples of a play.
-pub const PLAY: usize = 16368;
+const LONGEST_PLAY: usize = 16368;
 
 /// A play for a device from a time on, with its sound. One that is quiet is not replied to.
 #[derive(Clone, Copy, Debug)]
@@ -49,17 +50,18 @@ impl Model for DeferredRequest {
     ghost use Rattle.std.specs.Prelude.{◌≤◌, vec_capacity, vec_len};
     ghost use Rattle.af_model.specs.State.{Deferred};
     ghost use Rattle.af_state.specs.Deferred.{deferred_as, IsDeferred};
+    ghost use Rattle.af_sample.specs.Sizes.{longest_play};
 
     ghost Value = { Deferred };
 
     ghost view = { λ a. deferred_as a.what a.start.0 a.sound.items };
 
-    ghost invariant = { λ a. (vec_len a.sound ≤ 16368) × (16368 ≤ vec_capacity a.sound) × IsDeferred a.what };
+    ghost invariant = { λ a. (vec_len a.sound ≤ longest_play) × (longest_play ≤ vec_capacity a.sound) × IsDeferred a.what };
 }
 
 impl DeferredRequest {
     pub fn new(alloc: Global) -> Result<DeferredRequest, OutOfMemory> {
-        let sound = Vec::with_capacity(alloc, PLAY)?;
+        let sound = Vec::with_capacity(alloc, LONGEST_PLAY)?;
         Ok(DeferredRequest {
             what: DeferredWork::Play {
                 quiet: false,
@@ -72,7 +74,7 @@ impl DeferredRequest {
 
     /// Holds a play of at most 16368 samples.
     pub fn defer_play(&mut self, play: &Play<'_>)
-        requires { length play.now.sound.now ≤ 16368 }
+        requires { length play.now.sound.now ≤ longest_play }
         ensures { self.new ≡ deferred_of_play play.now }
     {
         self.sound.clear();
@@ -86,7 +88,7 @@ impl DeferredRequest {
 
     /// Holds a record of at most 16000 bytes.
     pub fn defer_record(&mut self, asked: Record)
-        requires { asked.frames * width_of asked.context.ty ≤ 16000 }
+        requires { asked.frames * width_of asked.context.ty ≤ longest_record }
         ensures { self.new ≡ deferred_of_record asked }
     {
         self.what = DeferredWork::Record {
@@ -99,7 +101,7 @@ impl DeferredRequest {
     /// What it will do, from which time on, and the sound of a play.
     pub fn parts(&self) -> (DeferredWork, DevTime, &[i16])
         ensures deferred { self.now ≡ deferred_as result.0 result.1.0 result.2.now }
-        ensures few { length result.2.now ≤ 16368 }
+        ensures few { length result.2.now ≤ longest_play }
         ensures bytes { IsDeferred result.0 }
     {
         (self.what, self.start, &self.sound)

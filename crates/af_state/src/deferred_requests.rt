@@ -9,6 +9,7 @@ ghost use Rattle.af_sample.specs.SampleTypes.{width_of};
 ghost use Rattle.af_wait.specs.Waits.{without_first};
 ghost use Rattle.af_state.specs.Deferred.{deferred_of_play, deferred_of_record};
 ghost use Rattle.af_state.specs.Deferrals.{has_waiting, kept_due, kept_passed, kept_without, waiting, waits_of};
+ghost use Rattle.af_sample.specs.Sizes.{longest_play, longest_record};
 
 use crate::deferred_request::{DeferredRequest, Play, Record};
 use af_time::OutOfMemory;
@@ -86,7 +87,7 @@ impl DeferredRequests {
         requires link { link < 32 }
         requires apart { has_waiting self.old link ≡ false }
         requires later { 0 < left }
-        requires few { length play.now.sound.now ≤ 16368 }
+        requires few { length play.now.sound.now ≤ longest_play }
         ensures { self.new ≡ self.old ++ waiting link play.now.device left (deferred_of_play play.now) ∷ [] }
     {
         self.order.add(link, play.device, left);
@@ -98,7 +99,7 @@ impl DeferredRequests {
         requires link { link < 32 }
         requires apart { has_waiting self.old link ≡ false }
         requires later { 0 < left }
-        requires few { asked.frames * width_of asked.context.ty ≤ 16000 }
+        requires few { asked.frames * width_of asked.context.ty ≤ longest_record }
         ensures { self.new ≡ self.old ++ waiting link asked.context.device left (deferred_of_record asked) ∷ [] }
     {
         self.order.add(link, asked.context.device, left);

@@ -11,6 +11,7 @@ ghost use Rattle.af_model.specs.Record.{recorded_bytes};
 ghost use Rattle.af_model.specs.Controls.{through_output_control};
 ghost use Rattle.af_model.specs.Tick.{later, next_sound};
 ghost use Rattle.af_state.specs.Kept.{StandsForDevice, kept_info};
+ghost use Rattle.af_sample.specs.Sizes.{longest_play, longest_record};
 
 use crate::level::level;
 use af_buffers::{PlayBuffer, RecordBuffer};
@@ -146,7 +147,7 @@ impl Device {
 
     /// How many sample periods go by until n frames from a time on, at most 16368, end within the horizon.
     pub fn play_due_in(&self, start: DevTime, frames: u32) -> u32
-        requires { frames ≤ 16368 }
+        requires { frames ≤ longest_play }
         ensures { result ≡ play_beyond self.now.next start.0 frames }
     {
         self.next.frames_beyond(start, frames)
@@ -154,7 +155,7 @@ impl Device {
 
     /// How many sample periods go by until n frames from a time on, at most 16000, are before now.
     pub fn record_due_in(&self, start: DevTime, frames: u32) -> u32
-        requires { frames ≤ 16000 }
+        requires { frames ≤ longest_record }
         ensures { result ≡ record_beyond self.now.last start.0 frames }
     {
         self.last.frames_beyond(start, frames)
@@ -162,7 +163,7 @@ impl Device {
 
     /// Accepts a play, which ends within the horizon.
     pub fn accept(&mut self, start: DevTime, sound: &[i16], preempt: bool)
-        requires few { length sound.now ≤ 16368 }
+        requires few { length sound.now ≤ longest_play }
         requires within { length sound.now ≤ frames_within self.old.next start.0 }
         ensures { (s : DeviceState) → StandsForDevice self.old s →
             StandsForDevice self.new (accepting (accepted_at s.now start.0 sound.now preempt) s) }
@@ -176,7 +177,7 @@ impl Device {
     /// The frames that were recorded from a time on, as a context takes them.
     pub fn record(&self, context: &Context, start: DevTime, samples: &mut [i16], bytes: &mut [u8])
         requires count { length bytes.old ≡ length samples.old * width_of context.now.ty }
-        requires few { length samples.old ≤ 16000 }
+        requires few { length samples.old ≤ longest_record }
         ensures { (s : DeviceState) → StandsForDevice self.now s →
             bytes.new ≡ recorded_bytes context.now s (unwrap s.now start.0) (length samples.old) }
     {

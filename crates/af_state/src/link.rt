@@ -20,6 +20,8 @@ ghost use Rattle.af_model.specs.Advance.{takes_more, without_front};
 ghost use Rattle.af_model.specs.More.{wants_turn};
 ghost use Rattle.af_model.specs.Turn.{wants_read, wants_write, close_due, ready, sent, writable};
 ghost use Rattle.af_state.specs.Kept.{IsBounded};
+ghost use Rattle.af_wire.specs.Sizes.{longest_message};
+ghost use Rattle.af_model.specs.Sizes.{event_limit};
 
 use af_context::{Context, ContextFault, Contexts};
 use af_model::Refusal;
@@ -71,7 +73,7 @@ impl Model for ServedLink {
 }
 
 impl ServedLink {
-    ghost use Rattle.af_state.specs.Lending.{keeps};
+    ghost use Rattle.af_state.specs.Lending.{unchanged_after_loan};
 
     pub fn new(alloc: Global) -> Result<ServedLink, OutOfMemory>
         ensures { IfOk result (λ l. l ≡ opened) }
@@ -189,7 +191,7 @@ impl ServedLink {
 
     /// Bytes are to be sent.
     pub fn push(&mut self, bytes: &[u8])
-        requires { length self.old.pending + length bytes.now ≤ 49152 + 16016 }
+        requires { length self.old.pending + length bytes.now ≤ event_limit + longest_message }
         ensures { self.new ≡ record self.old { pending = self.old.pending ++ bytes.now } }
     {
         self.session.push_out(bytes);
@@ -204,9 +206,9 @@ impl ServedLink {
 
     /// The request with this opcode is replied to. The message comes to stand in `message`.
     pub fn reply(&mut self, opcode: u8, reply: &Reply<'_>, message: &mut [u8])
-        requires room { length self.old.pending ≤ 49152 }
+        requires room { length self.old.pending ≤ event_limit }
         requires samples { FitsMessage (reply_meaning reply.now) }
-        requires size { length message.old ≡ 16016 }
+        requires size { length message.old ≡ longest_message }
         ensures { self.new ≡
             record self.old { pending = self.old.pending ++ reply_message opcode (reply_meaning reply.now) self.old.sequence } }
     {
@@ -216,7 +218,7 @@ impl ServedLink {
 
     /// The request with this opcode is refused.
     pub fn refuse(&mut self, opcode: u8, refusal: Refusal)
-        requires { length self.old.pending ≤ 49152 }
+        requires { length self.old.pending ≤ event_limit }
         ensures { self.new ≡
             record self.old { pending = self.old.pending ++ error (code_of_cause refusal.cause) refusal.value opcode self.old.sequence } }
     {
@@ -307,14 +309,14 @@ impl ServedLink {
 
     /// Whether an event still fits behind what waits to be sent.
     pub fn has_room(&self) -> bool
-        ensures { result ≡ nat_le (length self.now.pending + 20) 49152 }
+        ensures { result ≡ nat_le (length self.now.pending + 20) event_limit }
     {
         self.session.pending_len() + EVENT <= EVENT_LIMIT
     }
 
     /// An event is told.
     pub fn tell(&mut self, event: Event)
-        requires { length self.old.pending ≤ 49152 }
+        requires { length self.old.pending ≤ event_limit }
         ensures told { self.new ≡ record self.old { pending = self.old.pending ++ event_bytes event self.old.sequence } }
         ensures size { length self.new.pending ≡ length self.old.pending + 20 }
     {
@@ -347,7 +349,7 @@ impl ServedLink {
 
     /// All of its output, in one piece.
     pub fn pending(&mut self) -> &[u8]
-        ensures* kept { sem 𝓛 (keeps self.entry) }
+        ensures* kept { sem 𝓛 (unchanged_after_loan self.entry) }
         ensures pending { result.now ≡ self.old.pending }
     {
         self.session.pending()

@@ -4,11 +4,14 @@ use af_time::OutOfMemory;
 use std::alloc::Global;
 use std::marker::Model;
 
-/// The longest request, and the most that is read of a link or captured of a device at once, in bytes.
-pub const INPUT: usize = 16384;
+/// The most that is read of a link at once, in bytes. No more is captured of a device at once.
+const LONGEST_READ: usize = 16384;
+
+/// The longest frame, in bytes. No request has more samples, nor more bytes of them.
+const LONGEST_FRAME: usize = 16384;
 
 /// The longest message, in bytes.
-pub const MESSAGE: usize = 16016;
+const LONGEST_MESSAGE: usize = 16016;
 
 /// Room for the samples of a request or a tick, for bytes of samples that are sent, and for a message.
 #[derive(Drop)]
@@ -20,13 +23,14 @@ pub struct Work {
 
 impl Model for Work {
     ghost use Rattle.std.specs.Prelude.{◌≡◌, length};
+    ghost use Rattle.af_wire.specs.Sizes.{longest_frame, longest_message};
 
     // what stands there means nothing from one use to the next
     ghost Value = { Unit {0} };
 
     ghost view = { λ a. tt };
 
-    ghost invariant = { λ a. (length a.samples.items ≡ 16384) × (length a.bytes.items ≡ 16384) × (length a.message.items ≡ 16016) };
+    ghost invariant = { λ a. (length a.samples.items ≡ longest_frame) × (length a.bytes.items ≡ longest_frame) × (length a.message.items ≡ longest_message) };
 }
 
 /// Room for input, from a link or a device, and for the work on it.
@@ -38,20 +42,21 @@ pub struct Scratch {
 
 impl Model for Scratch {
     ghost use Rattle.std.specs.Prelude.{◌≡◌, length};
+    ghost use Rattle.af_world.specs.Sizes.{longest_read};
 
     ghost Value = { Unit {0} };
 
     ghost view = { λ a. tt };
 
-    ghost invariant = { λ a. length a.input.items ≡ 16384 };
+    ghost invariant = { λ a. length a.input.items ≡ longest_read };
 }
 
 impl Scratch {
     pub fn new(alloc: Global) -> Result<Scratch, OutOfMemory> {
-        let input = vec![in alloc; 0; INPUT]?;
-        let samples = vec![in alloc; 0; INPUT]?;
-        let bytes = vec![in alloc; 0; INPUT]?;
-        let message = vec![in alloc; 0; MESSAGE]?;
+        let input = vec![in alloc; 0; LONGEST_READ]?;
+        let samples = vec![in alloc; 0; LONGEST_FRAME]?;
+        let bytes = vec![in alloc; 0; LONGEST_FRAME]?;
+        let message = vec![in alloc; 0; LONGEST_MESSAGE]?;
         Ok(Scratch {
             input,
             work: Work {

@@ -1,5 +1,6 @@
 // The memory of a run.
 ghost use Rattle.std.specs.Prelude.{◌≡◌, length, IfOk};
+ghost use Rattle.af_options.specs.Sizes.{greatest_block};
 
 use af_time::OutOfMemory;
 use std::alloc::Global;
@@ -16,7 +17,7 @@ pub struct Memory {
 
 impl Memory {
     pub fn new(alloc: Global) -> Result<Memory, OutOfMemory>
-        ensures { IfOk result (λ memory. length memory.room.items ≡ 16000) }
+        ensures { IfOk result (λ memory. length memory.room.items ≡ greatest_block) }
     {
         let room = vec![in alloc; 0u8; GREATEST_BLOCK]?;
         Ok(Memory { alloc, room })

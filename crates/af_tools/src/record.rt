@@ -7,6 +7,7 @@ ghost use Rattle.af_tool.specs.Ends.{KeepsConnection};
 ghost use Rattle.af_tools.specs.Record.{block_lengths, peak, records, takes_block, value_stored};
 ghost use Rattle.af_tools.specs.Ways.{is_of_records};
 ghost use Rattle.af_tools.specs.Reading.{ObservedPartWriting};
+ghost use Rattle.af_options.specs.Sizes.{greatest_block};
 
 use af_io::{Link, Put, Sink};
 use af_lib::Conn;
@@ -52,7 +53,7 @@ fn record_block<L: Link + Drop, K: Sink>(
     block: &mut [u8],
 ) -> Result<(), ToolEnd>
     requires usable { conn.old.cause ≡ None }
-    requires block { (0 < length block.old) × (length block.old ≤ 16000) }
+    requires block { (0 < length block.old) × (length block.old ≤ greatest_block) }
     ensures goes { ObservedPartWriting L.left L.sent K.held conn.old conn.new sink.old sink.new
         (λ w. takes_block at.0 (length block.old) w) (value_stored result block.new) }
     ensures holds { KeepsConnection L.left L.faults conn.old conn.new result }
@@ -77,7 +78,7 @@ pub fn record_blocks<L: Link + Drop, K: Sink>(
     requires usable { conn.old.cause ≡ None }
     requires block { (1 ≤ job.now.block) × (job.now.block ≤ 4000) }
     requires stop { (1 ≤ job.now.stop_blocks) × (job.now.stop_blocks ≤ 1000000) }
-    requires room { 16000 ≤ length room.old }
+    requires room { greatest_block ≤ length room.old }
     ensures goes { ObservedPartWriting L.left L.sent K.held conn.old conn.new sink.old sink.new
         (λ w next. records job.now recording.ty recording.start.0 [] (block_lengths job.now.block job.now.frames) w (next tt)) result }
     ensures holds { KeepsConnection L.left L.faults conn.old conn.new result }

@@ -7,6 +7,7 @@ ghost use Rattle.af_options.specs.Ranges.{IsAddress, IsPaced};
 ghost use Rattle.af_options.specs.Words.{relay};
 ghost use Rattle.af_tools.specs.Dialled.{RelaysOver};
 ghost use Rattle.af_tools.specs.Run.{is_of_over, is_of_relay, AskedFor, JobRan, RunsRelayTo};
+ghost use Rattle.af_options.specs.Sizes.{greatest_block};
 
 use crate::memory::Memory;
 use af_io::{Dial, Dialed, Link, Sink};
@@ -25,7 +26,7 @@ fn pass_over<L: Link + Drop, M: Link + Drop, K: Sink>(
 ) -> (ToolEnd, M)
     requires usable { conn.old.cause ≡ None }
     requires pace { IsPaced job.now }
-    requires room { 16000 ≤ length memory.old.room.items }
+    requires room { greatest_block ≤ length memory.old.room.items }
     ensures followed { RelaysOver L.left L.sent M.left M.sent K.held job.now result.0
         conn.old conn.new far result.1 sink.old sink.new }
     ensures memory { result.0 ≡ ToolEnd.OutOfMemory → (L.sent conn.new.link ≡ L.sent conn.old.link)
@@ -56,7 +57,7 @@ fn run_to<K: Sink, D: Dial>(
     requires usable { conn.cause ≡ None }
     requires to { IsAddress call.now.to.now }
     requires pace { IsPaced call.now.job }
-    requires room { 16000 ≤ length memory.old.room.items }
+    requires room { greatest_block ≤ length memory.old.room.items }
     ensures ran { RunsRelayTo D.Far.Link.left D.Far.Link.sent D.links D.back K.held call.now.job result
         conn dial.old dial.new sink.old sink.new }
     ensures asked { Appended (D.asked dial.old) (call.now.to.now ∷ []) (D.asked dial.new) }
@@ -93,7 +94,7 @@ pub fn run_relay<K: Sink, D: Dial>(
 ) -> ToolEnd
     requires servers { IsAddress call.now.from.now × IsAddress call.now.to.now }
     requires pace { IsPaced call.now.job }
-    requires room { 16000 ≤ length memory.old.room.items }
+    requires room { greatest_block ≤ length memory.old.room.items }
     ensures ran { (links : List ToldLink) (bytes : List ℕ) → D.links dial.old ≡ Some links →
         JobRan (relay call.now.from.now call.now.to.now call.now.job) bytes result links (D.links dial.new)
         (K.held sink.old) (K.held sink.new) (D.back dial.old) (D.back dial.new) }

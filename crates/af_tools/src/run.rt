@@ -10,6 +10,7 @@ ghost use Rattle.af_options.specs.Ranges.{IsAddress, IsRanged};
 ghost use Rattle.af_tools.specs.Ways.{is_of_tool};
 ghost use Rattle.af_tools.specs.Reading.{FollowsTrace, UsesSource};
 ghost use Rattle.af_tools.specs.Run.{is_of_af, is_of_far, is_of_job, is_of_one, job_reads, reads_of, reads_source, servers_of, task_trace, AskedFor, DoesJob, RunsJob};
+ghost use Rattle.af_options.specs.Sizes.{greatest_block};
 
 use crate::memory::Memory;
 use crate::player::aplay;
@@ -32,7 +33,7 @@ fn perform<L: Link + Drop, S: Source, K: Sink>(
 ) -> ToolEnd
     requires usable { conn.old.cause ≡ None }
     requires range { IsRanged task.now }
-    requires room { 16000 ≤ length room.old }
+    requires room { greatest_block ≤ length room.old }
     ensures followed { FollowsTrace L.left L.sent S.left K.held (reads_source task.now) result conn.old.link conn.new.link
         source.old source.new sink.old sink.new (λ input bytes. task_trace task.now conn.old.devices bytes (client_of conn.old input)) }
     ensures end { is_of_tool (reads_source task.now) result ≡ true }
@@ -56,7 +57,7 @@ fn perform_over<L: Link + Drop, S: Source, K: Sink>(
     memory: &mut Memory,
 ) -> (ToolEnd, L)
     requires range { IsRanged task.now }
-    requires room { 16000 ≤ length memory.old.room.items }
+    requires room { greatest_block ≤ length memory.old.room.items }
     ensures followed { FollowsTrace L.left L.sent S.left K.held (reads_source task.now) result.0 far result.1
         source.old source.new sink.old sink.new (λ input bytes. connects input (λ devices w. task_trace task.now devices bytes w)) }
     ensures memory { result.0 ≡ ToolEnd.OutOfMemory → (L.sent result.1 ≡ L.sent far) × (sink.new ≡ sink.old) }
@@ -84,7 +85,7 @@ fn run_one<S: Source, K: Sink, D: Dial>(
 ) -> ToolEnd
     requires range { IsRanged call.now.task }
     requires server { IsAddress call.now.server.now }
-    requires room { 16000 ≤ length memory.old.room.items }
+    requires room { greatest_block ≤ length memory.old.room.items }
     ensures ran { RunsJob D.links D.back S.left K.held (one call.now.server.now call.now.task) result
         dial.old dial.new source.old source.new sink.old sink.new }
     ensures asked { Appended (D.asked dial.old) (call.now.server.now ∷ []) (D.asked dial.new) }

@@ -1,3 +1,4 @@
+pub mod Sizes
 pub mod Front
 pub mod Message
 pub mod Event

@@ -3,6 +3,7 @@ use Rattle.std.specs.Prelude.{◌≡◌, ℕ, ◌<◌, ◌≤◌, ◌+◌, ◌*�
 use Rattle.std.specs.Int.{w16, w32, from_be_bytes}
 use Rattle.af_wire.specs.declared.message_front.MessageFront.{MessageFront}
 use Rattle.af_wire.specs.declared.message_front.MessageFront.TheVariants.{NeedMore, Message, BadMessage}
+use Rattle.af_wire.specs.Sizes.{longest_message}
 
 -- whether a client takes this for the head of a message: an error of a known code, the reply to a setup or to a known
 -- opcode, or a known event, each with a length that such a message may have
@@ -33,6 +34,6 @@ IsOneMessage kind detail sequence bytes = (rest : List ℕ) → message_front (b
 
 -- more is needed than is there, and at most what the longest message has; a message is there; a bad head is there
 abbrev pub IsMessageWithin : MessageFront → ℕ → Type 0
-IsMessageWithin (NeedMore n) there = (there < n) × (8 ≤ n) × (n ≤ 16016)
-IsMessageWithin (Message kind detail sequence n) there = (8 ≤ n) × (n ≤ there) × (n ≤ 16016)
+IsMessageWithin (NeedMore n) there = (there < n) × (8 ≤ n) × (n ≤ longest_message)
+IsMessageWithin (Message kind detail sequence n) there = (8 ≤ n) × (n ≤ there) × (n ≤ longest_message)
 IsMessageWithin BadMessage there = 8 ≤ there

@@ -5,6 +5,7 @@ ghost use Rattle.af_wire.specs.declared.front.Front.TheVariants as frame;
 ghost use Rattle.af_wire.specs.declared.front.SetupFront.{SetupFront};
 ghost use Rattle.af_wire.specs.declared.front.Front.{Front};
 ghost use Rattle.af_wire.specs.Begins.{HasSetupFront, HasFront};
+ghost use Rattle.af_wire.specs.Sizes.{longest_frame};
 ghost use Rattle.af_wire.specs.Front.{setup_front, frame_front, IsFrameWithin, IsSetupWithin};
 
 /// The setup that a client sends, of version 1.0.
@@ -57,7 +58,7 @@ pub fn setup_of(input: &[u8]) -> SetupFront
 #[tactic(auto, using(crate::proofs::FrameFrontLemmas::frame_exactly))]
 pub fn frame_at(input: &[u8]) -> Front
     ensures value { result ≡ frame_front input.now }
-    ensures more { result ≡ frame.NeedMore → length input.now < 16384 }
+    ensures more { result ≡ frame.NeedMore → length input.now < longest_frame }
     ensures within { IsFrameWithin result (length input.now) }
     ensures exactly { (front : Front) → (result ≡ front) ↔ HasFront input.now front }
 {

@@ -1,3 +1,4 @@
+pub mod Sizes
 pub mod Log
 pub mod World
 pub mod Outside

@@ -16,6 +16,7 @@ use Rattle.af_world.specs.declared.script.DeviceSpec.{DeviceSpec}
 use Rattle.af_world.specs.declared.script.Step.{Step}
 use Rattle.af_world.specs.declared.script.Step.TheVariants as step
 use Rattle.af_world.specs.Log.{Log}
+use Rattle.af_world.specs.Sizes.{longest_read, longest_send}
 
 -- The scripted client of an open link: the bytes that it has still to give, whether it ends after them, how many bytes it takes
 -- still (None is every byte), and whether its next read and its next write are to fail.
@@ -183,7 +184,7 @@ IsRoom (Some n) = n < 2 ^ 32
 -- a step that may stand in a script with these devices
 abbrev pub IsStep : List DeviceSpec → Step → Type 0
 IsStep config (step.Open k) = k < 32
-IsStep config (step.Send k bytes) = (k < 32) × (1 ≤ length bytes) × (length bytes ≤ 16384)
+IsStep config (step.Send k bytes) = (k < 32) × (1 ≤ length bytes) × (length bytes ≤ longest_send)
 IsStep config (step.End k) = k < 32
 IsStep config (step.Room k room) = (k < 32) × IsRoom room
 IsStep config (step.Tick d n captured) = (d < length config) × (1 ≤ n) × (n ≤ 4096) × IsCapture (n * width_at config d) captured
@@ -208,7 +209,7 @@ same_bytes (x ∷ xs) (y ∷ ys) = x == y && same_bytes xs ys
 abbrev pub given_from : ReadGot → List ℕ → ScriptedClient → Option ScriptedClient
 given_from (Given bytes) [] client = None
 given_from (Given bytes) (x ∷ xs) client =
-    if same_bytes bytes (take 16384 (x ∷ xs)) then Some (record client { gives = drop 16384 (x ∷ xs) }) else None
+    if same_bytes bytes (take longest_read (x ∷ xs)) then Some (record client { gives = drop longest_read (x ∷ xs) }) else None
 given_from NotYet [] client = if client.ends then None else Some client
 given_from NotYet (x ∷ xs) client = None
 given_from Ended [] client = if client.ends then Some client else None

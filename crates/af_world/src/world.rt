@@ -5,6 +5,7 @@ ghost use Rattle.af_world.specs.declared.happening.Happening.TheVariants.{Woke, 
 ghost use Rattle.af_io.specs.Observed.{Appended, FaultCounted};
 ghost use Rattle.af_world.specs.Log.{Log};
 ghost use Rattle.af_world.specs.World.{got_of, took_of, captured_of, is_done, LinkGotFits, TookFits};
+ghost use Rattle.af_world.specs.Sizes.{longest_read};
 
 use crate::{Put, Wake, Why};
 
@@ -47,7 +48,7 @@ pub trait World {
 
     /// Reads at most 16384 bytes of a link.
     fn read(&mut self, link: u8, into: &mut [u8]) -> LinkGot
-        requires { length into.old ≡ 16384 }
+        requires { length into.old ≡ longest_read }
         ensures log { Appended (log self.old) (Read link (got_of result into.new) ∷ []) (log self.new) }
         ensures bound { LinkGotFits result (length into.new) }
         ensures cause { result ≡ LinkGot.Failed → FaultCounted (link_faults self.old) (link_faults self.new) }

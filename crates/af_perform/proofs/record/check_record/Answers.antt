@@ -5,20 +5,21 @@ use Rattle.af_state.specs.Environment.{KeptEnvironment}
 use Rattle.af_perform.proofs.LinkRequestLemmas.{any_device, device_missing, at_refused, at_passed, with_error}
 use Rattle.af_perform.proofs.CheckLemmas.{few_frames, record_passes}
 use Rattle.af_perform.proofs.record.check_record.Goals as goal
+use Rattle.af_sample.specs.Sizes.{longest_record}
 
 pub answer_or_defer-requires-clause-few : goal.answer_or_defer-requires-clause-few
 answer_or_defer-requires-clause-few c =
     let r = c.args.asked in
     let bytes = record_passes r.context r.bytes (sym c.record_refusal.ensures ∙ c.in-None.is) in
     let less = (few_frames r.context.ty r.bytes).0 in
-    subst (λ w. r.bytes / w ≤ 16000) (sym c.width.ensures) (omega (arith, less, bytes))
+    subst (λ w. r.bytes / w ≤ longest_record) (sym c.width.ensures) (omega (arith, less, bytes))
 
 pub answer_or_defer-requires-clause-fits : goal.answer_or_defer-requires-clause-fits
 answer_or_defer-requires-clause-fits c =
     let r = c.args.asked in
     let bytes = record_passes r.context r.bytes (sym c.record_refusal.ensures ∙ c.in-None.is) in
     let less = (few_frames r.context.ty r.bytes).1 in
-    subst (λ w. r.bytes / w * width_of r.context.ty ≤ 16000) (sym c.width.ensures) (omega (arith, less, bytes))
+    subst (λ w. r.bytes / w * width_of r.context.ty ≤ longest_record) (sym c.width.ensures) (omega (arith, less, bytes))
 
 pub returns-then-is_missing-clause-step : goal.returns-then-is_missing-clause-step
 returns-then-is_missing-clause-step c =

@@ -1,0 +1,10 @@
+-- The most that may wait to be sent to a link, in bytes.
+use Rattle.std.specs.Prelude.{ℕ}
+
+-- with no more than this, its requests are performed
+abbrev pub most_to_send : ℕ
+most_to_send = 16384
+
+-- with no more than this and one event more, it is told the event; beyond, it is dropped
+abbrev pub event_limit : ℕ
+event_limit = 49152

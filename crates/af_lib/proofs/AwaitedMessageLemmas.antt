@@ -11,8 +11,8 @@ use Rattle.af_lib.specs.declared.fault.ConnFault.{ConnFault}
 use Rattle.af_lib.specs.declared.fault.ConnFault.TheVariants as fault
 use Rattle.af_lib.specs.declared.receive.Taken.{Taken}
 use Rattle.af_lib.specs.declared.receive.Taken.TheVariants as taken
-use Rattle.af_lib.specs.Ring.{RingState, noted}
-use Rattle.af_lib.specs.Incoming.{Incoming, Awaited, event, other, awaited, awaited_by, bad_reply, incoming, incoming_at, message_in, rest_at, rest_of}
+use Rattle.af_lib.specs.Ring.{RingState, with_event}
+use Rattle.af_lib.specs.Incoming.{Incoming, Awaited, event, other, awaited, awaited_by, bad_reply, incoming, incoming_at, message_in, rest_at, behind_message}
 use Rattle.af_lib.specs.Receive.{IsWhole, IsCut, IsTakenWithin, taken_as}
 use Rattle.af_lib.specs.Observed.{BothTold}
 use Rattle.af_lib.proofs.LinkByteLemmas.{BothTold-map}
@@ -22,24 +22,24 @@ incoming_front : (b : List ℕ) (n : ℕ) → IsWhole b n → incoming b ≡ mes
 unfolding incoming
 incoming_front b n w = ap (λ f. incoming_at f b) w.front
 
-rest_front : (b : List ℕ) (n : ℕ) → IsWhole b n → rest_of b ≡ drop n b
-unfolding rest_of
+rest_front : (b : List ℕ) (n : ℕ) → IsWhole b n → behind_message b ≡ drop n b
+unfolding behind_message
 rest_front b n w = ap (λ f. rest_at f b) w.front
 
 incoming_bad : (b : List ℕ) → message_front b ≡ BadMessage → incoming b ≡ Err (bad_reply (take 8 b))
 unfolding incoming
 incoming_bad b front = ap (λ f. incoming_at f b) front
 
-rest_bad : (b : List ℕ) → message_front b ≡ BadMessage → rest_of b ≡ drop 8 b
-unfolding rest_of
+rest_bad : (b : List ℕ) → message_front b ≡ BadMessage → behind_message b ≡ drop 8 b
+unfolding behind_message
 rest_bad b front = ap (λ f. rest_at f b) front
 
 incoming_cut : (b : List ℕ) → IsCut b → incoming b ≡ Err fault.LinkEnded
 unfolding incoming
 incoming_cut b cut = ap (λ f. incoming_at f b) cut.front
 
-rest_cut : (b : List ℕ) → IsCut b → rest_of b ≡ []
-unfolding rest_of
+rest_cut : (b : List ℕ) → IsCut b → behind_message b ≡ []
+unfolding behind_message
 rest_cut b cut = ap (λ f. rest_at f b) cut.front
 
 -- a message that stands in the first bytes of a buffer
@@ -54,7 +54,7 @@ taken_in (Err fault) into n fits within = refl
 -- a whole message is taken as what it is
 pub taken_whole : (before after : Option (List ℕ)) (result : Result Taken ConnFault) (into : List ℕ) (n : ℕ) → n ≤ length into →
     BothTold before after (λ b a. IsWhole b n × (b ≡ take n into ++ a)) → taken_as result (take n into) ≡ message_in (take n into) → IsTakenWithin result (length (take n into)) →
-    BothTold before after (λ b a. (taken_as result into ≡ incoming b) × (a ≡ rest_of b))
+    BothTold before after (λ b a. (taken_as result into ≡ incoming b) × (a ≡ behind_message b))
 taken_whole before after result into n fits told is within =
     let len = length-take-le n into fits in
     BothTold-map before after _ _ told (λ b a t.
@@ -65,7 +65,7 @@ taken_whole before after result into n fits told is within =
 -- a bad head is taken alone
 pub taken_bad : (before after : Option (List ℕ)) (fault : ConnFault) (into : List ℕ) → 8 ≤ length into →
     BothTold before after (λ b a. (message_front b ≡ BadMessage) × (b ≡ take 8 into ++ a)) → fault ≡ bad_reply (take 8 into) →
-    BothTold before after (λ b a. (Err fault ≡ incoming b) × (a ≡ rest_of b))
+    BothTold before after (λ b a. (Err fault ≡ incoming b) × (a ≡ behind_message b))
 taken_bad before after fault into fits told is =
     let len = length-take-le 8 into fits in
     BothTold-map before after _ _ told (λ b a t.
@@ -75,7 +75,7 @@ taken_bad before after fault into fits told is =
 
 -- of a message that is cut off all is taken
 pub taken_cut : (before after : Option (List ℕ)) → BothTold before after (λ b a. IsCut b × (a ≡ [])) →
-    BothTold before after (λ b a. (Err fault.LinkEnded ≡ incoming b) × (a ≡ rest_of b))
+    BothTold before after (λ b a. (Err fault.LinkEnded ≡ incoming b) × (a ≡ behind_message b))
 taken_cut before after told = BothTold-map before after _ _ told (λ b a t. (sym (incoming_cut b t.0), t.1 ∙ sym (rest_cut b t.0)))
 
 -- a stretch, and one behind it
@@ -87,30 +87,30 @@ BothTold-trans None (Some y) (Some z) P Q R first second f = absurd first
 BothTold-trans (Some x) (Some y) (Some z) P Q R first second f = f x y z first second
 
 -- an event more
-awaited_event : (n : ℕ) (ring : RingState) (now next : List ℕ) (e : Event) → 0 < n → Ok (event e) ≡ incoming now → next ≡ rest_of now →
-    awaited n ring now ≡ awaited (n - 1) (noted e ring) next
+awaited_event : (n : ℕ) (ring : RingState) (now next : List ℕ) (e : Event) → 0 < n → Ok (event e) ≡ incoming now → next ≡ behind_message now →
+    awaited n ring now ≡ awaited (n - 1) (with_event e ring) next
 unfolding awaited
 awaited_event zero ring now next e some is rest = absurd (omega (arith, some))
 awaited_event (suc m) ring now next e some is rest =
-    ap (λ (i : Result Incoming ConnFault). awaited_by i ring (rest_of now) (λ r. awaited m r (rest_of now))) (sym is)
-    ∙ ap₂ (λ (k : ℕ) (input : List ℕ). awaited k (noted e ring) input) (let same : m ≡ suc m - 1 = omega arith in same) (sym rest)
+    ap (λ (i : Result Incoming ConnFault). awaited_by i ring (behind_message now) (λ r. awaited m r (behind_message now))) (sym is)
+    ∙ ap₂ (λ (k : ℕ) (input : List ℕ). awaited k (with_event e ring) input) (let same : m ≡ suc m - 1 = omega arith in same) (sym rest)
 
 -- a message that is no event
-awaited_other : (n : ℕ) (ring : RingState) (now next bytes : List ℕ) → 0 < n → Ok (other bytes) ≡ incoming now → next ≡ rest_of now →
+awaited_other : (n : ℕ) (ring : RingState) (now next bytes : List ℕ) → 0 < n → Ok (other bytes) ≡ incoming now → next ≡ behind_message now →
     awaited n ring now ≡ record { found = Ok bytes; ring = ring; rest = next }
 unfolding awaited
 awaited_other zero ring now next bytes some is rest = absurd (omega (arith, some))
 awaited_other (suc m) ring now next bytes some is rest =
-    ap (λ (i : Result Incoming ConnFault). awaited_by i ring (rest_of now) (λ r. awaited m r (rest_of now))) (sym is)
+    ap (λ (i : Result Incoming ConnFault). awaited_by i ring (behind_message now) (λ r. awaited m r (behind_message now))) (sym is)
     ∙ ap (λ (input : List ℕ). (let w : Awaited = record { found = Ok bytes; ring = ring; rest = input } in w)) (sym rest)
 
 -- no message
-awaited_fault : (n : ℕ) (ring : RingState) (now next : List ℕ) (fault : ConnFault) → 0 < n → Err fault ≡ incoming now → next ≡ rest_of now →
+awaited_fault : (n : ℕ) (ring : RingState) (now next : List ℕ) (fault : ConnFault) → 0 < n → Err fault ≡ incoming now → next ≡ behind_message now →
     awaited n ring now ≡ record { found = Err fault; ring = ring; rest = next }
 unfolding awaited
 awaited_fault zero ring now next fault some is rest = absurd (omega (arith, some))
 awaited_fault (suc m) ring now next fault some is rest =
-    ap (λ (i : Result Incoming ConnFault). awaited_by i ring (rest_of now) (λ r. awaited m r (rest_of now))) (sym is)
+    ap (λ (i : Result Incoming ConnFault). awaited_by i ring (behind_message now) (λ r. awaited m r (behind_message now))) (sym is)
     ∙ ap (λ (input : List ℕ). (let w : Awaited = record { found = Err fault; ring = ring; rest = input } in w)) (sym rest)
 
 awaited_none : (n : ℕ) (ring : RingState) (now : List ℕ) → n ≡ 0 → awaited n ring now ≡ record { found = Err fault.EventFlood; ring = ring; rest = now }
@@ -119,15 +119,15 @@ awaited_none zero ring now none = refl
 awaited_none (suc m) ring now none = absurd (omega (arith, none))
 
 module _ (before now after : Option (List ℕ)) (most n : ℕ) (ring0 ring : RingState) (first : BothTold before now (λ b m. awaited most ring0 b ≡ awaited n ring m)) where
-  pub await_event : (e : Event) → 0 < n → BothTold now after (λ m a. (Ok (event e) ≡ incoming m) × (a ≡ rest_of m)) →
-      BothTold before after (λ b a. awaited most ring0 b ≡ awaited (n - 1) (noted e ring) a)
+  pub await_event : (e : Event) → 0 < n → BothTold now after (λ m a. (Ok (event e) ≡ incoming m) × (a ≡ behind_message m)) →
+      BothTold before after (λ b a. awaited most ring0 b ≡ awaited (n - 1) (with_event e ring) a)
   await_event e some second = BothTold-trans before now after _ _ _ first second (λ b m a p q. p ∙ awaited_event n ring m a e some q.0 q.1)
 
-  pub await_other : (bytes : List ℕ) → 0 < n → BothTold now after (λ m a. (Ok (other bytes) ≡ incoming m) × (a ≡ rest_of m)) →
+  pub await_other : (bytes : List ℕ) → 0 < n → BothTold now after (λ m a. (Ok (other bytes) ≡ incoming m) × (a ≡ behind_message m)) →
       BothTold before after (λ b a. awaited most ring0 b ≡ record { found = Ok bytes; ring = ring; rest = a })
   await_other bytes some second = BothTold-trans before now after _ _ _ first second (λ b m a p q. p ∙ awaited_other n ring m a bytes some q.0 q.1)
 
-  pub await_fault : (fault : ConnFault) → 0 < n → BothTold now after (λ m a. (Err fault ≡ incoming m) × (a ≡ rest_of m)) →
+  pub await_fault : (fault : ConnFault) → 0 < n → BothTold now after (λ m a. (Err fault ≡ incoming m) × (a ≡ behind_message m)) →
       BothTold before after (λ b a. awaited most ring0 b ≡ record { found = Err fault; ring = ring; rest = a })
   await_fault fault some second = BothTold-trans before now after _ _ _ first second (λ b m a p q. p ∙ awaited_fault n ring m a fault some q.0 q.1)
 

@@ -21,7 +21,7 @@ use Rattle.af_lib.specs.declared.fault.Cause.TheVariants as cause
 use Rattle.af_lib.specs.declared.fault.ConnFault.{ConnFault}
 use Rattle.af_lib.specs.declared.fault.ConnFault.TheVariants as fault
 use Rattle.af_lib.specs.Ring.{Gained, RingState}
-use Rattle.af_lib.specs.Incoming.{Incoming, event, other, awaited, bad_reply, incoming, rest_of}
+use Rattle.af_lib.specs.Incoming.{Incoming, event, other, awaited, bad_reply, incoming, behind_message}
 use Rattle.af_lib.specs.Answers.{and_then, answer_to, value_or_bad}
 use Rattle.af_lib.specs.Observed.{BothTold}
 
@@ -235,7 +235,7 @@ pub record EventAwaited {L : Type 0} (left sent : L → Option (List ℕ)) (faul
       (result ≡ Ok e) × (new ≡ record old { ring = record old.ring { events = drop 1 old.ring.events } })
   -- exactly one message was taken
   pub next : old.cause ≡ None → slice_get old.ring.events 0 ≡ None → result ≢ Err fault.LinkFault →
-      BothTold (left old.link) (left new.link) (λ b a. (result ≡ event_of b) × (a ≡ rest_of b))
+      BothTold (left old.link) (left new.link) (λ b a. (result ≡ event_of b) × (a ≡ behind_message b))
   -- and but for Spent no other answer comes than an event, LinkFault, LinkEnded or BadReply
   pub answer : old.cause ≡ None → IsOfMessage result
   -- bytes that are observed stay observed

@@ -1,5 +1,5 @@
 -- What the steps of an exchange do, if the link tells its bytes.
-use Rattle.std.specs.Prelude.{◌≡◌, ℕ, List, Result}
+use Rattle.std.specs.Prelude.{◌≡◌, ◌≤◌, ℕ, List, Result, length}
 use Rattle.std.specs.declared.option.Option.{Option}
 use Rattle.af_lib.specs.declared.fault.ConnFault.{ConnFault}
 use Rattle.af_lib.specs.Ring.{RingState}
@@ -7,6 +7,11 @@ use Rattle.af_lib.specs.Incoming.{awaited}
 use Rattle.af_lib.specs.Receive.{found_as}
 use Rattle.af_lib.specs.Answers.{and_then, answer_to}
 use Rattle.af_lib.specs.Observed.{BothTold}
+use Rattle.af_wire.specs.Sizes.{longest_frame, longest_message}
+
+-- room for the longest message of a server, and for the longest frame of a request
+abbrev pub HasBuffers : (input output : List ℕ) → Type 0
+HasBuffers input output = (longest_message ≤ length input) × (longest_frame ≤ length output)
 
 -- a reply to the request was found, which stands in a buffer, or what is there in its place
 abbrev pub Finds : ℕ → ℕ → Result ℕ ConnFault → List ℕ → RingState → RingState → Option (List ℕ) → Option (List ℕ) → Type 0

@@ -8,7 +8,7 @@ use Rattle.af_wire.specs.MessageFront.{message_front}
 use Rattle.af_request.specs.Fields.{u8_at}
 use Rattle.af_lib.specs.declared.fault.ConnFault.{ConnFault}
 use Rattle.af_lib.specs.declared.fault.ConnFault.TheVariants as fault
-use Rattle.af_lib.specs.Ring.{RingState, noted}
+use Rattle.af_lib.specs.Ring.{RingState, with_event}
 
 -- the first 8 bytes of a body, filled with zeros
 abbrev pub first_bytes : List ℕ → List ℕ
@@ -50,8 +50,8 @@ unfoldable pub incoming : List ℕ → Result Incoming ConnFault
 incoming input = incoming_at (message_front input) input
 
 -- the input behind its first message
-unfoldable pub rest_of : List ℕ → List ℕ
-rest_of input = rest_at (message_front input) input
+unfoldable pub behind_message : List ℕ → List ℕ
+behind_message input = rest_at (message_front input) input
 
 -- where a client that awaits a message has come to: what it found, its ring of events, and the input that is left
 pub record Awaited : Type 0 where
@@ -61,11 +61,11 @@ pub record Awaited : Type 0 where
 
 -- an event goes into the ring, and the next message is looked at; anything else is found
 abbrev pub awaited_by : Result Incoming ConnFault → RingState → List ℕ → (RingState → Awaited) → Awaited
-awaited_by (Ok (event e)) ring rest more = more (noted e ring)
+awaited_by (Ok (event e)) ring rest more = more (with_event e ring)
 awaited_by (Ok (other bytes)) ring rest more = record { found = Ok bytes; ring = ring; rest = rest }
 awaited_by (Err fault) ring rest more = record { found = Err fault; ring = ring; rest = rest }
 
 -- the first message of an input that is no event, where fewer than n events come before it
 unfoldable pub awaited : ℕ → RingState → List ℕ → Awaited
 awaited zero ring input = record { found = Err fault.EventFlood; ring = ring; rest = input }
-awaited (suc n) ring input = awaited_by (incoming input) ring (rest_of input) (λ r. awaited n r (rest_of input))
+awaited (suc n) ring input = awaited_by (incoming input) ring (behind_message input) (λ r. awaited n r (behind_message input))

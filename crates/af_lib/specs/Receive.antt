@@ -12,8 +12,9 @@ use Rattle.af_lib.specs.declared.receive.Framed.TheVariants as framed
 use Rattle.af_lib.specs.declared.receive.Taken.{Taken}
 use Rattle.af_lib.specs.declared.receive.Taken.TheVariants as taken
 use Rattle.af_lib.specs.Ring.{RingState}
-use Rattle.af_lib.specs.Incoming.{Incoming, event, other, incoming, rest_of, awaited}
+use Rattle.af_lib.specs.Incoming.{Incoming, event, other, incoming, behind_message, awaited}
 use Rattle.af_lib.specs.Observed.{BothTold}
+use Rattle.af_wire.specs.Sizes.{longest_message}
 
 -- a slice was filled; or fewer bytes than it has room for were left, and were all given
 abbrev pub Fills : Filled → List ℕ → Option (List ℕ) → Option (List ℕ) → Type 0
@@ -42,7 +43,7 @@ Frames framed.Failed into before after = ⊤
 
 -- a message has a head, and the buffer has room for it
 abbrev pub IsFramedWithin : Framed → Type 0
-IsFramedWithin (framed.Message n) = (8 ≤ n) × (n ≤ 16016)
+IsFramedWithin (framed.Message n) = (8 ≤ n) × (n ≤ longest_message)
 IsFramedWithin _ = ⊤
 
 -- a message as it is told of, which stands in a buffer
@@ -63,7 +64,7 @@ IsTakenWithin _ most = ⊤
 
 -- the first message was taken, and nothing behind it
 abbrev pub Takes : Result Taken ConnFault → List ℕ → Option (List ℕ) → Option (List ℕ) → Type 0
-Takes result into before after = BothTold before after (λ b a. (taken_as result into ≡ incoming b) × (a ≡ rest_of b))
+Takes result into before after = BothTold before after (λ b a. (taken_as result into ≡ incoming b) × (a ≡ behind_message b))
 
 -- the message that was found, which stands in a buffer
 abbrev pub found_as : Result ℕ ConnFault → List ℕ → Result (List ℕ) ConnFault

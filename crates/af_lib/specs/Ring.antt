@@ -9,8 +9,8 @@ pub record RingState : Type 0 where
   pub lost : ℕ
 
 -- a ring with one event more: a full one, of 64, loses its oldest, which is counted up to the end of the count's type
-abbrev pub noted : Event → RingState → RingState
-noted e r = record {
+abbrev pub with_event : Event → RingState → RingState
+with_event e r = record {
   events = keep_last 64 (r.events ++ e ∷ []);
   lost = if nat_lt (length r.events) 64 then r.lost else min (r.lost + 1) (2 ^ 64 - 1);
 }
@@ -18,4 +18,4 @@ noted e r = record {
 -- a ring, and the same with any number of events more
 pub data Gained (old : RingState) : RingState → Type 0 where
   nothing_more : Gained old old
-  one_more : (r : RingState) (e : Event) → Gained old r → Gained old (noted e r)
+  one_more : (r : RingState) (e : Event) → Gained old r → Gained old (with_event e r)

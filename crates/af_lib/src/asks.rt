@@ -8,10 +8,12 @@ ghost use Rattle.af_request.specs.Asked.{request_meaning};
 ghost use Rattle.af_request.specs.Replies.{IsReplyTo};
 ghost use Rattle.af_request.specs.Requests.{request_bytes, FitsFrame};
 ghost use Rattle.af_lib.specs.Answers.{value_or_bad};
+ghost use Rattle.af_lib.specs.Exchange.{HasBuffers};
 ghost use Rattle.af_lib.specs.Ring.{Gained};
 ghost use Rattle.af_lib.specs.Calls.{as_controls, as_devices, as_done, as_phone, as_recorded, as_time, listed, opcode_of, recorded_in, stored_in, value_in, Answers, IsFresh, KeepsTail, IsStoredIn, Sends};
+ghost use Rattle.af_wire.specs.Sizes.{longest_message};
 
-use crate::exchange::{ask, await_setup, opcode_of};
+use crate::exchange::{Exchange, ask, await_setup, opcode_of};
 use crate::fault::ConnFault;
 use crate::receive::bad_reply;
 use crate::ring::Ring;
@@ -101,26 +103,24 @@ fn value_in<T: Stated>(opcode: u8, bytes: &[u8]) -> Result<T, ConnFault>
 }
 
 /// Sends a request, and takes its answer: a value that the reply states.
-pub fn ask_value<T: Stated, L: Link>(
-    link: &mut L,
-    ring: &mut Ring,
-    input: &mut [u8],
-    output: &mut [u8],
+pub fn ask_value<T: Stated, L: Link + Drop>(
+    exchange: &mut Exchange<L>,
     request: &Request<'_>,
     sequence: u16,
 ) -> Result<T, ConnFault>
     requires samples { FitsFrame (request_meaning request.now) }
-    requires room { (16016 ≤ length input.old) × (16384 ≤ length output.old) }
+    requires room { HasBuffers exchange.old.input.items exchange.old.output.items }
     ensures answers { Answers T.value_of (opcode_of (request_meaning request.now)) sequence result
-        ring.old ring.new (L.left link.old) (L.left link.new) }
-    ensures gained { Gained ring.old ring.new }
+        exchange.old.ring exchange.new.ring (L.left exchange.old.link) (L.left exchange.new.link) }
+    ensures gained { Gained exchange.old.ring exchange.new.ring }
     ensures fresh { IsFresh result }
-    ensures sends { Sends result (L.sent link.old) (request_bytes (request_meaning request.now)) (L.sent link.new) }
-    ensures tells { IsSome (L.left link.old) → IsSome (L.left link.new) }
-    ensures faults { CountsFault (result ≡ Err ConnFault.LinkFault) (L.faults link.old) (L.faults link.new) }
+    ensures sends { Sends result (L.sent exchange.old.link) (request_bytes (request_meaning request.now)) (L.sent exchange.new.link) }
+    ensures tells { IsSome (L.left exchange.old.link) → IsSome (L.left exchange.new.link) }
+    ensures faults { CountsFault (result ≡ Err ConnFault.LinkFault) (L.faults exchange.old.link) (L.faults exchange.new.link) }
+    ensures room { HasBuffers exchange.new.input.items exchange.new.output.items }
 {
-    match ask(link, ring, input, output, request, sequence) {
-        Ok(length) => value_in(opcode_of(request), &input[..length]),
+    match ask(exchange, request, sequence) {
+        Ok(length) => value_in(opcode_of(request), &exchange.input[..length]),
         Err(fault) => Err(fault),
     }
 }
@@ -178,32 +178,35 @@ fn recorded_in(
 }
 
 /// Sends a request for samples, and takes its answer.
-pub fn ask_recorded<L: Link>(
-    link: &mut L,
-    ring: &mut Ring,
-    input: &mut [u8],
-    output: &mut [u8],
+pub fn ask_recorded<L: Link + Drop>(
+    exchange: &mut Exchange<L>,
     request: &Request<'_>,
     sequence: u16,
     blocking: bool,
     into: &mut [u8],
 ) -> Result<(DevTime, usize), ConnFault>
     requires samples { FitsFrame (request_meaning request.now) }
-    requires room { (16016 ≤ length input.old) × (16384 ≤ length output.old) }
+    requires room { HasBuffers exchange.old.input.items exchange.old.output.items }
     ensures answers { Answers (as_recorded blocking (length into.old)) (opcode_of (request_meaning request.now)) sequence
-        (recorded_in result into.new) ring.old ring.new (L.left link.old) (L.left link.new) }
-    ensures gained { Gained ring.old ring.new }
+        (recorded_in result into.new) exchange.old.ring exchange.new.ring (L.left exchange.old.link) (L.left exchange.new.link) }
+    ensures gained { Gained exchange.old.ring exchange.new.ring }
     ensures kept { KeepsTail result into.old into.new }
     ensures within { IfOk result (λ r. r.1 ≤ length into.old) }
     ensures all { IfOk result (λ r. IsTrue blocking → r.1 ≡ length into.old) }
     ensures fresh { IsFresh result }
     ensures sends { Sends (recorded_in result into.new)
-        (L.sent link.old) (request_bytes (request_meaning request.now)) (L.sent link.new) }
-    ensures tells { IsSome (L.left link.old) → IsSome (L.left link.new) }
-    ensures faults { CountsFault (result ≡ Err ConnFault.LinkFault) (L.faults link.old) (L.faults link.new) }
+        (L.sent exchange.old.link) (request_bytes (request_meaning request.now)) (L.sent exchange.new.link) }
+    ensures tells { IsSome (L.left exchange.old.link) → IsSome (L.left exchange.new.link) }
+    ensures faults { CountsFault (result ≡ Err ConnFault.LinkFault) (L.faults exchange.old.link) (L.faults exchange.new.link) }
+    ensures room { HasBuffers exchange.new.input.items exchange.new.output.items }
 {
-    match ask(link, ring, input, output, request, sequence) {
-        Ok(length) => recorded_in(opcode_of(request), &input[..length], blocking, into),
+    match ask(exchange, request, sequence) {
+        Ok(length) => recorded_in(
+            opcode_of(request),
+            &exchange.input[..length],
+            blocking,
+            into,
+        ),
         Err(fault) => Err(fault),
     }
 }
@@ -236,7 +239,7 @@ pub fn set_up<L: Link>(
     ring: &mut Ring,
     input: &mut [u8],
 ) -> Result<Devices, ConnFault>
-    requires { 16016 ≤ length input.old }
+    requires { longest_message ≤ length input.old }
     ensures answers { Answers as_devices 0 0 (listed result) ring.old ring.new (L.left link.old) (L.left link.new) }
     ensures stated { IfOk result (λ devices. IsReplyTo 0 (setup devices.items)) }
     ensures fresh { IsFresh result }

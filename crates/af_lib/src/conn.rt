@@ -6,9 +6,11 @@ ghost use Rattle.af_request.specs.Asked.{request_meaning, create_ac, free_ac, ge
 ghost use Rattle.af_request.specs.Requests.{FitsFrame};
 ghost use Rattle.af_request.specs.Replies.{IsDeviceInfo};
 ghost use Rattle.af_lib.specs.Calls.{as_controls, as_done, as_phone, as_recorded, as_time, bit_if, controls_changed, flag_or_zero, gain_or_zero, recorded_in, settings_changed, Called, Connects, KeepsTail, EventAwaited};
+ghost use Rattle.af_sample.specs.Sizes.{longest_play, longest_record};
+ghost use Rattle.af_wire.specs.Sizes.{longest_frame, longest_message};
 
 use crate::asks::{Stated, ask_recorded, ask_value, set_up};
-use crate::exchange::cause_of;
+use crate::exchange::{Exchange, cause_of};
 use crate::fault::{Cause, ConnFault};
 use crate::receive::take_event;
 use crate::ring::Ring;
@@ -25,26 +27,23 @@ use std::marker::Model;
 /// is the last that reads or writes. No call takes any memory.
 #[derive(Drop)]
 pub struct Conn<L: Link + Drop> {
-    link: L,
+    exchange: Exchange<L>,
     devices: Devices,
     sequence: u16,
-    ring: Ring,
     cause: Option<Cause>,
-    input: Vec<u8>,
-    output: Vec<u8>,
 }
 
 impl<L: Link + Drop> Model for Conn<L> {
-    ghost use Rattle.std.specs.Prelude.{◌≡◌, length};
     ghost use Rattle.af_request.specs.Answer.{setup};
     ghost use Rattle.af_request.specs.Replies.{IsReplyTo};
     ghost use Rattle.af_lib.specs.Calls.{ConnState};
+    ghost use Rattle.af_lib.specs.Exchange.{HasBuffers};
 
     ghost Value = { ConnState L };
 
-    ghost view = { λ a. record { link = a.link; devices = a.devices.items; sequence = a.sequence; ring = a.ring; cause = a.cause } };
+    ghost view = { λ a. record { link = a.exchange.link; devices = a.devices.items; sequence = a.sequence; ring = a.exchange.ring; cause = a.cause } };
 
-    ghost invariant = { λ a. (length a.input.items ≡ 16016) × (length a.output.items ≡ 16384) × IsReplyTo 0 (setup a.devices.items) };
+    ghost invariant = { λ a. HasBuffers a.exchange.input.items a.exchange.output.items × IsReplyTo 0 (setup a.devices.items) };
 }
 
 impl<L: Link + Drop> Conn<L> {
@@ -59,13 +58,15 @@ impl<L: Link + Drop> Conn<L> {
         };
         match set_up(&mut link, &mut ring, &mut input) {
             Ok(devices) => Ok(Conn {
-                link,
+                exchange: Exchange {
+                    link,
+                    ring,
+                    input,
+                    output,
+                },
                 devices,
                 sequence: 0,
-                ring,
                 cause: None,
-                input,
-                output,
             }),
             Err(fault) => Err((fault, link)),
         }
@@ -86,14 +87,15 @@ impl<L: Link + Drop> Conn<L> {
     pub fn lost(&self) -> u64
         ensures { result ≡ self.now.ring.lost }
     {
-        self.ring.lost()
+        self.exchange.ring.lost()
     }
 
     /// The link, at the end of the connection.
     pub fn into_link(self) -> L
         ensures { result ≡ self.link }
     {
-        let Conn { link, .. } = self;
+        let Conn { exchange, .. } = self;
+        let Exchange { link, .. } = exchange;
         link
     }
 
@@ -103,7 +105,7 @@ impl<L: Link + Drop> Conn<L> {
         ensures oldest { result ≡ slice_get self.old.ring.events 0 }
         ensures rest { self.new ≡ record self.old { ring = record self.old.ring { events = drop 1 self.old.ring.events } } }
     {
-        self.ring.take()
+        self.exchange.ring.take()
     }
 
     /// Waits for an event: the oldest of the ring, or else the next message, which is to be one. Its faults are LinkFault,
@@ -114,10 +116,10 @@ impl<L: Link + Drop> Conn<L> {
         if let Some(first) = self.cause {
             return Err(ConnFault::Spent { first });
         }
-        if let Some(event) = self.ring.take() {
+        if let Some(event) = self.exchange.ring.take() {
             return Ok(event);
         }
-        let answer = take_event(&mut self.link, &mut self.input);
+        let answer = take_event(&mut self.exchange.link, &mut self.exchange.input);
         self.cause = cause_of(&answer);
         answer
     }
@@ -183,7 +185,7 @@ impl<L: Link + Drop> Conn<L> {
 
     /// Plays samples of a context from a time on: at most 16368 bytes. It answers the device's time, once they are taken.
     pub fn play_run(&mut self, ac: u32, time: DevTime, samples: &[u8]) -> Result<DevTime, ConnFault>
-        requires { length samples.now ≤ 16368 }
+        requires { length samples.now ≤ longest_play }
         ensures { Called L.left L.sent L.faults (play_run false ac time.0 samples.now) as_time self.old self.new result }
     {
         self.ask(&Request::PlayRun {
@@ -203,7 +205,7 @@ impl<L: Link + Drop> Conn<L> {
         blocking: bool,
         into: &mut [u8],
     ) -> Result<(DevTime, usize), ConnFault>
-        requires { length into.old ≤ 16000 }
+        requires { length into.old ≤ longest_record }
         ensures called { Called L.left L.sent L.faults (record_run blocking ac time.0 (length into.old))
             (as_recorded blocking (length into.old)) self.old self.new (recorded_in result into.new) }
         ensures kept { KeepsTail result into.old into.new }
@@ -220,16 +222,7 @@ impl<L: Link + Drop> Conn<L> {
             time,
             nbytes: into.len() as u32,
         };
-        let answer = ask_recorded(
-            &mut self.link,
-            &mut self.ring,
-            &mut self.input,
-            &mut self.output,
-            &request,
-            self.sequence,
-            blocking,
-            into,
-        );
+        let answer = ask_recorded(&mut self.exchange, &request, self.sequence, blocking, into);
         self.cause = cause_of(&answer);
         answer
     }
@@ -299,14 +292,7 @@ impl<L: Link + Drop> Conn<L> {
             return Err(ConnFault::Spent { first });
         }
         self.sequence = self.sequence.wrapping_add(1);
-        let answer = ask_value(
-            &mut self.link,
-            &mut self.ring,
-            &mut self.input,
-            &mut self.output,
-            request,
-            self.sequence,
-        );
+        let answer = ask_value(&mut self.exchange, request, self.sequence);
         self.cause = cause_of(&answer);
         answer
     }
@@ -354,7 +340,7 @@ const LONGEST_FRAME: usize = 16384;
 // A ring for events, and a buffer for one message each way.
 fn room(alloc: Global) -> Result<(Ring, Vec<u8>, Vec<u8>), OutOfMemory>
     ensures { IfOk result (λ r. (r.0 ≡ record { events = []; lost = 0 })
-        × (length r.1.items ≡ 16016) × (length r.2.items ≡ 16384)) }
+        × (length r.1.items ≡ longest_message) × (length r.2.items ≡ longest_frame)) }
 {
     let ring = Ring::new(alloc)?;
     let input = vec![in alloc; 0u8; LONGEST_MESSAGE]?;

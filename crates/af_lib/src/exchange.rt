@@ -7,9 +7,10 @@ ghost use Rattle.af_request.specs.Asked.{request_meaning};
 ghost use Rattle.af_request.specs.Requests.{request_bytes, FitsFrame};
 ghost use Rattle.af_lib.specs.Answers.{answer_to, refused_in};
 ghost use Rattle.af_lib.specs.Calls.{cause_of, held_in, opcode_of, IsFresh, Sends};
-ghost use Rattle.af_lib.specs.Exchange.{Finds};
+ghost use Rattle.af_lib.specs.Exchange.{Finds, HasBuffers};
 ghost use Rattle.af_lib.specs.Ring.{Gained};
 ghost use Rattle.af_lib.specs.Observed.{OnlyRead};
+ghost use Rattle.af_wire.specs.Sizes.{longest_frame, longest_message};
 
 use crate::fault::{Cause, ConnFault};
 use crate::receive::{await_message, bad_reply};
@@ -17,6 +18,16 @@ use crate::ring::Ring;
 use af_io::{Link, Put};
 use af_request::{Request, write_request};
 use af_wire::SETUP;
+
+/// What a connection exchanges messages by: its link, the ring of events that come before an answer, and a buffer for one message
+/// each way.
+#[derive(Drop)]
+pub struct Exchange<L: Link + Drop> {
+    pub link: L,
+    pub ring: Ring,
+    pub input: Vec<u8>,
+    pub output: Vec<u8>,
+}
 
 /// The fault, if a connection can be used no more behind it.
 pub fn cause_of<T>(answer: &Result<T, ConnFault>) -> Option<Cause>
@@ -97,11 +108,11 @@ pub fn await_answer<L: Link>(
     opcode: u8,
     sequence: u16,
 ) -> Result<usize, ConnFault>
-    requires { 16016 ≤ length input.old }
+    requires { longest_message ≤ length input.old }
     ensures finds { result ≢ Err ConnFault.LinkFault →
         Finds opcode sequence result input.new ring.old ring.new (L.left link.old) (L.left link.new) }
     ensures gained { Gained ring.old ring.new }
-    ensures within { IfOk result (λ n. (8 ≤ n) × (n ≤ 16016)) }
+    ensures within { IfOk result (λ n. (8 ≤ n) × (n ≤ longest_message)) }
     ensures fresh { IsFresh result }
     ensures reads { OnlyRead L.left L.sent L.faults (result ≡ Err ConnFault.LinkFault) link.old link.new }
 {
@@ -115,7 +126,7 @@ pub fn await_answer<L: Link>(
 // Sends a request.
 fn send<L: Link>(link: &mut L, output: &mut [u8], request: &Request<'_>) -> Put
     requires samples { FitsFrame (request_meaning request.now) }
-    requires room { 16384 ≤ length output.old }
+    requires room { longest_frame ≤ length output.old }
     ensures written { Written result (L.sent link.old) (request_bytes (request_meaning request.now)) (L.sent link.new) }
     ensures gives { L.left link.new ≡ L.left link.old }
     ensures tells { IsSome (L.left link.old) → IsSome (L.left link.new) }
@@ -127,27 +138,31 @@ fn send<L: Link>(link: &mut L, output: &mut [u8], request: &Request<'_>) -> Put
 
 /// Sends a request with a number, and takes messages up to its answer. A reply stands in the input then, and its length is
 /// answered.
-pub fn ask<L: Link>(
-    link: &mut L,
-    ring: &mut Ring,
-    input: &mut [u8],
-    output: &mut [u8],
+pub fn ask<L: Link + Drop>(
+    exchange: &mut Exchange<L>,
     request: &Request<'_>,
     sequence: u16,
 ) -> Result<usize, ConnFault>
     requires samples { FitsFrame (request_meaning request.now) }
-    requires room { (16016 ≤ length input.old) × (16384 ≤ length output.old) }
-    ensures finds { result ≢ Err ConnFault.LinkFault →
-        Finds (opcode_of (request_meaning request.now)) sequence result input.new ring.old ring.new (L.left link.old) (L.left link.new) }
-    ensures gained { Gained ring.old ring.new }
-    ensures within { IfOk result (λ n. (8 ≤ n) × (n ≤ 16016)) }
+    requires room { HasBuffers exchange.old.input.items exchange.old.output.items }
+    ensures finds { result ≢ Err ConnFault.LinkFault → Finds (opcode_of (request_meaning request.now)) sequence result
+        exchange.new.input.items exchange.old.ring exchange.new.ring (L.left exchange.old.link) (L.left exchange.new.link) }
+    ensures gained { Gained exchange.old.ring exchange.new.ring }
+    ensures within { IfOk result (λ n. (8 ≤ n) × (n ≤ longest_message)) }
     ensures fresh { IsFresh result }
-    ensures sends { Sends result (L.sent link.old) (request_bytes (request_meaning request.now)) (L.sent link.new) }
-    ensures tells { IsSome (L.left link.old) → IsSome (L.left link.new) }
-    ensures faults { CountsFault (result ≡ Err ConnFault.LinkFault) (L.faults link.old) (L.faults link.new) }
+    ensures sends { Sends result (L.sent exchange.old.link) (request_bytes (request_meaning request.now)) (L.sent exchange.new.link) }
+    ensures tells { IsSome (L.left exchange.old.link) → IsSome (L.left exchange.new.link) }
+    ensures faults { CountsFault (result ≡ Err ConnFault.LinkFault) (L.faults exchange.old.link) (L.faults exchange.new.link) }
+    ensures room { HasBuffers exchange.new.input.items exchange.new.output.items }
 {
-    match send(link, output, request) {
-        Put::Done => await_answer(link, ring, input, opcode_of(request), sequence),
+    match send(&mut exchange.link, &mut exchange.output, request) {
+        Put::Done => await_answer(
+            &mut exchange.link,
+            &mut exchange.ring,
+            &mut exchange.input,
+            opcode_of(request),
+            sequence,
+        ),
         Put::Failed => Err(ConnFault::LinkFault),
     }
 }
@@ -158,10 +173,10 @@ pub fn await_setup<L: Link>(
     ring: &mut Ring,
     input: &mut [u8],
 ) -> Result<usize, ConnFault>
-    requires { 16016 ≤ length input.old }
+    requires { longest_message ≤ length input.old }
     ensures finds { result ≢ Err ConnFault.LinkFault →
         Finds 0 0 result input.new ring.old ring.new (L.left link.old) (L.left link.new) }
-    ensures within { IfOk result (λ n. (8 ≤ n) × (n ≤ 16016)) }
+    ensures within { IfOk result (λ n. (8 ≤ n) × (n ≤ longest_message)) }
     ensures fresh { IsFresh result }
     ensures sends { Sends result (L.sent link.old) setup_bytes (L.sent link.new) }
     ensures tells { IsSome (L.left link.old) → IsSome (L.left link.new) }

@@ -1,10 +1,11 @@
 // Receiving messages: bytes, one message, and the first message that is no event.
 ghost use Rattle.std.specs.Prelude.{◌≡◌, ◌≢◌, ◌≤◌, ◌<◌, length, IfOk, Ok, Err};
-ghost use Rattle.af_lib.specs.Incoming.{bad_reply, first_bytes, message_in, rest_of};
+ghost use Rattle.af_lib.specs.Incoming.{bad_reply, first_bytes, message_in, behind_message};
 ghost use Rattle.af_lib.specs.Calls.{event_of, event_only, IsFresh, IsOfMessage};
 ghost use Rattle.af_lib.specs.Observed.{BothTold, OnlyRead};
 ghost use Rattle.af_lib.specs.Ring.{Gained};
 ghost use Rattle.af_lib.specs.Receive.{Fills, Frames, Takes, Awaits, taken_as, taken_of, IsFramedWithin, IsTakenWithin};
+ghost use Rattle.af_wire.specs.Sizes.{longest_message};
 
 use crate::fault::ConnFault;
 use crate::ring::Ring;
@@ -56,7 +57,7 @@ pub fn fill<L: Link>(link: &mut L, into: &mut [u8]) -> Filled
 
 /// Reads one message: a head, and if that is good the rest of its message.
 pub fn frame<L: Link>(link: &mut L, input: &mut [u8]) -> Framed
-    requires { 16016 ≤ length input.old }
+    requires { longest_message ≤ length input.old }
     ensures frames { Frames result input.new (L.left link.old) (L.left link.new) }
     ensures within { IsFramedWithin result }
     ensures reads { OnlyRead L.left L.sent L.faults (result ≡ Framed.Failed) link.old link.new }
@@ -116,9 +117,9 @@ pub fn message_in(bytes: &[u8]) -> Result<Taken, ConnFault>
 
 /// Takes one message. One that is no event stands in the input then.
 pub fn take_message<L: Link>(link: &mut L, input: &mut [u8]) -> Result<Taken, ConnFault>
-    requires { 16016 ≤ length input.old }
+    requires { longest_message ≤ length input.old }
     ensures takes { result ≢ Err ConnFault.LinkFault → Takes result input.new (L.left link.old) (L.left link.new) }
-    ensures within { IsTakenWithin result 16016 }
+    ensures within { IsTakenWithin result longest_message }
     ensures message { IsOfMessage result }
     ensures reads { OnlyRead L.left L.sent L.faults (result ≡ Err ConnFault.LinkFault) link.old link.new }
 {
@@ -137,11 +138,11 @@ pub fn await_message<L: Link>(
     input: &mut [u8],
     ring: &mut Ring,
 ) -> Result<usize, ConnFault>
-    requires { 16016 ≤ length input.old }
+    requires { longest_message ≤ length input.old }
     ensures awaits { result ≢ Err ConnFault.LinkFault →
         Awaits result input.new ring.old ring.new (L.left link.old) (L.left link.new) }
     ensures gained { Gained ring.old ring.new }
-    ensures within { IfOk result (λ n. (8 ≤ n) × (n ≤ 16016)) }
+    ensures within { IfOk result (λ n. (8 ≤ n) × (n ≤ longest_message)) }
     ensures fresh { IsFresh result }
     ensures reads { OnlyRead L.left L.sent L.faults (result ≡ Err ConnFault.LinkFault) link.old link.new }
 {
@@ -158,9 +159,9 @@ pub fn await_message<L: Link>(
 
 /// Takes one message, which is to be an event.
 pub fn take_event<L: Link>(link: &mut L, input: &mut [u8]) -> Result<Event, ConnFault>
-    requires { 16016 ≤ length input.old }
+    requires { longest_message ≤ length input.old }
     ensures takes { result ≢ Err ConnFault.LinkFault →
-        BothTold (L.left link.old) (L.left link.new) (λ b a. (result ≡ event_of b) × (a ≡ rest_of b)) }
+        BothTold (L.left link.old) (L.left link.new) (λ b a. (result ≡ event_of b) × (a ≡ behind_message b)) }
     ensures message { IsOfMessage result }
     ensures reads { OnlyRead L.left L.sent L.faults (result ≡ Err ConnFault.LinkFault) link.old link.new }
 {

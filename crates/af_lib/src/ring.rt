@@ -1,7 +1,7 @@
 // The ring of events that a client has not taken yet.
 ghost use Rattle.std.specs.Prelude.{◌≡◌, [], drop, slice_get, IfOk};
 ghost use Rattle.std.specs.declared.option.Option.TheVariants.{None};
-ghost use Rattle.af_lib.specs.Ring.{noted};
+ghost use Rattle.af_lib.specs.Ring.{with_event};
 
 use af_time::OutOfMemory;
 use af_wire::Event;
@@ -41,7 +41,7 @@ impl Ring {
 
     /// An event more. If there is no room, the oldest is lost.
     pub fn note(&mut self, event: Event)
-        ensures { self.new ≡ noted event self.old }
+        ensures { self.new ≡ with_event event self.old }
     {
         if self.events.len() >= MOST_EVENTS {
             self.lost = self.lost.saturating_add(1);

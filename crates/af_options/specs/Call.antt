@@ -6,10 +6,10 @@ use Rattle.af_options.specs.Words.{Job, one, relay}
 
 -- the job of a call
 abbrev pub job_of_call : Call → Job
-job_of_call (call.One server task) = one server.now task
-job_of_call (call.Relay from to job) = relay from.now to.now job
+job_of_call (call.One c) = one c.server.now c.task
+job_of_call (call.Relay c) = relay c.from.now c.to.now c.job
 
 -- its values are in their ranges
 abbrev pub IsCall : Call → Type 0
-IsCall (call.One server task) = IsRanged task × IsAddress server.now
-IsCall (call.Relay from to job) = IsPaced job × IsAddress from.now × IsAddress to.now
+IsCall (call.One c) = IsRanged c.task × IsAddress c.server.now
+IsCall (call.Relay c) = IsPaced c.job × IsAddress c.from.now × IsAddress c.to.now

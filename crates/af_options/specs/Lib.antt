@@ -1,3 +1,4 @@
+pub mod Sizes
 pub mod Numbers
 pub mod Words
 pub mod Ranges

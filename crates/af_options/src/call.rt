@@ -15,18 +15,26 @@ use clap::ArgMatches;
 use clap::error::ErrorKind;
 use std::alloc::Global;
 
+/// A task, and the server that it is done with.
+#[derive(Clone, Copy)]
+pub struct TaskCall<'a> {
+    pub server: &'a str,
+    pub task: Task,
+}
+
+/// A relay, and its two servers.
+#[derive(Clone, Copy)]
+pub struct RelayCall<'a> {
+    pub from: &'a str,
+    pub to: &'a str,
+    pub job: PassJob,
+}
+
 /// What a tool is asked to do, and with which server or servers.
 #[derive(Clone, Copy)]
 pub enum Call<'a> {
-    One {
-        server: &'a str,
-        task: Task,
-    },
-    Relay {
-        from: &'a str,
-        to: &'a str,
-        job: PassJob,
-    },
+    One(TaskCall<'a>),
+    Relay(RelayCall<'a>),
 }
 
 /// Why words are no call.
@@ -43,7 +51,7 @@ fn one_call<'a>(matches: &ArgMatches<'a>, task: Task) -> Option<Call<'a>>
     ensures call { IfSome result (λ call. IsCall call) }
 {
     let server = address_at(matches, "SERVER")?;
-    Some(Call::One { server, task })
+    Some(Call::One(TaskCall { server, task }))
 }
 
 // A relay with its servers.
@@ -54,7 +62,7 @@ fn relay_call<'a>(matches: &ArgMatches<'a>, job: PassJob) -> Option<Call<'a>>
 {
     let from = address_at(matches, "FROM")?;
     let to = address_at(matches, "TO")?;
-    Some(Call::Relay { from, to, job })
+    Some(Call::Relay(RelayCall { from, to, job }))
 }
 
 // The call of a tool, by the matches of its command.

@@ -8,5 +8,5 @@ mod number;
 mod tool;
 mod words;
 
-pub use call::{Call, OptionsFault, call_of};
+pub use call::{Call, OptionsFault, RelayCall, TaskCall, call_of};
 pub use job::{PassJob, PlayJob, RecordJob, SetJob, Task};

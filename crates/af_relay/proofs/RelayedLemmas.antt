@@ -30,7 +30,7 @@ use Rattle.af_tool.proofs.ToolEndLemmas.{finish_done}
 use Rattle.af_tool.specs.Trace.{ClientState, answer_on, after_reply, done, mismatch}
 use Rattle.af_options.specs.Ranges.{IsPaced}
 use Rattle.af_relay.specs.Pass.{RelayTrace, after, apass_trace, as_word, asks_by, asks_from, asks_to, at_one_rate, begins_both, ends_both, ends_contexts, from_context, has_drifted, in_step, none_passed, on_one, pace_of, passed_between, after_block, passed_text, passes, passes_block, moment_of, relayed_by, sending_from, sending_to, to_context}
-use Rattle.af_relay.specs.Relayed.{AreTold, IsRelayed, PassedBlock, Relayed, is_moved, is_same_time, moves, plays, record_replies, records, reply_then, samples_of, type_from}
+use Rattle.af_relay.specs.Relayed.{AreTold, IsRelayed, PassedBlock, Relayed, is_moved, is_same_time, moves, play_requests, record_replies, record_requests, reply_then, samples_of, type_from}
 use Rattle.af_relay.proofs.RelayEndLemmas.{reports}
 use Rattle.af_relay.proofs.TimeWordLemmas.{told_low}
 
@@ -111,13 +111,13 @@ record AllPassed (n : ℕ) (job : PassJob) (pace : RelayPace) (passed : RelayPro
   number : length blocks ≡ n
   told : AreTold job w blocks
   bytes : samples_of blocks ≡ record_replies n job pace.size passed.at v
-  sent : relay.to ≡ plays job blocks ++ (next passed' v' w').to
-  recorded : relay.from ≡ records n job pace.size passed.at ++ (next passed' v' w').from
+  sent : relay.to ≡ play_requests job blocks ++ (next passed' v' w').to
+  recorded : relay.from ≡ record_requests n job pace.size passed.at ++ (next passed' v' w').from
   wrote : relay.output ≡ (next passed' v' w').output
   count : passed'.resynced ≡ passed.resynced + moves job.block passed.due blocks
 
 passes_done : (n : ℕ) (job : PassJob) (pace : RelayPace) (passed : RelayProgress) (v w : ClientState) (next : RelayProgress → ClientState → ClientState → RelayTrace) → pace.delay < 2 ^ 31 → (passes n job pace passed v w next).finish ≡ done → AllPassed n job pace passed v w next (passes n job pace passed v w next)
-unfolding passes passes_block AreTold samples_of plays record_replies records moves
+unfolding passes passes_block AreTold samples_of play_requests record_replies record_requests moves
 passes_done zero job pace passed v w next small is = record {
   passed' = passed;
   v' = v;
@@ -148,7 +148,7 @@ passes_done (suc n) job pace passed v w next small is =
     let play = request_bytes (play_run false 1 place.time.0 r.samples) in
     let last = (next d.passed' d.v' d.w').to in
     let record_one = request_bytes (record_run true 1 passed.at.0 pace.size) in
-    let others = records n job pace.size (after passed.at job.block) in
+    let others = record_requests n job pace.size (after passed.at job.block) in
     record {
       passed' = d.passed';
       v' = d.v';
@@ -160,7 +160,7 @@ passes_done (suc n) job pace passed v w next small is =
       bytes = ap (λ (l : List (List ℕ)). r.samples ∷ l) d.bytes
           ∙ ap (λ (x : Result Recorded ConnFault). reply_then x (record_replies n job pace.size (after passed.at job.block) (after_reply v))) (sym a.good);
       sent = ap (λ (x : RelayTrace). x.to) a.is ∙ ap (λ (x : RelayTrace). x.to) b.is ∙ ap (λ (x : RelayTrace). get ++ x.to) c.is ∙ ap (λ (l : List ℕ). get ++ play ++ l) d.sent
-          ∙ sym (append_assoc get (play ++ plays job d.blocks) last ∙ ap (λ (l : List ℕ). get ++ l) (append_assoc play (plays job d.blocks) last));
+          ∙ sym (append_assoc get (play ++ play_requests job d.blocks) last ∙ ap (λ (l : List ℕ). get ++ l) (append_assoc play (play_requests job d.blocks) last));
       wrote = ap (λ (x : RelayTrace). x.output) a.is ∙ ap (λ (x : RelayTrace). x.output) b.is ∙ ap (λ (x : RelayTrace). x.output) c.is ∙ d.wrote;
       recorded = ap (λ (x : RelayTrace). x.from) a.is ∙ ap (λ (x : RelayTrace). record_one ++ x.from) b.is ∙ ap (λ (x : RelayTrace). record_one ++ x.from) c.is ∙ ap (λ (l : List ℕ). record_one ++ l) d.recorded
           ∙ sym (append_assoc record_one others (next d.passed' d.v' d.w').from);
@@ -189,7 +189,7 @@ between_done job device v w relay whole small end_is =
     let make_from = request_bytes (from_context job ty) in
     let make_to = request_bytes (to_context job ty) in
     let time = request_bytes (get_time job.from_device) in
-    let asked = records job.blocks job pace.size c.value in
+    let asked = record_requests job.blocks job pace.size c.value in
     let free = request_bytes (free_ac 1) in
     record {
       start = c.value;
@@ -203,8 +203,8 @@ between_done job device v w relay whole small end_is =
           ∙ ap (λ (x : RelayTrace). make_from ++ time ++ asked ++ x.from) e.is ∙ ap (λ (x : RelayTrace). make_from ++ time ++ asked ++ (free ++ x.from)) f.is
           ∙ ap (λ (l : List ℕ). make_from ++ time ++ asked ++ l) (append-nil free);
       played = ap (λ (x : RelayTrace). x.to) whole ∙ ap (λ (x : RelayTrace). x.to) a.is ∙ ap (λ (x : RelayTrace). x.to) b.is ∙ ap (λ (x : RelayTrace). make_to ++ x.to) c.is ∙ ap (λ (l : List ℕ). make_to ++ l) d.sent
-          ∙ ap (λ (x : RelayTrace). make_to ++ plays job d.blocks ++ x.to) e.is ∙ ap (λ (x : RelayTrace). make_to ++ plays job d.blocks ++ x.to) f.is
-          ∙ ap (λ (l : List ℕ). make_to ++ plays job d.blocks ++ l) (append-nil free);
+          ∙ ap (λ (x : RelayTrace). make_to ++ play_requests job d.blocks ++ x.to) e.is ∙ ap (λ (x : RelayTrace). make_to ++ play_requests job d.blocks ++ x.to) f.is
+          ∙ ap (λ (l : List ℕ). make_to ++ play_requests job d.blocks ++ l) (append-nil free);
       resynced = d.passed'.resynced;
       wrote =
           ap (λ (x : RelayTrace). x.output) whole ∙ ap (λ (x : RelayTrace). x.output) a.is ∙ ap (λ (x : RelayTrace). x.output) b.is ∙ ap (λ (x : RelayTrace). x.output) c.is ∙ d.wrote

@@ -26,14 +26,14 @@ samples_of [] = []
 samples_of (b ∷ blocks) = b.samples ∷ samples_of blocks
 
 -- what is sent for these blocks on the link that is played on
-unfoldable pub plays : PassJob → List PassedBlock → List ℕ
-plays job [] = []
-plays job (b ∷ blocks) = request_bytes (get_time job.to_device) ++ request_bytes (play_run false 1 b.time.0 b.samples) ++ plays job blocks
+unfoldable pub play_requests : PassJob → List PassedBlock → List ℕ
+play_requests job [] = []
+play_requests job (b ∷ blocks) = request_bytes (get_time job.to_device) ++ request_bytes (play_run false 1 b.time.0 b.samples) ++ play_requests job blocks
 
 -- n record requests, each of n bytes: the first records from a time on, and each other from a block later
-unfoldable pub records : ℕ → PassJob → (size : ℕ) → DevTime → List ℕ
-records zero job size at = []
-records (suc n) job size at = request_bytes (record_run true 1 at.0 size) ++ records n job size (after at job.block)
+unfoldable pub record_requests : ℕ → PassJob → (size : ℕ) → DevTime → List ℕ
+record_requests zero job size at = []
+record_requests (suc n) job size at = request_bytes (record_run true 1 at.0 size) ++ record_requests n job size (after at job.block)
 
 -- what one more record request was answered with
 abbrev pub reply_then : Result Recorded ConnFault → List (List ℕ) → List (List ℕ)
@@ -83,8 +83,8 @@ pub record Relayed (job : PassJob) (device : DeviceInfo) (v w : ClientState) (se
   pub number : length blocks ≡ job.blocks
   pub bytes : samples_of blocks ≡ record_replies job.blocks job (size_from job device) start (after_reply (after_reply v))
   pub told : AreTold job (after_reply w) blocks
-  pub recorded : sends_from ≡ request_bytes (from_context job (type_from job device)) ++ request_bytes (get_time job.from_device) ++ records job.blocks job (size_from job device) start ++ request_bytes (free_ac 1)
-  pub played : sends_to ≡ request_bytes (to_context job (type_from job device)) ++ plays job blocks ++ request_bytes (free_ac 1)
+  pub recorded : sends_from ≡ request_bytes (from_context job (type_from job device)) ++ request_bytes (get_time job.from_device) ++ record_requests job.blocks job (size_from job device) start ++ request_bytes (free_ac 1)
+  pub played : sends_to ≡ request_bytes (to_context job (type_from job device)) ++ play_requests job blocks ++ request_bytes (free_ac 1)
   pub resynced : ℕ
   pub wrote : output ≡ passed_text job.blocks resynced
   pub moved : resynced ≡ moves job.block None blocks

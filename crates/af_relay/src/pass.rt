@@ -4,6 +4,7 @@ ghost use Rattle.std.specs.declared.option.Option.TheVariants.{None};
 ghost use Rattle.af_tool.specs.Ends.{is_of_link};
 ghost use Rattle.af_relay.specs.Pass.{has_drifted, in_step, none_passed, after_block, passes, passes_block, moment_of};
 ghost use Rattle.af_relay.specs.RelayParts.{ObservedRelayPartOver, KeepsConnections};
+ghost use Rattle.af_options.specs.Sizes.{greatest_block};
 
 use af_io::Link;
 use af_lib::Conn;
@@ -18,6 +19,13 @@ pub struct RelayPace {
     pub size: u32,
     pub delay: u64,
     pub slack: u64,
+}
+
+/// What a relay keeps to: its job, and its pace at the rate of its devices.
+#[derive(Clone, Copy)]
+pub struct RelayPlan {
+    pub job: PassJob,
+    pub pace: RelayPace,
 }
 
 /// When a block is played, and whether the relay fell in step again for it.
@@ -88,45 +96,43 @@ fn after_block(passed: RelayProgress, place: PlayMoment, frames: u32) -> RelayPr
 
 // Records a block on the one server, and plays it on the other.
 fn pass_block<L: Link + Drop, M: Link + Drop>(
-    job: &PassJob,
-    pace: RelayPace,
+    plan: &RelayPlan,
     passed: RelayProgress,
     from: &mut Conn<L>,
     to: &mut Conn<M>,
     block: &mut [u8],
 ) -> Result<RelayProgress, ToolEnd>
     requires usable { (from.old.cause ≡ None) × (to.old.cause ≡ None) }
-    requires block { (length block.old ≡ pace.size) × (length block.old ≤ 16000) }
-    requires pace { pace.delay < 2 ^ 40 }
+    requires block { (length block.old ≡ plan.now.pace.size) × (length block.old ≤ greatest_block) }
+    requires pace { plan.now.pace.delay < 2 ^ 40 }
     requires few { passed.resynced + 1 < 2 ^ 32 }
     ensures goes { ObservedRelayPartOver L.left L.sent M.left M.sent from.old from.new to.old to.new
-        (λ v w. passes_block job.now pace passed v w) result }
+        (λ v w. passes_block plan.now.job plan.now.pace passed v w) result }
     ensures holds { KeepsConnections L.left L.faults M.left M.faults from.old from.new to.old to.new result }
     ensures end { IfErr result (λ how. is_of_link how ≡ true) }
     ensures few { IfOk result (λ p. p.resynced ≤ passed.resynced + 1) }
     ensures size { length block.new ≡ length block.old }
 {
     from.record_run(CONTEXT, passed.at, true, block)?;
-    let now = to.get_time(job.to_device)?;
-    let place = moment_of(passed.due, now, pace.delay, pace.slack);
+    let now = to.get_time(plan.job.to_device)?;
+    let place = moment_of(passed.due, now, plan.pace.delay, plan.pace.slack);
     to.play_run(CONTEXT, place.time, block)?;
-    Ok(after_block(passed, place, job.block))
+    Ok(after_block(passed, place, plan.job.block))
 }
 
 /// Passes all blocks of a job, the first of them recorded from a time on.
 pub fn pass_blocks<L: Link + Drop, M: Link + Drop>(
-    job: &PassJob,
-    pace: RelayPace,
+    plan: &RelayPlan,
     start: DevTime,
     from: &mut Conn<L>,
     to: &mut Conn<M>,
     block: &mut [u8],
 ) -> Result<RelayProgress, ToolEnd>
     requires usable { (from.old.cause ≡ None) × (to.old.cause ≡ None) }
-    requires block { (length block.old ≡ pace.size) × (length block.old ≤ 16000) }
-    requires pace { pace.delay < 2 ^ 40 }
+    requires block { (length block.old ≡ plan.now.pace.size) × (length block.old ≤ greatest_block) }
+    requires pace { plan.now.pace.delay < 2 ^ 40 }
     ensures goes { ObservedRelayPartOver L.left L.sent M.left M.sent from.old from.new to.old to.new
-        (λ v w. passes job.now.blocks job.now pace (none_passed start) v w) result }
+        (λ v w. passes plan.now.job.blocks plan.now.job plan.now.pace (none_passed start) v w) result }
     ensures holds { KeepsConnections L.left L.faults M.left M.faults from.old from.new to.old to.new result }
     ensures end { IfErr result (λ how. is_of_link how ≡ true) }
 {
@@ -135,9 +141,9 @@ pub fn pass_blocks<L: Link + Drop, M: Link + Drop>(
         due: None,
         resynced: 0,
     };
-    let mut left = job.blocks;
+    let mut left = plan.job.blocks;
     while left > 0 {
-        passed = pass_block(job, pace, passed, from, to, block)?;
+        passed = pass_block(plan, passed, from, to, block)?;
         left -= 1;
     }
     Ok(passed)

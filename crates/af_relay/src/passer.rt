@@ -10,8 +10,9 @@ ghost use Rattle.af_relay.specs.Pair.{is_of_pass, pair_of};
 ghost use Rattle.af_relay.specs.Ran.{RunsBetween};
 ghost use Rattle.af_options.specs.Ranges.{IsPaced};
 ghost use Rattle.af_relay.specs.Pass.{begins_both, ends_contexts, pace_of, passed_between, passed_text};
+ghost use Rattle.af_options.specs.Sizes.{greatest_block};
 
-use crate::pass::{RelayPace, pass_blocks};
+use crate::pass::{RelayPace, RelayPlan, pass_blocks};
 use af_io::{Link, Sink};
 use af_lib::Conn;
 use af_options::PassJob;
@@ -24,7 +25,7 @@ use af_tool::{CONTEXT, ToolEnd, device_with, put, put_number, write_text};
 fn pace_of(job: &PassJob, ty: SampleType, rate: u32) -> RelayPace
     requires { (job.now.block ≤ 4000) × (job.now.delay ≤ 3000) }
     ensures value { result ≡ pace_of job.now ty rate }
-    ensures size { result.size ≤ 16000 }
+    ensures size { result.size ≤ greatest_block }
     ensures delay { result.delay < 2 ^ 40 }
 {
     RelayPace {
@@ -78,7 +79,7 @@ fn pass_between<L: Link + Drop, M: Link + Drop>(
 ) -> Result<u32, ToolEnd>
     requires usable { (from.old.cause ≡ None) × (to.old.cause ≡ None) }
     requires range { IsPaced job.now }
-    requires room { 16000 ≤ length room.old }
+    requires room { greatest_block ≤ length room.old }
     ensures goes { ObservedRelayPartOver L.left L.sent M.left M.sent from.old from.new to.old to.new
         (λ v w. passed_between job.now device v w) result }
     ensures holds { KeepsConnections L.left L.faults M.left M.faults from.old from.new to.old to.new result }
@@ -88,7 +89,8 @@ fn pass_between<L: Link + Drop, M: Link + Drop>(
     let pace = pace_of(job, ty, device.rate);
     let start = begin_both(job, ty, from, to)?;
     let block = &mut room[..pace.size as usize];
-    let passed = pass_blocks(job, pace, start, from, to, block)?;
+    let plan = RelayPlan { job: *job, pace };
+    let passed = pass_blocks(&plan, start, from, to, block)?;
     finish_both(from, to)?;
     Ok(passed.resynced)
 }
@@ -152,7 +154,7 @@ pub fn apass<L: Link + Drop, M: Link + Drop, K: Sink>(
 ) -> ToolEnd
     requires usable { (from.old.cause ≡ None) × (to.old.cause ≡ None) }
     requires range { IsPaced job.now }
-    requires room { 16000 ≤ length room.old }
+    requires room { greatest_block ≤ length room.old }
 
     // what was sent, played and written, and when it is done
     ensures ran { RunsBetween L.left L.sent M.left M.sent K.held job.now result

@@ -202,8 +202,8 @@ IsInRange (one server task) = IsRanged task
 IsInRange (relay from to job) = IsPaced job
 
 pub ranged_call : (c : Call) → IsCall c → IsInRange (job_of_call c)
-ranged_call (call.One server t) is = is.0
-ranged_call (call.Relay from to job) is = is.0
+ranged_call (call.One c) is = is.0
+ranged_call (call.Relay c) is = is.0
 
 -- what a tool did that ran
 pub did : (j : Job) (bytes : List ℕ) (how : ToolEnd) (links : List ToldLink) (links' : Option (List ToldLink)) (held held' : Option (List ℕ)) (back back' : Option (List (List ℕ))) →

@@ -3,6 +3,7 @@
 
 mod fill;
 pub mod laws;
+mod memory;
 mod play;
 mod player;
 mod record;

@@ -9,6 +9,7 @@ ghost use Rattle.af_tools.specs.Play.{blocks, plays};
 ghost use Rattle.af_tools.specs.Ways.{is_of_blocks};
 ghost use Rattle.af_tools.specs.Fill.{ConsumedBeyondMost, ConsumedWithinMost};
 ghost use Rattle.af_tools.specs.Reading.{ObservedPartReading};
+ghost use Rattle.af_options.specs.Sizes.{greatest_block};
 
 use crate::fill::fill_block;
 use af_io::{Link, Source};
@@ -29,7 +30,7 @@ pub fn play_blocks<L: Link + Drop, S: Source>(
     start: DevTime,
 ) -> Result<u64, ToolEnd>
     requires usable { conn.old.cause ≡ None }
-    requires room { (1 ≤ width) × (width ≤ length room.old) × (length room.old ≤ 16000) }
+    requires room { (1 ≤ width) × (width ≤ length room.old) × (length room.old ≤ greatest_block) }
     ensures goes { ObservedPartReading L.left L.sent S.left conn.old conn.new source.old source.new
         (λ bytes w. plays width start.0 0 0 (blocks (length room.old) bytes) w) result }
     ensures spent { IfOk result (λ _. IsSpent (S.left source.new)) }

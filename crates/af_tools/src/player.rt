@@ -11,6 +11,7 @@ ghost use Rattle.af_tools.specs.Ways.{is_of_blocks, is_of_play};
 ghost use Rattle.af_tools.specs.Fill.{ConsumedBeyondMost, ConsumedWithinMost};
 ghost use Rattle.af_tools.specs.Reading.{ObservedPartReading, UsesSource};
 ghost use Rattle.af_tools.specs.Ran.{LacksDevice, RunsAplay};
+ghost use Rattle.af_options.specs.Sizes.{greatest_block};
 
 use crate::play::play_blocks;
 use crate::report::report;
@@ -64,7 +65,7 @@ fn play_on<L: Link + Drop, S: Source>(
 ) -> Result<Played, ToolEnd>
     requires usable { conn.old.cause ≡ None }
     requires block { (1 ≤ job.now.block) × (job.now.block ≤ 4000) }
-    requires room { 16000 ≤ length room.old }
+    requires room { greatest_block ≤ length room.old }
     ensures goes { ObservedPartReading L.left L.sent S.left conn.old conn.new source.old source.new (λ bytes w next. played_on
         job.now device bytes w (λ frames start. next (record { frames = frames; start = record { 0 = start } }))) result }
     ensures spent { IfOk result (λ _. IsSpent (S.left source.new)) }
@@ -95,7 +96,7 @@ pub fn aplay<L: Link + Drop, S: Source, K: Sink>(
 ) -> ToolEnd
     requires usable { conn.old.cause ≡ None }
     requires block { (1 ≤ job.now.block) × (job.now.block ≤ 4000) }
-    requires room { 16000 ≤ length room.old }
+    requires room { greatest_block ≤ length room.old }
 
     // what was sent, written and heard, and when it is done
     ensures ran { RunsAplay L.left L.sent S.left K.held job.now result conn.old conn.new source.old source.new sink.old sink.new }

@@ -7,6 +7,7 @@ ghost use Rattle.af_tool.specs.Ends.{KeepsConnection};
 ghost use Rattle.af_tools.specs.Record.{block_lengths, peak, records, takes_block, value_stored};
 ghost use Rattle.af_tools.specs.Ways.{is_of_records};
 ghost use Rattle.af_tools.specs.Reading.{ObservedPartWriting};
+ghost use Rattle.af_options.specs.Sizes.{greatest_block};
 
 use af_io::{Link, Put, Sink};
 use af_lib::Conn;
@@ -14,6 +15,13 @@ use af_options::RecordJob;
 use af_sample::{SampleType, decode};
 use af_time::DevTime;
 use af_tool::{CONTEXT, ToolEnd};
+
+/// The type of the samples that are recorded, and when the first of them is.
+#[derive(Clone, Copy)]
+pub struct Recording {
+    pub ty: SampleType,
+    pub start: DevTime,
+}
 
 /// The peak of a block: the greatest absolute value of its samples.
 pub fn peak(ty: SampleType, block: &[u8]) -> u32
@@ -45,7 +53,7 @@ fn record_block<L: Link + Drop, K: Sink>(
     block: &mut [u8],
 ) -> Result<(), ToolEnd>
     requires usable { conn.old.cause ≡ None }
-    requires block { (0 < length block.old) × (length block.old ≤ 16000) }
+    requires block { (0 < length block.old) × (length block.old ≤ greatest_block) }
     ensures goes { ObservedPartWriting L.left L.sent K.held conn.old conn.new sink.old sink.new
         (λ w. takes_block at.0 (length block.old) w) (value_stored result block.new) }
     ensures holds { KeepsConnection L.left L.faults conn.old conn.new result }
@@ -62,22 +70,22 @@ fn record_block<L: Link + Drop, K: Sink>(
 /// Records n frames from a start on, in blocks, and writes each block. Enough quiet blocks in a row end it.
 pub fn record_blocks<L: Link + Drop, K: Sink>(
     job: &RecordJob,
+    recording: Recording,
     conn: &mut Conn<L>,
     sink: &mut K,
     room: &mut [u8],
-    ty: SampleType,
-    start: DevTime,
 ) -> Result<(), ToolEnd>
     requires usable { conn.old.cause ≡ None }
     requires block { (1 ≤ job.now.block) × (job.now.block ≤ 4000) }
     requires stop { (1 ≤ job.now.stop_blocks) × (job.now.stop_blocks ≤ 1000000) }
-    requires room { 16000 ≤ length room.old }
+    requires room { greatest_block ≤ length room.old }
     ensures goes { ObservedPartWriting L.left L.sent K.held conn.old conn.new sink.old sink.new
-        (λ w next. records job.now ty start.0 [] (block_lengths job.now.block job.now.frames) w (next tt)) result }
+        (λ w next. records job.now recording.ty recording.start.0 [] (block_lengths job.now.block job.now.frames) w (next tt)) result }
     ensures holds { KeepsConnection L.left L.faults conn.old conn.new result }
     ensures end { IfErr result (λ how. is_of_records how ≡ true) }
     ensures fault { CountsFault (result ≡ Err ToolEnd.SinkFault) (K.faults sink.old) (K.faults sink.new) }
 {
+    let Recording { ty, start } = recording;
     let width = ty.width();
     let mut at = start;
     let mut left = job.frames;

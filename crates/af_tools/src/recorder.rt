@@ -8,8 +8,9 @@ ghost use Rattle.af_tools.specs.Record.{arecord_trace, record_context, recorded_
 ghost use Rattle.af_tools.specs.Ways.{is_of_writer, is_of_records};
 ghost use Rattle.af_tools.specs.Reading.{ObservedPartWriting};
 ghost use Rattle.af_tools.specs.Ran.{LacksDevice, RunsTool};
+ghost use Rattle.af_options.specs.Sizes.{greatest_block};
 
-use crate::record::record_blocks;
+use crate::record::{Recording, record_blocks};
 use af_io::{Link, Sink};
 use af_lib::Conn;
 use af_options::RecordJob;
@@ -54,7 +55,7 @@ fn record_on<L: Link + Drop, K: Sink>(
     requires usable { conn.old.cause ≡ None }
     requires block { (1 ≤ job.now.block) × (job.now.block ≤ 4000) }
     requires stop { (1 ≤ job.now.stop_blocks) × (job.now.stop_blocks ≤ 1000000) }
-    requires room { 16000 ≤ length room.old }
+    requires room { greatest_block ≤ length room.old }
     ensures goes { ObservedPartWriting L.left L.sent K.held conn.old conn.new sink.old sink.new
         (λ w next. recorded_on job.now device w (next tt)) result }
     ensures holds { KeepsConnection L.left L.faults conn.old conn.new result }
@@ -65,7 +66,7 @@ fn record_on<L: Link + Drop, K: Sink>(
     let ty = context.ty;
     let now = begin(conn, context)?;
     let start = start_of(job, now);
-    record_blocks(job, conn, sink, room, ty, start)?;
+    record_blocks(job, Recording { ty, start }, conn, sink, room)?;
     finish(conn)
 }
 
@@ -80,7 +81,7 @@ pub fn arecord<L: Link + Drop, K: Sink>(
     requires usable { conn.old.cause ≡ None }
     requires block { (1 ≤ job.now.block) × (job.now.block ≤ 4000) }
     requires stop { (1 ≤ job.now.stop_blocks) × (job.now.stop_blocks ≤ 1000000) }
-    requires room { 16000 ≤ length room.old }
+    requires room { greatest_block ≤ length room.old }
 
     // what was sent and written, and when it is done
     ensures ran { RunsTool L.left L.sent K.held (λ w. arecord_trace job.now conn.old.devices w)

@@ -7,26 +7,26 @@ ghost use Rattle.af_options.specs.Ranges.{IsAddress, IsPaced};
 ghost use Rattle.af_options.specs.Words.{relay};
 ghost use Rattle.af_tools.specs.Dialled.{RelaysOver};
 ghost use Rattle.af_tools.specs.Run.{is_of_over, is_of_relay, AskedFor, JobRan, RunsRelayTo};
+ghost use Rattle.af_options.specs.Sizes.{greatest_block};
 
+use crate::memory::Memory;
 use af_io::{Dial, Dialed, Link, Sink};
 use af_lib::Conn;
-use af_options::PassJob;
+use af_options::{PassJob, RelayCall};
 use af_relay::apass;
 use af_tool::ToolEnd;
-use std::alloc::Global;
 
 // Sets the link to the other server up, and passes blocks to it. The link comes back.
 fn pass_over<L: Link + Drop, M: Link + Drop, K: Sink>(
-    alloc: Global,
     job: &PassJob,
     conn: &mut Conn<L>,
     far: M,
     sink: &mut K,
-    room: &mut [u8],
+    memory: &mut Memory,
 ) -> (ToolEnd, M)
     requires usable { conn.old.cause ≡ None }
     requires pace { IsPaced job.now }
-    requires room { 16000 ≤ length room.old }
+    requires room { greatest_block ≤ length memory.old.room.items }
     ensures followed { RelaysOver L.left L.sent M.left M.sent K.held job.now result.0
         conn.old conn.new far result.1 sink.old sink.new }
     ensures memory { result.0 ≡ ToolEnd.OutOfMemory → (L.sent conn.new.link ≡ L.sent conn.old.link)
@@ -37,9 +37,9 @@ fn pass_over<L: Link + Drop, M: Link + Drop, K: Sink>(
     ensures from_count { L.faults conn.old.link ≤ L.faults conn.new.link }
     ensures sink { CountsFault (result.0 ≡ ToolEnd.SinkFault) (K.faults sink.old) (K.faults sink.new) }
 {
-    match Conn::connect(alloc, far) {
+    match Conn::connect(memory.alloc, far) {
         Ok(mut to) => {
-            let end = apass(job, conn, &mut to, sink, room);
+            let end = apass(job, conn, &mut to, sink, &mut memory.room);
             (end, to.into_link())
         }
         Err((fault, far)) => (ToolEnd::from(fault), far),
@@ -48,30 +48,28 @@ fn pass_over<L: Link + Drop, M: Link + Drop, K: Sink>(
 
 // Dials the other server, and passes blocks to it. Both links are given back.
 fn run_to<K: Sink, D: Dial>(
-    alloc: Global,
-    to: &str,
-    job: &PassJob,
+    call: &RelayCall<'_>,
     mut conn: Conn<D::Far>,
     sink: &mut K,
     dial: &mut D,
-    room: &mut [u8],
+    memory: &mut Memory,
 ) -> ToolEnd
     requires usable { conn.cause ≡ None }
-    requires to { IsAddress to.now }
-    requires pace { IsPaced job.now }
-    requires room { 16000 ≤ length room.old }
-    ensures ran { RunsRelayTo D.Far.Link.left D.Far.Link.sent D.links D.back K.held job.now result
+    requires to { IsAddress call.now.to.now }
+    requires pace { IsPaced call.now.job }
+    requires room { greatest_block ≤ length memory.old.room.items }
+    ensures ran { RunsRelayTo D.Far.Link.left D.Far.Link.sent D.links D.back K.held call.now.job result
         conn dial.old dial.new sink.old sink.new }
-    ensures asked { Appended (D.asked dial.old) (to.now ∷ []) (D.asked dial.new) }
+    ensures asked { Appended (D.asked dial.old) (call.now.to.now ∷ []) (D.asked dial.new) }
     ensures memory { result ≡ ToolEnd.OutOfMemory → sink.new ≡ sink.old }
     ensures end { is_of_relay result ≡ true }
     ensures dialled { CountsFault (result ≡ ToolEnd.DialFault) (D.faults dial.old) (D.faults dial.new) }
     ensures link { CountsFault (result ≡ ToolEnd.LinkFault) (D.hurt dial.old) (D.hurt dial.new) }
     ensures sink { CountsFault (result ≡ ToolEnd.SinkFault) (K.faults sink.old) (K.faults sink.new) }
 {
-    match dial.dial(to) {
+    match dial.dial(call.to) {
         Dialed::Far(far) => {
-            let (end, far) = pass_over(alloc, job, &mut conn, far, sink, room);
+            let (end, far) = pass_over(&call.job, &mut conn, far, sink, memory);
             dial.hang_up(conn.into_link());
             dial.hang_up(far);
             end
@@ -89,29 +87,27 @@ fn run_to<K: Sink, D: Dial>(
 
 /// Dials both servers of a relay, and passes blocks from the one to the other. The links are given back.
 pub fn run_relay<K: Sink, D: Dial>(
-    alloc: Global,
-    from: &str,
-    to: &str,
-    job: &PassJob,
+    call: &RelayCall<'_>,
     sink: &mut K,
     dial: &mut D,
-    room: &mut [u8],
+    memory: &mut Memory,
 ) -> ToolEnd
-    requires servers { IsAddress from.now × IsAddress to.now }
-    requires pace { IsPaced job.now }
-    requires room { 16000 ≤ length room.old }
-    ensures ran { (links : List ToldLink) (bytes : List ℕ) → D.links dial.old ≡ Some links → JobRan (relay from.now to.now job.now)
-        bytes result links (D.links dial.new) (K.held sink.old) (K.held sink.new) (D.back dial.old) (D.back dial.new) }
-    ensures asked { AskedFor (from.now ∷ to.now ∷ []) result (D.asked dial.old) (D.asked dial.new) }
+    requires servers { IsAddress call.now.from.now × IsAddress call.now.to.now }
+    requires pace { IsPaced call.now.job }
+    requires room { greatest_block ≤ length memory.old.room.items }
+    ensures ran { (links : List ToldLink) (bytes : List ℕ) → D.links dial.old ≡ Some links →
+        JobRan (relay call.now.from.now call.now.to.now call.now.job) bytes result links (D.links dial.new)
+        (K.held sink.old) (K.held sink.new) (D.back dial.old) (D.back dial.new) }
+    ensures asked { AskedFor (call.now.from.now ∷ call.now.to.now ∷ []) result (D.asked dial.old) (D.asked dial.new) }
     ensures memory { result ≡ ToolEnd.OutOfMemory → sink.new ≡ sink.old }
     ensures end { is_of_relay result ≡ true }
     ensures dialled { CountsFault (result ≡ ToolEnd.DialFault) (D.faults dial.old) (D.faults dial.new) }
     ensures link { CountsFault (result ≡ ToolEnd.LinkFault) (D.hurt dial.old) (D.hurt dial.new) }
     ensures sink { CountsFault (result ≡ ToolEnd.SinkFault) (K.faults sink.old) (K.faults sink.new) }
 {
-    match dial.dial(from) {
-        Dialed::Far(far) => match Conn::connect(alloc, far) {
-            Ok(conn) => run_to(alloc, to, job, conn, sink, dial, room),
+    match dial.dial(call.from) {
+        Dialed::Far(far) => match Conn::connect(memory.alloc, far) {
+            Ok(conn) => run_to(call, conn, sink, dial, memory),
             Err((fault, far)) => {
                 dial.hang_up(far);
                 ToolEnd::from(fault)

@@ -1,5 +1,5 @@
 // The tools, by their words: a server is dialled, and what the words ask is done.
-ghost use Rattle.std.specs.Prelude.{◌≡◌, ◌≢◌, ◌≤◌, ◌⊎◌, ◌∷◌, [], true, length, IfOk};
+ghost use Rattle.std.specs.Prelude.{◌≡◌, ◌≢◌, ◌≤◌, ◌⊎◌, ◌∷◌, [], true, length};
 ghost use Rattle.std.specs.declared.option.Option.TheVariants.{None, Some};
 ghost use Rattle.af_io.specs.Observed.{CountsFault, Appended, FaultCounted};
 ghost use Rattle.af_tool.specs.Trace.{connects};
@@ -10,15 +10,16 @@ ghost use Rattle.af_options.specs.Ranges.{IsAddress, IsRanged};
 ghost use Rattle.af_tools.specs.Ways.{is_of_tool};
 ghost use Rattle.af_tools.specs.Reading.{FollowsTrace, UsesSource};
 ghost use Rattle.af_tools.specs.Run.{is_of_af, is_of_far, is_of_job, is_of_one, job_reads, reads_of, reads_source, servers_of, task_trace, AskedFor, DoesJob, RunsJob};
+ghost use Rattle.af_options.specs.Sizes.{greatest_block};
 
+use crate::memory::Memory;
 use crate::player::aplay;
 use crate::recorder::arecord;
 use crate::relay::run_relay;
 use crate::setter::aset;
 use af_io::{Args, Dial, Dialed, Link, Sink, Source};
 use af_lib::Conn;
-use af_options::{Call, OptionsFault, PassJob, PlayJob, Task, call_of};
-use af_time::OutOfMemory;
+use af_options::{Call, OptionsFault, Task, TaskCall, call_of};
 use af_tool::ToolEnd;
 use std::alloc::Global;
 
@@ -32,7 +33,7 @@ fn perform<L: Link + Drop, S: Source, K: Sink>(
 ) -> ToolEnd
     requires usable { conn.old.cause ≡ None }
     requires range { IsRanged task.now }
-    requires room { 16000 ≤ length room.old }
+    requires room { greatest_block ≤ length room.old }
     ensures followed { FollowsTrace L.left L.sent S.left K.held (reads_source task.now) result conn.old.link conn.new.link
         source.old source.new sink.old sink.new (λ input bytes. task_trace task.now conn.old.devices bytes (client_of conn.old input)) }
     ensures end { is_of_tool (reads_source task.now) result ≡ true }
@@ -49,15 +50,14 @@ fn perform<L: Link + Drop, S: Source, K: Sink>(
 
 // Sets a link up and does a task on it. The link comes back.
 fn perform_over<L: Link + Drop, S: Source, K: Sink>(
-    alloc: Global,
     task: &Task,
     far: L,
     source: &mut S,
     sink: &mut K,
-    room: &mut [u8],
+    memory: &mut Memory,
 ) -> (ToolEnd, L)
     requires range { IsRanged task.now }
-    requires room { 16000 ≤ length room.old }
+    requires room { greatest_block ≤ length memory.old.room.items }
     ensures followed { FollowsTrace L.left L.sent S.left K.held (reads_source task.now) result.0 far result.1
         source.old source.new sink.old sink.new (λ input bytes. connects input (λ devices w. task_trace task.now devices bytes w)) }
     ensures memory { result.0 ≡ ToolEnd.OutOfMemory → (L.sent result.1 ≡ L.sent far) × (sink.new ≡ sink.old) }
@@ -66,52 +66,39 @@ fn perform_over<L: Link + Drop, S: Source, K: Sink>(
     ensures link { result.0 ≡ ToolEnd.LinkFault → FaultCounted (L.faults far) (L.faults result.1) }
     ensures sink { CountsFault (result.0 ≡ ToolEnd.SinkFault) (K.faults sink.old) (K.faults sink.new) }
 {
-    match Conn::connect(alloc, far) {
+    match Conn::connect(memory.alloc, far) {
         Ok(mut conn) => {
-            let end = perform(task, &mut conn, source, sink, room);
+            let end = perform(task, &mut conn, source, sink, &mut memory.room);
             (end, conn.into_link())
         }
         Err((fault, far)) => (ToolEnd::from(fault), far),
     }
 }
 
-/// The greatest block, in bytes: 4000 frames of 4 bytes.
-const GREATEST_BLOCK: usize = 16000;
-
-// Room for the greatest block.
-fn room(alloc: Global) -> Result<Vec<u8>, OutOfMemory>
-    ensures { IfOk result (λ room. length room.items ≡ 16000) }
-{
-    let room = vec![in alloc; 0u8; GREATEST_BLOCK]?;
-    Ok(room)
-}
-
 // Dials a server, and does a task. The link is given back.
 fn run_one<S: Source, K: Sink, D: Dial>(
-    alloc: Global,
-    server: &str,
-    task: &Task,
+    call: &TaskCall<'_>,
     source: &mut S,
     sink: &mut K,
     dial: &mut D,
-    room: &mut [u8],
+    memory: &mut Memory,
 ) -> ToolEnd
-    requires range { IsRanged task.now }
-    requires server { IsAddress server.now }
-    requires room { 16000 ≤ length room.old }
-    ensures ran { RunsJob D.links D.back S.left K.held (one server.now task.now) result
+    requires range { IsRanged call.now.task }
+    requires server { IsAddress call.now.server.now }
+    requires room { greatest_block ≤ length memory.old.room.items }
+    ensures ran { RunsJob D.links D.back S.left K.held (one call.now.server.now call.now.task) result
         dial.old dial.new source.old source.new sink.old sink.new }
-    ensures asked { Appended (D.asked dial.old) (server.now ∷ []) (D.asked dial.new) }
+    ensures asked { Appended (D.asked dial.old) (call.now.server.now ∷ []) (D.asked dial.new) }
     ensures memory { result ≡ ToolEnd.OutOfMemory → sink.new ≡ sink.old }
-    ensures end { is_of_one (reads_source task.now) result ≡ true }
-    ensures source { UsesSource S.left S.faults (reads_source task.now) result source.old source.new }
+    ensures end { is_of_one (reads_source call.now.task) result ≡ true }
+    ensures source { UsesSource S.left S.faults (reads_source call.now.task) result source.old source.new }
     ensures dialled { CountsFault (result ≡ ToolEnd.DialFault) (D.faults dial.old) (D.faults dial.new) }
     ensures link { CountsFault (result ≡ ToolEnd.LinkFault) (D.hurt dial.old) (D.hurt dial.new) }
     ensures sink { CountsFault (result ≡ ToolEnd.SinkFault) (K.faults sink.old) (K.faults sink.new) }
 {
-    match dial.dial(server) {
+    match dial.dial(call.server) {
         Dialed::Far(far) => {
-            let (end, far) = perform_over(alloc, task, far, source, sink, room);
+            let (end, far) = perform_over(&call.task, far, source, sink, memory);
             dial.hang_up(far);
             end
         }
@@ -139,12 +126,12 @@ fn run_call<S: Source, K: Sink, D: Dial>(
     ensures link { CountsFault (result ≡ ToolEnd.LinkFault) (D.hurt dial.old) (D.hurt dial.new) }
     ensures sink { CountsFault (result ≡ ToolEnd.SinkFault) (K.faults sink.old) (K.faults sink.new) }
 {
-    let Ok(mut room) = room(alloc) else {
+    let Ok(mut memory) = Memory::new(alloc) else {
         return ToolEnd::OutOfMemory;
     };
     match call {
-        Call::One { server, task } => run_one(alloc, server, task, source, sink, dial, &mut room),
-        Call::Relay { from, to, job } => run_relay(alloc, from, to, job, sink, dial, &mut room),
+        Call::One(call) => run_one(call, source, sink, dial, &mut memory),
+        Call::Relay(call) => run_relay(call, sink, dial, &mut memory),
     }
 }
 

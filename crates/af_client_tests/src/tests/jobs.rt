@@ -1,6 +1,6 @@
 // Words of the tools, and what they ask.
 use crate::tests::checks::{holds, words_of};
-use af_options::{Call, OptionsFault, PassJob, PlayJob, Task, call_of};
+use af_options::{Call, OptionsFault, PassJob, PlayJob, RelayCall, Task, TaskCall, call_of};
 use af_sample::{Gain, SampleType};
 use std::alloc::Global;
 use std::process::Abort;
@@ -9,7 +9,7 @@ use std::test::Fail;
 // These words ask one server for a task.
 fn ask_task(rt: &impl Abort, alloc: Global, words: &[&str], wanted: Task) -> Result<(), Fail> {
     let args = words_of(alloc, words)?;
-    let Ok(Call::One { server, task }) = call_of(alloc, &args) else {
+    let Ok(Call::One(TaskCall { server, task })) = call_of(alloc, &args) else {
         return Err(Fail::from("no task"));
     };
     holds(rt, "the server", server == "h:1");
@@ -20,7 +20,7 @@ fn ask_task(rt: &impl Abort, alloc: Global, words: &[&str], wanted: Task) -> Res
 // These words ask for a relay between two servers.
 fn ask_relay(rt: &impl Abort, alloc: Global, words: &[&str], wanted: PassJob) -> Result<(), Fail> {
     let args = words_of(alloc, words)?;
-    let Ok(Call::Relay { from, to, job }) = call_of(alloc, &args) else {
+    let Ok(Call::Relay(RelayCall { from, to, job })) = call_of(alloc, &args) else {
         return Err(Fail::from("no relay"));
     };
     holds(rt, "the first server", from == "a:1");

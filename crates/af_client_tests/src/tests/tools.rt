@@ -37,6 +37,15 @@ const NOTHING: Failing<'static> = Failing {
     sink: &[],
 };
 
+// What a run is given: its words, what its source gives, what its two links reply, and what fails.
+#[derive(Clone, Copy)]
+struct Given<'a> {
+    words: &'a [&'a str],
+    source: &'a [u8],
+    replies: [&'a str; 2],
+    failing: Failing<'a>,
+}
+
 // What a run comes to: how it ends, what its links are sent, and what the sink holds.
 #[derive(Clone, Copy)]
 struct Outcome<'a> {
@@ -45,25 +54,22 @@ struct Outcome<'a> {
     held: &'a [u8],
 }
 
-// A run with these words, a source that gives these bytes 3 at a time, and links that give these replies 7 at a time.
+// A run whose source gives its bytes 3 at a time, and whose links give their replies 7 at a time.
 fn comes_to(
     rt: &impl Abort,
     alloc: Global,
     what: &str,
-    words: &[&str],
-    source: &[u8],
-    replies: &[&str; 2],
-    failing: Failing<'_>,
+    given: Given<'_>,
     wanted: Outcome<'_>,
 ) -> Result<(), Fail> {
-    let args = words_of(alloc, words)?;
-    let first = bytes_of(alloc, replies[0])?;
-    let second = bytes_of(alloc, replies[1])?;
+    let args = words_of(alloc, given.words)?;
+    let first = bytes_of(alloc, given.replies[0])?;
+    let second = bytes_of(alloc, given.replies[1])?;
     let requests = bytes_of(alloc, wanted.sent)?;
-    let mut source = MemSource::new(source, 3, failing.source);
+    let mut source = MemSource::new(given.source, 3, given.failing.source);
     let mut room = [0u8; 100];
-    let mut sink = MemSink::new(&mut room, failing.sink);
-    let one = MemLink::new(alloc, first.as_slice(), 7, 1000, failing.link)?;
+    let mut sink = MemSink::new(&mut room, given.failing.sink);
+    let one = MemLink::new(alloc, first.as_slice(), 7, 1000, given.failing.link)?;
     let other = MemLink::new(alloc, second.as_slice(), 7, 1000, &[])?;
     let mut dial = MemDial::new(Some(one), Some(other));
     let end = af_run(alloc, &args, &mut source, &mut sink, &mut dial);
@@ -152,11 +158,14 @@ fn play_each(
     alloc: Global,
     cases: &[(&str, Failing<'_>, Outcome<'_>)],
 ) -> Result<(), Fail> {
-    let replies = [PLAYED, SETUP_REPLY];
     for (what, failing, wanted) in cases {
-        comes_to(
-            rt, alloc, what, &PLAY, &[0xCE; 3], &replies, *failing, *wanted,
-        )?;
+        let given = Given {
+            words: &PLAY,
+            source: &[0xCE; 3],
+            replies: [PLAYED, SETUP_REPLY],
+            failing: *failing,
+        };
+        comes_to(rt, alloc, what, given, *wanted)?;
     }
     Ok(())
 }
@@ -172,15 +181,17 @@ fn a_block_is_passed_from_link_to_link(rt: HostRuntime) -> Result<(), Fail> {
         &rt,
         rt.alloc(),
         "a relay",
-        &["apass", "h:1", "h:2", "--blocks=1", "--block=2"],
-        &[],
-        &[
-            "01000000 00000005 00010000 00000001 02010000 00001f40 00007d00 01030001 00000000 \
-             01020002 00000001 00000000 01070003 00000003 00000002 00000004 000a000b 01050004 00000000",
-            "01000000 00000005 00010000 00000001 02010000 00001f40 00007d00 01030001 00000000 \
-             01020002 00000001 00000000 01060003 00000001 00000000 01050004 00000000",
-        ],
-        NOTHING,
+        Given {
+            words: &["apass", "h:1", "h:2", "--blocks=1", "--block=2"],
+            source: &[],
+            replies: [
+                "01000000 00000005 00010000 00000001 02010000 00001f40 00007d00 01030001 00000000 \
+                 01020002 00000001 00000000 01070003 00000003 00000002 00000004 000a000b 01050004 00000000",
+                "01000000 00000005 00010000 00000001 02010000 00001f40 00007d00 01030001 00000000 \
+                 01020002 00000001 00000000 01060003 00000001 00000000 01050004 00000000",
+            ],
+            failing: NOTHING,
+        },
         Outcome {
             end: ToolEnd::Done,
             sent: "41464200 00010000 03000004 00000001 02010000 00000000 02000001 \

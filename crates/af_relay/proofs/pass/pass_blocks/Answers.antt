@@ -25,8 +25,8 @@ returns-in_err-passed-clause-goes g c v w told_from told_to =
     let i = c.loop-left.invariant in
     let r = i.passing v w told_from told_to in
     let same : c.from_residual.result ≡ Err c.in_err-passed.field-0.0 = search rules in
-    let job = c.args.job.now in
-    let pace = c.args.pace in
+    let job = c.args.plan.now.job in
+    let pace = c.args.plan.now.pace in
     let v1 = client_of c.loop-left.from r.v in
     let w1 = client_of c.loop-left.to r.w in
     rw same (reached_both _ _ _ _ _ _ _ _ _ _ r _ _ _ _ _ _ _
@@ -41,8 +41,8 @@ loop-left-preserved g c =
     let few = i.few in
     let e = c.in_ok-passed.ensures in
     let more = e.few in
-    let job = c.args.job.now in
-    let pace = c.args.pace in
+    let job = c.args.plan.now.job in
+    let pace = c.args.plan.now.pace in
     record {
       usable_from = e.holds.usable_from refl;
       usable_to = e.holds.usable_to refl;
@@ -64,10 +64,10 @@ pub returns-clause-goes : goal.returns-clause-goes
 returns-clause-goes g c v w told_from told_to =
     let i = c.loop-left.invariant in
     let r = i.passing v w told_from told_to in
-    let job = c.args.job.now in
+    let job = c.args.plan.now.job in
     let v1 = client_of c.loop-left.from r.v in
     let w1 = client_of c.loop-left.to r.w in
     let none : c.loop-left.left ≡ 0 = omega arith in
     reached_both _ _ _ _ _ _ _ _ _ _ r _ _ _ _ _ _ _
     (both_value _ c.loop-left.passed r.v r.w _ _ _ _ _ _ r.told_from r.told_to
-    (λ next. rw none (passes_none job c.args.pace c.loop-left.passed v1 w1 next)))
+    (λ next. rw none (passes_none job c.args.plan.now.pace c.loop-left.passed v1 w1 next)))

@@ -13,9 +13,9 @@ invariant-loop-left g l = record {
   count_from : g.L.Link.faults l.initial.from.link ≤ g.L.Link.faults l.from.link;
   count_to : g.M.Link.faults l.initial.to.link ≤ g.M.Link.faults l.to.link;
   size : length l.block ≡ length l.initial.block;
-  few : l.passed.resynced + l.left ≤ l.job.blocks;
+  few : l.passed.resynced + l.left ≤ l.plan.job.blocks;
   passing : (v w : List ℕ) → g.L.Link.left l.initial.from.link ≡ Some v → g.M.Link.left l.initial.to.link ≡ Some w →
-      ReachesBoth (left_to_pass l.job.blocks l.job l.pace l.initial.passed (client_of l.initial.from v) (client_of l.initial.to w)) (left_to_pass l.left l.job l.pace l.passed)
+      ReachesBoth (left_to_pass l.plan.job.blocks l.plan.job l.plan.pace l.initial.passed (client_of l.initial.from v) (client_of l.initial.to w)) (left_to_pass l.left l.plan.job l.plan.pace l.passed)
       (g.L.Link.left l.from.link) (client_of l.from) (g.L.Link.sent l.initial.from.link) (g.L.Link.sent l.from.link) (g.M.Link.left l.to.link) (client_of l.to) (g.M.Link.sent l.initial.to.link) (g.M.Link.sent l.to.link);
 }
 

@@ -15,7 +15,7 @@ loop-left-init g c = record {
   link_count = omega arith;
   count = omega arith;
   going = omega arith;
-  recording = λ input told. record_begin c.args.job.now c.args.ty c.args.start.0 (client_of c.args.conn.now input) input _ (client_of c.args.conn.now) _ _ told refl;
+  recording = λ input told. record_begin c.args.job.now c.args.recording.ty c.args.recording.start.0 (client_of c.args.conn.now input) input _ (client_of c.args.conn.now) _ _ told refl;
 }
 
 pub returns-in_err-record_block-clause-goes : goal.returns-in_err-record_block-clause-goes
@@ -24,7 +24,7 @@ returns-in_err-record_block-clause-goes g c input told =
     let same : c.from_residual.result ≡ Err c.in_err-record_block.field-0.0 = search rules in
     let n = c.min-count.result in
     let fits : n * c.width-width.result ≤ length c.loop-left.room = search rules in
-    let size : length (take (n * c.width-width.result) c.loop-left.room) ≡ n * width_of c.args.ty = length-take-le _ c.loop-left.room fits ∙ ap (λ (w : ℕ). n * w) c.width-width.ensures in
+    let size : length (take (n * c.width-width.result) c.loop-left.room) ≡ n * width_of c.args.recording.ty = length-take-le _ c.loop-left.room fits ∙ ap (λ (w : ℕ). n * w) c.width-width.ensures in
     rw same (record_stopped _ _ _ _ _ _ _ _ _ _ _ _ _ r (omega arith) (omega arith) n _ c.min-count.ensures size _ _ _ _ c.in_err-record_block.field-0.0 (c.in_err-record_block.ensures.goes r.input r.is_told))
 
 pub returns-then-row-job-clause-goes : goal.returns-then-row-job-clause-goes
@@ -32,10 +32,10 @@ returns-then-row-job-clause-goes g c input told =
     let r = c.loop-left.invariant.recording input told in
     let n = c.min-count.result in
     let fits : n * c.width-width.result ≤ length c.loop-left.room = search rules in
-    let size : length (take (n * c.width-width.result) c.loop-left.room) ≡ n * width_of c.args.ty = length-take-le _ c.loop-left.room fits ∙ ap (λ (w : ℕ). n * w) c.width-width.ensures in
+    let size : length (take (n * c.width-width.result) c.loop-left.room) ≡ n * width_of c.args.recording.ty = length-take-le _ c.loop-left.room fits ∙ ap (λ (w : ℕ). n * w) c.width-width.ensures in
     let long : length c.record_block.new.block ≡ n * c.width-width.result = omega (arith, length-take-le (n * c.width-width.result) c.loop-left.room fits) in
-    let heard : c.peak.result ≡ peak c.args.ty c.record_block.new.block = c.peak.ensures ∙ ap (peak c.args.ty) (take_at c.record_block.new.block (drop (n * c.width-width.result) c.loop-left.room) (n * c.width-width.result) long) in
-    let row : c.row_behind-row.result ≡ (if nat_lt (peak c.args.ty c.record_block.new.block) c.args.job.now.stop_peak then c.loop-left.row + 1 else 0) = c.row_behind-row.ensures ∙ ap (λ (p : ℕ). if nat_lt p c.args.job.now.stop_peak then c.loop-left.row + 1 else 0) heard in
+    let heard : c.peak.result ≡ peak c.args.recording.ty c.record_block.new.block = c.peak.ensures ∙ ap (peak c.args.recording.ty) (take_at c.record_block.new.block (drop (n * c.width-width.result) c.loop-left.room) (n * c.width-width.result) long) in
+    let row : c.row_behind-row.result ≡ (if nat_lt (peak c.args.recording.ty c.record_block.new.block) c.args.job.now.stop_peak then c.loop-left.row + 1 else 0) = c.row_behind-row.ensures ∙ ap (λ (p : ℕ). if nat_lt p c.args.job.now.stop_peak then c.loop-left.row + 1 else 0) heard in
     record_quiet _ _ _ _ _ _ _ _ _ _ _ _ _ r (omega arith) (omega arith) n _ c.min-count.ensures size _ _ _ _ c.record_block.new.block (c.in_ok-record_block.ensures.goes r.input r.is_told) c.row_behind-row.result row c.if-row-job.true
 
 pub loop-left-preserved : goal.loop-left-preserved
@@ -44,10 +44,10 @@ loop-left-preserved g c =
     let e = c.in_ok-record_block.ensures in
     let n = c.min-count.result in
     let fits : n * c.width-width.result ≤ length c.loop-left.room = search rules in
-    let size : length (take (n * c.width-width.result) c.loop-left.room) ≡ n * width_of c.args.ty = length-take-le _ c.loop-left.room fits ∙ ap (λ (w : ℕ). n * w) c.width-width.ensures in
+    let size : length (take (n * c.width-width.result) c.loop-left.room) ≡ n * width_of c.args.recording.ty = length-take-le _ c.loop-left.room fits ∙ ap (λ (w : ℕ). n * w) c.width-width.ensures in
     let long : length c.record_block.new.block ≡ n * c.width-width.result = omega (arith, length-take-le (n * c.width-width.result) c.loop-left.room fits) in
-    let heard : c.peak.result ≡ peak c.args.ty c.record_block.new.block = c.peak.ensures ∙ ap (peak c.args.ty) (take_at c.record_block.new.block (drop (n * c.width-width.result) c.loop-left.room) (n * c.width-width.result) long) in
-    let row : c.row_behind-row.result ≡ (if nat_lt (peak c.args.ty c.record_block.new.block) c.args.job.now.stop_peak then c.loop-left.row + 1 else 0) = c.row_behind-row.ensures ∙ ap (λ (p : ℕ). if nat_lt p c.args.job.now.stop_peak then c.loop-left.row + 1 else 0) heard in
+    let heard : c.peak.result ≡ peak c.args.recording.ty c.record_block.new.block = c.peak.ensures ∙ ap (peak c.args.recording.ty) (take_at c.record_block.new.block (drop (n * c.width-width.result) c.loop-left.room) (n * c.width-width.result) long) in
+    let row : c.row_behind-row.result ≡ (if nat_lt (peak c.args.recording.ty c.record_block.new.block) c.args.job.now.stop_peak then c.loop-left.row + 1 else 0) = c.row_behind-row.ensures ∙ ap (λ (p : ℕ). if nat_lt p c.args.job.now.stop_peak then c.loop-left.row + 1 else 0) heard in
     record {
       usable = e.holds.usable refl;
       devices = e.holds.devices ∙ i.devices;

@@ -1,0 +1,25 @@
+// The memory of a run.
+ghost use Rattle.std.specs.Prelude.{◌≡◌, length, IfOk};
+ghost use Rattle.af_options.specs.Sizes.{greatest_block};
+
+use af_time::OutOfMemory;
+use std::alloc::Global;
+
+/// The greatest block, in bytes: 4000 frames of 4 bytes.
+const GREATEST_BLOCK: usize = 16000;
+
+/// What a run takes its memory from: where each connection takes its own, and room for the greatest block.
+#[derive(Drop)]
+pub struct Memory {
+    pub alloc: Global,
+    pub room: Vec<u8>,
+}
+
+impl Memory {
+    pub fn new(alloc: Global) -> Result<Memory, OutOfMemory>
+        ensures { IfOk result (λ memory. length memory.room.items ≡ greatest_block) }
+    {
+        let room = vec![in alloc; 0u8; GREATEST_BLOCK]?;
+        Ok(Memory { alloc, room })
+    }
+}

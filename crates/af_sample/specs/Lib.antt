@@ -6,3 +6,4 @@ pub mod G711
 pub mod Samples
 pub mod Heard
 pub mod Window
+pub mod Lanes

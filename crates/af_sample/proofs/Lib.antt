@@ -7,6 +7,8 @@ pub mod MuLawLemmas
 pub mod AlawLemmas
 pub mod LaneLemmas
 pub mod VectorLemmas
+pub mod SegmentTable
+pub mod ByteLemmas
 pub mod RunLemmas
 pub mod HeardLemmas
 pub mod SinglePlayLemmas

@@ -14,6 +14,7 @@ mod mu_law;
 mod rate;
 mod runs;
 mod sample_type;
+mod segment;
 
 pub use coding::{convert_in, convert_out, decode, encode};
 pub use decibels::{Gain, gained};

@@ -8,7 +8,6 @@ pub mod AlawLemmas
 pub mod LaneLemmas
 pub mod VectorLemmas
 pub mod SegmentTable
-pub mod ByteLemmas
 pub mod RunLemmas
 pub mod HeardLemmas
 pub mod SinglePlayLemmas

@@ -26,20 +26,10 @@ pub fn encode(ty: SampleType, x: i16, out: &mut [u8])
     ensures { out.new ≡ encoded ty x }
 {
     match ty {
-        SampleType::Mu255 => out[0] = mu_law::compressed(x),
-        SampleType::Alaw => out[0] = alaw::compressed(x),
-        SampleType::Lin16 => {
-            let [high, low] = x.to_be_bytes();
-            out[0] = high;
-            out[1] = low;
-        }
-        SampleType::Lin32 => {
-            let [first, second, third, fourth] = (i32::from(x) << 16).to_be_bytes();
-            out[0] = first;
-            out[1] = second;
-            out[2] = third;
-            out[3] = fourth;
-        }
+        SampleType::Mu255 => out.copy_from_slice(&[mu_law::compressed(x)]),
+        SampleType::Alaw => out.copy_from_slice(&[alaw::compressed(x)]),
+        SampleType::Lin16 => out.copy_from_slice(&x.to_be_bytes()),
+        SampleType::Lin32 => out.copy_from_slice(&(i32::from(x) << 16).to_be_bytes()),
     }
 }
 

@@ -1,16 +1,14 @@
 -- A-law: the list of interval starts is what the code's shifts make, and so are its samples.
-use Rattle.std.proofs.Common.{◌≡◌, ◌<◌, ◌≤◌, ◌+◌, ◌-◌, ◌*◌, ◌/◌, ◌%◌, ◌^◌, ◌&&◌, ◌||◌, ◌⊎◌, inl, inr, ℕ, zero, suc, Bool, true, false, cond, nat_eq, nat_lt, nat_le, length, slice_index, bit_and, bit_or, bit_xor, refl, sym, ap, ◌∙◌, subst, arith, max, ℤ, pos, negsuc, ◌-ℤ◌, nat_abs, to_z, of_z, map, List, slice_index_or}
+use Rattle.std.proofs.Common.{◌≡◌, ◌<◌, ◌≤◌, ◌+◌, ◌-◌, ◌*◌, ◌/◌, ◌%◌, ◌^◌, ◌&&◌, ◌||◌, ◌⊎◌, inl, inr, ℕ, zero, suc, Bool, true, false, nat_eq, nat_lt, nat_le, length, slice_index, bit_and, bit_or, bit_xor, refl, sym, ap, ◌∙◌, subst, arith, max, ℤ, pos, negsuc, nat_abs, to_z, of_z}
 use Rattle.std.specs.Int.{w16}
 use Rattle.std.specs.Prelude.{FitsSigned}
 use Rattle.std.specs.Int.Count.{count_leading_zeros}
-use Rattle.std.specs.List.{range_with_len}
 use Rattle.std.proofs.lemmas.Int.{to_z-of_z, to_z_pos}
-use Rattle.std.proofs.lemmas.List.FromFn.{get_or-map-range_with_len}
-use Rattle.std.proofs.lemmas.Bool.{and_parts, or_cases, eqb-true, ltb-true, leb-true, cases_lt, lt-ltb, le-ltb, true≢false, cond-true, cond-false}
+use Rattle.std.proofs.lemmas.Bool.{and_parts, or_cases, eqb-true, ltb-true, leb-true, cases_lt, true≢false}
 use Rattle.std.proofs.lemmas.Nat.{leading_length}
 use Rattle.std.proofs.Math.Pow.{pow_mono}
 use lib.Signed.{lt_z}
-use Rattle.af_sample.specs.G711.{alaw_starts, interval_of, alaw_samples, from_alaw, to_alaw}
+use Rattle.af_sample.specs.G711.{alaw_starts, interval_of, to_alaw}
 use Rattle.af_sample.proofs.TableLemmas.{all_from, entry_passes}
 use Rattle.af_sample.proofs.IntervalLemmas.{rises, interval_is}
 use Rattle.af_sample.proofs.SegmentLemmas.{InSegment, segment_of, place, code, joined, from, to}
@@ -87,7 +85,7 @@ other_segment m e high seg =
     (from alaw_starts 0 16 start_of m m e none seg (omega arith))
     (λ more. to alaw_starts 0 16 start_of m m e none seg (omega arith) (subst (λ n. suc (place m e) < n) long more))
 
-zeros_many : (m : ℕ) → m < 256 → 8 ≤ count_leading_zeros 16 m
+pub zeros_many : (m : ℕ) → m < 256 → 8 ≤ count_leading_zeros 16 m
 zeros_many m low =
     let top = leading_length 16 m (omega arith) in
     let n : ℕ = top.0 in
@@ -135,34 +133,6 @@ interval_low m low =
           let e = other_segment m seg.0 other seg.1 in
           omega arith
     ]
-
--- the sample of a byte, as the code computes it
-abbrev pub middle : ℕ → ℕ
-middle n = cond (nat_lt n 16) (16 * n + 8) ((16 * (n % 16) + 264) * 2 ^ (n / 16 - 1))
-
-abbrev sample_of : ℕ → ℤ
-sample_of byte = cond (nat_lt (bit_xor byte 85) 128) (pos 0 -ℤ to_z w16 (middle (bit_and (bit_xor byte 85) 127))) (to_z w16 (middle (bit_and (bit_xor byte 85) 127)))
-
-samples_are : map sample_of (range_with_len 0 256) ≡ alaw_samples
-unfolding alaw_samples
-samples_are = refl
-
-sample_is : (byte : ℕ) → byte < 256 → sample_of byte ≡ from_alaw byte
-sample_is byte low =
-    sym (get_or-map-range_with_len sample_of 0 256 byte byte (pos 0) low (omega arith))
-    ∙ ap (λ (xs : List ℤ). slice_index_or xs byte (pos 0)) samples_are
-
-pub negative_is : (byte r : ℕ) → byte < 256 → bit_xor byte 85 < 128 → r ≡ middle (bit_and (bit_xor byte 85) 127) → pos 0 -ℤ to_z w16 r ≡ from_alaw byte
-negative_is byte r low below same =
-    ap (λ k. pos 0 -ℤ to_z w16 k) same
-    ∙ sym (cond-true (nat_lt (bit_xor byte 85) 128) (pos 0 -ℤ to_z w16 (middle (bit_and (bit_xor byte 85) 127))) (to_z w16 (middle (bit_and (bit_xor byte 85) 127))) (lt-ltb (bit_xor byte 85) 128 below))
-    ∙ sample_is byte low
-
-pub positive_is : (byte r : ℕ) → byte < 256 → 128 ≤ bit_xor byte 85 → r ≡ middle (bit_and (bit_xor byte 85) 127) → to_z w16 r ≡ from_alaw byte
-positive_is byte r low above same =
-    ap (to_z w16) same
-    ∙ sym (cond-false (nat_lt (bit_xor byte 85) 128) (pos 0 -ℤ to_z w16 (middle (bit_and (bit_xor byte 85) 127))) (to_z w16 (middle (bit_and (bit_xor byte 85) 127))) (le-ltb (bit_xor byte 85) 128 above))
-    ∙ sample_is byte low
 
 -- the byte of a sample, by its sign: all bits of a negative one are inverted to its magnitude
 inverted : (n : ℕ) → n < 32768 → nat_abs (to_z w16 (65535 - of_z w16 (negsuc n))) ≡ n

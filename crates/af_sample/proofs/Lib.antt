@@ -5,6 +5,9 @@ pub mod IntervalLemmas
 pub mod SegmentLemmas
 pub mod MuLawLemmas
 pub mod AlawLemmas
+pub mod LaneLemmas
+pub mod VectorLemmas
+pub mod SegmentTable
 pub mod RunLemmas
 pub mod HeardLemmas
 pub mod SinglePlayLemmas

@@ -1,14 +1,11 @@
 -- Mu-law: the list of decision values is what the code's shifts make.
-use Rattle.std.proofs.Common.{◌≡◌, ◌<◌, ◌≤◌, ◌+◌, ◌-◌, ◌*◌, ◌/◌, ◌%◌, ◌^◌, ◌&&◌, ◌||◌, ◌⊎◌, inl, inr, ℕ, suc, Bool, true, nat_eq, length, slice_index, bit_and, refl, sym, ap, ◌∙◌, subst, arith, min, ℤ, pos, negsuc, ◌-ℤ◌, nat_abs, to_z, of_z, false, cond, nat_lt, map, List, slice_index_or}
+use Rattle.std.proofs.Common.{◌≡◌, ◌<◌, ◌≤◌, ◌+◌, ◌-◌, ◌*◌, ◌/◌, ◌%◌, ◌^◌, ◌&&◌, ◌||◌, ◌⊎◌, inl, inr, ℕ, suc, Bool, true, nat_eq, length, slice_index, refl, sym, ap, ◌∙◌, subst, arith, min, ℤ, pos, negsuc, nat_abs, to_z, of_z, false}
 use Rattle.std.specs.Int.{w16}
 use Rattle.std.specs.Prelude.{FitsSigned}
 use Rattle.std.proofs.lemmas.Int.{to_z-of_z}
 use lib.Signed.{lt_z}
-use Rattle.std.specs.Int.Count.{count_leading_zeros}
-use Rattle.std.specs.List.{range_with_len}
-use Rattle.std.proofs.lemmas.List.FromFn.{get_or-map-range_with_len}
-use Rattle.std.proofs.lemmas.Bool.{and_parts, or_cases, eqb-true, cases_lt, lt-ltb, le-ltb, ltb-true, true≢false, cond-true, cond-false}
-use Rattle.af_sample.specs.G711.{mu_law_starts, mu_law_decisions, interval_of, mu_law_samples, from_mu_law, to_mu_law}
+use Rattle.std.proofs.lemmas.Bool.{and_parts, or_cases, eqb-true, cases_lt, ltb-true, true≢false}
+use Rattle.af_sample.specs.G711.{mu_law_starts, mu_law_decisions, interval_of, to_mu_law}
 use Rattle.af_sample.proofs.TableLemmas.{all_from, entry_passes}
 use Rattle.af_sample.proofs.IntervalLemmas.{rises, interval_is}
 use Rattle.af_sample.proofs.SegmentLemmas.{InSegment, segment_of, place, code, code_is, from, to}
@@ -89,46 +86,13 @@ code_value m r limited =
       | inr within ↦ ap (interval_of mu_law_starts) (let e : r ≡ m = omega arith in e)
     ]
 
-pub code_low : (m r : ℕ) → r ≡ min m 32635 → code (r + 132) < 128
-code_low m r limited =
+pub interval_low : (m r : ℕ) → r ≡ min m 32635 → interval_of mu_law_starts m < 128
+interval_low m r limited =
     let seg = segment_of (r + 132) (omega arith) (omega arith) in
     let few : seg.0 ≤ 7 = seg.1.few in
     let e : code (r + 132) ≡ place (r + 132) seg.0 = code_is (r + 132) seg.0 seg.1 in
+    let e' : code (r + 132) ≡ interval_of mu_law_starts m = code_value m r limited in
     omega arith
-
-pub zeros_few : (m r : ℕ) → r ≡ min m 32635 → count_leading_zeros 16 (r + 132) ≤ 8
-zeros_few m r limited =
-    let seg = segment_of (r + 132) (omega arith) (omega arith) in
-    let zeros : count_leading_zeros 16 (r + 132) ≡ 8 - seg.0 = seg.1.zeros in
-    omega arith
-
--- the sample of a byte, as the code computes it
-abbrev pub middle : ℕ → ℕ
-middle n = (8 * (n % 16) + 132) * 2 ^ (n / 16) - 132
-
-abbrev sample_of : ℕ → ℤ
-sample_of byte = cond (nat_lt byte 128) (pos 0 -ℤ to_z w16 (middle (bit_and (255 - byte) 127))) (to_z w16 (middle (bit_and (255 - byte) 127)))
-
-samples_are : map sample_of (range_with_len 0 256) ≡ mu_law_samples
-unfolding mu_law_samples
-samples_are = refl
-
-sample_is : (byte : ℕ) → byte < 256 → sample_of byte ≡ from_mu_law byte
-sample_is byte low =
-    sym (get_or-map-range_with_len sample_of 0 256 byte byte (pos 0) low (omega arith))
-    ∙ ap (λ (xs : List ℤ). slice_index_or xs byte (pos 0)) samples_are
-
-pub negative_is : (byte r : ℕ) → byte < 128 → r ≡ middle (bit_and (255 - byte) 127) → pos 0 -ℤ to_z w16 r ≡ from_mu_law byte
-negative_is byte r low same =
-    ap (λ k. pos 0 -ℤ to_z w16 k) same
-    ∙ sym (cond-true (nat_lt byte 128) (pos 0 -ℤ to_z w16 (middle (bit_and (255 - byte) 127))) (to_z w16 (middle (bit_and (255 - byte) 127))) (lt-ltb byte 128 low))
-    ∙ sample_is byte (omega arith)
-
-pub positive_is : (byte r : ℕ) → 128 ≤ byte → byte < 256 → r ≡ middle (bit_and (255 - byte) 127) → to_z w16 r ≡ from_mu_law byte
-positive_is byte r high low same =
-    ap (to_z w16) same
-    ∙ sym (cond-false (nat_lt byte 128) (pos 0 -ℤ to_z w16 (middle (bit_and (255 - byte) 127))) (to_z w16 (middle (bit_and (255 - byte) 127))) (le-ltb byte 128 high))
-    ∙ sample_is byte low
 
 -- the byte of a sample, by its sign
 negative : (x : ℤ) (k : ℕ) → lt_z x (pos 0) ≡ true → k ≡ interval_of mu_law_starts (nat_abs x) → 127 - k ≡ to_mu_law x

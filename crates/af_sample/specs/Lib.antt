@@ -7,3 +7,4 @@ pub mod Samples
 pub mod Heard
 pub mod Window
 pub mod Sizes
+pub mod Lanes

@@ -33,8 +33,10 @@ pub fn encode(ty: SampleType, x: i16, out: &mut [u8])
     }
 }
 
-/// Decodes a run: a sample for each width bytes.
-pub fn convert_in(ty: SampleType, bytes: &[u8], out: &mut [i16])
+// Decodes sample by sample. It is laid out anew where it is called, for the one type that is named there: of a loop with a
+// known width the compiler makes one on lanes.
+#[inline(always)]
+fn decode_each(ty: SampleType, bytes: &[u8], out: &mut [i16])
     requires { length bytes.now ≡ length out.old * width_of ty }
     ensures { out.new ≡ samples ty bytes.now }
 {
@@ -45,8 +47,22 @@ pub fn convert_in(ty: SampleType, bytes: &[u8], out: &mut [i16])
     }
 }
 
-/// Encodes a run: width bytes for each sample.
-pub fn convert_out(ty: SampleType, samples: &[i16], out: &mut [u8])
+/// Decodes a run: a sample for each width bytes.
+pub fn convert_in(ty: SampleType, bytes: &[u8], out: &mut [i16])
+    requires { length bytes.now ≡ length out.old * width_of ty }
+    ensures { out.new ≡ samples ty bytes.now }
+{
+    match ty {
+        SampleType::Mu255 => decode_each(SampleType::Mu255, bytes, out),
+        SampleType::Alaw => decode_each(SampleType::Alaw, bytes, out),
+        SampleType::Lin16 => decode_each(SampleType::Lin16, bytes, out),
+        SampleType::Lin32 => decode_each(SampleType::Lin32, bytes, out),
+    }
+}
+
+// Encodes sample by sample, for a type that is known where it is called, as `decode_each` decodes.
+#[inline(always)]
+fn encode_each(ty: SampleType, samples: &[i16], out: &mut [u8])
     requires { length out.old ≡ length samples.now * width_of ty }
     ensures { out.new ≡ bytes_of ty samples.now }
 {
@@ -54,5 +70,18 @@ pub fn convert_out(ty: SampleType, samples: &[i16], out: &mut [u8])
     for (i, x) in samples.iter().enumerate() {
         let at = i * width;
         encode(ty, *x, &mut out[at..at + width]);
+    }
+}
+
+/// Encodes a run: width bytes for each sample.
+pub fn convert_out(ty: SampleType, samples: &[i16], out: &mut [u8])
+    requires { length out.old ≡ length samples.now * width_of ty }
+    ensures { out.new ≡ bytes_of ty samples.now }
+{
+    match ty {
+        SampleType::Mu255 => encode_each(SampleType::Mu255, samples, out),
+        SampleType::Alaw => encode_each(SampleType::Alaw, samples, out),
+        SampleType::Lin16 => encode_each(SampleType::Lin16, samples, out),
+        SampleType::Lin32 => encode_each(SampleType::Lin32, samples, out),
     }
 }

@@ -59,7 +59,8 @@ static MULTIPLIERS: [u16; 61] = [
     14464, 16229, 18209, 20431, 22924, 25721, 28860, 32381,
 ];
 
-fn multiplier_of(gain: Gain) -> u16
+/// What multiplies a sample with this gain, in 1024ths.
+pub(crate) fn multiplier_of(gain: Gain) -> u16
     ensures value { result ≡ multiplier gain }
     ensures most { result ≤ 32381 }
 {

@@ -8,14 +8,17 @@ ghost use Rattle.af_sample.specs.Mixing.{mixed};
 mod alaw;
 mod coding;
 mod decibels;
+mod lanes;
 pub mod laws;
 mod mu_law;
 mod rate;
 mod runs;
 mod sample_type;
+mod segment;
 
 pub use coding::{convert_in, convert_out, decode, encode};
 pub use decibels::{Gain, gained};
+pub use lanes::{gain_lanes, mix_lanes};
 pub use rate::is_listed_rate;
 pub use runs::{gain_run, mix_into};
 pub use sample_type::SampleType;

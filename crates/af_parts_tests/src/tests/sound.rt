@@ -9,6 +9,7 @@ use crate::tests::reference::{
 };
 use af_sample::*;
 use std::process::Abort;
+use std::simd::prelude::*;
 
 fn assert_decoded(rt: &impl Abort, ty: SampleType, bytes: &[u8], samples: &[i16], out: &mut [i16])
     requires { length bytes.now ≡ length out.old * width_of ty }
@@ -95,13 +96,67 @@ fn linear_samples_have_their_high_byte_first(rt: HostRuntime) {
     );
 }
 
+// Each sample with its byte in one of the laws, and what that byte is decoded to.
+fn assert_codes(rt: &impl Abort, ty: SampleType, cases: &[(i16, u8, i16)])
+    requires { width_of ty ≡ 1 }
+{
+    for (sample, byte, back) in cases {
+        let mut code = [0u8; 1];
+        encode(ty, *sample, &mut code);
+        assert_bytes(rt, "a code", &code, &[*byte]);
+        assert_number(
+            rt,
+            "a code that is decoded",
+            i128::from(decode(ty, &code)),
+            i128::from(*back),
+        );
+    }
+}
+
+#[test]
+fn codes_of_both_laws_by_hand(rt: HostRuntime) {
+    assert_codes(
+        &rt,
+        SampleType::Mu255,
+        &[
+            (1000, 0xCE, 988),
+            (0, 0xFF, 0),
+            (-1, 0x7F, 0),
+            (124, 0xEF, 132),
+            (132, 0xEF, 132),
+            (32635, 0x80, 32124),
+            (32636, 0x80, 32124),
+            (32767, 0x80, 32124),
+            (-32768, 0x00, -32124),
+        ],
+    );
+    assert_codes(
+        &rt,
+        SampleType::Alaw,
+        &[
+            (1000, 0xFA, 1008),
+            (0, 0xD5, 8),
+            (-1, 0x55, -8),
+            (127, 0xD2, 120),
+            (128, 0xDD, 136),
+            (32767, 0xAA, 32256),
+            (-32768, 0x2A, -32256),
+        ],
+    );
+}
+
+// How many samples a run has in which there are two full vectors and a rest.
+const LONG: usize = 37;
+
 // Each sample with n decibels, or that so many are no gain.
 fn assert_gains(rt: &impl Abort, cases: &[(i16, i32, Option<i16>)]) {
     for (sample, db, wanted) in cases {
-        let mut run = [*sample; 2];
+        let mut run = [*sample; LONG];
         match Gain::new(*db) {
             Some(gain) => {
                 gain_run(&mut run, gain);
+                let lanes = gain_lanes(i16x16::splat(*sample), gain).to_array();
+                assert_samples(rt, "a vector", &lanes, &run[..16]);
                 assert_number(rt, "the gain", i128::from(gain.db()), i128::from(*db));
                 assert_number(
                     rt,
@@ -112,21 +167,18 @@ fn assert_gains(rt: &impl Abort, cases: &[(i16, i32, Option<i16>)]) {
             }
             None => assert_number(rt, "no gain", 0, i128::from(wanted.is_some())),
         }
-        assert_number(
-            rt,
-            "a run",
-            i128::from(run[0]),
-            i128::from(wanted.unwrap_or(*sample)),
-        );
+        assert_samples(rt, "a run", &run, &[wanted.unwrap_or(*sample); LONG]);
     }
 }
 
 // Each sum of two samples.
 fn assert_sums(rt: &impl Abort, cases: &[(i16, i16, i16)]) {
     for (first, second, sum) in cases {
-        let mut run = [*first; 2];
-        mix_into(&mut run, &[*second; 2]);
-        assert_samples(rt, "a run", &run, &[*sum; 2]);
+        let mut run = [*first; LONG];
+        mix_into(&mut run, &[*second; LONG]);
+        assert_samples(rt, "a run", &run, &[*sum; LONG]);
+        let lanes = mix_lanes(i16x16::splat(*first), i16x16::splat(*second)).to_array();
+        assert_samples(rt, "a vector", &lanes, &run[..16]);
         assert_number(
             rt,
             "one sample",
@@ -150,6 +202,8 @@ fn gains_are_truncated_and_sums_saturated(rt: HostRuntime) {
             (2000, 30, Some(32767)),
             (-2000, 30, Some(-32768)),
             (10000, -30, Some(312)),
+            (32767, 0, Some(32767)),
+            (-32768, 0, Some(-32768)),
             (10000, 31, None),
             (10000, -31, None),
         ],
@@ -163,6 +217,17 @@ fn gains_are_truncated_and_sums_saturated(rt: HostRuntime) {
             (3990, 10, 4000),
         ],
     );
+}
+
+// Runs of every length up to 100: full vectors of them and what is left are the same at each place.
+#[test]
+fn runs_of_each_length_are_mixed_at_each_place(rt: HostRuntime) {
+    for n in 0..=100usize {
+        let mut onto = [30000i16; 100];
+        mix_into(&mut onto[..n], &[10000i16; 100][..n]);
+        assert_samples(&rt, "mixed", &onto[..n], &[32767i16; 100][..n]);
+        assert_samples(&rt, "not mixed", &onto[n..], &[30000i16; 100][n..]);
+    }
 }
 
 // Each rate, and whether a device can have it.

@@ -1,13 +1,21 @@
-use Rattle.std.proofs.Common.{◌∙◌, ◌-ℤ◌, pos, to_z, arith}
+use Rattle.std.proofs.Common.{◌≡◌, ◌<◌, ◌∙◌, ap, refl, sym, arith, map, to_z, of_z, ℤ, pos, List, slice_index_or}
 use Rattle.std.specs.Int.{w16}
-use Rattle.std.proofs.lemmas.Int.{ints, to_z-of_z}
-use Rattle.af_sample.proofs.AlawLemmas.{negative_is, positive_is}
+use Rattle.std.proofs.lemmas.List.{get_or-map}
+use Rattle.af_sample.specs.declared.alaw.TheConstants.{SAMPLES}
+use Rattle.af_sample.specs.G711.{alaw_samples, from_alaw}
 use Rattle.af_sample.proofs.alaw.expanded.Goals as goal
 
-pub returns-then-code-lt128 : goal.returns-then-code-lt128
-returns-then-code-lt128 c =
-    to_z-of_z w16 (pos 0 -ℤ to_z w16 c.middle-magnitude.result) (omega (arith, ints))
-    ∙ negative_is c.args.byte c.middle-magnitude.result (omega arith) (omega arith) c.middle-magnitude.ensures.value
+-- a sample as it is read from the table
+abbrev read : ℤ → ℤ
+read x = to_z w16 (of_z w16 x)
 
-pub returns-else-code-lt128 : goal.returns-else-code-lt128
-returns-else-code-lt128 c = positive_is c.args.byte c.middle-magnitude.result (omega arith) (omega arith) c.middle-magnitude.ensures.value
+table_is : map read SAMPLES ≡ alaw_samples
+unfolding alaw_samples
+table_is = refl
+
+pub returns : goal.returns
+returns c =
+    let low : c.from.result < 256 = omega arith in
+    sym (get_or-map read SAMPLES c.from.result (pos 0) (pos 0) low)
+    ∙ ap (λ (xs : List ℤ). slice_index_or xs c.from.result (pos 0)) table_is
+    ∙ ap from_alaw c.from.ensures

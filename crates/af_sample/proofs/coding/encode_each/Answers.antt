@@ -5,7 +5,7 @@ use Rattle.std.proofs.lemmas.Nat.{mul-le}
 use Rattle.std.proofs.lemmas.Int.{to_z-of_z}
 use Rattle.af_sample.specs.Samples.{encoded}
 use Rattle.af_sample.proofs.RunLemmas.{encoded_more}
-use Rattle.af_sample.proofs.coding.convert_out.Goals as goal
+use Rattle.af_sample.proofs.coding.encode_each.Goals as goal
 
 pub loop-i-preserved : goal.loop-i-preserved
 loop-i-preserved c =

@@ -1,6 +1,6 @@
 use Rattle.std.proofs.Common.{◌≡◌, ℕ, ◌<◌, ◌≤◌, get_or, pos}
 use Rattle.af_sample.specs.Gains.{gained}
-use Rattle.af_sample.proofs.runs.gain_run.Given as goal
+use Rattle.af_sample.proofs.runs.gain_each.Given as goal
 
 abbrev pub invariant-loop-x : goal.invariant-loop-x
 invariant-loop-x l =

@@ -1,6 +1,6 @@
 use Rattle.std.proofs.Common.{◌≡◌, ℕ, ◌<◌, ◌≤◌, get_or, pos}
 use Rattle.af_sample.specs.Mixing.{mixed}
-use Rattle.af_sample.proofs.runs.mix_into.Given as goal
+use Rattle.af_sample.proofs.runs.mix_each.Given as goal
 
 abbrev pub invariant-loop-i : goal.invariant-loop-i
 invariant-loop-i l =

@@ -1,7 +1,7 @@
 use Rattle.std.proofs.Common.{◌≡◌, ◌*◌, ◌∙◌, ap, length, arith}
 use Rattle.af_sample.specs.SampleTypes.{width_of}
 use Rattle.af_sample.proofs.RunLemmas.{decoded_run}
-use Rattle.af_sample.proofs.coding.convert_in.Goals as goal
+use Rattle.af_sample.proofs.coding.decode_each.Goals as goal
 
 pub returns : goal.returns
 returns c =

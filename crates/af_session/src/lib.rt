@@ -1,8 +1,7 @@
 //! The bytes of a link: what came in and is not used yet, and what is to go out.
 #![tactic(auto)]
 
+mod queue;
 mod session;
-mod unread;
 
-pub use session::{MOST_PENDING, Session};
-pub use unread::MOST_UNREAD;
+pub use session::{MOST_PENDING, MOST_UNREAD, Session};

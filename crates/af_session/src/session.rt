@@ -1,17 +1,18 @@
 // The session of a link.
-// How it lies: three blocks, taken once. Input stands in a vector whose first bytes may be used already (`unread.rt`): they go
-// only when room is needed, so what is unread is one piece, and read in place. Output is a ring, which takes bytes at its back
-// and gives up at its front those that went, moves none, and may wrap; as a world is offered one piece, `pending` copies it into
-// the third block. Contracts see two lists, the rest and what is pending, and of no byte where it lies.
+// How it lies: two blocks, taken once, each a queue whose first bytes may have gone already (`queue.rt`): they make room only when
+// room is needed. So what is unread, and what is to go out, is one piece each, which is read and offered where it lies. Contracts
+// see two lists, the rest and what is pending, and of no byte where it lies.
 ghost use Rattle.std.specs.Prelude.{◌≡◌, ◌+◌, ◌≤◌, [], ◌++◌, length, drop, vec_capacity, IfOk};
 ghost use Rattle.std.specs.Borrow.{sem};
 ghost use Rattle.af_session.specs.Flows.{no_flow, IsFlow};
 
-use crate::unread::Unread;
+use crate::queue::Queue;
 use af_time::OutOfMemory;
-use circular_buffer::HeapCircularBuffer;
 use std::alloc::Global;
 use std::marker::Model;
+
+/// The most bytes that may have come in and not be used yet.
+pub const MOST_UNREAD: usize = 32768;
 
 /// The most bytes that may wait to go out.
 pub const MOST_PENDING: usize = 65536;
@@ -20,10 +21,8 @@ pub const MOST_PENDING: usize = 65536;
 /// is pending, at most 65536 bytes that are to go out. All its memory is taken when it is made.
 #[derive(Drop)]
 pub struct Session {
-    input: Unread,
-    output: HeapCircularBuffer<u8>,
-    // what is pending, in one piece
-    piece: Vec<u8>,
+    input: Queue<MOST_UNREAD>,
+    output: Queue<MOST_PENDING>,
 }
 
 impl Model for Session {
@@ -32,9 +31,9 @@ impl Model for Session {
 
     ghost Value = { Flow };
 
-    ghost view = { λ s. flow s.input s.output.items };
+    ghost view = { λ s. flow s.input s.output };
 
-    ghost invariant = { λ s. IsFlow (flow s.input s.output.items) × (s.output.capacity ≡ 65536) × (65536 ≤ vec_capacity s.piece) };
+    ghost invariant = { λ s. IsFlow (flow s.input s.output) };
 }
 
 impl Session {
@@ -44,14 +43,9 @@ impl Session {
     pub fn new(alloc: Global) -> Result<Session, OutOfMemory>
         ensures { IfOk result (λ session. session ≡ no_flow) }
     {
-        let input = Unread::new(alloc)?;
-        let output = HeapCircularBuffer::with_capacity(alloc, MOST_PENDING)?;
-        let piece = Vec::with_capacity(alloc, MOST_PENDING)?;
-        Ok(Session {
-            input,
-            output,
-            piece,
-        })
+        let input = Queue::new(alloc)?;
+        let output = Queue::new(alloc)?;
+        Ok(Session { input, output })
     }
 
     /// Bytes came in, behind those that are not used yet. There has to be room for them.
@@ -86,7 +80,7 @@ impl Session {
         ensures pushed { self.new ≡ record self.old { pending = self.old.pending ++ bytes.now } }
         ensures bounds { IsFlow self.new }
     {
-        self.output.fill_from_slice(bytes);
+        self.output.append(bytes);
     }
 
     /// How many bytes are to go out.
@@ -94,17 +88,16 @@ impl Session {
         ensures len { result ≡ length self.now.pending }
         ensures bounds { IsFlow self.now }
     {
-        self.output.len()
+        self.output.as_slice().len()
     }
 
-    /// The bytes that are to go out, in one piece. It copies them, and changes nothing.
+    /// The bytes that are to go out, in one piece.
     pub fn pending(&mut self) -> &[u8]
         ensures* kept { sem 𝓛 (keeps self.entry) }
         ensures pending { result.now ≡ self.old.pending }
         ensures bounds { IsFlow self.old }
     {
-        copy_all(&self.output, &mut self.piece);
-        self.piece.as_slice()
+        self.output.as_slice()
     }
 
     /// The first n of the bytes that are to go out went.
@@ -113,8 +106,7 @@ impl Session {
         ensures went { self.new ≡ record self.old { pending = drop n self.old.pending } }
         ensures bounds { IsFlow self.new }
     {
-        let left = self.output.len() - n;
-        self.output.truncate_front(left);
+        self.output.drop_front(n);
     }
 
     /// No bytes any more, as of a link that is dropped or opened again.
@@ -124,25 +116,4 @@ impl Session {
         self.input.clear();
         self.output.clear();
     }
-}
-
-// Bytes more, for which there is room.
-fn append(onto: &mut Vec<u8>, bytes: &[u8])
-    requires { length onto.old.items + length bytes.now ≤ vec_capacity onto.old }
-    ensures items { onto.new.items ≡ onto.old.items ++ bytes.now }
-    ensures capacity { vec_capacity onto.old ≤ vec_capacity onto.new }
-{
-    let _ = onto.extend_from_slice(bytes);
-}
-
-// The bytes of a ring in one piece, for which there is room.
-fn copy_all(from: &HeapCircularBuffer<u8>, to: &mut Vec<u8>)
-    requires { length from.now.items ≤ vec_capacity to.old }
-    ensures items { to.new.items ≡ from.now.items }
-    ensures capacity { vec_capacity to.old ≤ vec_capacity to.new }
-{
-    to.clear();
-    let (first, second) = from.as_slices();
-    append(to, first);
-    append(to, second);
 }

@@ -1,50 +1,48 @@
-// Bytes that come in at the back and are used from the front, with room for 32768 that is taken once.
+// Bytes that come in at the back and go from the front, always in one piece, with room that is taken once.
 ghost use Rattle.std.specs.Prelude.{◌≡◌, ◌+◌, ◌≤◌, [], ◌++◌, length, drop, IfOk};
 
 use af_time::OutOfMemory;
 use std::alloc::Global;
 use std::marker::Model;
 
-/// The most bytes that may have come in and not be used yet.
-pub const MOST_UNREAD: usize = 32768;
-
+/// At most so many bytes.
 #[derive(Drop)]
-pub struct Unread {
+pub struct Queue<const MOST: usize> {
     bytes: Vec<u8>,
-    // how many of these are used, at the front; they make room only when room is needed
+    // how many of these went already, at the front; they make room only when room is needed
     start: usize,
 }
 
-impl Model for Unread {
+impl<const MOST: usize> Model for Queue<MOST> {
     ghost use Rattle.std.specs.Prelude.{List, ℕ, ◌≤◌, vec_len, vec_capacity, drop};
 
     ghost Value = { List ℕ };
 
     ghost view = { λ u. drop u.start u.bytes.items };
 
-    ghost invariant = { λ u. (u.start ≤ vec_len u.bytes) × (vec_len u.bytes ≤ 32768) × (32768 ≤ vec_capacity u.bytes) };
+    ghost invariant = { λ u. (u.start ≤ vec_len u.bytes) × (vec_len u.bytes ≤ MOST) × (MOST ≤ vec_capacity u.bytes) };
 }
 
-impl Unread {
-    pub fn new(alloc: Global) -> Result<Unread, OutOfMemory>
+impl<const MOST: usize> Queue<MOST> {
+    pub fn new(alloc: Global) -> Result<Queue<MOST>, OutOfMemory>
         ensures { IfOk result (λ u. u ≡ []) }
     {
-        let bytes = Vec::with_capacity(alloc, MOST_UNREAD)?;
-        Ok(Unread { bytes, start: 0 })
+        let bytes = Vec::with_capacity(alloc, MOST)?;
+        Ok(Queue { bytes, start: 0 })
     }
 
     pub fn as_slice(&self) -> &[u8]
         ensures bytes { result.now ≡ self.now }
-        ensures bound { length self.now ≤ 32768 }
+        ensures bound { length self.now ≤ MOST }
     {
         &self.bytes.as_slice()[self.start..]
     }
 
     pub fn append(&mut self, more: &[u8])
-        requires { length self.old + length more.now ≤ 32768 }
+        requires { length self.old + length more.now ≤ MOST }
         ensures { self.new ≡ self.old ++ more.now }
     {
-        if self.bytes.len() + more.len() > MOST_UNREAD {
+        if self.bytes.len() + more.len() > MOST {
             self.bytes.drain(..self.start);
             self.start = 0;
         }
@@ -56,6 +54,9 @@ impl Unread {
         ensures { self.new ≡ drop n self.old }
     {
         self.start += n;
+        if self.start == self.bytes.len() {
+            self.clear();
+        }
     }
 
     pub fn clear(&mut self)

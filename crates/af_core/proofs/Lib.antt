@@ -5,4 +5,5 @@ pub mod EnvironmentLemmas
 pub mod LinkPhaseLemmas
 pub mod EventLemmas
 pub mod CompletionLemmas
+pub mod OpenBelowLemmas
 pub mod TurnLemmas

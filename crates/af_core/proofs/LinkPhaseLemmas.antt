@@ -162,7 +162,7 @@ door_shows a b k env env' old l l' true e d = subst (λ o. Simulates a b (Stands
 door_shows a b k env env' old l l' false e d = subst (λ o. Simulates a b (StandsForSlot env o) (StandsForSlot env' (Some l')) (serve_slot_link k) parsed) (sym e) (door_serves a b k env env' l (Some l') d)
 
 -- one link of all
-one_served : (a b : Option Log) (n k : ℕ) (env env' : KeptEnvironment) (links : List (Option LinkState)) (link link' : Option LinkState) → some_link (slice_get links k) ≡ link →
+pub one_served : (a b : Option Log) (n k : ℕ) (env env' : KeptEnvironment) (links : List (Option LinkState)) (link link' : Option LinkState) → some_link (slice_get links k) ≡ link →
     Simulates a b (StandsForSlot env link) (StandsForSlot env' link') (serve_slot_link k) parsed →
     Simulates a b (StandsFor (kept_of env links)) (StandsFor (kept_of env' (slice_set links k link'))) (serve_from (suc n) k) (serve_from n (k + 1))
 unfolding serve_from

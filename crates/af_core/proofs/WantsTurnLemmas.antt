@@ -1,6 +1,6 @@
 -- Whether any link is to be read, written or closed.
 use Rattle.std.proofs.Common.{◌≡◌, ℕ, suc, ◌+◌, ◌<◌, ◌||◌, Bool, true, false, List, [], ◌∷◌, length, drop, get_or, slice_get, option_and_then, refl, sym, ap, ◌∙◌, arith}
-use Rattle.std.proofs.Math.Seq.{drop-cons, drop-length}
+use Rattle.std.proofs.Math.Seq.{drop-cons}
 use Rattle.std.specs.declared.option.Option.{Option}
 use Rattle.std.specs.declared.option.Option.TheVariants.{None, Some}
 use Rattle.af_model.specs.State.{LinkState, State}
@@ -23,9 +23,6 @@ this_wants k f links d wants lt is t = next_wants k f links d lt ∙ ap (λ b. b
 pub others_want : (k : ℕ) (f : ℕ → Bool) (links : List (Option LinkState)) (d : Option LinkState) (wants : Bool) → k < length links → wants ≡ open_wants (f k) (get_or links k d) → wants ≡ false →
     any_wants k f (drop k links) ≡ any_wants (k + 1) f (drop (k + 1) links)
 others_want k f links d wants lt is t = next_wants k f links d lt ∙ ap (λ b. b || any_wants (k + 1) f (drop (k + 1) links)) (sym is ∙ t)
-
-pub none_wants : (k : ℕ) (f : ℕ → Bool) (links : List (Option LinkState)) → k ≡ length links → any_wants k f (drop k links) ≡ false
-none_wants k f links e = ap (λ n. any_wants k f (drop n links)) e ∙ ap (any_wants k f) (drop-length links)
 
 want_same : (k : ℕ) (f g : ℕ → Bool) (links : List (Option LinkState)) → ((n : ℕ) → f n ≡ g n) → any_wants k f links ≡ any_wants k g links
 want_same k f g [] same = refl

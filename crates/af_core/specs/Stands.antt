@@ -1,10 +1,11 @@
 -- What the core keeps, and the states of the abstract server that it stands for.
-use Rattle.std.specs.Prelude.{◌≡◌, ◌⊎◌, ℕ, ◌+◌, ◌<◌, ◌≤◌, Bool, true, false, IsTrue, List, [], ◌∷◌, find, length, map, is_some, slice_get, option_and_then, IsSomeAnd, if◌then◌else◌}
+use Rattle.std.specs.Prelude.{◌≡◌, ◌⊎◌, ℕ, ◌+◌, ◌<◌, ◌≤◌, Bool, true, false, IsTrue, List, [], ◌∷◌, find, length, map, is_some, slice_get, option_and_then, max, IsSomeAnd, if◌then◌else◌}
 use Rattle.std.specs.declared.option.Option.{Option}
 use Rattle.std.specs.declared.option.Option.TheVariants.{None, Some}
 use Rattle.af_wait.specs.declared.Wait.{Wait}
 use Rattle.af_world.specs.declared.happening.Happening.TheVariants.{Woke}
 use Rattle.af_world.specs.declared.happening.Wake.{Wake}
+use Rattle.af_world.specs.declared.happening.Wake.TheVariants.{Opened, Readable, Writable, Ticked, Line, Idle, Stop}
 use Rattle.af_io.specs.Observed.{Appended}
 use Rattle.af_world.specs.Log.{Log}
 use Rattle.af_wait.specs.Waits.{without_first}
@@ -12,7 +13,7 @@ use Rattle.af_model.specs.State.{State, EnvironmentState, DeviceState, LinkState
 use Rattle.af_model.specs.Reply.{horizon_of}
 use Rattle.af_model.specs.Waiting.{due, falls_due, AreDueLater}
 use Rattle.af_model.specs.Advance.{takes_more}
-use Rattle.af_model.specs.Turn.{IsTurn, wants_write}
+use Rattle.af_model.specs.Turn.{IsTurn, is_open_at, wants_write}
 use Rattle.af_model.specs.Run.{wakes}
 use Rattle.af_model.specs.NoLoss.{StateLosesNone}
 use Rattle.af_state.specs.Kept.{KeptDevice, StandForDevices, IsBounded}
@@ -90,6 +91,20 @@ kept_lines ds = map (λ d. is_some d.line) ds
 
 abbrev pub outline_of : Kept → Outline
 outline_of kept = outline_with (kept_lines kept.devices) kept.links
+
+-- no link is open at this number or above it
+abbrev pub NoneOpenFrom : ℕ → List (Option LinkState) → Type 0
+NoneOpenFrom n links = (k : ℕ) → n ≤ k → is_open_at (slice_get (map is_some links) k) ≡ false
+
+-- below which number all open links are behind a wake, which may open one
+abbrev pub open_below_after : Wake → ℕ → ℕ
+open_below_after (Opened k) n = max n (k + 1)
+open_below_after (Readable k) n = n
+open_below_after (Writable k) n = n
+open_below_after (Ticked d m) n = n
+open_below_after (Line d change) n = n
+open_below_after Idle n = n
+open_below_after Stop n = n
 
 -- what all links share, and the links
 abbrev pub kept_of : KeptEnvironment → List (Option LinkState) → Kept

@@ -10,7 +10,7 @@ ghost use Rattle.af_model.specs.Turn.{parsed, serve_slot_link, serve_all, ready,
 ghost use Rattle.af_state.specs.Deferrals.{has_waiting, kept_due, OnlyQueues, LeavesOthers};
 ghost use Rattle.af_state.specs.Environment.{StandsForEnvironment};
 ghost use Rattle.af_core.specs.Simulates.{Simulates};
-ghost use Rattle.af_core.specs.Stands.{StandsForSlot, IsBetweenPhases, IsSettledSlot, OfFirstDue, OnlyDrops, StandsFor, kept_of};
+ghost use Rattle.af_core.specs.Stands.{StandsForSlot, IsBetweenPhases, IsSettledSlot, NoneOpenFrom, OfFirstDue, OnlyDrops, StandsFor, kept_of};
 
 use crate::complete::complete_link;
 use crate::events::tell_link;
@@ -165,12 +165,28 @@ impl Slot {
     }
 }
 
-/// Whether any link is to be read, written or closed.
-pub fn any_wants(waits: &DeferredRequests, slots: &[Slot]) -> bool
-    requires { length slots.now ≤ 32 }
+/// The number behind the highest link that is open, where all that are open are below this one.
+pub fn open_end(slots: &[Slot], below: usize) -> usize
+    requires bound { below ≤ length slots.now }
+    requires none_open { NoneOpenFrom below slots.now }
+    ensures bound { result ≤ below }
+    ensures none_open { NoneOpenFrom result slots.now }
+{
+    let mut end = below;
+    while end > 0 && !slots[end - 1].is_open() {
+        end -= 1;
+    }
+    end
+}
+
+/// Whether any link is to be read, written or closed, where all that are open are below this number.
+pub fn any_wants(waits: &DeferredRequests, slots: &[Slot], open_below: usize) -> bool
+    requires count { length slots.now ≤ 32 }
+    requires bound { open_below ≤ length slots.now }
+    requires none_open { NoneOpenFrom open_below slots.now }
     ensures { result ≡ any_wants 0 (has_waiting waits.now) slots.now }
 {
-    for number in 0..slots.len() {
+    for number in 0..open_below {
         if slots[number].wants_turn(number as u8, waits) {
             return true;
         }
@@ -178,20 +194,24 @@ pub fn any_wants(waits: &DeferredRequests, slots: &[Slot]) -> bool
     false
 }
 
-/// The part of a turn of all links, by rising number.
+/// The part of a turn of all links, by rising number, where all that are open are below this one.
 pub fn serve_slots<W: World>(
+    open_below: usize,
     environment: &mut Environment,
     slots: &mut [Slot],
     scratch: &mut Scratch,
     world: &mut W,
 )
     requires kept { IsBetweenPhases (kept_of environment.old slots.old) }
+    requires bound { open_below ≤ length slots.old }
+    requires none_open { NoneOpenFrom open_below slots.old }
     ensures simulates { Simulates (W.log world.old) (W.log world.new) (StandsFor (kept_of environment.old slots.old))
         (StandsFor (kept_of environment.new slots.new)) serve_all parsed }
     ensures kept { IsBetweenPhases (kept_of environment.new slots.new) }
+    ensures none_open { NoneOpenFrom open_below slots.new }
     ensures leads { W.leads_to world.old world.new }
 {
-    for number in 0..slots.len() {
+    for number in 0..open_below {
         let slot = &mut slots[number];
         slot.serve(number as u8, environment, scratch, world);
     }

@@ -2,3 +2,4 @@ pub mod ConsumesLemmas
 pub mod LineByLine
 pub mod Utf8Lemmas
 pub mod ListedRateLemmas
+pub mod HeldLinksLemmas

@@ -1,5 +1,5 @@
 -- Links that are held by number, and what is given first of what is ready of them.
-use Rattle.std.specs.Prelude.{◌≡◌, ◌≢◌, ◌⊎◌, ℕ, ◌<◌, Bool, true, false, ◌||◌, not, List, length, slice_index_or, slice_set, if◌then◌else◌}
+use Rattle.std.specs.Prelude.{◌≡◌, ◌≢◌, ◌⊎◌, ℕ, ◌≤◌, ◌<◌, Bool, true, false, ◌||◌, not, List, length, slice_index_or, slice_set, if◌then◌else◌}
 use Rattle.std.specs.declared.option.Option.{Option}
 use Rattle.std.specs.declared.option.Option.TheVariants.{None, Some}
 use Rattle.af_world.specs.declared.happening.Wake.{Wake}
@@ -57,6 +57,10 @@ IsLeastFree links (Some n) = (n < length links) × (is_free (link_at links n) �
 abbrev pub IsFirstReady : List (Option LinkEntry) → Option ℕ → Type 0
 IsFirstReady links None = (k : ℕ) → k < length links → something_ready (link_at links k) ≡ false
 IsFirstReady links (Some n) = (n < length links) × (something_ready (link_at links n) ≡ true) × ((k : ℕ) → k < n → something_ready (link_at links k) ≡ false)
+
+-- nothing is ready of a link at this number or above it
+abbrev pub NothingReadyFrom : ℕ → List (Option LinkEntry) → Type 0
+NothingReadyFrom n links = (k : ℕ) → n ≤ k → k < length links → something_ready (link_at links k) ≡ false
 
 -- the number of the link that a wake is about
 abbrev pub link_of_wake : Wake → ℕ

@@ -6,6 +6,7 @@ mod device;
 mod devices;
 mod fault;
 mod file_device;
+mod held_links;
 mod link_table;
 mod links;
 mod mio_world;

@@ -1,7 +1,6 @@
 // The links that a world holds, by number, and what is ready of each and was not given yet.
-ghost use Rattle.std.specs.Prelude.{◌≡◌, ◌≤◌, ◌<◌, length, slice_set, slice_index_or, true, false, IfSome};
-ghost use Rattle.std.specs.declared.option.Option.TheVariants.{None, Some};
-ghost use Rattle.af_live.specs.LinkTable.{free_entry, something_ready, wake_at, without_first_ready, IsLeastFree, IsFirstReady, GivesFirst, LinkWakeFits, Opens};
+ghost use Rattle.std.specs.Prelude.{◌≡◌, ◌≤◌, length, slice_set, slice_index_or, true, false};
+ghost use Rattle.af_live.specs.LinkTable.{free_entry, is_open, something_ready, wake_at, without_first_ready, IsLeastFree, IsFirstReady, NothingReadyFrom};
 
 use af_world::Wake;
 
@@ -71,12 +70,14 @@ fn is_ready(link: &Option<LinkEntry>) -> bool
     }
 }
 
-/// The number of the first link of which something is ready.
-fn first_ready(links: &[Option<LinkEntry>]) -> Option<usize>
+/// The number of the first link of which something is ready, where that is below a number.
+pub(crate) fn first_ready(links: &[Option<LinkEntry>], below: usize) -> Option<usize>
+    requires bound { below ≤ length links.now }
+    requires nothing { NothingReadyFrom below links.now }
     ensures { IsFirstReady links.now result }
 {
-    for (number, link) in links.iter().enumerate() {
-        if is_ready(link) {
+    for number in 0..below {
+        if is_ready(&links[number]) {
             return Some(number);
         }
     }
@@ -84,7 +85,7 @@ fn first_ready(links: &[Option<LinkEntry>]) -> Option<usize>
 }
 
 /// What is given first of a link, which is then given.
-fn take_first(link: &mut Option<LinkEntry>, number: u8) -> Wake
+pub(crate) fn take_first(link: &mut Option<LinkEntry>, number: u8) -> Wake
     ensures wake { result ≡ wake_at link.old number }
     ensures rest { link.new ≡ without_first_ready link.old }
 {
@@ -105,13 +106,12 @@ fn take_first(link: &mut Option<LinkEntry>, number: u8) -> Wake
     }
 }
 
-/// Gives what is ready first.
-pub(crate) fn take_ready(links: &mut [Option<LinkEntry>]) -> Option<Wake>
-    requires { length links.old ≤ 32 }
-    ensures first { GivesFirst links.old result links.new }
-    ensures fits { IfSome result (λ wake. LinkWakeFits links.old wake) }
-    ensures opens { IfSome result (λ wake. Opens wake links.old links.new) }
+/// Notes of a link that is held that it may have something to read, or may take something.
+pub(crate) fn note_ready(link: &mut Option<LinkEntry>, may_read: bool, may_write: bool)
+    ensures { is_open link.new ≡ is_open link.old }
 {
-    let number = first_ready(links)?;
-    Some(take_first(&mut links[number], number as u8))
+    if let Some(held) = link {
+        held.readable |= may_read;
+        held.writable |= may_write;
+    }
 }

@@ -3,7 +3,7 @@ ghost use Rattle.std.specs.Prelude.{◌≡◌, length, is_some, true};
 ghost use Rattle.af_world.specs.World.{LinkGotFits, TookFits};
 ghost use Rattle.af_live.specs.LinkTable.{is_free, link_at, AfterRead, AfterWrite, KeepsOpen, ClosesOne};
 
-use crate::link_table::{LinkEntry, free_number, held_at};
+use crate::held_links::HeldLinks;
 use crate::sockets::Sockets;
 use af_world::{LinkGot, LinkTook};
 use std::io::ErrorKind;
@@ -12,7 +12,7 @@ use std::io::ErrorKind;
 /// ready.
 pub(crate) fn read_link(
     sockets: &mut Option<Sockets>,
-    links: &mut [Option<LinkEntry>],
+    links: &mut HeldLinks,
     link: u8,
     into: &mut [u8],
 ) -> LinkGot
@@ -22,7 +22,7 @@ pub(crate) fn read_link(
     ensures behind { AfterRead link result links.old links.new }
     ensures listens { is_some sockets.new ≡ is_some sockets.old }
 {
-    let (Some(sockets), Some(held)) = (sockets, held_at(links, link)) else {
+    let (Some(sockets), Some(held)) = (sockets, links.get(link)) else {
         return LinkGot::Failed;
     };
     match sockets.read(held.key, into) {
@@ -31,10 +31,7 @@ pub(crate) fn read_link(
         Err(e) => match e.kind() {
             ErrorKind::WouldBlock => LinkGot::NotYet,
             ErrorKind::Interrupted => {
-                links[link as usize] = Some(LinkEntry {
-                    readable: true,
-                    ..held
-                });
+                links.set_readable(link);
                 LinkGot::NotYet
             }
             _ => LinkGot::Failed,
@@ -45,7 +42,7 @@ pub(crate) fn read_link(
 /// Offers a piece to a link. A write that was interrupted took nothing, and is to be made again: the link stays ready.
 pub(crate) fn write_link(
     sockets: &mut Option<Sockets>,
-    links: &mut [Option<LinkEntry>],
+    links: &mut HeldLinks,
     link: u8,
     piece: &[u8],
 ) -> LinkTook
@@ -55,7 +52,7 @@ pub(crate) fn write_link(
     ensures behind { AfterWrite link result links.old links.new }
     ensures listens { is_some sockets.new ≡ is_some sockets.old }
 {
-    let (Some(sockets), Some(held)) = (sockets, held_at(links, link)) else {
+    let (Some(sockets), Some(held)) = (sockets, links.get(link)) else {
         return LinkTook::Failed;
     };
     match sockets.write(held.key, piece) {
@@ -64,10 +61,7 @@ pub(crate) fn write_link(
         Err(e) => match e.kind() {
             ErrorKind::WouldBlock => LinkTook::Took(0),
             ErrorKind::Interrupted => {
-                links[link as usize] = Some(LinkEntry {
-                    writable: true,
-                    ..held
-                });
+                links.set_writable(link);
                 LinkTook::Took(0)
             }
             _ => LinkTook::Failed,
@@ -76,12 +70,12 @@ pub(crate) fn write_link(
 }
 
 /// Closes a link, whose number is free then. One that is not held stays so.
-pub(crate) fn close_link(sockets: &mut Option<Sockets>, links: &mut [Option<LinkEntry>], link: u8)
+pub(crate) fn close_link(sockets: &mut Option<Sockets>, links: &mut HeldLinks, link: u8)
     ensures closes { ClosesOne link links.old links.new }
     ensures listens { is_some sockets.new ≡ is_some sockets.old }
 {
-    if let (Some(sockets), Some(held)) = (sockets, held_at(links, link)) {
+    if let (Some(sockets), Some(held)) = (sockets, links.get(link)) {
         sockets.close(held.key);
     }
-    free_number(links, link);
+    links.free(link);
 }

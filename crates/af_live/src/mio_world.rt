@@ -18,7 +18,7 @@ ghost use Rattle.af_world.specs.Sizes.{longest_read};
 
 use crate::devices::{Devices, NewDevice, refusal};
 use crate::file_device::{capture_files, emit_files};
-use crate::link_table::{LinkEntry, take_ready};
+use crate::held_links::HeldLinks;
 use crate::links::{close_link, read_link, write_link};
 use crate::round::Round;
 use crate::silence::{capture_silence, silent_at};
@@ -47,7 +47,7 @@ const NANOS_A_MILLISECOND: u64 = 1_000_000;
 pub struct MioWorld<R: Net + Clock + Files + Drop> {
     rt: R,
     sockets: Option<Sockets>,
-    links: [Option<LinkEntry>; 32],
+    links: HeldLinks,
     devices: Devices<R::File>,
     link_faults: u64,
     device_faults: u64,
@@ -83,7 +83,7 @@ impl<R: Net + Clock + Files + Drop> MioWorld<R> {
         MioWorld {
             rt,
             sockets: None,
-            links: [None; 32],
+            links: HeldLinks::new(),
             devices: Devices::new(),
             link_faults: 0,
             device_faults: 0,
@@ -330,10 +330,9 @@ fn reading<R: Clock>(rt: &R, round: &Round) -> Option<u64>
 fn poll_once(
     sockets: &mut Sockets,
     pause: Duration,
-    links: &mut [Option<LinkEntry>],
+    links: &mut HeldLinks,
     round: &mut Round,
 ) -> Option<Wake>
-    requires { length links.old ≡ 32 }
     ensures fits { IfSome result (λ wake. LinkWakeFits links.old wake) }
     ensures opens { MatchOption result (KeepsOpen links.old links.new) (λ wake. Opens wake links.old links.new) }
     ensures round { IfSome result (λ wake. round.new ≡ round_begun round.old) }
@@ -342,7 +341,7 @@ fn poll_once(
         return None;
     }
     round.begin();
-    match take_ready(links) {
+    match links.take_ready() {
         Some(wake) => Some(wake),
         None => Some(Wake::Idle),
     }
@@ -354,10 +353,9 @@ fn next_wake<R: Clock>(
     rt: &R,
     more: bool,
     sockets: &mut Option<Sockets>,
-    links: &mut [Option<LinkEntry>],
+    links: &mut HeldLinks,
     round: &mut Round,
 ) -> Option<Wake>
-    requires { length links.old ≡ 32 }
     ensures listens { is_some sockets.new ≡ is_some sockets.old }
     ensures unlistened { is_some sockets.old ≡ false → result ≡ None }
     ensures kept { (k : ℕ) → is_some sockets.old ≡ true → k < 32 → something_ready (link_at links.old k) ≡ true →
@@ -369,7 +367,7 @@ fn next_wake<R: Clock>(
     let Some(sockets) = sockets else {
         return None;
     };
-    if let Some(wake) = take_ready(links) {
+    if let Some(wake) = links.take_ready() {
         return Some(wake);
     }
     let nanos = reading(rt, round)?;

@@ -1,9 +1,9 @@
 // A listener and the links that came in by it, none of which makes a call wait.
-ghost use Rattle.std.specs.Prelude.{◌≡◌, ◌≤◌, length};
+ghost use Rattle.std.specs.Prelude.{◌≡◌, ◌≤◌};
 ghost use Rattle.std.specs.Io.{ReadsAtMost, WritesAtMost};
-ghost use Rattle.af_live.specs.LinkTable.{is_open, TakesIn, KeepsOpen};
+ghost use Rattle.af_live.specs.LinkTable.{TakesIn, KeepsOpen};
 
-use crate::link_table::{LinkEntry, least_free};
+use crate::held_links::HeldLinks;
 use mio::net::{TcpListener, TcpStream};
 use mio::{Events, Interest, Poll, Token};
 use slab::Slab;
@@ -55,7 +55,7 @@ impl Sockets {
 
     /// Waits for at most so long until something is ready, and notes it. New links are accepted. The answer is whether the
     /// system could be asked; a signal is no refusal.
-    pub fn poll(&mut self, pause: Duration, links: &mut [Option<LinkEntry>]) -> bool
+    pub fn poll(&mut self, pause: Duration, links: &mut HeldLinks) -> bool
         ensures { KeepsOpen links.old links.new }
     {
         match self.poll.poll(&mut self.events, Some(pause)) {
@@ -74,7 +74,7 @@ impl Sockets {
 
     /// Accepts the connections that wait. Where the system refuses one for the time being, as with no descriptor left, those that
     /// wait are tried again behind the next poll.
-    fn accept_all(&mut self, links: &mut [Option<LinkEntry>])
+    fn accept_all(&mut self, links: &mut HeldLinks)
         ensures { KeepsOpen links.old links.new }
     {
         for _ in 0..MOST_ACCEPTS {
@@ -92,11 +92,11 @@ impl Sockets {
     }
 
     /// Holds a new link under the least number that is free. If none is, or the system does not watch it, it is closed.
-    fn take_in(&mut self, mut stream: TcpStream, links: &mut [Option<LinkEntry>])
+    fn take_in(&mut self, mut stream: TcpStream, links: &mut HeldLinks)
         ensures takes_in { TakesIn links.old links.new }
         ensures open { KeepsOpen links.old links.new }
     {
-        let Some(number) = least_free(links) else {
+        let Some(number) = links.least_free() else {
             return;
         };
         // there is room wherever a number is free
@@ -115,7 +115,7 @@ impl Sockets {
             return;
         }
         let key = self.streams.insert_reserved(stream);
-        links[number] = Some(LinkEntry::new(key));
+        links.hold(number, key);
     }
 
     /// Reads what has come by a link, at least one byte, or none at its end.
@@ -160,7 +160,7 @@ fn bind<R: Net>(rt: &R, address: &str) -> io::Result<TcpListener> {
 }
 
 /// Notes what is ready of the links. The answer is whether connections wait.
-fn note_events(events: &Events<Global>, links: &mut [Option<LinkEntry>]) -> bool
+fn note_events(events: &Events<Global>, links: &mut HeldLinks) -> bool
     ensures { KeepsOpen links.old links.new }
 {
     let mut waiting = false;
@@ -170,19 +170,9 @@ fn note_events(events: &Events<Global>, links: &mut [Option<LinkEntry>]) -> bool
         let may_write = event.is_writable() || event.is_write_closed() || event.is_error();
         if event.token() == LISTENER {
             waiting = true;
-        } else if number < links.len() {
-            note(&mut links[number], may_read, may_write);
+        } else {
+            links.note(number, may_read, may_write);
         }
     }
     waiting
-}
-
-/// Notes of a link that is held that it may have something to read, or may take something.
-fn note(link: &mut Option<LinkEntry>, may_read: bool, may_write: bool)
-    ensures { is_open link.new ≡ is_open link.old }
-{
-    if let Some(held) = link {
-        held.readable |= may_read;
-        held.writable |= may_write;
-    }
 }

@@ -1,7 +1,8 @@
 use Rattle.std.proofs.Common.{◌∙◌, sym, ap, arith}
 use Rattle.af_model.specs.More.{open_wants}
 use Rattle.af_state.specs.Deferrals.{has_waiting}
-use Rattle.af_core.proofs.WantsTurnLemmas.{none_wants, others_want, this_wants}
+use Rattle.af_core.proofs.OpenBelowLemmas.{rest_wants}
+use Rattle.af_core.proofs.WantsTurnLemmas.{others_want, this_wants}
 use Rattle.af_core.proofs.slot.any_wants.Goals as goal
 
 pub returns-then-wants_turn : goal.returns-then-wants_turn
@@ -21,4 +22,4 @@ loop-number-preserved c =
     c.loop-number.invariant ∙ others_want k f c.args.slots.now link c.wants_turn.result (omega arith) is c.if-wants_turn.false
 
 pub returns : goal.returns
-returns c = sym (c.loop-number.invariant ∙ none_wants c.loop-number.number (has_waiting c.args.waits.now) c.args.slots.now (omega arith))
+returns c = sym (c.loop-number.invariant ∙ rest_wants c.loop-number.number (has_waiting c.args.waits.now) c.args.slots.now (λ k from. c.requires.none_open k (omega (arith, from))))

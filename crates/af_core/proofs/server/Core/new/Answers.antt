@@ -1,4 +1,5 @@
 use Rattle.std.proofs.Common.{◌≤◌, length, arith, rules}
+use Rattle.af_core.proofs.OpenBelowLemmas.{none_open_starts}
 use Rattle.af_core.proofs.TurnLemmas.{starts}
 use Rattle.af_core.proofs.server.Core.new.Goals as goal
 
@@ -9,4 +10,5 @@ invariant_of-result c =
     omega (arith, count, few)
 
 pub invariant_of-result-2 : goal.invariant_of-result-2
-invariant_of-result-2 c = starts _ c.as_slice.result.now c.in_ok-devices.ensures.stands c.in_ok-waits.ensures c.in_ok-slots.ensures
+invariant_of-result-2 c =
+    (starts _ c.as_slice.result.now c.in_ok-devices.ensures.stands c.in_ok-waits.ensures c.in_ok-slots.ensures, (none_open_starts _ c.in_ok-slots.ensures, omega arith))

@@ -1,0 +1,199 @@
+-- Below which number all open links are, and what that leaves out of a turn.
+use Rattle.std.proofs.Common.{◌≡◌, ◌≢◌, ◌==◌, eqb-true, get_or, replicate, ℕ, zero, suc, ◌≤◌, ◌<◌, ◌+◌, Bool, true, false, not, cond, List, [], ◌∷◌, ◌++◌, length, map, drop, slice_get, slice_set, is_some, refl, sym, ap, ◌∙◌, subst, arith}
+use Rattle.std.proofs.Math.Nat.{le-max_left, le-max_right, max-le}
+use Rattle.std.proofs.lemmas.Bool.Decides.{nat_tests}
+use Rattle.std.specs.declared.option.Option.{Option}
+use Rattle.std.specs.declared.option.Option.TheVariants.{None, Some}
+use Rattle.af_phone.specs.declared.line.LineChange.{LineChange}
+use Rattle.af_phone.specs.Lines.{changed, event_kind_of, flag_value, hooked, value_of}
+use Rattle.af_wire.specs.declared.event.EventKind.TheVariants as kind
+use Rattle.af_world.specs.declared.happening.Wake.{Wake}
+use Rattle.af_world.specs.declared.happening.Wake.TheVariants.{Opened, Readable, Writable, Ticked, Line, Idle, Stop}
+use Rattle.af_world.specs.Log.{Log}
+use Rattle.af_model.specs.State.{State, DeviceState, LinkState, SlotLink, link_in_slot, opened, slot_at, with_slot}
+use Rattle.af_model.specs.Tick.{captured_samples, tick}
+use Rattle.af_model.specs.Events.{hook_given, hook_refused, line_changes}
+use Rattle.af_model.specs.More.{any_wants}
+use Rattle.af_model.specs.Turn.{Parsed, parsed, parse_then, parse_one, capture_by, after_capture, tick_phase, line_phase, wake_phase, hook_all, hook_at, hook_from, fits, is_closed_at, is_open_at, ready, writable, in_slot, serve_open, serve_slot_link, serve_from, serve_all}
+use Rattle.af_model.proofs.BoolTestLemmas.{none_some}
+use Rattle.af_model.proofs.ListLemmas.{get-set_other}
+use Rattle.af_model.proofs.SlotLemmas.{some_link}
+use Rattle.af_model.proofs.OpenLinkLemmas.{becomes-opens, flagged, open_after, open_links, open_links-set, tick-opens}
+use Rattle.af_model.proofs.PhasePartLemmas.{Takes, hook_takes, live_takes, takes_chain, takes_nothing}
+use Rattle.af_state.specs.Environment.{KeptEnvironment}
+use Rattle.af_core.specs.Stands.{Kept, NoneOpenFrom, StandsFor, StandsForSlot, kept_of, open_below_after, outline_of}
+use Rattle.af_core.specs.Simulates.{Simulates}
+use Rattle.af_core.proofs.LinkPhaseLemmas.{all_served, one_served}
+use Rattle.af_core.proofs.SimulationLemmas.{simulates_more, simulates_nothing}
+
+-- which links are open
+abbrev opens : List (Option LinkState) → List Bool
+opens links = map {A = Option LinkState} {B = Bool} is_some links
+
+-- Which links are open behind a wake, and behind the hooks
+
+abbrev OpensAs : (List Bool → List Bool) → State → Log → State → Type 0
+OpensAs f s log t = open_links t.slots ≡ f (open_links s.slots)
+
+ticked_opens : (d n : ℕ) (o : Option DeviceState) (s : State) → Takes (tick_phase d n o s) (OpensAs (λ w. w) s)
+ticked_opens d n None s = λ log b e. absurd (none_some e)
+ticked_opens d n (Some device) s =
+    elim device.is_dead as (λ t. Takes (λ log. cond t (parsed (tick d (captured_samples device.ty n None) true s) log) (parse_then (parse_one (capture_by d n device) log) (after_capture d n device s))) (OpensAs (λ w. w) s)) [
+      | true ↦ takes_nothing (tick d (captured_samples device.ty n None) true s) (OpensAs (λ w. w) s) (tick-opens d (captured_samples device.ty n None) true s)
+      | false ↦ live_takes d n device s (OpensAs (λ w. w) s) (tick-opens d (captured_samples device.ty n None) true s) (λ bytes done size. tick-opens d (captured_samples device.ty n (Some bytes)) (not done) s)
+    ]
+
+line_opens : (change : LineChange) (d : ℕ) (o : Option DeviceState) (s : State) → Takes (line_phase change d o s) (OpensAs (λ w. w) s)
+line_opens change d None s = λ log b e. absurd (none_some e)
+line_opens change d (Some device) s = takes_nothing (line_changes change d device s) (OpensAs (λ w. w) s) (becomes-opens (changed change) (event_kind_of change) (value_of change) d device s)
+
+pub wake_opens : (w : Wake) (s : State) → Takes (wake_phase w s) (OpensAs (λ links. open_after links w) s)
+unfolding wake_phase
+wake_opens (Opened k) s = takes_nothing (with_slot k (record { link = Some opened; said = [] }) s) (OpensAs (λ links. open_after links (Opened k)) s) (open_links-set s.slots k (record { link = Some opened; said = [] }))
+wake_opens (Readable k) s = takes_nothing (with_slot k (in_slot ready (slot_at k s)) s) (OpensAs (λ w. w) s) (flagged ready s k)
+wake_opens (Writable k) s = takes_nothing (with_slot k (in_slot writable (slot_at k s)) s) (OpensAs (λ w. w) s) (flagged writable s k)
+wake_opens (Ticked d n) s = ticked_opens d n (slice_get s.devices d) s
+wake_opens (Line d change) s = line_opens change d (slice_get s.devices d) s
+wake_opens Idle s = takes_nothing s (OpensAs (λ w. w) s) refl
+wake_opens Stop s = takes_nothing s (OpensAs (λ w. w) s) refl
+
+given_opens : (d : ℕ) (off done : Bool) (device : DeviceState) (s : State) → open_links (cond done (hook_given off d device s) (hook_refused d s)).slots ≡ open_links s.slots
+given_opens d off true device s = becomes-opens (hooked true) kind.Hook (flag_value off) d device s
+given_opens d off false device s = refl
+
+hook_opens : (d : ℕ) (o : Option DeviceState) (s : State) → Takes (hook_at d o s) (OpensAs (λ w. w) s)
+hook_opens d None s = takes_nothing s (OpensAs (λ w. w) s) refl
+hook_opens d (Some device) s = hook_takes d device s (OpensAs (λ w. w) s) refl (λ wanted off done. given_opens d off done device s)
+
+hooks_from : (n d : ℕ) (s : State) → Takes (hook_from n d s) (OpensAs (λ w. w) s)
+unfolding hook_from
+hooks_from zero d s = takes_nothing s (OpensAs (λ w. w) s) refl
+hooks_from (suc n) d s =
+    takes_chain (λ s log. hook_at d (slice_get s.devices d) s log) (hook_from n (d + 1)) (OpensAs (λ w. w)) (OpensAs (λ w. w)) (OpensAs (λ w. w)) (λ s p t q u a b. b ∙ a) (λ s. hook_opens d (slice_get s.devices d) s) (hooks_from n (d + 1)) s
+
+pub hooks_open : (s : State) → Takes (hook_all s) (OpensAs (λ w. w) s)
+hooks_open s = hooks_from (length s.devices) 0 s
+
+-- what is kept says the same
+pub kept_opens : {a b : Option Log} (kept kept' : Kept) (phase : State → Log → Option (Parsed State)) (f : List Bool → List Bool) → ((s : State) → Takes (phase s) (OpensAs f s)) → (s : State) × StandsFor kept s →
+    Simulates a b (StandsFor kept) (StandsFor kept') phase parsed → opens kept'.links ≡ f (opens kept.links)
+kept_opens kept kept' phase f takes stood d =
+    let s = stood.0 in
+    let r = d.each s stood.1 in
+    let taken = takes s (d.part ++ []) (record { state = r.state; log = [] }) (r.same []) in
+    sym (ap opens r.stands.links) ∙ taken.holds ∙ ap (λ ls. f (opens ls)) stood.1.links
+
+-- no link is open from that number on that one stands below that is opened
+pub none_open_woken : (wake : Wake) (n : ℕ) (old new : List (Option LinkState)) → opens new ≡ open_after (opens old) wake → NoneOpenFrom n old → NoneOpenFrom (open_below_after wake n) new
+none_open_woken (Opened j) n old new e none k from =
+    let left = le-max_left n (j + 1) in
+    let right = le-max_right n (j + 1) in
+    let apart : k ≢ j = λ same. absurd (omega (arith, from, same, right)) in
+    subst (λ w. is_open_at (slice_get w k) ≡ false) (sym e) (subst (λ o. is_open_at o ≡ false) (sym (get-set_other (opens old) j k true apart)) (none k (omega (arith, from, left))))
+none_open_woken (Readable j) n old new e none k from = subst (λ w. is_open_at (slice_get w k) ≡ false) (sym e) (none k from)
+none_open_woken (Writable j) n old new e none k from = subst (λ w. is_open_at (slice_get w k) ≡ false) (sym e) (none k from)
+none_open_woken (Ticked d m) n old new e none k from = subst (λ w. is_open_at (slice_get w k) ≡ false) (sym e) (none k from)
+none_open_woken (Line d change) n old new e none k from = subst (λ w. is_open_at (slice_get w k) ≡ false) (sym e) (none k from)
+none_open_woken Idle n old new e none k from = subst (λ w. is_open_at (slice_get w k) ≡ false) (sym e) (none k from)
+none_open_woken Stop n old new e none k from = subst (λ w. is_open_at (slice_get w k) ≡ false) (sym e) (none k from)
+
+pub none_open_same : (n : ℕ) (old new : List (Option LinkState)) → opens new ≡ opens old → NoneOpenFrom n old → NoneOpenFrom n new
+none_open_same n old new e none k from = subst (λ w. is_open_at (slice_get w k) ≡ false) (sym e) (none k from)
+
+-- a link below that number changes
+map-set : (links : List (Option LinkState)) (j : ℕ) (link : Option LinkState) → opens (slice_set links j link) ≡ slice_set (opens links) j (is_some link)
+map-set [] j link = refl
+map-set (x ∷ links) zero link = refl
+map-set (x ∷ links) (suc j) link = ap (λ w. is_some x ∷ w) (map-set links j link)
+
+pub none_open_set : (n j : ℕ) (links : List (Option LinkState)) (link : Option LinkState) → j < n → NoneOpenFrom n links → NoneOpenFrom n (slice_set links j link)
+none_open_set n j links link below none k from =
+    let apart : k ≢ j = λ same. absurd (omega (arith, from, same, below)) in
+    subst (λ w. is_open_at (slice_get w k) ≡ false) (sym (map-set links j link)) (subst (λ o. is_open_at o ≡ false) (sym (get-set_other (opens links) j k (is_some link) apart)) (none k from))
+
+-- none is open at all
+pub none_open_starts : (links : List (Option LinkState)) → links ≡ replicate 32 None → NoneOpenFrom 0 links
+none_open_starts links e k from = subst (λ (ls : List (Option LinkState)). is_open_at (slice_get (opens ls) k) ≡ false) (sym e) (none_at 32 k)
+  where
+    none_at : (n k : ℕ) → is_open_at (slice_get (opens (replicate n None)) k) ≡ false
+    none_at zero k = refl
+    none_at (suc n) zero = refl
+    none_at (suc n) (suc k) = none_at n k
+
+-- the number falls where the link below it is not open
+open_here : (links : List (Option LinkState)) (n : ℕ) (d : Option LinkState) → n < length links → is_open_at (slice_get (opens links) n) ≡ is_some (get_or links n d)
+open_here [] n d there = absurd (omega (arith, there))
+open_here (x ∷ links) zero d there = refl
+open_here (x ∷ links) (suc n) d there = open_here links n d (omega (arith, there))
+
+pub none_open_below : (n : ℕ) (links : List (Option LinkState)) (d : Option LinkState) → n < length links → is_some (get_or links n d) ≡ false → NoneOpenFrom (n + 1) links → NoneOpenFrom n links
+none_open_below n links d there closed none k from =
+    elim (k == n) as (λ b. (k == n) ≡ b → is_open_at (slice_get (opens links) k) ≡ false) [
+      | true ↦ λ t. subst (λ j. is_open_at (slice_get (opens links) j) ≡ false) (sym (eqb-true k n t)) (open_here links n d there ∙ closed)
+      | false ↦ λ t. none k (grind (arith, nat_tests))
+    ] refl
+
+-- Links that are not open have no part in a turn
+
+closed_here : (links : List (Option LinkState)) (k : ℕ) → is_open_at (slice_get (opens links) k) ≡ false → some_link (slice_get links k) ≡ None
+closed_here [] k e = refl
+closed_here (None ∷ links) zero e = refl
+closed_here (Some l ∷ links) zero e = absurd cc
+closed_here (x ∷ links) (suc k) e = closed_here links k e
+
+set_closed : (links : List (Option LinkState)) (k : ℕ) → some_link (slice_get links k) ≡ None → slice_set links k None ≡ links
+set_closed [] k e = refl
+set_closed (x ∷ links) zero e = ap (λ o. o ∷ links) (sym e)
+set_closed (x ∷ links) (suc k) e = ap (λ ls. x ∷ ls) (set_closed links k e)
+
+closed_serves : (t : Option Log) (k : ℕ) (env : KeptEnvironment) → Simulates t t (StandsForSlot env None) (StandsForSlot env None) (serve_slot_link k) parsed
+closed_serves t k env =
+    simulates_nothing t (StandsForSlot env None) (StandsForSlot env None) (serve_slot_link k) parsed (λ d. d) (λ d h. h)
+    (λ d h log. ap (λ o. serve_open k d.environment o log) h.1 ∙ ap (λ (o : Option LinkState). parsed (link_in_slot d.environment o) log) (sym h.1))
+
+closed_served : (t : Option Log) (n k : ℕ) (kept : Kept) → NoneOpenFrom k kept.links → Simulates t t (StandsFor kept) (StandsFor kept) (serve_from (suc n) k) (serve_from n (k + 1))
+closed_served t n k kept none =
+    let env : KeptEnvironment = record { devices = kept.devices; waits = kept.waits } in
+    let here = closed_here kept.links k (none k (omega arith)) in
+    subst (λ (ls : List (Option LinkState)). Simulates t t (StandsFor kept) (StandsFor (kept_of env ls)) (serve_from (suc n) k) (serve_from n (k + 1))) (set_closed kept.links k here)
+    (one_served t t n k env env kept.links None None here (closed_serves t k env))
+
+pub rest_closed : (a b : Option Log) (n k : ℕ) (kept kept' : Kept) → NoneOpenFrom k kept'.links → Simulates a b (StandsFor kept) (StandsFor kept') (serve_from (length kept.links) 0) (serve_from n k) →
+    Simulates a b (StandsFor kept) (StandsFor kept') serve_all parsed
+rest_closed a b zero k kept kept' none d = all_served a b 0 k kept kept' refl d
+rest_closed a b (suc n) k kept kept' none d =
+    rest_closed a b n (k + 1) kept kept' (λ j from. none j (omega (arith, from))) (simulates_more d (closed_served b n k kept' none))
+
+-- none of them wants one
+all_closed : (k : ℕ) (f : ℕ → Bool) (links : List (Option LinkState)) → ((j : ℕ) → is_open_at (slice_get (opens links) j) ≡ false) → any_wants k f links ≡ false
+all_closed k f [] none = refl
+all_closed k f (None ∷ links) none = all_closed (k + 1) f links (λ j. none (suc j))
+all_closed k f (Some l ∷ links) none = let here : true ≡ false = none zero in absurd cc
+
+rest_from : (k n : ℕ) (f : ℕ → Bool) (links : List (Option LinkState)) → NoneOpenFrom n links → any_wants k f (drop n links) ≡ false
+rest_from k zero f links none = all_closed k f links (λ j. none j (omega arith))
+rest_from k (suc n) f [] none = refl
+rest_from k (suc n) f (x ∷ links) none = rest_from k n f links (λ j from. none (suc j) (omega (arith, from)))
+
+pub rest_wants : (k : ℕ) (f : ℕ → Bool) (links : List (Option LinkState)) → NoneOpenFrom k links → any_wants k f (drop k links) ≡ false
+rest_wants k f links none = rest_from k k f links none
+
+-- a link that is opened has a number
+below_woken : (wake : Wake) (n : ℕ) (kept : Kept) → fits (outline_of kept) wake ≡ true → n ≤ length kept.links → open_below_after wake n ≤ length kept.links
+below_woken (Opened k) n kept fit bound = let low = here kept.links k fit in max-le bound (omega (arith, low))
+  where
+    here : (links : List (Option LinkState)) (k : ℕ) → is_closed_at (slice_get (opens links) k) ≡ true → k < length links
+    here [] k e = absurd cc
+    here (x ∷ links) zero e = omega arith
+    here (x ∷ links) (suc k) e = let low = here links k e in omega (arith, low)
+below_woken (Readable k) n kept fit bound = bound
+below_woken (Writable k) n kept fit bound = bound
+below_woken (Ticked d m) n kept fit bound = bound
+below_woken (Line d change) n kept fit bound = bound
+below_woken Idle n kept fit bound = bound
+below_woken Stop n kept fit bound = bound
+
+pub woken_within : (wake : Wake) (n below : ℕ) (kept : Kept) (links : List (Option LinkState)) → below ≡ open_below_after wake n → fits (outline_of kept) wake ≡ true → n ≤ 32 → length kept.links ≡ 32 → length links ≡ 32 → below ≤ length links
+woken_within wake n below kept links is fit bound before after =
+    let low = below_woken wake n kept fit (subst (λ m. n ≤ m) (sym before) bound) in
+    subst (λ m. m ≤ length links) (sym is) (subst (λ m. open_below_after wake n ≤ m) (before ∙ sym after) low)

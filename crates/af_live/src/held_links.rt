@@ -1,0 +1,141 @@
+// The links that a world holds, by number, with a bound on the numbers of which something may be ready: a search for what is ready
+// ends there, and there is none where nothing is ready.
+ghost use Rattle.std.specs.Prelude.{◌≡◌, length, replicate, slice_set, IfSome};
+ghost use Rattle.std.specs.declared.option.Option.TheVariants.{Some};
+ghost use Rattle.af_live.specs.LinkTable.{free_entry, link_at, new_link, to_read, to_write, IsLeastFree, GivesFirst, KeepsOpen, LinkWakeFits, Opens};
+
+use crate::link_table::{
+    LinkEntry, first_ready, free_number, held_at, least_free, note_ready, take_first,
+};
+use af_world::Wake;
+use std::marker::Model;
+
+/// The links that are held. Clauses see a place for each of 32 numbers.
+#[derive(Drop)]
+pub(crate) struct HeldLinks {
+    entries: [Option<LinkEntry>; 32],
+    // nothing is ready of a link at this number or above it
+    ready_below: usize,
+}
+
+impl Model for HeldLinks {
+    ghost use Rattle.std.specs.Prelude.{◌≡◌, ◌≤◌, List, length};
+    ghost use Rattle.std.specs.declared.option.Option.{Option};
+    ghost use Rattle.af_live.specs.declared.link_table.LinkEntry.{LinkEntry};
+    ghost use Rattle.af_live.specs.LinkTable.{NothingReadyFrom};
+
+    ghost Value = { List (Option LinkEntry) };
+
+    ghost view = { λ h. h.entries };
+
+    ghost invariant = { λ h. (length h.entries ≡ 32) × (h.ready_below ≤ 32) × NothingReadyFrom h.ready_below h.entries };
+}
+
+impl HeldLinks {
+    /// No link is held.
+    pub fn new() -> HeldLinks
+        ensures { result ≡ replicate 32 free_entry }
+    {
+        HeldLinks {
+            entries: [None; 32],
+            ready_below: 0,
+        }
+    }
+
+    /// The link with a number, if it is held.
+    pub fn get(&self, number: u8) -> Option<LinkEntry>
+        ensures { result ≡ link_at self.now number }
+    {
+        held_at(&self.entries, number)
+    }
+
+    /// The least number that no link has.
+    pub fn least_free(&self) -> Option<usize>
+        ensures { IsLeastFree self.now result }
+    {
+        least_free(&self.entries)
+    }
+
+    /// A new link is held, whose stream has this key.
+    pub fn hold(&mut self, number: usize, key: usize)
+        ensures { self.new ≡ slice_set self.old number (Some (new_link key)) }
+    {
+        if number < self.entries.len() {
+            self.entries[number] = Some(LinkEntry::new(key));
+            self.ready_below = self.ready_below.max(number + 1);
+        }
+    }
+
+    /// A link is no longer held.
+    pub fn free(&mut self, number: u8)
+        ensures { self.new ≡ slice_set self.old number free_entry }
+    {
+        free_number(&mut self.entries, number);
+    }
+
+    /// A link may have something to read, or may take something.
+    pub fn note(&mut self, number: usize, may_read: bool, may_write: bool)
+        ensures { KeepsOpen self.old self.new }
+    {
+        if number < self.entries.len() {
+            note_ready(&mut self.entries[number], may_read, may_write);
+            self.ready_below = self.ready_below.max(number + 1);
+        }
+    }
+
+    /// A link that is held may have something to read.
+    pub fn set_readable(&mut self, number: u8)
+        ensures { self.new ≡ slice_set self.old number (to_read (link_at self.old number)) }
+    {
+        let number = usize::from(number);
+        if number < self.entries.len() {
+            set_readable(&mut self.entries[number]);
+            self.ready_below = self.ready_below.max(number + 1);
+        }
+    }
+
+    /// A link that is held may take something.
+    pub fn set_writable(&mut self, number: u8)
+        ensures { self.new ≡ slice_set self.old number (to_write (link_at self.old number)) }
+    {
+        let number = usize::from(number);
+        if number < self.entries.len() {
+            set_writable(&mut self.entries[number]);
+            self.ready_below = self.ready_below.max(number + 1);
+        }
+    }
+
+    /// Gives what is ready first.
+    pub fn take_ready(&mut self) -> Option<Wake>
+        ensures count { length self.old ≡ 32 }
+        ensures first { GivesFirst self.old result self.new }
+        ensures fits { IfSome result (λ wake. LinkWakeFits self.old wake) }
+        ensures opens { IfSome result (λ wake. Opens wake self.old self.new) }
+    {
+        match first_ready(&self.entries, self.ready_below) {
+            Some(number) => Some(take_first(&mut self.entries[number], number as u8)),
+            None => {
+                self.ready_below = 0;
+                None
+            }
+        }
+    }
+}
+
+/// Notes of a link that it may have something to read.
+fn set_readable(link: &mut Option<LinkEntry>)
+    ensures { link.new ≡ to_read link.old }
+{
+    if let Some(held) = link {
+        held.readable = true;
+    }
+}
+
+/// Notes of a link that it may take something.
+fn set_writable(link: &mut Option<LinkEntry>)
+    ensures { link.new ≡ to_write link.old }
+{
+    if let Some(held) = link {
+        held.writable = true;
+    }
+}

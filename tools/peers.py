@@ -4,7 +4,6 @@ plays to nowhere, and sndio. sndiod has no such sink; it plays to that of PulseA
 import os
 import shutil
 import subprocess
-import sys
 import time
 
 from serving import connect, free_port
@@ -128,13 +127,13 @@ class Sndio(Peer):
         self.below.end()
 
 
-def installed():
-    """The peers that are there. Of the others it is said that they are not."""
+def installed(tell):
+    """The peers that are there. Of the others it is told that they are not."""
     found = []
     for peer in (PulseAudio, Sndio):
         missing = [program for program in peer.programs if shutil.which(program) is None]
         if missing:
-            print("%s is left out: %s is not installed" % (peer.name, missing[0]), file=sys.stderr)
+            tell("\n%s is not installed, so %s is left out." % (missing[0], peer.name))
         else:
             found.append(peer)
     return found

@@ -116,16 +116,21 @@ def asked_time(link, device=0):
     return int.from_bytes(received(link, 12)[8:12], "big")
 
 
+def free_port():
+    """A port of the loopback that nobody listens at."""
+    with socket.create_server(("127.0.0.1", 0)) as taken:
+        return taken.getsockname()[1]
+
+
 class Server:
     """A server on the loopback with these devices, in a folder that its files stand in. Used with `with`, it is ended at the end."""
 
-    def __init__(self, afd, folder, devices, before=()):
-        self.start([*before, afd], folder, folder, devices)
+    def __init__(self, afd, folder, devices, before=(), patience=20):
+        self.start([*before, afd], folder, folder, devices, patience)
 
     def start(self, words, cwd, folder, devices, patience=20):
         """Starts a program in a folder, and waits until it listens, so many seconds at most."""
-        with socket.create_server(("127.0.0.1", 0)) as taken:
-            self.address = "127.0.0.1:%d" % taken.getsockname()[1]
+        self.address = "127.0.0.1:%d" % free_port()
         self.folder = folder
         self.said = tempfile.TemporaryFile()
         self.process = subprocess.Popen(

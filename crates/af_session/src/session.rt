@@ -1,7 +1,7 @@
 // The session of a link.
 // How it lies: three blocks, taken once. Input stands in a vector whose first bytes may be used already (`unread.rt`): they go
 // only when room is needed, so what is unread is one piece, and read in place. Output is a ring, which takes bytes at its back
-// and gives up at its front those that went, moves none, and may wrap; as a world is offered one piece, `pending` copies it into
+// and gives up at its front those that went, moves none, and may wrap; as a world is offered one piece, what wraps is copied into
 // the third block. Contracts see two lists, the rest and what is pending, and of no byte where it lies.
 ghost use Rattle.std.specs.Prelude.{◌≡◌, ◌+◌, ◌≤◌, [], ◌++◌, length, drop, vec_capacity, IfOk, IfSome};
 ghost use Rattle.std.specs.Borrow.{sem};

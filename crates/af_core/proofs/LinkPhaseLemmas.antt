@@ -1,5 +1,5 @@
 -- What each phase of a link's turn takes off a log.
-use Rattle.std.proofs.Common.{◌≡◌, ◌≢◌, ◌==◌, eqb-true, ℕ, zero, suc, ◌≤◌, ◌<◌, ◌+◌, ◌-◌, Bool, true, false, not, ◌&&◌, nat_le, nat_lt, ◌⊎◌, ⊎_elim, is_none, cond, List, [], ◌∷◌, ◌++◌, length, take, drop, slice_get, slice_set, get_or, refl, sym, ap, ◌∙◌, subst, arith, length-set, length-take-le}
+use Rattle.std.proofs.Common.{◌≡◌, ◌≢◌, ◌==◌, eqb-true, ℕ, zero, suc, ◌≤◌, ◌<◌, ◌+◌, ◌-◌, Bool, true, false, not, ◌&&◌, nat_le, nat_lt, ◌⊎◌, ⊎_elim, is_none, cond, List, [], ◌∷◌, ◌++◌, length, take, drop, slice_get, slice_set, get_or, refl, sym, ap, ◌∙◌, subst, arith, length-take-le}
 use Rattle.std.proofs.lemmas.List.{length-drop}
 use Rattle.std.proofs.lemmas.Option.{slice_get-get_or}
 use Rattle.std.proofs.lemmas.Bool.Decides.{nat_tests}

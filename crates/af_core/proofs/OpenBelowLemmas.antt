@@ -10,7 +10,7 @@ use Rattle.af_wire.specs.declared.event.EventKind.TheVariants as kind
 use Rattle.af_world.specs.declared.happening.Wake.{Wake}
 use Rattle.af_world.specs.declared.happening.Wake.TheVariants.{Opened, Readable, Writable, Ticked, Line, Idle, Stop}
 use Rattle.af_world.specs.Log.{Log}
-use Rattle.af_model.specs.State.{State, DeviceState, LinkState, SlotLink, link_in_slot, opened, slot_at, with_slot}
+use Rattle.af_model.specs.State.{State, DeviceState, LinkState, link_in_slot, opened, slot_at, with_slot}
 use Rattle.af_model.specs.Tick.{captured_samples, tick}
 use Rattle.af_model.specs.Events.{hook_given, hook_refused, line_changes}
 use Rattle.af_model.specs.More.{any_wants}

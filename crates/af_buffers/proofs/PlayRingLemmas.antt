@@ -232,3 +232,18 @@ ahead_by t start far word word' begun is =
     let same : unwrap (whole_time t) start % 2 ^ 32 ≡ start = meant.word in
     let late : unwrap (whole_time t) start < whole_time t + 2 ^ 31 = meant.late in
     omega arith
+
+-- so it is at its place
+pub before_now : (t start late : ℕ) → t < 2 ^ 32 → start < 2 ^ 32 → unwrap (whole_time t) start < whole_time t → late ≡ (t + (2 ^ 32 - start)) % 2 ^ 32 → (unwrap (whole_time t) start + late ≡ whole_time t) × (0 < late) × (late ≤ 2 ^ 31)
+before_now t start late word word' before is =
+    let meant : IsMeant (whole_time t) start (unwrap (whole_time t) start) = unwrap_meant (whole_time t) start (omega arith) word' in
+    let early : whole_time t ≤ unwrap (whole_time t) start + 2 ^ 31 = meant.early in
+    let by = late_by t start late word word' before is in
+    (by, omega (arith, by, before), omega (arith, by, early))
+
+pub ahead_of_now : (t start far : ℕ) → t < 2 ^ 32 → start < 2 ^ 32 → whole_time t ≤ unwrap (whole_time t) start → far ≡ (start + (2 ^ 32 - t)) % 2 ^ 32 → (unwrap (whole_time t) start ≡ whole_time t + far) × (far < 2 ^ 31)
+ahead_of_now t start far word word' begun is =
+    let meant : IsMeant (whole_time t) start (unwrap (whole_time t) start) = unwrap_meant (whole_time t) start (omega arith) word' in
+    let late : unwrap (whole_time t) start < whole_time t + 2 ^ 31 = meant.late in
+    let by = ahead_by t start far word word' begun is in
+    (by, omega (arith, by, late))

@@ -1,3 +1,4 @@
 pub mod Horizons
+pub mod Places
 pub mod PlayBuffer
 pub mod RecordBuffer

@@ -2,6 +2,7 @@
 //! the list of the next and of the last samples.
 #![tactic(auto)]
 
+mod place;
 mod play;
 mod record;
 mod room;

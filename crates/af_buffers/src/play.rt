@@ -5,6 +5,7 @@ ghost use Rattle.af_sample.specs.Sizes.{longest_play};
 ghost use Rattle.af_buffers.specs.Horizons.{IsHorizon};
 ghost use Rattle.af_buffers.specs.PlayBuffer.{accepted_by, frames_beyond, frames_within, ChangesCovered, EndsWithin, HandsOut, HoldsNext, OverlaysRun, Plays};
 
+use crate::place::{Place, place_of};
 use crate::room::bits_for;
 use af_ring::TimeRing;
 use af_time::{DevTime, OutOfMemory};
@@ -59,11 +60,9 @@ impl PlayBuffer {
     pub fn frames_within(&self, start: DevTime) -> u32
         ensures { result ≡ frames_within self.now start.0 }
     {
-        if start.is_before(self.time) {
-            self.horizon + self.time.0.wrapping_sub(start.0)
-        } else {
-            self.horizon
-                .saturating_sub(start.0.wrapping_sub(self.time.0))
+        match place_of(start, self.time) {
+            Place::Before(late) => self.horizon + late,
+            Place::Ahead(far) => self.horizon.saturating_sub(far),
         }
     }
 
@@ -73,11 +72,9 @@ impl PlayBuffer {
         requires { frames ≤ longest_play }
         ensures { result ≡ frames_beyond self.now start.0 frames }
     {
-        let ahead = start.0.wrapping_sub(self.time.0);
-        if start.is_before(self.time) {
-            0
-        } else {
-            (ahead + frames).saturating_sub(self.horizon)
+        match place_of(start, self.time) {
+            Place::Before(_) => 0,
+            Place::Ahead(far) => (far + frames).saturating_sub(self.horizon),
         }
     }
 
@@ -97,13 +94,14 @@ impl PlayBuffer {
         ensures next { Plays self.old self.new (accepted_by self.old start.0 samples.now preempt) }
         ensures ring { ChangesCovered self.old self.new (accepted_by self.old start.0 samples.now preempt) }
     {
-        if start.is_before(self.time) {
-            let late = self.time.0.wrapping_sub(start.0) as usize;
-            if late < samples.len() {
-                overlay(&mut self.ring, self.time, &samples[late..], preempt);
+        match place_of(start, self.time) {
+            Place::Before(late) => {
+                let late = late as usize;
+                if late < samples.len() {
+                    overlay(&mut self.ring, self.time, &samples[late..], preempt);
+                }
             }
-        } else {
-            overlay(&mut self.ring, start, samples, preempt);
+            Place::Ahead(_) => overlay(&mut self.ring, start, samples, preempt),
         }
     }
 

@@ -5,6 +5,7 @@ ghost use Rattle.af_sample.specs.Sizes.{longest_record};
 ghost use Rattle.af_buffers.specs.Horizons.{IsHorizon};
 ghost use Rattle.af_buffers.specs.RecordBuffer.{frames_before, frames_until_past, Captures, HoldsLast, samples_from};
 
+use crate::place::{Place, place_of};
 use crate::room::bits_for;
 use af_ring::TimeRing;
 use af_time::{DevTime, OutOfMemory};
@@ -57,11 +58,9 @@ impl RecordBuffer {
     pub fn frames_before(&self, start: DevTime) -> u32
         ensures { result ≡ frames_before self.now start.0 }
     {
-        let frames = self.time.0.wrapping_sub(start.0);
-        if start.is_before(self.time) {
-            frames
-        } else {
-            0
+        match place_of(start, self.time) {
+            Place::Before(frames) => frames,
+            Place::Ahead(_) => 0,
         }
     }
 
@@ -71,10 +70,9 @@ impl RecordBuffer {
         requires { frames ≤ longest_record }
         ensures { result ≡ frames_until_past self.now start.0 frames }
     {
-        if start.is_before(self.time) {
-            frames.saturating_sub(self.time.0.wrapping_sub(start.0))
-        } else {
-            start.0.wrapping_sub(self.time.0) + frames
+        match place_of(start, self.time) {
+            Place::Before(late) => frames.saturating_sub(late),
+            Place::Ahead(far) => far + frames,
         }
     }
 

@@ -1,23 +1,17 @@
-use Rattle.std.proofs.Common.{◌≡◌, ◌+◌, ◌-◌, ◌%◌, ◌<◌, ◌^◌, subst, arith, rules, refl}
+use Rattle.std.proofs.Common.{◌≡◌, ◌+◌, subst, arith}
 use Rattle.af_buffers.specs.PlayBuffer.{Next, frames_within}
-use Rattle.af_buffers.proofs.PlayRingLemmas.{is_late, not_late, late_by, ahead_by, length-next_of}
+use Rattle.af_buffers.proofs.PlayRingLemmas.{length-next_of}
 use Rattle.af_buffers.proofs.play.PlayBuffer.frames_within.Goals as goal
 
-pub returns-then-is_before : goal.returns-then-is_before
-returns-then-is_before c =
-    let word : c.self.inside.time.0 < 2 ^ 32 = search rules in
-    let word' : c.args.start.0 < 2 ^ 32 = search rules in
-    let late = late_by c.self.inside.time.0 c.args.start.0 _ word word'
-    (is_late c.self.inside.time.0 c.args.start.0 c.is_before.result word word' c.is_before.ensures.whole c.if-is_before.true) refl in
+pub returns-in-Before : goal.returns-in-Before
+returns-in-Before c =
+    let late = c.in-Before.ensures.0 in
     let long = length-next_of c.self.inside.ring c.self.inside.time.0 c.self.inside.horizon in
-    subst (λ (v : Next). c.self.inside.horizon + (c.self.inside.time.0 + (2 ^ 32 - c.args.start.0)) % 2 ^ 32 ≡ frames_within v c.args.start.0) c.self.view_is (omega arith)
+    subst (λ (v : Next). c.self.inside.horizon + c.in-Before.late ≡ frames_within v c.args.start.0) c.self.view_is (omega (arith, late))
 
-pub returns-else-is_before : goal.returns-else-is_before
-returns-else-is_before c =
-    let word : c.self.inside.time.0 < 2 ^ 32 = search rules in
-    let word' : c.args.start.0 < 2 ^ 32 = search rules in
-    let begun = not_late c.self.inside.time.0 c.args.start.0 c.is_before.result word word' c.is_before.ensures.whole c.if-is_before.false in
-    let far = ahead_by c.self.inside.time.0 c.args.start.0 _ word word' begun refl in
+pub returns-in-Ahead : goal.returns-in-Ahead
+returns-in-Ahead c =
+    let far = c.in-Ahead.ensures.0 in
     let long = length-next_of c.self.inside.ring c.self.inside.time.0 c.self.inside.horizon in
     let left = c.saturating_sub.ensures in
-    subst (λ (v : Next). c.saturating_sub.result ≡ frames_within v c.args.start.0) c.self.view_is (omega arith)
+    subst (λ (v : Next). c.saturating_sub.result ≡ frames_within v c.args.start.0) c.self.view_is (omega (arith, far))

@@ -1,7 +1,5 @@
 -- What link k does changes nothing but itself, unless it acts.
 use Rattle.std.proofs.Common.{◌≡◌, ℕ, zero, suc, ◌+◌, ◌==◌, ◌||◌, ◌⊎◌, inl, inr, Bool, true, false, not, cond, nat_le, List, [], ◌∷◌, ◌++◌, length, map, filter, slice_get, slice_set, is_none, take, append_assoc, eqb-true, refl, sym, ap, ◌∙◌, subst}
-use Rattle.std.proofs.lemmas.Bool.{eqb-false}
-use Rattle.std.specs.List.{AllZip, list_any}
 use Rattle.std.specs.declared.option.Option.{Option}
 use Rattle.std.specs.declared.option.Option.TheVariants.{None, Some}
 use Rattle.af_world.specs.declared.happening.Why.{Why}
@@ -18,16 +16,15 @@ use Rattle.af_wire.specs.Event.{event_bytes}
 use Rattle.af_model.specs.Sizes.{event_limit}
 use Rattle.af_model.specs.State.{Completion, DeviceState, Deferral, Deferred, deferred_play, deferred_record, EnvironmentState, LinkState, OpenLink, open_link, say, SlotLink, device_set, with_device, has_acted}
 use Rattle.af_model.specs.Waiting.{wait}
-use Rattle.af_model.specs.Play.{in_devices}
-use Rattle.af_model.specs.Tick.{complete_at, complete_for, completing, enter}
+use Rattle.af_model.specs.Tick.{complete_for, completing}
 use Rattle.af_model.specs.Advance.{absorb, advance}
 use Rattle.af_model.specs.Events.{dropped, mask_of, tell_open, tell_selected, without_waiter}
-use Rattle.af_model.specs.Turn.{Parsed, after_read, after_write, close_due, close_phase, is_read, parse_then, parsed, read_phase, sent, serve_link, serve_open, wants_write, write_by, write_offered, write_phase, write_taken}
+use Rattle.af_model.specs.Turn.{Parsed, after_read, after_write, close_phase, parse_then, read_phase, sent, serve_link, serve_open, write_by, write_offered, write_phase, write_taken}
 use Rattle.af_model.proofs.BoolTestLemmas.{cond-some, none_some, same_number, some_is}
 use Rattle.af_model.proofs.DeviceHistoryLemmas.{AllLive, Laters, Later, all_live_refl, later_completing, laters_refl, laters_trans, laters_with, live_laters, now_acted, with_there}
 use Rattle.af_model.proofs.LinkInvariantLemmas.{Keeps, advance_keeps, complete_keeps}
 use Rattle.af_model.proofs.OwedBytesLemmas.{grows_keeps}
-use Rattle.af_model.proofs.PhasePartLemmas.{Taken, Takes, close_takes, read_takes, takes_chain, write_takes}
+use Rattle.af_model.proofs.PhasePartLemmas.{Takes, close_takes, read_takes, takes_chain, write_takes}
 use Rattle.af_laws.specs.Without.{acted_on, device_without, without}
 
 -- Who has acted

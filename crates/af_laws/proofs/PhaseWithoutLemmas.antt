@@ -3,7 +3,6 @@ use Rattle.std.proofs.Common.{◌≡◌, ◌≢◌, ℕ, zero, suc, ◌+◌, ◌
 use Rattle.std.proofs.lemmas.Bool.{eqb-false}
 use Rattle.std.specs.declared.option.Option.{Option}
 use Rattle.std.specs.declared.option.Option.TheVariants.{None, Some}
-use Rattle.af_request.specs.declared.reply.Phone.{Phone}
 use Rattle.af_phone.specs.Lines.{changed, event_kind_of, flag_value, hooked, is_change, value_of}
 use Rattle.af_phone.specs.declared.LineChange.{LineChange}
 use Rattle.af_wire.specs.declared.event.EventKind.TheVariants as kind
@@ -18,9 +17,7 @@ use Rattle.af_model.specs.Tick.{captured_samples, sound, tick}
 use Rattle.af_model.specs.Events.{hook_given, hook_refused}
 use Rattle.af_model.specs.Turn.{Parsed, after_capture, capture_by, emit_by, fits, has_line_at, hook_all, hook_at, hook_by, hook_for, hook_from, hook_wanted, in_slot, is_closed_at, is_open_at, line_phase, parse_one, parse_then, parsed, ready, same_flag, then_go, tick_phase, wake_phase, writable}
 use Rattle.af_model.proofs.BoolTestLemmas.{cond-some, none_some, some_is}
-use Rattle.af_model.proofs.ListLemmas.{get-set_other}
 use Rattle.af_model.proofs.PhasePartLemmas.{then_inv}
-use Rattle.af_model.proofs.SlotLemmas.{links_of-set}
 use Rattle.af_laws.specs.Without.{acted_on, device_without, state_without, wake_without, without}
 use Rattle.af_laws.proofs.OtherLinkLemmas.{apart, device_at_without, devices_count}
 use Rattle.af_laws.proofs.OtherLinkPhaseLemmas.{Follows, follows_nothing, follows_one, follows_then}
@@ -107,9 +104,11 @@ module _ (k d n : ℕ) (device : DeviceState) (s : State) (there : slice_get s.d
   emit_without bytes (Emitted j out done) t e silent =
       let next = tick d (captured_samples device.ty n (Some bytes)) (not done) s in
       let i = cond-some (j == d && same_bytes out (sound device n)) (Some next) t e in
-      let is : next ≡ t = some_is i.1 in
-      (ap (λ b. cond b (Some (tick d (captured_samples device.ty n (Some bytes)) (not done) (state_without k s))) None) i.0
-      ∙ ap (λ u. Some u) (ticked_without (Some bytes) (not done) (ap (λ (u : State). acted_on k u.devices) is ∙ silent) ∙ ap (state_without k) is), λ log. refl)
+      let is : next ≡ t = some_is i.1 in (
+        ap (λ b. cond b (Some (tick d (captured_samples device.ty n (Some bytes)) (not done) (state_without k s))) None) i.0
+            ∙ ap (λ u. Some u) (ticked_without (Some bytes) (not done) (ap (λ (u : State). acted_on k u.devices) is ∙ silent) ∙ ap (state_without k) is),
+        λ log. refl,
+      )
 
   emitted_without : (bytes : List ℕ) (log : Log) (b : Parsed State) → parse_one (emit_by d n device (captured_samples device.ty n (Some bytes)) s) log ≡ Some b → acted_on k b.state.devices ≡ false →
       parse_one (emit_by d n (device_without k device) (captured_samples device.ty n (Some bytes)) (state_without k s)) (without k log) ≡ parsed (state_without k b.state) (without k b.log)

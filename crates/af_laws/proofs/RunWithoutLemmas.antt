@@ -1,15 +1,14 @@
 -- A run with link k and without it.
-use Rattle.std.proofs.Common.{◌≡◌, ◌≢◌, ℕ, zero, suc, ◌==◌, Bool, true, false, cond, List, [], ◌∷◌, fold, length, map, replicate, slice_set, refl, sym, ap, ◌∙◌, subst, eqb-true, IfSome}
+use Rattle.std.proofs.Common.{◌≡◌, ◌≢◌, ℕ, zero, suc, ◌==◌, true, false, cond, List, [], ◌∷◌, fold, length, map, replicate, slice_set, refl, sym, ap, ◌∙◌, subst, eqb-true, IfSome}
 use Rattle.std.specs.declared.option.Option.{Option}
 use Rattle.std.specs.declared.option.Option.TheVariants.{None, Some}
 use Rattle.af_world.specs.declared.happening.Happening.{Happening}
 use Rattle.af_world.specs.declared.happening.Happening.TheVariants.{Woke, Read, Wrote, Closed, Captured, Emitted, Hooked}
-use Rattle.af_world.specs.declared.happening.Wake.{Wake}
 use Rattle.af_world.specs.declared.happening.Wake.TheVariants as wake
 use Rattle.af_world.specs.declared.script.DeviceSpec.{DeviceSpec}
 use Rattle.af_world.specs.Log.{Log}
 use Rattle.af_model.specs.State.{closed_slot, opening, opening_device, outline, State}
-use Rattle.af_model.specs.LinkHistory.{LinkHistory, history, no_history, noted, read_noted, write_noted}
+use Rattle.af_model.specs.LinkHistory.{LinkHistory, no_history, noted, read_noted, write_noted}
 use Rattle.af_model.specs.Run.{end_by, end_state, then_end, wakes}
 use Rattle.af_model.specs.Turn.{Parsed, fits, hook_all, parse_then, parsed, serve_all, serve_and_hook, turn, wake_phase}
 use Rattle.af_model.proofs.BoolTestLemmas.{cond-some, none_some, some_is}

@@ -1,15 +1,14 @@
 -- All links are served with link k and without it.
-use Rattle.std.proofs.Common.{◌≡◌, ℕ, zero, suc, ◌+◌, ◌==◌, Bool, true, false, List, [], ◌∷◌, length, map, slice_set, refl, sym, ap, ◌∙◌, subst, eqb-true, inl, inr}
+use Rattle.std.proofs.Common.{◌≡◌, ℕ, zero, suc, ◌+◌, ◌==◌, true, false, length, refl, sym, ap, ◌∙◌, subst, eqb-true, inl, inr}
 use Rattle.std.specs.declared.option.Option.{Option}
 use Rattle.std.specs.declared.option.Option.TheVariants.{None, Some}
 use Rattle.af_world.specs.Log.{Log}
 use Rattle.af_model.specs.State.{EnvironmentState, LinkState, link_in_slot, open_link, SlotLink, SlotState, State, closed_slot, slot_at, slot_link_at, with_slot_link}
-use Rattle.af_model.specs.Events.{without_waiter}
 use Rattle.af_model.specs.Turn.{Parsed, parse_then, parsed, serve_all, serve_at, serve_from, serve_open, serve_slot_link}
 use Rattle.af_model.proofs.BoolTestLemmas.{some_is}
 use Rattle.af_model.proofs.PhasePartLemmas.{then_inv}
 use Rattle.af_model.proofs.ServeLemmas.{same_door, served_from}
-use Rattle.af_laws.specs.Without.{acted_on, device_without, state_without, without}
+use Rattle.af_laws.specs.Without.{acted_on, state_without, without}
 use Rattle.af_laws.proofs.OtherLinkLemmas.{environment_without, slot_without}
 use Rattle.af_laws.proofs.OtherLinkPhaseLemmas.{serve_other}
 use Rattle.af_laws.proofs.OwnLinkLemmas.{Unmoved, laters_acted, serve_own}

@@ -1,5 +1,5 @@
 -- The slots of a state without link k, and events that are told there.
-use Rattle.std.proofs.Common.{◌≡◌, ◌≢◌, ℕ, zero, suc, ◌+◌, ◌==◌, Bool, true, false, List, [], ◌∷◌, length, map, slice_get, slice_set, option_map, refl, sym, ap, ◌∙◌, subst, eqb-true}
+use Rattle.std.proofs.Common.{◌≡◌, ◌≢◌, ℕ, zero, suc, ◌+◌, ◌==◌, true, false, List, [], ◌∷◌, length, map, slice_get, slice_set, option_map, refl, sym, ap, ◌∙◌, subst, eqb-true}
 use Rattle.std.proofs.lemmas.Bool.{eqb-false}
 use Rattle.std.specs.declared.option.Option.{Option}
 use Rattle.std.specs.declared.option.Option.TheVariants.{None, Some}
@@ -7,7 +7,7 @@ use Rattle.af_request.specs.declared.reply.Phone.{Phone}
 use Rattle.af_wire.specs.declared.event.Event.{Event}
 use Rattle.af_wire.specs.declared.event.EventKind.{EventKind}
 use Rattle.af_model.specs.State.{DeviceState, LinkState, SlotLink, link_in_slot, SlotState, State, closed_slot, open_link, slot_at, slot_link_at, some_slot, with_device, with_slot, with_slot_link}
-use Rattle.af_model.specs.Events.{event_at, line_becomes, tell, tell_at, tell_from, tell_link, tell_open, without_waiter}
+use Rattle.af_model.specs.Events.{event_at, line_becomes, tell, tell_at, tell_from, tell_open, without_waiter}
 use Rattle.af_model.proofs.ServeLemmas.{same_door, slot_other}
 use Rattle.af_laws.specs.Without.{device_without, state_without}
 use Rattle.af_laws.proofs.OtherLinkLemmas.{apart, environment_without, slot_without, tell_link_other, with_device_without}

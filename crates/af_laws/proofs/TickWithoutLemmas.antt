@@ -1,9 +1,9 @@
 -- Sample periods go by with link k and without it: the same requests of all others complete.
-use Rattle.std.proofs.Common.{◌≡◌, ℕ, zero, suc, ◌≤◌, ◌==◌, Bool, true, false, not, cond, ℤ, List, [], ◌∷◌, length, map, filter, find, option_map, option_and_then, slice_get, refl, sym, ap, ◌∙◌, subst, eqb-true, arith, inl, inr}
+use Rattle.std.proofs.Common.{◌≡◌, ℕ, zero, suc, ◌≤◌, ◌==◌, Bool, true, false, not, cond, ℤ, List, [], ◌∷◌, length, find, option_map, option_and_then, slice_get, refl, sym, ap, ◌∙◌, subst, eqb-true, arith, inl, inr}
 use Rattle.std.specs.declared.option.Option.{Option}
 use Rattle.std.specs.declared.option.Option.TheVariants.{None, Some}
 use Rattle.af_wait.specs.Waits.{without_first}
-use Rattle.af_model.specs.State.{DeviceState, Deferral, EnvironmentState, LinkState, link_in_slot, OpenLink, open_link, SlotLink, State, slot_at, SlotState, slot_link_at, with_device, with_slot_link}
+use Rattle.af_model.specs.State.{DeviceState, Deferral, EnvironmentState, LinkState, link_in_slot, open_link, SlotLink, State, slot_link_at, with_device, with_slot_link}
 use Rattle.af_model.specs.Waiting.{falls_due}
 use Rattle.af_model.specs.Tick.{complete, complete_at, complete_by, complete_due, complete_first, complete_for, complete_step, enter, later, tick}
 use Rattle.af_model.specs.Advance.{or_else}
@@ -13,7 +13,7 @@ use Rattle.af_model.proofs.CompletionLemmas.{Few, count_alike, count_due, count_
 use Rattle.af_model.proofs.DeviceHistoryLemmas.{with_there}
 use Rattle.af_model.proofs.WakeLemmas.{by_goes}
 use Rattle.af_laws.specs.Without.{acted_on, device_without, state_without}
-use Rattle.af_laws.proofs.OtherLinkLemmas.{complete_other, device_at_without, environment_without, slot_without, with_device_without}
+use Rattle.af_laws.proofs.OtherLinkLemmas.{complete_other, device_at_without, environment_without, slot_without}
 use Rattle.af_laws.proofs.OwnLinkLemmas.{Unmoved, complete_own, laters_acted}
 use Rattle.af_laws.proofs.SlotWithoutLemmas.{device_changes_without, other_link_at, other_put, own_put}
 

@@ -223,8 +223,10 @@ impl ServedLink {
         requires room { length self.old.pending ≤ event_limit }
         requires samples { n ≤ longest_record }
         requires size { length message.old ≡ longest_message }
-        ensures { self.new ≡ record self.old { pending = self.old.pending
-            ++ reply_message 7 (recorded time.0 (take n (drop 16 message.old))) self.old.sequence } }
+        ensures { self.new ≡ record self.old {
+          pending = self.old.pending
+              ++ reply_message 7 (recorded time.0 (take n (drop 16 message.old))) self.old.sequence;
+        } }
     {
         let size = write_recorded(time, n, self.sequence, message);
         self.session.push_out(&message[..size]);

@@ -1,5 +1,5 @@
 // Record: sound of a device from a time on.
-ghost use Rattle.std.specs.Prelude.{◌≡◌, ℕ, ◌≤◌, ◌<◌, ◌*◌, ◌&&◌, nat_lt, length, min, take, if◌then◌else◌};
+ghost use Rattle.std.specs.Prelude.{◌≡◌, ℕ, ◌≤◌, ◌<◌, ◌*◌, ◌&&◌, nat_lt, drop, length, min, take, if◌then◌else◌};
 ghost use Rattle.af_time.specs.DeviceTime.{unwrap};
 ghost use Rattle.af_sample.specs.SampleTypes.{width_of};
 ghost use Rattle.af_model.specs.State.{DeviceState};
@@ -11,14 +11,14 @@ ghost use Rattle.af_state.specs.Environment.{StepsLink, StepsLinkFor, ChangesLin
 ghost use Rattle.af_perform.specs.Asked.{new_record};
 ghost use Rattle.af_perform.specs.Sounds.{record_by_context, with_named_device};
 ghost use Rattle.af_sample.specs.Sizes.{longest_record};
-ghost use Rattle.af_wire.specs.Sizes.{longest_frame};
+ghost use Rattle.af_wire.specs.Sizes.{longest_frame, longest_message};
 ghost use Rattle.af_model.specs.Sizes.{most_to_send, event_limit};
 
 use crate::checks::{check, first_refusal, is_missing, no_context, no_device};
 use crate::opcode;
 use af_context::Context;
 use af_model::{Refusal, RefusalCause};
-use af_request::Reply;
+use af_request::RECORDED_AT;
 use af_state::{Device, Environment, Record, ServedLink, Work};
 use af_time::DevTime;
 
@@ -62,21 +62,22 @@ fn given_frames(blocking: bool, before: u32, frames: u32) -> u32
     if blocking { frames } else { before.min(frames) }
 }
 
-// The frames of a record come to stand at the front of `bytes`, and their samples at that of `samples`.
-fn read_frames(asked: Record, device: &Device, samples: &mut [i16], bytes: &mut [u8])
+// The frames of a record come to stand in the message that answers it, and their samples at the front of `samples`.
+fn read_frames(asked: Record, device: &Device, samples: &mut [i16], message: &mut [u8])
     requires few { asked.frames ≤ longest_record }
     requires fits { asked.frames * width_of asked.context.ty ≤ longest_record }
     requires samples { length samples.old ≡ longest_frame }
-    requires bytes { length bytes.old ≡ longest_frame }
-    ensures { (s : DeviceState) → StandsForDevice device.now s →
-        take (asked.frames * width_of asked.context.ty) bytes.new
+    requires message { length message.old ≡ longest_message }
+    ensures size { length message.new ≡ longest_message }
+    ensures frames { (s : DeviceState) → StandsForDevice device.now s →
+        take (asked.frames * width_of asked.context.ty) (drop 16 message.new)
         ≡ recorded_bytes asked.context s (unwrap s.now asked.start.0) asked.frames }
 {
     let n = asked.frames as usize;
     let size = n * asked.context.ty.width();
     let samples = &mut samples[..n];
-    let front = &mut bytes[..size];
-    device.record(&asked.context, asked.start, samples, front);
+    let (_, behind) = message.split_at_mut(RECORDED_AT);
+    device.record(&asked.context, asked.start, samples, &mut behind[..size]);
 }
 
 /// A record is answered with its frames.
@@ -90,12 +91,8 @@ pub fn answer_record(asked: Record, device: &Device, link: &mut ServedLink, work
 {
     let n = asked.frames as usize;
     let size = n * asked.context.ty.width();
-    read_frames(asked, device, &mut work.samples, &mut work.bytes);
-    let reply = Reply::Recorded {
-        time: device.time(),
-        samples: &work.bytes[..size],
-    };
-    link.reply(opcode::RECORD, &reply, &mut work.message);
+    read_frames(asked, device, &mut work.samples, &mut work.message);
+    link.reply_recorded(device.time(), size, &mut work.message);
 }
 
 // A record is answered with all of its frames, or, if it does not block, with those before now.

@@ -1,12 +1,15 @@
 -- Replies that are written, as messages.
-use Rattle.std.proofs.Common.{◌≡◌, ◌<◌, ◌≤◌, ◌+◌, ◌*◌, ◌^◌, ◌⊎◌, inl, inr, ℕ, List, ◌++◌, length, refl, sym, subst, arith}
+use Rattle.std.proofs.Common.{◌≡◌, ◌<◌, ◌≤◌, ◌+◌, ◌*◌, ◌-◌, ◌^◌, ◌⊎◌, inl, inr, ℕ, List, ◌++◌, length, take, replicate, refl, sym, ap, ◌∙◌, subst, arith}
+use Rattle.std.proofs.Math.Seq.{take-append-add, take-length}
 use Rattle.std.proofs.lemmas.Bool.Decides.{nat_tests}
+use Rattle.std.proofs.lemmas.List.{append_assoc}
 use Rattle.std.specs.Prelude.{IsTrue}
 use Rattle.af_wire.specs.Message.{head}
 use Rattle.af_wire.specs.declared.message_front.MessageFront.TheVariants.{Message}
 use Rattle.af_wire.specs.MessageFront.{is_head, message_front, IsOneMessage}
 use Rattle.af_wire.proofs.MessageRoundTrips.{head_framed, head_one}
 use Rattle.af_request.specs.Answer.{Answer, setup, plain, time, played, recorded, controls, phone}
+use Rattle.af_request.specs.Fields.{u32_bytes, words_for}
 use Rattle.af_request.specs.Replies.{body_bytes, body_words, is_plain, reply_bytes, IsReplyTo}
 use Rattle.af_request.proofs.ReplyRoundTrips.{length-body}
 use Rattle.af_sample.specs.Sizes.{longest_record}
@@ -57,3 +60,14 @@ pub reply_framed : (opcode : ℕ) (a : Answer) (sequence : ℕ) (rest : List ℕ
 reply_framed opcode a sequence rest is low =
     let few = few_words opcode a is in
     head_framed 1 opcode sequence (body_words a) (body_bytes a) rest (good_by opcode (body_words a) (opcode_within opcode a is) few) low (omega arith) (length-body a)
+
+-- a head, a time and a count in front of samples that stand there already, and zeros behind these
+pub around_samples : (front back samples : List ℕ) (opcode sequence now n size : ℕ) → length front ≡ 16 → take 16 front ≡ (head 1 opcode sequence (2 + words_for n) ++ u32_bytes now) ++ u32_bytes n →
+    take size back ≡ samples ++ replicate (4 * words_for n - n) 0 → length samples ≡ n → take (16 + size) (front ++ back) ≡ reply_bytes opcode (recorded now samples) sequence
+unfolding head
+around_samples front back samples opcode sequence now n size len begins ends count =
+    subst (λ m. take (16 + size) (front ++ back) ≡ head 1 opcode sequence (2 + words_for m) ++ u32_bytes now ++ u32_bytes m ++ samples ++ replicate (4 * words_for m - m) 0) (sym count)
+    (ap (λ m. take (m + size) (front ++ back)) (sym len) ∙ take-append-add front back size ∙ ap (λ f. f ++ take size back) (sym (take-length front) ∙ ap (λ m. take m front) len ∙ begins)
+    ∙ ap (λ s. ((head 1 opcode sequence (2 + words_for n) ++ u32_bytes now) ++ u32_bytes n) ++ s) ends
+    ∙ append_assoc (head 1 opcode sequence (2 + words_for n) ++ u32_bytes now) (u32_bytes n) (samples ++ replicate (4 * words_for n - n) 0)
+    ∙ append_assoc (head 1 opcode sequence (2 + words_for n)) (u32_bytes now) (u32_bytes n ++ samples ++ replicate (4 * words_for n - n) 0))

@@ -12,7 +12,7 @@ mod request_writer;
 
 pub use reply::{Controls, DeviceInfo, Devices, Phone, Reply};
 pub use reply_reader::read_reply;
-pub use reply_writer::write_reply;
+pub use reply_writer::{RECORDED_AT, write_recorded, write_reply};
 pub use request::Request;
 pub use request_reader::read_request;
 pub use request_writer::write_request;

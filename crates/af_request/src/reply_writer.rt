@@ -12,6 +12,7 @@ ghost use Rattle.af_wire.specs.Sizes.{longest_message};
 use crate::put::{put, put_zeros};
 use crate::reply::{Controls, DeviceInfo, Phone, Reply};
 use af_sample::Gain;
+use af_time::DevTime;
 use af_wire::write_head;
 
 /// Writes the reply to a request of this opcode, 0 standing for a setup, and answers how many bytes that are. Recorded
@@ -28,6 +29,25 @@ pub fn write_reply(opcode: u8, reply: &Reply<'_>, sequence: u16, out: &mut [u8])
 {
     let at = put_head(out, opcode, sequence, words_of(reply));
     put_body(out, at, reply)
+}
+
+/// Where the samples of a reply to a Record begin: behind the head, the time and the count of their bytes.
+pub const RECORDED_AT: usize = 16;
+
+/// Writes the reply to a Record around its samples, n bytes of them, at most 16000, which stand in the message already, from
+/// `RECORDED_AT` on. Answers how many bytes the message has.
+pub fn write_recorded(time: DevTime, n: usize, sequence: u16, out: &mut [u8]) -> usize
+    requires samples { n ≤ longest_record }
+    requires room { longest_message ≤ length out.old }
+    ensures most { result ≤ longest_message }
+    ensures bytes { take result out.new ≡ reply_bytes 7 (recorded time.0 (take n (drop 16 out.old))) sequence }
+{
+    let words = 2 + n.div_ceil(4) as u32;
+    let (front, samples) = out.split_at_mut(RECORDED_AT);
+    let at = put_head(front, 7, sequence, words);
+    let at = put(front, at, &time.0.to_be_bytes());
+    put(front, at, &(n as u32).to_be_bytes());
+    RECORDED_AT + put_zeros(samples, n, 4 * n.div_ceil(4) - n)
 }
 
 fn put_body(out: &mut [u8], at: usize, reply: &Reply<'_>) -> usize

@@ -7,7 +7,7 @@ ghost use Rattle.std.specs.Prelude.{◌≡◌, ◌+◌, ◌≤◌, nat_le, [], �
 ghost use Rattle.std.specs.declared.option.Option.TheVariants.{Some};
 ghost use Rattle.std.specs.Borrow.{sem};
 ghost use Rattle.af_context.specs.Contexts.{context_of, creation, is_in_use, reference, with_changed, with_settings, without_context};
-ghost use Rattle.af_request.specs.Answer.{reply_meaning};
+ghost use Rattle.af_request.specs.Answer.{recorded, reply_meaning};
 ghost use Rattle.af_request.specs.Replies.{FitsMessage};
 ghost use Rattle.af_wire.specs.Message.{error};
 ghost use Rattle.af_wire.specs.Event.{event_bytes};
@@ -20,16 +20,17 @@ ghost use Rattle.af_model.specs.Advance.{takes_more, without_front};
 ghost use Rattle.af_model.specs.More.{wants_turn};
 ghost use Rattle.af_model.specs.Turn.{wants_read, wants_write, close_due, ready, sent, writable};
 ghost use Rattle.af_state.specs.Kept.{IsBounded};
+ghost use Rattle.af_sample.specs.Sizes.{longest_record};
 ghost use Rattle.af_wire.specs.Sizes.{longest_message};
 ghost use Rattle.af_model.specs.Sizes.{event_limit};
 
 use af_context::{Context, ContextFault, Contexts};
 use af_model::Refusal;
 use af_phone::event_for;
-use af_request::{Reply, write_reply};
+use af_request::{Reply, write_recorded, write_reply};
 use af_sample::Gain;
 use af_session::Session;
-use af_time::OutOfMemory;
+use af_time::{DevTime, OutOfMemory};
 use af_wire::{Event, EventKind, write_error, write_event};
 use af_world::Why;
 use std::alloc::Global;
@@ -214,6 +215,21 @@ impl ServedLink {
     {
         let n = write_reply(opcode, reply, self.sequence, message);
         self.session.push_out(&message[..n]);
+    }
+
+    /// A Record is replied to. So many bytes of its samples stand in `message` already, from `RECORDED_AT` on; the rest of it comes
+    /// to stand around them.
+    pub fn reply_recorded(&mut self, time: DevTime, n: usize, message: &mut [u8])
+        requires room { length self.old.pending ≤ event_limit }
+        requires samples { n ≤ longest_record }
+        requires size { length message.old ≡ longest_message }
+        ensures { self.new ≡ record self.old {
+          pending = self.old.pending
+              ++ reply_message 7 (recorded time.0 (take n (drop 16 message.old))) self.old.sequence;
+        } }
+    {
+        let size = write_recorded(time, n, self.sequence, message);
+        self.session.push_out(&message[..size]);
     }
 
     /// The request with this opcode is refused.

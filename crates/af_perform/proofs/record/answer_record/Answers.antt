@@ -1,4 +1,4 @@
-use Rattle.std.proofs.Common.{◌*◌, ◌∙◌, ap, take, rules}
+use Rattle.std.proofs.Common.{◌*◌, ◌∙◌, ap, drop, take, rules}
 use Rattle.std.proofs.lemmas.List.{with_items_is}
 use Rattle.af_sample.specs.SampleTypes.{width_of}
 use Rattle.af_perform.proofs.LinkRequestLemmas.{frames_given}
@@ -9,6 +9,6 @@ returns-clause-step c =
     let r = c.args.asked in
     frames_given c.args.link.now _ r.context r.start.0 c.args.device.now _ r.frames _ c.time.ensures
     (λ s h.
-    ap (λ w. take (r.frames * w) c.deref.result.now) c.width.ensures
-    ∙ ap (take (r.frames * width_of r.context.ty)) (c.deref.ensures.value ∙ with_items_is c.work.inside.bytes c.read_frames.new.bytes (search rules))
-    ∙ c.read_frames.ensures s h) c.reply.ensures
+    ap (λ w. take (r.frames * w) (drop 16 c.deref_mut-3.result.now)) c.width.ensures
+    ∙ ap (λ bytes. take (r.frames * width_of r.context.ty) (drop 16 bytes)) (c.deref_mut-3.ensures.value ∙ with_items_is c.work.inside.message c.read_frames.new.message (search rules))
+    ∙ c.read_frames.ensures.frames s h) c.reply_recorded.ensures

@@ -1,9 +1,20 @@
 // What was done with child programs.
+ghost use Rattle.std.specs.Prelude.{◌≡◌};
+
 use af_io::Bytes;
 use arrayvec::{ArrayString, ArrayVec};
 
 /// The words of a child's command line. Contracts speak of the list of their bytes alone.
 pub type Words = ArrayVec<ArrayString<200>, 8>;
+
+/// The same words once more. It takes no memory.
+pub fn copied_words(words: &Words) -> Words
+    ensures { result.items ≡ words.now.items }
+{
+    let mut copy = Words::new();
+    let _ = copy.try_extend_from_slice(words.as_slice());
+    copy
+}
 
 /// What a start gave: a child, by its number, or none.
 #[derive(Clone, Copy, Debug, PartialEq, Eq)]

@@ -6,6 +6,6 @@ mod mem_spawner;
 mod notes;
 mod spawner;
 
-pub use act::{Act, BeganGot, Words};
+pub use act::{Act, BeganGot, Words, copied_words};
 pub use mem_spawner::MemSpawner;
 pub use spawner::{Finished, Spawner, Started};

@@ -3,7 +3,7 @@ ghost use Rattle.std.specs.Prelude.{◌≡◌, [], map, is_some, IfOk, IfSome};
 ghost use Rattle.std.specs.declared.option.Option.TheVariants.{None, Some};
 ghost use Rattle.af_child.specs.Acts.{told, noted, began, given, words_of, ActNoted};
 
-use crate::{Act, BeganGot, Words};
+use crate::{Act, BeganGot, Words, copied_words};
 use af_io::Bytes;
 use af_time::OutOfMemory;
 use std::alloc::Global;
@@ -94,7 +94,8 @@ pub(crate) fn given(
 pub(crate) fn began(words: &Words, got: BeganGot) -> Act
     ensures { told result ≡ began (words_of words.now) got }
 {
-    let mut copy = Words::new();
-    let _ = copy.try_extend_from_slice(words.as_slice());
-    Act::Began { words: copy, got }
+    Act::Began {
+        words: copied_words(words),
+        got,
+    }
 }

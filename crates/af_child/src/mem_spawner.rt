@@ -144,7 +144,10 @@ impl Spawner for MemSpawner {
         let fails = next_fails(self.fails.as_slice(), &mut self.calls);
         self.faults = faults_after(self.faults, fails);
         if fails {
-            self.notes.add(Ok(Act::Finished { child, status: None }));
+            self.notes.add(Ok(Act::Finished {
+                child,
+                status: None,
+            }));
             return Finished::Failed;
         }
         let status = stated_status(self.statuses.as_slice(), self.ended);

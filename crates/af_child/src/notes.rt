@@ -75,12 +75,7 @@ pub(crate) fn noted(alloc: Global, sound: &[u8]) -> Result<Act, OutOfMemory>
 }
 
 // The act of a piece that a child was offered.
-pub(crate) fn given(
-    alloc: Global,
-    child: u32,
-    bytes: &[u8],
-    done: bool,
-) -> Result<Act, OutOfMemory>
+pub(crate) fn given(alloc: Global, child: u32, bytes: &[u8], done: bool) -> Result<Act, OutOfMemory>
     ensures { IfOk result (λ act. told act ≡ given child bytes.now done) }
 {
     Ok(Act::Given {

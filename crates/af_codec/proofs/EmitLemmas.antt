@@ -1,5 +1,5 @@
 -- What a start, a give and an emit make of what is fed.
-use Rattle.std.proofs.Common.{◌≡◌, ℕ, ℤ, ◌+◌, ◌==◌, ◌≤◌, Bool, true, false, List, [], ◌∷◌, ◌++◌, refl, sym, ap, ◌∙◌, subst, arith, is_some}
+use Rattle.std.proofs.Common.{◌≡◌, ℕ, ℤ, ◌+◌, ◌==◌, Bool, true, false, List, [], ◌∷◌, ◌++◌, refl, sym, ap, ◌∙◌, subst, arith, is_some}
 use Rattle.std.specs.declared.option.Option.{Option}
 use Rattle.std.specs.declared.option.Option.TheVariants.{None, Some}
 use Rattle.af_io.specs.declared.flow.Put.{Put}
@@ -8,7 +8,7 @@ use Rattle.af_io.proofs.AppendedLemmas.{appended_on}
 use Rattle.af_child.specs.declared.act.BeganGot.{BeganGot}
 use Rattle.af_child.specs.Acts.{Told, noted, began, given, finished}
 use Rattle.af_codec.specs.declared.feeding.Feeding.{Feeding}
-use Rattle.af_codec.specs.Fed.{Answers, Emit, OrdersState, acts_of, emit_acts, fed_behind, fed_on, feeding_start, give_acts, give_acts_for, give_for, lost, put_of, start_acts_for, start_for, started, started_with}
+use Rattle.af_codec.specs.Fed.{Emit, OrdersState, emit_acts, fed_behind, fed_on, feeding_start, give_acts, give_acts_for, give_for, put_of, start_acts_for, start_for, started, started_with}
 use Rattle.af_codec.specs.Codec.{AreTold, ChildRuns, Feeds, Gives, HasStart, IsFed, Starts}
 use Rattle.af_codec.proofs.FedLemmas.{AreTold-appended, acts_of-one_more, fed_behind-one_more}
 use Rattle.af_codec.proofs.StartLemmas.{HasStart-fed_behind}

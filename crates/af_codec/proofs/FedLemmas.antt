@@ -1,15 +1,12 @@
 -- What is fed behind one more sound, and how many starts are made.
-use Rattle.std.proofs.Common.{◌≡◌, ℕ, ◌+◌, ◌==◌, ◌≤◌, Bool, true, false, List, [], ◌∷◌, ◌++◌, refl, sym, ap, ◌∙◌, subst, arith, append-nil, append_assoc}
+use Rattle.std.proofs.Common.{◌≡◌, Bool, true, false, List, [], ◌∷◌, ◌++◌, refl, sym, ap, ◌∙◌, append-nil, append_assoc}
 use Rattle.std.specs.declared.option.Option.{Option}
 use Rattle.std.specs.declared.option.Option.TheVariants.{None, Some}
-use Rattle.std.proofs.lemmas.Bool.{eq-eqb}
 use Rattle.af_io.specs.Observed.{Appended}
-use Rattle.af_child.specs.declared.act.BeganGot.{BeganGot}
-use Rattle.af_child.specs.declared.act.BeganGot.TheVariants.{Child, Failed, NoMemory}
 use Rattle.af_child.specs.Acts.{Told}
 use Rattle.af_codec.specs.declared.feeding.Feeding.{Feeding}
-use Rattle.af_codec.specs.Fed.{Answers, Emit, OrdersState, acts_of, emit_acts, fed_behind, fed_on, feeding_start, give_for, given_with, handed, lost, start_for, started, started_with}
-use Rattle.af_codec.specs.Codec.{AreTold, HasStart, IsFed}
+use Rattle.af_codec.specs.Fed.{Emit, OrdersState, acts_of, emit_acts, fed_behind, fed_on}
+use Rattle.af_codec.specs.Codec.{AreTold}
 
 -- behind one more emit
 pub fed_behind-cons : (o : OrdersState) (f : Feeding) (e : Emit) (emits : List Emit) → f.failed ≡ false → fed_behind o f (e ∷ emits) ≡ fed_behind o (fed_on o f e.answers) emits

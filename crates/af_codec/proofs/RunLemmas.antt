@@ -1,5 +1,5 @@
 -- What the acts of emits tell of runs.
-use Rattle.std.proofs.Common.{◌≡◌, ℕ, ℤ, ◌+◌, ◌≤◌, Bool, true, false, List, [], ◌∷◌, ◌++◌, IfSome, refl, sym, ap, ◌∙◌, subst, arith, append_assoc}
+use Rattle.std.proofs.Common.{◌≡◌, ℕ, ℤ, ◌+◌, Bool, true, false, List, [], ◌∷◌, ◌++◌, IfSome, refl, sym, ap, ◌∙◌, subst, arith, append_assoc}
 use Rattle.std.specs.declared.option.Option.{Option}
 use Rattle.std.specs.declared.option.Option.TheVariants.{None, Some}
 use Rattle.af_child.specs.declared.act.BeganGot.{BeganGot}
@@ -9,7 +9,6 @@ use Rattle.af_codec.specs.declared.feeding.Feeding.{Feeding}
 use Rattle.af_codec.specs.Fed.{Answers, Emit, OrdersState, acts_of, begun_run, emit_acts, fed, fed_behind, fed_on, feeding_start, rest_of_run, sounds_of, taken_by}
 use Rattle.af_codec.specs.Codec.{AreTold, IsFed}
 use Rattle.af_codec.specs.Runs.{ArePartsInOrder, FeedsOnce, pieces_told, runs_told, sounds_told, starts_told}
-use Rattle.af_codec.proofs.FedLemmas.{acts_of-cons, failed_stays, fed_behind-cons}
 use Rattle.af_codec.proofs.StartLemmas.{HasStart-fed_behind}
 
 -- a codec with no failed emit
@@ -76,11 +75,10 @@ tells o r n true (e ∷ emits) = (refl, refl)
 tells o r n false (e ∷ emits) =
     let g = fed_on o (live r n) e.answers in
     let later = tells o g.running g.starts g.failed emits in
-    let acts = acts_of o g emits in
-    (
+    let acts = acts_of o g emits in (
       pieces_on o r n e.sound e.answers.start e.answers.give e.answers.finish acts (rest_of_run o g emits) later.0 (no_rest o g emits),
       runs_on o r n e.sound e.answers.start e.answers.give e.answers.finish acts (rest_of_run o g emits) later.0
-      ∙ ap (λ x. begun_run r e.answers.start (e.sound ∷ rest_of_run o g emits) ++ x) later.1,
+          ∙ ap (λ x. begun_run r e.answers.start (e.sound ∷ rest_of_run o g emits) ++ x) later.1,
     )
 
 pub runs_told-fed : (o : OrdersState) (emits : List Emit) → runs_told (acts_of o feeding_start emits) ≡ fed o feeding_start emits
@@ -130,7 +128,7 @@ runs_of_noted o r n false (e ∷ emits) =
     let told = sounds_on o r n e.sound e.answers.start e.answers.give e.answers.finish acts in
     let f : Feeding = live r n in
     subst (λ x. AreRunsFrom (rest_of_run o f (e ∷ emits)) (fed o f (e ∷ emits)) x) (sym told)
-      (run_before r e.answers.start e.sound (rest_of_run o g emits) (fed o g emits) (sounds_told acts) (runs_of_noted o g.running g.starts g.failed emits))
+    (run_before r e.answers.start e.sound (rest_of_run o g emits) (fed o g emits) (sounds_told acts) (runs_of_noted o g.running g.starts g.failed emits))
 
 runs_of_emitted : (o : OrdersState) (r : Option ℕ) (n : ℕ) (b : Bool) (emits : List Emit) → let f : Feeding = record { running = r; starts = n; failed = b } in
     AreRunsFrom (rest_of_run o f emits) (fed o f emits) (sounds_of emits)

@@ -1,12 +1,12 @@
 -- How many starts are made.
-use Rattle.std.proofs.Common.{◌≡◌, ◌≢◌, ℕ, ◌+◌, ◌==◌, ◌≤◌, ◌<◌, Bool, true, false, List, [], ◌∷◌, refl, sym, ap, ◌∙◌, subst, arith}
+use Rattle.std.proofs.Common.{◌≡◌, ℕ, ◌+◌, ◌==◌, ◌≤◌, ◌<◌, Bool, true, false, List, [], ◌∷◌, refl, sym, subst, arith}
 use Rattle.std.specs.declared.option.Option.{Option}
 use Rattle.std.specs.declared.option.Option.TheVariants.{None, Some}
 use Rattle.std.proofs.lemmas.Bool.{eq-eqb}
 use Rattle.af_child.specs.declared.act.BeganGot.{BeganGot}
 use Rattle.af_child.specs.declared.act.BeganGot.TheVariants.{Child, Failed, NoMemory}
 use Rattle.af_codec.specs.declared.feeding.Feeding.{Feeding}
-use Rattle.af_codec.specs.Fed.{Emit, OrdersState, fed_behind, fed_on, feeding_start, give_for, handed, lost, start_for, started, started_with}
+use Rattle.af_codec.specs.Fed.{Emit, OrdersState, fed_behind, fed_on, feeding_start, give_for, start_for, started, started_with}
 use Rattle.af_codec.specs.Codec.{HasStart}
 use Rattle.af_codec.proofs.FedLemmas.{failed_stays, fed_behind-cons}
 

@@ -1,10 +1,9 @@
 -- What child programs are fed: the calls that are made for each sound, and the runs of sounds that the children are given.
-use Rattle.std.specs.Prelude.{◌≡◌, ⊤, ℕ, ℤ, ◌+◌, ◌==◌, Bool, true, false, not, if◌then◌else◌, List, [], ◌∷◌, ◌++◌, map}
+use Rattle.std.specs.Prelude.{ℕ, ℤ, ◌+◌, ◌==◌, Bool, true, false, if◌then◌else◌, List, [], ◌∷◌, ◌++◌, map}
 use Rattle.std.specs.declared.option.Option.{Option}
 use Rattle.std.specs.declared.option.Option.TheVariants.{None, Some}
 use Rattle.af_io.specs.declared.flow.Put.{Put}
 use Rattle.af_io.specs.declared.flow.Put.TheVariants as put
-use Rattle.af_io.specs.Observed.{Appended}
 use Rattle.af_child.specs.declared.act.BeganGot.{BeganGot}
 use Rattle.af_child.specs.declared.act.BeganGot.TheVariants.{Child, Failed, NoMemory}
 use Rattle.af_child.specs.Acts.{Told, noted, began, given, finished}
@@ -136,4 +135,4 @@ fed orders f [] = []
 fed orders f (emit ∷ emits) =
     if f.failed then []
     else (begun_run f.running emit.answers.start (emit.sound ∷ rest_of_run orders (fed_on orders f emit.answers) emits)
-        ++ fed orders (fed_on orders f emit.answers) emits)
+    ++ fed orders (fed_on orders f emit.answers) emits)

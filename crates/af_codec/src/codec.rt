@@ -70,6 +70,7 @@ impl<S: Spawner + Drop> Codec<S> {
         ensures all { IsFed self.new.orders self.new.feeding true (S.acts self.new.spawner) }
         ensures once { IfSome (S.acts self.new.spawner) (λ acts. FeedsOnce self.new.orders.restarts acts) }
         ensures starts { self.new.feeding.starts ≤ self.new.orders.restarts + 1 }
+        ensures live { result ≡ Put.Done → self.new.feeding.failed ≡ false }
         ensures count { S.faults self.old.spawner ≤ S.faults self.new.spawner }
         ensures cause { result ≡ Put.Failed → FaultCounted (S.faults self.old.spawner) (S.faults self.new.spawner) }
         ensures rest { self.new ≡ record self.old { spawner = self.new.spawner; feeding = self.new.feeding; emitted = true } }

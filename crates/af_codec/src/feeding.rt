@@ -81,11 +81,8 @@ impl Feeding {
     pub(crate) fn answer(&self) -> Put
         ensures answer { result ≡ put_of self.now }
         ensures failed { result ≡ Put.Failed → self.now.failed ≡ true }
+        ensures done { result ≡ Put.Done → self.now.failed ≡ false }
     {
-        if self.failed {
-            Put::Failed
-        } else {
-            Put::Done
-        }
+        if self.failed { Put::Failed } else { Put::Done }
     }
 }

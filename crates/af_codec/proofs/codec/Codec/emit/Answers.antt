@@ -1,5 +1,4 @@
-use Rattle.std.proofs.Common.{◌≡◌, sym, ap, ◌∙◌}
-use Rattle.af_codec.specs.Codec.{CodecState, Feeds, IsFed}
+use Rattle.std.proofs.Common.{ap, ◌∙◌}
 use Rattle.af_codec.proofs.EmitLemmas.{Feeds-made, IsFed-on, IsFed-starts}
 use Rattle.af_codec.proofs.RunLemmas.{IsFed-once}
 use Rattle.af_codec.proofs.codec.Codec.emit.Goals as goal
@@ -10,7 +9,7 @@ start-requires-clause-left g c = IsFed-starts _ _ _ _ c.self.invariant
 pub invariant_of-self : goal.invariant_of-self
 invariant_of-self g c =
     IsFed-on _ _ _ _ _ _ _ _ (ap (λ s. s.feeding.failed) c.self.view_is ∙ c.requires.live) c.self.invariant
-      (Feeds-made _ _ _ _ _ _ _ _ _ _ c.note.ensures.acts c.start.ensures.starts c.give.ensures.gives c.answer.ensures.answer) c.give.ensures.runs
+    (Feeds-made _ _ _ _ _ _ _ _ _ _ c.note.ensures.acts c.start.ensures.starts c.give.ensures.gives c.answer.ensures.answer) c.give.ensures.runs
 
 pub returns-clause-feeds : goal.returns-clause-feeds
 returns-clause-feeds g c =

@@ -1,5 +1,3 @@
-use Rattle.std.proofs.Common.{◌≡◌, ◌∷◌, [], subst}
-use Rattle.af_io.specs.Observed.{Appended}
 use Rattle.af_codec.proofs.EmitLemmas.{Gives-lost}
 use Rattle.af_codec.proofs.feeding.Feeding.give.Goals as goal
 

@@ -1,11 +1,11 @@
 -- What a codec is seen as.
-use Rattle.std.specs.Prelude.{◌≡◌, ⊤, ℕ, ℤ, ◌+◌, ◌≤◌, Bool, false, List, []}
+use Rattle.std.specs.Prelude.{◌≡◌, ⊤, ℕ, ℤ, ◌+◌, ◌≤◌, Bool, false, List, [], ◌∷◌}
 use Rattle.std.specs.declared.option.Option.{Option}
 use Rattle.std.specs.declared.option.Option.TheVariants.{None, Some}
 use Rattle.af_io.specs.declared.flow.Put.{Put}
 use Rattle.af_io.specs.Observed.{Appended}
 use Rattle.af_child.specs.declared.act.BeganGot.{BeganGot}
-use Rattle.af_child.specs.Acts.{Told, RunsWhereTold}
+use Rattle.af_child.specs.Acts.{Told, finished, RunsWhereTold}
 use Rattle.af_codec.specs.declared.feeding.Feeding.{Feeding}
 use Rattle.af_codec.specs.Fed.{Answers, Emit, OrdersState, acts_of, emit_acts, fed_behind, fed_on, feeding_start, give_acts, handed, put_of, start_acts, started}
 
@@ -54,6 +54,11 @@ pub record Gives (orders : OrdersState) (before after : Feeding) (sound : List �
   pub status : Option ℤ
   pub told : Appended acts (give_acts before sound done status) acts'
   pub feeding : after ≡ handed orders.restarts before done
+
+-- a child was finished, whatever that answered
+pub record IsFinished (child : ℕ) (acts acts' : Option (List Told)) : Type 0 where
+  pub status : Option ℤ
+  pub told : Appended acts (finished child status ∷ []) acts'
 
 -- a start is left where no child runs, and never more than one is made beyond the restarts
 pub record HasStart (orders : OrdersState) (feeding : Feeding) : Type 0 where

@@ -1,8 +1,9 @@
 // What a codec knows of its child programs.
 ghost use Rattle.std.specs.Prelude.{◌≡◌, ◌≤◌, ◌<◌, true, false, length};
 ghost use Rattle.af_io.specs.Observed.{FaultCounted};
+ghost use Rattle.af_child.specs.Acts.{RunsWhereTold};
 ghost use Rattle.af_codec.specs.Fed.{feeding_start, put_of};
-ghost use Rattle.af_codec.specs.Codec.{ChildRuns, Gives, HasStart, Starts};
+ghost use Rattle.af_codec.specs.Codec.{ChildRuns, Gives, HasStart, IsFinished, Starts};
 
 use crate::orders::Orders;
 use af_child::{Spawner, Started};
@@ -70,7 +71,7 @@ impl Feeding {
         match spawner.give(child, sound) {
             Put::Done => {}
             Put::Failed => {
-                let _ = spawner.finish(child);
+                finish(spawner, child);
                 self.running = None;
                 self.failed = self.starts == orders.most_starts();
             }
@@ -85,4 +86,13 @@ impl Feeding {
     {
         if self.failed { Put::Failed } else { Put::Done }
     }
+}
+
+// Finishes a child, whatever that answers.
+fn finish<S: Spawner>(spawner: &mut S, child: u32)
+    requires { RunsWhereTold child (S.acts spawner.old) }
+    ensures told { IsFinished child (S.acts spawner.old) (S.acts spawner.new) }
+    ensures count { S.faults spawner.old ≤ S.faults spawner.new }
+{
+    let _ = spawner.finish(child);
 }

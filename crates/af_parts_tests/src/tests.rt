@@ -1,6 +1,7 @@
 // One file for each subject.
 mod asserts;
 mod bytes_of_a_link;
+mod codec;
 mod contexts;
 mod lines;
 mod messages;

@@ -1,0 +1,4 @@
+pub mod FedLemmas
+pub mod StartLemmas
+pub mod EmitLemmas
+pub mod RunLemmas

@@ -1,0 +1,66 @@
+-- What a codec is seen as.
+use Rattle.std.specs.Prelude.{◌≡◌, ⊤, ℕ, ℤ, ◌+◌, ◌≤◌, Bool, false, List, [], ◌∷◌}
+use Rattle.std.specs.declared.option.Option.{Option}
+use Rattle.std.specs.declared.option.Option.TheVariants.{None, Some}
+use Rattle.af_io.specs.declared.flow.Put.{Put}
+use Rattle.af_io.specs.Observed.{Appended}
+use Rattle.af_child.specs.declared.act.BeganGot.{BeganGot}
+use Rattle.af_child.specs.Acts.{Told, finished, RunsWhereTold}
+use Rattle.af_codec.specs.declared.feeding.Feeding.{Feeding}
+use Rattle.af_codec.specs.Fed.{Answers, Emit, OrdersState, acts_of, emit_acts, fed_behind, fed_on, feeding_start, give_acts, handed, put_of, start_acts, started}
+
+-- a codec: its spawner, what it was ordered, what is fed, and whether a sound was emitted
+pub record CodecState (S : Type 0) : Type 0 where
+  pub spawner : S
+  pub orders : OrdersState
+  pub feeding : Feeding
+  pub emitted : Bool
+
+-- the acts, if they are observed, are these
+abbrev pub AreTold : List Told → Option (List Told) → Type 0
+AreTold acts None = ⊤
+AreTold acts (Some told) = told ≡ acts
+
+-- if a child runs and the acts are observed, they show that it does
+abbrev pub ChildRuns : Option ℕ → Option (List Told) → Type 0
+ChildRuns None acts = ⊤
+ChildRuns (Some child) acts = RunsWhereTold child acts
+
+-- All that was told are the acts of these emits, one after the other, and what is fed is what is fed behind them. None was made
+-- before the first.
+pub record IsFed (orders : OrdersState) (feeding : Feeding) (emitted : Bool) (acts : Option (List Told)) : Type 0 where
+  pub emits : List Emit
+  pub behind : feeding ≡ fed_behind orders feeding_start emits
+  pub told : AreTold (acts_of orders feeding_start emits) acts
+  pub none : emitted ≡ false → emits ≡ []
+  pub runs : ChildRuns feeding.running acts
+
+-- what an emit adds to the acts, leaves fed, and answers
+pub record Feeds (orders : OrdersState) (before after : Feeding) (sound : List ℕ) (acts acts' : Option (List Told)) (put : Put) : Type 0 where
+  pub answers : Answers
+  pub told : Appended acts (emit_acts orders before sound answers) acts'
+  pub feeding : after ≡ fed_on orders before answers
+  pub answer : put ≡ put_of after
+
+-- what a start for a sound adds to the acts, and leaves fed
+pub record Starts (orders : OrdersState) (before after : Feeding) (acts acts' : Option (List Told)) : Type 0 where
+  pub got : BeganGot
+  pub told : Appended acts (start_acts orders.words before got) acts'
+  pub feeding : after ≡ started orders.restarts before got
+
+-- what a give of a sound adds to the acts, and leaves fed
+pub record Gives (orders : OrdersState) (before after : Feeding) (sound : List ℕ) (acts acts' : Option (List Told)) : Type 0 where
+  pub done : Bool
+  pub status : Option ℤ
+  pub told : Appended acts (give_acts before sound done status) acts'
+  pub feeding : after ≡ handed orders.restarts before done
+
+-- a child was finished, whatever that answered
+pub record IsFinished (child : ℕ) (acts acts' : Option (List Told)) : Type 0 where
+  pub status : Option ℤ
+  pub told : Appended acts (finished child status ∷ []) acts'
+
+-- a start is left where no child runs, and never more than one is made beyond the restarts
+pub record HasStart (orders : OrdersState) (feeding : Feeding) : Type 0 where
+  pub within : feeding.starts ≤ orders.restarts + 1
+  pub left : feeding.failed ≡ false → feeding.running ≡ None → feeding.starts ≤ orders.restarts

@@ -1,0 +1,138 @@
+-- What child programs are fed: the calls that are made for each sound, and the runs of sounds that the children are given.
+use Rattle.std.specs.Prelude.{ℕ, ℤ, ◌+◌, ◌==◌, Bool, true, false, if◌then◌else◌, List, [], ◌∷◌, ◌++◌, map}
+use Rattle.std.specs.declared.option.Option.{Option}
+use Rattle.std.specs.declared.option.Option.TheVariants.{None, Some}
+use Rattle.af_io.specs.declared.flow.Put.{Put}
+use Rattle.af_io.specs.declared.flow.Put.TheVariants as put
+use Rattle.af_child.specs.declared.act.BeganGot.{BeganGot}
+use Rattle.af_child.specs.declared.act.BeganGot.TheVariants.{Child, Failed, NoMemory}
+use Rattle.af_child.specs.Acts.{Told, noted, began, given, finished}
+use Rattle.af_codec.specs.declared.feeding.Feeding.{Feeding}
+
+-- The answers of the calls that are made for a sound: of the start of a child, whether a give was done, and of the finish behind a
+-- give that failed. What stands for a call that is not made means nothing.
+pub record Answers : Type 0 where
+  pub start : BeganGot
+  pub give : Bool
+  pub finish : Option ℤ
+
+-- a sound, with these answers
+pub record Emit : Type 0 where
+  pub sound : List ℕ
+  pub answers : Answers
+
+-- how often a child may be started anew, and the words of each start
+pub record OrdersState : Type 0 where
+  pub restarts : ℕ
+  pub words : List (List ℕ)
+
+-- no child runs, none was started, and no emit has failed
+abbrev pub feeding_start : Feeding
+feeding_start = record { running = None; starts = 0; failed = false }
+
+-- One sound
+
+-- behind a start: its child runs, or none does, and the emit has failed if this was the last start
+abbrev pub started_with : ℕ → Feeding → BeganGot → Feeding
+started_with restarts f (Child child) = record f { running = Some child; starts = f.starts + 1 }
+started_with restarts f Failed = record f { starts = f.starts + 1; failed = f.starts + 1 == restarts + 1 }
+started_with restarts f NoMemory = f
+
+-- where no child runs, one is started
+abbrev pub start_for : Option ℕ → ℕ → Feeding → BeganGot → Feeding
+start_for None restarts f got = started_with restarts f got
+start_for (Some child) restarts f got = f
+
+abbrev pub started : ℕ → Feeding → BeganGot → Feeding
+started restarts f got = start_for f.running restarts f got
+
+abbrev pub start_acts_for : Option ℕ → List (List ℕ) → BeganGot → List Told
+start_acts_for None words got = began words got ∷ []
+start_acts_for (Some child) words got = []
+
+abbrev pub start_acts : List (List ℕ) → Feeding → BeganGot → List Told
+start_acts words f got = start_acts_for f.running words got
+
+-- behind a give that failed no child runs, and the emit has failed if no start is left
+abbrev pub lost : ℕ → Feeding → Feeding
+lost restarts f = record f { running = None; failed = f.starts == restarts + 1 }
+
+abbrev pub given_with : ℕ → Feeding → Bool → Feeding
+given_with restarts f true = f
+given_with restarts f false = lost restarts f
+
+-- where a child runs, it is given the sound
+abbrev pub give_for : Option ℕ → ℕ → Feeding → Bool → Feeding
+give_for None restarts f done = f
+give_for (Some child) restarts f done = given_with restarts f done
+
+abbrev pub handed : ℕ → Feeding → Bool → Feeding
+handed restarts f done = give_for f.running restarts f done
+
+-- a give of the whole sound, and a finish where it failed
+abbrev pub finish_acts : ℕ → Bool → Option ℤ → List Told
+finish_acts child true status = []
+finish_acts child false status = finished child status ∷ []
+
+abbrev pub give_acts_for : Option ℕ → List ℕ → Bool → Option ℤ → List Told
+give_acts_for None sound done status = []
+give_acts_for (Some child) sound done status = given child sound done ∷ finish_acts child done status
+
+abbrev pub give_acts : Feeding → List ℕ → Bool → Option ℤ → List Told
+give_acts f sound done status = give_acts_for f.running sound done status
+
+-- what is fed behind an emit
+abbrev pub fed_on : OrdersState → Feeding → Answers → Feeding
+fed_on orders f answers = handed orders.restarts (started orders.restarts f answers.start) answers.give
+
+-- the acts of an emit: the sound, and the calls that are made for it
+abbrev pub emit_acts : OrdersState → Feeding → List ℕ → Answers → List Told
+emit_acts orders f sound answers =
+    noted sound ∷ (start_acts orders.words f answers.start ++ give_acts (started orders.restarts f answers.start) sound answers.give answers.finish)
+
+-- the answer of an emit: Failed where its start or its give failed and no start is left
+abbrev pub put_of : Feeding → Put
+put_of f = if f.failed then put.Failed else put.Done
+
+-- All sounds, up to the first emit that failed
+
+abbrev pub fed_behind : OrdersState → Feeding → List Emit → Feeding
+fed_behind orders f [] = f
+fed_behind orders f (emit ∷ emits) = if f.failed then f else fed_behind orders (fed_on orders f emit.answers) emits
+
+abbrev pub acts_of : OrdersState → Feeding → List Emit → List Told
+acts_of orders f [] = []
+acts_of orders f (emit ∷ emits) =
+    if f.failed then [] else (emit_acts orders f emit.sound emit.answers ++ acts_of orders (fed_on orders f emit.answers) emits)
+
+-- the sounds that were emitted
+abbrev pub sounds_of : List Emit → List (List ℕ)
+sounds_of emits = map (λ (emit : Emit). emit.sound) emits
+
+-- the sounds that a child which runs now is given from here on: each, until a give fails
+abbrev pub taken_by : Option ℕ → List ℕ → List (List ℕ) → List (List ℕ)
+taken_by None sound later = []
+taken_by (Some child) sound later = sound ∷ later
+
+abbrev pub rest_of_run : OrdersState → Feeding → List Emit → List (List ℕ)
+rest_of_run orders f [] = []
+rest_of_run orders f (emit ∷ emits) =
+    if f.failed then [] else taken_by f.running emit.sound (rest_of_run orders (fed_on orders f emit.answers) emits)
+
+-- a child that is started begins a run, with the sound that it is started for
+abbrev pub begun_with : BeganGot → List (List ℕ) → List (List (List ℕ))
+begun_with (Child child) run = run ∷ []
+begun_with Failed run = []
+begun_with NoMemory run = []
+
+abbrev pub begun_run : Option ℕ → BeganGot → List (List ℕ) → List (List (List ℕ))
+begun_run None got run = begun_with got run
+begun_run (Some child) got run = []
+
+-- the runs of sounds, one for each child that is started from here on, in the order of the starts
+abbrev pub fed : OrdersState → Feeding → List Emit → List (List (List ℕ))
+fed orders f [] = []
+fed orders f (emit ∷ emits) =
+    if f.failed then []
+    else (begun_run f.running emit.answers.start (emit.sound ∷ rest_of_run orders (fed_on orders f emit.answers) emits)
+    ++ fed orders (fed_on orders f emit.answers) emits)

@@ -1,0 +1,3 @@
+pub mod Fed
+pub mod Runs
+pub mod Codec

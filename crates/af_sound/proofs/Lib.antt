@@ -1,0 +1,2 @@
+pub mod SwappedLemmas
+pub mod WrittenLemmas

@@ -1,0 +1,6 @@
+pub mod Fields
+pub mod Au
+pub mod Wave
+pub mod Heads
+pub mod Written
+pub mod Served

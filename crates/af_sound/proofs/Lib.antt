@@ -1,2 +1,5 @@
 pub mod SwappedLemmas
 pub mod WrittenLemmas
+pub mod ReachedLemmas
+pub mod AuLemmas
+pub mod ChunkLemmas

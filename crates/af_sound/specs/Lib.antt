@@ -4,3 +4,4 @@ pub mod Wave
 pub mod Heads
 pub mod Written
 pub mod Served
+pub mod Reading

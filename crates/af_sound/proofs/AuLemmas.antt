@@ -1,6 +1,6 @@
 -- What a reader of .au files says.
-use Rattle.std.proofs.Common.{◌≡◌, ◌≢◌, ◌<◌, ◌≤◌, ◌+◌, ◌-◌, ◌⊎◌, inl, inr, ℕ, Bool, true, false, nat_lt, Option, Some, None, List, [], ◌∷◌, ◌++◌, length, refl, sym, ap, ◌∙◌, subst, arith, append_assoc}
-use Rattle.std.specs.Prelude.{IsTrue, if◌then◌else◌, codes, Result, Ok, Err}
+use Rattle.std.proofs.Common.{◌≡◌, ◌≢◌, ◌≤◌, ◌+◌, ◌-◌, ◌⊎◌, inl, inr, ℕ, Bool, true, false, nat_lt, Option, Some, None, List, [], ◌∷◌, ◌++◌, length, refl, sym, ap, ◌∙◌, subst, arith, append_assoc}
+use Rattle.std.specs.Prelude.{if◌then◌else◌, codes, Result, Ok, Err}
 use Rattle.std.specs.Int.{w32, from_be_bytes}
 use Rattle.std.specs.Str.{bytes_eq}
 use Rattle.std.specs.Cmp.Lexicographic.{same_text, other_text}
@@ -12,13 +12,13 @@ use Rattle.af_sound.specs.declared.head.SoundHead.{SoundHead}
 use Rattle.af_sound.specs.declared.head.SoundFault.{SoundFault}
 use Rattle.af_sound.specs.declared.head.SoundFault.TheVariants.{BadMagic, BadHead, BadCoding, BadShape}
 use Rattle.af_sound.specs.declared.head_reader.Place.{Place}
-use Rattle.af_sound.specs.declared.head_reader.Place.TheVariants.{Field, Annotation, Chunk, Head, Bad}
+use Rattle.af_sound.specs.declared.head_reader.Place.TheVariants.{Annotation, Head, Bad}
 use Rattle.af_sound.specs.declared.head_reader.Field.TheVariants as field
 use Rattle.af_sound.specs.declared.au.AuField.TheVariants as au
 use Rattle.af_sound.specs.declared.au.AuNumbers.{AuNumbers}
 use Rattle.af_sound.specs.Fields.{has_shape, length_of, IsBig}
-use Rattle.af_sound.specs.Au.{au_coding, HasAuCoding, HasAuFault, HasAuOffset, HasAuShape, IsAuHead, StatesAu}
-use Rattle.af_sound.specs.Reading.{au_behind, au_coded, au_end, au_head, au_name, au_shaped, begun, is_inside, reached, start}
+use Rattle.af_sound.specs.Au.{au_coding, HasAuFault, IsAuHead, StatesAu}
+use Rattle.af_sound.specs.Reading.{au_coded, au_end, au_head, au_name, begun, is_inside, reached, start}
 use Rattle.af_sound.proofs.ReachedLemmas.{bad_ends, different, field_read, head_ends, inside_says, Says, unsaid}
 
 -- a whole annotation ends in the head

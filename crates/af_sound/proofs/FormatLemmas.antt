@@ -1,20 +1,19 @@
 -- The chunk `fmt ` and what a reader says behind it.
-use Rattle.std.proofs.Common.{◌≡◌, ◌≢◌, ◌<◌, ◌≤◌, ◌+◌, ◌-◌, ◌%◌, ◌⊎◌, inl, inr, ℕ, Bool, true, false, nat_lt, Option, Some, None, List, [], ◌∷◌, ◌++◌, length, refl, sym, ap, ◌∙◌, subst, arith, append_assoc}
-use Rattle.std.specs.Prelude.{IsTrue, if◌then◌else◌, codes, Result, Ok, Err}
-use Rattle.std.specs.Int.{w16, w32, from_le_bytes}
+use Rattle.std.proofs.Common.{◌≡◌, ◌≤◌, ◌+◌, ◌-◌, ◌%◌, ℕ, Bool, true, false, nat_lt, Some, None, List, [], ◌∷◌, ◌++◌, length, refl, ap, ◌∙◌, arith, append_assoc}
+use Rattle.std.specs.Prelude.{if◌then◌else◌, Result, Ok, Err}
+use Rattle.std.specs.Int.{w16, from_le_bytes}
 use Rattle.std.proofs.lemmas.Bool.Decides.{nat_tests}
 use Rattle.std.proofs.lemmas.List.{length-append}
 use Rattle.af_sound.specs.declared.head.Coding.{Coding}
 use Rattle.af_sound.specs.declared.head.SoundFault.{SoundFault}
-use Rattle.af_sound.specs.declared.head.SoundFault.TheVariants.{BadMagic, BadHead, BadCoding, BadShape}
-use Rattle.af_sound.specs.declared.head_reader.Place.{Place}
+use Rattle.af_sound.specs.declared.head.SoundFault.TheVariants.{BadHead, BadShape}
 use Rattle.af_sound.specs.declared.head_reader.Place.TheVariants as at
 use Rattle.af_sound.specs.declared.head_reader.Field.TheVariants as field
 use Rattle.af_sound.specs.declared.wave.WaveField.TheVariants as wave
 use Rattle.af_sound.specs.declared.wave.Format.{Format}
 use Rattle.af_sound.specs.declared.wave.FormatFields.{FormatFields}
-use Rattle.af_sound.specs.Fields.{has_shape, IsLittle, IsLittle16}
-use Rattle.af_sound.specs.Wave.{Chunk, chunk_bytes, IsChunk, IsFormat, StatesFormat, wave_coding}
+use Rattle.af_sound.specs.Fields.{has_shape, IsLittle}
+use Rattle.af_sound.specs.Wave.{Chunk, chunk_bytes, IsFormat, StatesFormat, wave_coding}
 use Rattle.af_sound.specs.Reading.{begun, format_coded, format_end, format_of, format_size, reached}
 use Rattle.af_sound.proofs.ReachedLemmas.{field_read}
 use Rattle.af_sound.proofs.ChunkLemmas.{at_name, body_passes, pieces}

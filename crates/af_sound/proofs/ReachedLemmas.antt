@@ -1,9 +1,8 @@
 -- Places that a reader reaches: byte by byte, and field by field.
-use Rattle.std.proofs.Common.{◌≡◌, ◌≢◌, ◌<◌, ◌≤◌, ◌+◌, ◌-◌, ◌⊎◌, inl, inr, ℕ, Bool, true, false, nat_lt, Option, Some, None, List, [], ◌∷◌, ◌++◌, length, refl, sym, ap, ◌∙◌, subst, arith}
-use Rattle.std.specs.Prelude.{IsTrue, if◌then◌else◌}
+use Rattle.std.proofs.Common.{◌≡◌, ◌≢◌, ℕ, Bool, true, false, Option, Some, None, List, [], ◌∷◌, ◌++◌, length, refl, sym, ap, ◌∙◌, subst, arith}
+use Rattle.std.specs.Prelude.{if◌then◌else◌}
 use Rattle.std.specs.Str.{bytes_eq}
 use Rattle.std.specs.Cmp.Lexicographic.{same_text}
-use Rattle.std.proofs.lemmas.Bool.Decides.{nat_tests}
 use Rattle.af_sound.specs.declared.head.SoundForm.{SoundForm}
 use Rattle.af_sound.specs.declared.head.SoundHead.{SoundHead}
 use Rattle.af_sound.specs.declared.head.SoundFault.{SoundFault}
@@ -37,16 +36,18 @@ different xs ys other = by (bytes_eq xs ys) refl where
 pub reached_first : (place : Place) (byte : ℕ) (rest : List ℕ) → is_inside place ≡ true → reached place (byte ∷ rest) ≡ reached (behind place byte) rest
 reached_first place byte rest inside = ap (λ (t : Bool). if t then reached (behind place byte) rest else None) inside
 
+-- what is reached from the front of some bytes goes on with the rest
+pub reached_more : (bytes rest : List ℕ) (first place : Place) → reached first bytes ≡ Some place → reached first (bytes ++ rest) ≡ reached place rest
+reached_more [] rest first place e = let same : first ≡ place = cc in ap (λ (p : Place). reached p rest) same
+reached_more (b ∷ bytes) rest first place e =
+    let open_first : is_inside first ≡ true = opened (is_inside first) (reached (behind first b) bytes) place e in
+    let later : reached (behind first b) bytes ≡ Some place = sym (reached_first first b bytes open_first) ∙ e in
+    reached_first first b (bytes ++ rest) open_first ∙ reached_more bytes rest (behind first b) place later
+
 -- a byte at the end
 pub reached_last : (bytes : List ℕ) (first place : Place) (byte : ℕ) → reached first bytes ≡ Some place → is_inside place ≡ true →
     reached first (bytes ++ (byte ∷ [])) ≡ Some (behind place byte)
-reached_last [] first place byte e inside =
-    let same : place ≡ first = cc in
-    subst (λ (p : Place). reached p (byte ∷ []) ≡ Some (behind place byte)) same (reached_first place byte [] inside)
-reached_last (b ∷ rest) first place byte e inside =
-    let open_first : is_inside first ≡ true = opened (is_inside first) (reached (behind first b) rest) place e in
-    let later : reached (behind first b) rest ≡ Some place = sym (reached_first first b rest open_first) ∙ e in
-    reached_first first b (rest ++ (byte ∷ [])) open_first ∙ reached_last rest (behind first b) place byte later inside
+reached_last bytes first place byte e inside = reached_more bytes (byte ∷ []) first place e ∙ reached_first place byte [] inside
 
 -- behind a fault and behind a head nothing is taken
 pub bad_ends : (fault : SoundFault) (more : List ℕ) (place : Place) → reached (Bad fault) more ≡ Some place → (more ≡ []) × (Bad fault ≡ place)

@@ -1,28 +1,25 @@
 -- What a reader of WAVE files says.
-use Rattle.std.proofs.Common.{◌≡◌, ◌≢◌, ◌<◌, ◌≤◌, ◌+◌, ◌-◌, ◌%◌, ◌⊎◌, inl, inr, ℕ, Bool, true, false, nat_lt, Option, Some, None, List, [], ◌∷◌, ◌++◌, length, refl, sym, ap, ◌∙◌, subst, arith, append_assoc}
-use Rattle.std.specs.Prelude.{IsTrue, if◌then◌else◌, ◌&&◌, codes, Result, Ok, Err}
-use Rattle.std.specs.Int.{w16, w32, from_le_bytes}
+use Rattle.std.proofs.Common.{◌≡◌, ◌<◌, ◌-◌, inl, inr, ℕ, Bool, true, false, nat_lt, Option, Some, None, List, [], ◌∷◌, ◌++◌, length, refl, sym, ap, ◌∙◌, arith, append_assoc}
+use Rattle.std.specs.Prelude.{if◌then◌else◌, ◌&&◌, codes, Result, Ok, Err}
 use Rattle.std.specs.Str.{bytes_eq}
-use Rattle.std.specs.Cmp.Lexicographic.{same_text, other_text}
+use Rattle.std.specs.Cmp.Lexicographic.{same_text}
 use Rattle.std.proofs.lemmas.Bool.Decides.{nat_tests}
-use Rattle.std.proofs.lemmas.List.{append-nil, length-append}
+use Rattle.std.proofs.lemmas.List.{append-nil}
 use Rattle.af_sound.specs.declared.head.Coding.{Coding}
 use Rattle.af_sound.specs.declared.head.SoundForm.TheVariants as form
 use Rattle.af_sound.specs.declared.head.SoundHead.{SoundHead}
 use Rattle.af_sound.specs.declared.head.SoundFault.{SoundFault}
 use Rattle.af_sound.specs.declared.head.SoundFault.TheVariants.{BadMagic, BadHead, BadCoding, BadShape}
-use Rattle.af_sound.specs.declared.head_reader.Place.{Place}
 use Rattle.af_sound.specs.declared.head_reader.Place.TheVariants as at
 use Rattle.af_sound.specs.declared.head_reader.Field.TheVariants as field
 use Rattle.af_sound.specs.declared.wave.WaveField.TheVariants as wave
 use Rattle.af_sound.specs.declared.wave.Format.{Format}
 use Rattle.af_sound.specs.declared.wave.FormatFields.{FormatFields}
-use Rattle.af_sound.specs.Fields.{has_shape, length_of, IsLittle, IsLittle16}
-use Rattle.af_sound.specs.Wave.{AreOthers, Chunk, chunk_bytes, chunks_bytes, HasDataFirst, HasSecondFormat, HasShortFormat, HasWaveCoding, HasWaveFault, HasWaveShape, IsBeforeFormat, IsBehindFormat, IsChunk, IsFormat, IsRiff, IsWaveHead, StatesFormat, StatesSound, wave_coding}
+use Rattle.af_sound.specs.Wave.{chunk_bytes, chunks_bytes, HasDataFirst, HasSecondFormat, HasShortFormat, HasWaveFault, IsBeforeFormat, IsBehindFormat, IsRiff, IsWaveHead, StatesSound}
 use Rattle.af_sound.specs.Reading.{begun, format_coded, format_end, format_of, format_size, head_with, reached, start, wave_name}
-use Rattle.af_sound.proofs.ReachedLemmas.{bad_ends, different, field_read, head_ends, inside_says, Says, unsaid}
-use Rattle.af_sound.proofs.ChunkLemmas.{at_name, BeginsWith, body_ends, chunks_end, others_pass, Passes, pieces, Skips}
-use Rattle.af_sound.proofs.FormatLemmas.{format_passes, good_format, sixteen_read, size_read}
+use Rattle.af_sound.proofs.ReachedLemmas.{field_read}
+use Rattle.af_sound.proofs.ChunkLemmas.{at_name, others_pass}
+use Rattle.af_sound.proofs.FormatLemmas.{format_passes, sixteen_read, size_read}
 
 -- the front is passed
 riff_passes : (riff more : List ℕ) → IsRiff riff → reached (start form.Wave) (riff ++ more) ≡ reached (at_name None) more

@@ -1,6 +1,6 @@
 -- What a reader of WAVE files says is so.
-use Rattle.std.proofs.Common.{◌≡◌, ◌≢◌, ◌<◌, ◌≤◌, ◌+◌, ◌-◌, ◌%◌, ◌⊎◌, inl, inr, ℕ, Bool, true, false, nat_lt, Option, Some, None, List, [], ◌∷◌, ◌++◌, length, take, drop, refl, sym, ap, ◌∙◌, subst, arith, append_assoc, length-take, length-drop}
-use Rattle.std.specs.Prelude.{IsTrue, if◌then◌else◌, ◌&&◌, codes, Result, Ok, Err}
+use Rattle.std.proofs.Common.{◌≡◌, ◌+◌, ◌-◌, ◌%◌, ◌⊎◌, inl, inr, ℕ, Bool, true, false, nat_lt, Option, Some, None, List, [], ◌∷◌, ◌++◌, length, take, drop, refl, sym, ap, ◌∙◌, subst, arith, append_assoc, length-take, length-drop}
+use Rattle.std.specs.Prelude.{if◌then◌else◌, ◌&&◌, codes, Ok, Err}
 use Rattle.std.specs.Int.{w16, w32, from_le_bytes}
 use Rattle.std.specs.Str.{bytes_eq}
 use Rattle.std.specs.Cmp.Lexicographic.{same_text, other_text}
@@ -17,9 +17,9 @@ use Rattle.af_sound.specs.declared.head_reader.Field.TheVariants as field
 use Rattle.af_sound.specs.declared.wave.WaveField.TheVariants as wave
 use Rattle.af_sound.specs.declared.wave.Format.{Format}
 use Rattle.af_sound.specs.declared.wave.FormatFields.{FormatFields}
-use Rattle.af_sound.specs.Fields.{has_shape, length_of, IsLittle, IsLittle16}
-use Rattle.af_sound.specs.Wave.{AreOthers, Chunk, chunk_bytes, chunks_bytes, HasDataFirst, HasSecondFormat, HasShortFormat, HasWaveCoding, HasWaveFault, HasWaveShape, IsBeforeFormat, IsBehindFormat, IsChunk, IsFormat, IsRiff, IsWaveHead, StatesFormat, StatesSound, wave_coding}
-use Rattle.af_sound.specs.Reading.{begun, format_coded, format_end, format_of, format_size, head_with, reached, start, wave_name}
+use Rattle.af_sound.specs.Fields.{has_shape, IsLittle, IsLittle16}
+use Rattle.af_sound.specs.Wave.{Chunk, chunk_bytes, chunks_bytes, HasSecondFormat, HasShortFormat, HasWaveFault, IsBeforeFormat, IsBehindFormat, IsChunk, IsFormat, IsRiff, IsWaveHead, StatesFormat, StatesSound, wave_coding}
+use Rattle.af_sound.specs.Reading.{begun, format_coded, format_end, format_of, head_with, reached, start, wave_name}
 use Rattle.af_sound.proofs.ReachedLemmas.{bad_ends, head_ends, inside_says, Says, unsaid}
 use Rattle.af_sound.proofs.ChunkLemmas.{at_name, BeginsWith, body_ends, chunks_end, Passes, pieces, Skips}
 use Rattle.af_sound.proofs.FormatLemmas.{sixteen_bytes}

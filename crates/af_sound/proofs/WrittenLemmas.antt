@@ -1,7 +1,6 @@
 -- What is written is a head.
-use Rattle.std.proofs.Common.{◌≡◌, ◌<◌, ◌≤◌, ◌+◌, ◌*◌, ◌%◌, ◌^◌, ◌==◌, ◌||◌, ℕ, Bool, true, false, Option, Some, None, List, [], ◌∷◌, ◌++◌, length, refl, sym, ap, ◌∙◌, subst, arith, lit<}
-use Rattle.std.specs.Prelude.{IsTrue, if◌then◌else◌, codes}
-use Rattle.std.specs.Int.{w16, w32, from_be_bytes, to_be_bytes, from_le_bytes, to_le_bytes}
+use Rattle.std.proofs.Common.{◌≡◌, ◌<◌, ◌*◌, ◌%◌, ◌^◌, ℕ, Option, Some, None, List, [], ◌++◌, refl, sym, arith, lit<}
+use Rattle.std.specs.Prelude.{IsTrue, codes}
 use Rattle.std.proofs.lemmas.Bool.Decides.{nat_tests}
 use Rattle.std.proofs.lemmas.List.{append-nil}
 use Rattle.std.proofs.lemmas.Nat.{from_be_bytes-to_be_bytes_4, from_le_bytes-to_le_bytes_2, from_le_bytes-to_le_bytes_4}
@@ -9,9 +8,9 @@ use Rattle.af_sound.specs.declared.head.SoundForm.TheVariants.{Au, Wave}
 use Rattle.af_sound.specs.declared.head.SoundHead.{SoundHead}
 use Rattle.af_sound.specs.declared.head.Coding.{Coding}
 use Rattle.af_sound.specs.declared.head.Coding.TheVariants as coding
-use Rattle.af_sound.specs.Fields.{IsBig, IsLittle, IsLittle16, length_of, has_shape, unknown_length}
+use Rattle.af_sound.specs.Fields.{IsBig, IsLittle, IsLittle16, length_of, has_shape}
 use Rattle.af_sound.specs.Au.{IsAuHead, StatesAu, au_coding}
-use Rattle.af_sound.specs.Wave.{Chunk, IsBeforeFormat, IsBehindFormat, IsChunk, IsFormat, IsRiff, IsWaveHead, StatesFormat, wave_coding}
+use Rattle.af_sound.specs.Wave.{Chunk, IsBeforeFormat, IsBehindFormat, IsFormat, IsWaveHead, StatesFormat, wave_coding}
 use Rattle.af_sound.specs.Written.{IsWritable, IsStatable, au_bytes, wave_bytes, size_of, encoding_of, is_written, big, little, little16, tag_of, sample_size, frame_size, riff_size}
 
 big_is : (number : ℕ) → number < 2 ^ 32 → IsBig number (big number)

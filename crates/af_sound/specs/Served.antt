@@ -1,5 +1,5 @@
 -- The sound of a file as a server takes it.
-use Rattle.std.specs.Prelude.{◌≡◌, ◌*◌, ◌%◌, ℕ, ℤ, pos, ◌-ℤ◌, ◌*ℤ◌, List, [], ◌∷◌, map, length}
+use Rattle.std.specs.Prelude.{◌≡◌, ◌*◌, ◌%◌, ℕ, ℤ, pos, ◌-ℤ◌, ◌*ℤ◌, List, [], ◌∷◌, map}
 use Rattle.af_sample.specs.declared.sample_type.SampleType.TheVariants as ty
 use Rattle.af_sample.specs.Samples.{bytes_of}
 use Rattle.af_sound.specs.declared.head.Coding.{Coding}

@@ -1,10 +1,10 @@
 -- Heads as they are written.
-use Rattle.std.specs.Prelude.{◌≡◌, ◌<◌, ◌+◌, ◌*◌, ◌/◌, ◌%◌, ◌^◌, ℕ, IsTrue, Bool, true, false, nat_lt, if◌then◌else◌, Option, Some, None, List, ◌++◌, codes}
+use Rattle.std.specs.Prelude.{◌<◌, ◌+◌, ◌*◌, ◌%◌, ◌^◌, ℕ, IsTrue, Bool, true, false, nat_lt, if◌then◌else◌, Option, Some, None, List, ◌++◌, codes}
 use Rattle.std.specs.Int.{w16, w32, to_be_bytes, to_le_bytes}
 use Rattle.af_sound.specs.declared.head.SoundForm.{SoundForm}
 use Rattle.af_sound.specs.declared.head.SoundForm.TheVariants.{Au, Wave}
 use Rattle.af_sound.specs.declared.head.Coding.{Coding}
-use Rattle.af_sound.specs.declared.head.Coding.TheVariants.{Mu255, Alaw, Lin16Big, Lin16Little, U8}
+use Rattle.af_sound.specs.declared.head.Coding.TheVariants.{Mu255, Alaw, Lin16Big, Lin16Little}
 use Rattle.af_sound.specs.declared.head.SoundHead.{SoundHead}
 use Rattle.af_sound.specs.Fields.{has_shape, unknown_length}
 

@@ -4,6 +4,7 @@
 mod au;
 mod head;
 mod head_reader;
+pub mod laws;
 mod served;
 mod wave;
 mod writer;

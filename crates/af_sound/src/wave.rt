@@ -42,7 +42,7 @@ pub(crate) struct FormatFields {
 }
 
 // What a chunk is by its name.
-#[derive(Clone, Copy, Debug)]
+#[derive(Clone, Copy)]
 pub(crate) enum ChunkKind {
     Format,
     Data,

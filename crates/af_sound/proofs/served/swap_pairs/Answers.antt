@@ -1,4 +1,4 @@
-use Rattle.std.proofs.Common.{◌≡◌, ◌<◌, length, arith}
+use Rattle.std.proofs.Common.{arith}
 use Rattle.af_sound.proofs.SwappedLemmas.{swapped_run}
 use Rattle.af_sound.proofs.served.swap_pairs.Goals as goal
 

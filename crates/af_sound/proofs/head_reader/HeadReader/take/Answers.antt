@@ -2,9 +2,8 @@ use Rattle.std.proofs.Common.{◌≡◌, ◌∙◌, ◌++◌, ◌∷◌, [], ap,
 use Rattle.std.specs.Prelude.{◌↔◌}
 use Rattle.af_sound.specs.declared.head.HeadStep.TheVariants as step
 use Rattle.af_sound.specs.declared.head.HeadStep.{HeadStep}
-use Rattle.af_sound.specs.declared.head_reader.Place.{Place}
 use Rattle.af_sound.specs.Heads.{HasFault, IsHead}
-use Rattle.af_sound.specs.Reading.{HasTaken, reached, start, behind, step_of}
+use Rattle.af_sound.specs.Reading.{HasTaken, reached, start}
 use Rattle.af_sound.proofs.ReachedLemmas.{reached_last}
 use Rattle.af_sound.proofs.TakenLemmas.{fault_exactly, head_exactly}
 use Rattle.af_sound.proofs.head_reader.HeadReader.take.Goals as goal

@@ -1,5 +1,5 @@
 // Writing the head of a sound file.
-ghost use Rattle.std.specs.Prelude.{◌≡◌, ◌<◌, ◌≤◌, ◌+◌, ◌^◌, ◌++◌, IsTrue, length, take};
+ghost use Rattle.std.specs.Prelude.{◌≡◌, ◌<◌, ◌≤◌, ◌+◌, ◌^◌, ◌++◌, IsTrue, ℕ, length, slice_index, take};
 ghost use Rattle.af_sound.specs.Fields.{has_shape};
 ghost use Rattle.af_sound.specs.Heads.{IsHead};
 ghost use Rattle.af_sound.specs.Au.{IsAuHead};
@@ -16,6 +16,7 @@ pub fn write_sound_head(form: SoundForm, head: &SoundHead, out: &mut [u8]) -> us
     requires writable { IsWritable form head.now }
     ensures size { result ≡ head_size form }
     ensures bytes { take result out.new ≡ written form head.now }
+    ensures rest { (k : ℕ) → result ≤ k → slice_index out.new k ≡ slice_index out.old k }
     ensures head { IsHead form (take result out.new) head.now }
 {
     match form {
@@ -31,6 +32,7 @@ fn write_au(head: SoundHead, out: &mut [u8]) -> usize
     requires writable { IsWritable Au head }
     ensures size { result ≡ 24 }
     ensures bytes { take result out.new ≡ au_bytes head }
+    ensures rest { (k : ℕ) → result ≤ k → slice_index out.new k ≡ slice_index out.old k }
     ensures head { IsAuHead (take result out.new) head }
 {
     let at = put(out, 0, b".snd");
@@ -48,6 +50,7 @@ fn write_wave(head: SoundHead, out: &mut [u8]) -> usize
     requires writable { IsWritable Wave head }
     ensures size { result ≡ 44 }
     ensures bytes { take result out.new ≡ wave_bytes head }
+    ensures rest { (k : ℕ) → result ≤ k → slice_index out.new k ≡ slice_index out.old k }
     ensures head { IsWaveHead (take result out.new) head }
 {
     let at = put_riff(head, out);
@@ -62,6 +65,7 @@ fn put_riff(head: SoundHead, out: &mut [u8]) -> usize
     requires stated { IsStatable head.length }
     ensures size { result ≡ 20 }
     ensures bytes { take result out.new ≡ riff_bytes head }
+    ensures rest { (k : ℕ) → result ≤ k → slice_index out.new k ≡ slice_index out.old k }
 {
     let at = put(out, 0, b"RIFF");
     let at = put_little(out, at, riff_size(head.length));
@@ -76,6 +80,7 @@ fn put_format(head: SoundHead, at: usize, out: &mut [u8]) -> usize
     requires shape { IsTrue (has_shape head.channels) }
     ensures size { result ≡ at + 16 }
     ensures bytes { take result out.new ≡ with_format (take at out.old) head }
+    ensures rest { (k : ℕ) → result ≤ k → slice_index out.new k ≡ slice_index out.old k }
     ensures low { head.rate < 2 ^ 32 }
 {
     let sample_size = sample_size(head.coding);
@@ -93,6 +98,7 @@ fn put_big(out: &mut [u8], at: usize, number: u32) -> usize
     requires { at + 4 ≤ length out.old }
     ensures end { result ≡ at + 4 }
     ensures bytes { take result out.new ≡ take at out.old ++ big number }
+    ensures rest { (k : ℕ) → result ≤ k → slice_index out.new k ≡ slice_index out.old k }
     ensures low { number < 2 ^ 32 }
 {
     put(out, at, &number.to_be_bytes())
@@ -103,6 +109,7 @@ fn put_little(out: &mut [u8], at: usize, number: u32) -> usize
     requires { at + 4 ≤ length out.old }
     ensures end { result ≡ at + 4 }
     ensures bytes { take result out.new ≡ take at out.old ++ little number }
+    ensures rest { (k : ℕ) → result ≤ k → slice_index out.new k ≡ slice_index out.old k }
     ensures low { number < 2 ^ 32 }
 {
     put(out, at, &number.to_le_bytes())
@@ -113,6 +120,7 @@ fn put(out: &mut [u8], at: usize, piece: &[u8]) -> usize
     requires { at + length piece.now ≤ length out.old }
     ensures end { result ≡ at + length piece.now }
     ensures bytes { take result out.new ≡ take at out.old ++ piece.now }
+    ensures rest { (k : ℕ) → result ≤ k → slice_index out.new k ≡ slice_index out.old k }
 {
     let end = at + piece.len();
     out[at..end].copy_from_slice(piece);

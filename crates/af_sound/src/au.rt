@@ -1,9 +1,9 @@
 // The six numbers of an .au file.
 ghost use Rattle.std.specs.Prelude.{◌≡◌};
 ghost use Rattle.af_sound.specs.Au.{au_coding};
-ghost use Rattle.af_sound.specs.Fields.{has_shape, length_of};
 ghost use Rattle.af_sound.specs.Reading.{au_behind, au_end, au_head};
 
+use crate::head::length_of;
 use crate::head_reader::{Field, Place};
 use crate::{Coding, SoundFault, SoundHead};
 
@@ -124,11 +124,4 @@ fn coding_of(encoding: u32) -> Option<Coding>
         27 => Some(Coding::Alaw),
         _ => None,
     }
-}
-
-// The length that a number states.
-pub(crate) fn length_of(size: u32) -> Option<u32>
-    ensures { result ≡ length_of size }
-{
-    if size == u32::MAX { None } else { Some(size) }
 }

@@ -1,4 +1,6 @@
 // What the head of a sound file says.
+ghost use Rattle.std.specs.Prelude.{◌≡◌};
+ghost use Rattle.af_sound.specs.Fields.{length_of};
 
 /// The form of a sound file.
 #[derive(Clone, Copy, Debug, PartialEq, Eq)]
@@ -57,4 +59,11 @@ pub enum HeadStep {
     Head(SoundHead),
     /// The bytes are no head, whatever follows.
     Bad(SoundFault),
+}
+
+// The length that a number in a head states.
+pub(crate) fn length_of(size: u32) -> Option<u32>
+    ensures { result ≡ length_of size }
+{
+    if size == u32::MAX { None } else { Some(size) }
 }

@@ -3,7 +3,7 @@ ghost use Rattle.std.specs.Prelude.{◌≡◌, ◌<◌, ◌^◌};
 ghost use Rattle.af_sound.specs.Wave.{wave_coding};
 ghost use Rattle.af_sound.specs.Reading.{behind_name, chunk_begun, chunk_kind, format_end, format_of, head_with, wave_behind};
 
-use crate::au::length_of;
+use crate::head::length_of;
 use crate::head_reader::{Field, Place};
 use crate::{Coding, SoundFault, SoundHead};
 
@@ -13,12 +13,15 @@ pub(crate) enum WaveField {
     Riff,
     RiffSize { riff: bool },
     Wave { riff: bool },
+    /// The name of a chunk, with what `fmt ` said if it came.
     ChunkName { format: Option<Format> },
     ChunkSize { format: Option<Format> },
     FormatSize,
+    /// The tag and the channels.
     FormatTag { more: u32 },
     FormatRate { more: u32, tag: u16, channels: u16 },
     FormatIgnored(FormatFields),
+    /// Two bytes that are ignored, and the bits of a sample.
     FormatBits(FormatFields),
     DataSize { format: Format },
 }

@@ -9,6 +9,7 @@ mod reference;
 mod requests;
 mod rings;
 mod sound;
+mod sound_files;
 mod texts;
 mod time;
 mod waiting;

@@ -1,0 +1,9 @@
+pub mod SwappedLemmas
+pub mod WrittenLemmas
+pub mod ReachedLemmas
+pub mod AuLemmas
+pub mod ChunkLemmas
+pub mod FormatLemmas
+pub mod WaveLemmas
+pub mod WaveSaysLemmas
+pub mod TakenLemmas

@@ -1,0 +1,173 @@
+-- What is written is a head.
+use Rattle.std.proofs.Common.{◌≡◌, ◌<◌, ◌*◌, ◌%◌, ◌^◌, ℕ, Option, Some, None, List, [], ◌++◌, refl, sym, arith, lit<}
+use Rattle.std.specs.Prelude.{IsTrue, codes}
+use Rattle.std.proofs.lemmas.Bool.Decides.{nat_tests}
+use Rattle.std.proofs.lemmas.List.{append-nil}
+use Rattle.std.proofs.lemmas.Nat.{from_be_bytes-to_be_bytes_4, from_le_bytes-to_le_bytes_2, from_le_bytes-to_le_bytes_4}
+use Rattle.af_sound.specs.declared.head.SoundForm.TheVariants.{Au, Wave}
+use Rattle.af_sound.specs.declared.head.SoundHead.{SoundHead}
+use Rattle.af_sound.specs.declared.head.Coding.{Coding}
+use Rattle.af_sound.specs.declared.head.Coding.TheVariants as coding
+use Rattle.af_sound.specs.Fields.{IsBig, IsLittle, IsLittle16, length_of, has_shape}
+use Rattle.af_sound.specs.Au.{IsAuHead, StatesAu, au_coding}
+use Rattle.af_sound.specs.Wave.{Chunk, IsBeforeFormat, IsBehindFormat, IsFormat, IsWaveHead, StatesFormat, wave_coding}
+use Rattle.af_sound.specs.Written.{IsWritable, IsStatable, au_bytes, wave_bytes, size_of, encoding_of, is_written, big, little, little16, tag_of, sample_size, frame_size, riff_size}
+
+big_is : (number : ℕ) → number < 2 ^ 32 → IsBig number (big number)
+big_is number low = record { size = refl; is = from_be_bytes-to_be_bytes_4 number low }
+
+low_shape : (channels : ℕ) → IsTrue (has_shape channels) → channels < 2 ^ 16
+low_shape channels shape = grind (arith, nat_tests)
+
+low_size : (length : Option ℕ) → IsStatable length → size_of length < 2 ^ 32
+low_size (Some n) low = omega (arith, low)
+low_size None low = lit< tt
+
+stated_again : (length : Option ℕ) → IsStatable length → length ≡ length_of (size_of length)
+stated_again (Some n) low = grind (arith, nat_tests)
+stated_again None low = refl
+
+au_coding_again : (c : Coding) → IsTrue (is_written Au c) → au_coding (encoding_of c) ≡ Some c
+au_coding_again coding.Mu255 good = refl
+au_coding_again coding.Alaw good = refl
+au_coding_again coding.Lin16Big good = refl
+au_coding_again coding.Lin16Little good = absurd cc
+au_coding_again coding.U8 good = absurd cc
+
+low_encoding : (c : Coding) → encoding_of c < 2 ^ 32
+low_encoding coding.Mu255 = lit< tt
+low_encoding coding.Alaw = lit< tt
+low_encoding coding.Lin16Big = lit< tt
+low_encoding coding.Lin16Little = lit< tt
+low_encoding coding.U8 = lit< tt
+
+pub au_written : (head : SoundHead) (bytes : List ℕ) → bytes ≡ au_bytes head → IsWritable Au head → head.rate < 2 ^ 32 → IsAuHead bytes head
+unfolding au_bytes
+au_written head bytes is writable rate =
+    let channels : head.channels < 2 ^ 32 = omega (arith, low_shape head.channels writable.shape) in
+    let states : StatesAu 24 (size_of head.length) (encoding_of head.coding) head.rate head.channels bytes = record {
+      offset_field = big 24;
+      size_field = big (size_of head.length);
+      encoding_field = big (encoding_of head.coding);
+      rate_field = big head.rate;
+      channels_field = big head.channels;
+      is = is;
+      is_offset = big_is 24 (lit< tt);
+      is_size = big_is (size_of head.length) (low_size head.length writable.length);
+      is_encoding = big_is (encoding_of head.coding) (low_encoding head.coding);
+      is_rate = big_is head.rate rate;
+      is_channels = big_is head.channels channels;
+    } in
+    record {
+      offset = 24;
+      size = size_of head.length;
+      encoding = encoding_of head.coding;
+      numbers = bytes;
+      annotation = [];
+      is = sym (append-nil bytes);
+      states = states;
+      is_offset = refl;
+      is_length = stated_again head.length writable.length;
+      is_coding = au_coding_again head.coding writable.coding;
+      is_shape = writable.shape;
+    }
+
+little_is : (number : ℕ) → number < 2 ^ 32 → IsLittle number (little number)
+little_is number low = record { size = refl; is = from_le_bytes-to_le_bytes_4 number low }
+
+little16_is : (number : ℕ) → number < 2 ^ 16 → IsLittle16 number (little16 number)
+little16_is number low = record { size = refl; is = from_le_bytes-to_le_bytes_2 number low }
+
+wave_coding_again : (c : Coding) → IsTrue (is_written Wave c) → wave_coding (tag_of c) (sample_size c * 8) ≡ Some c
+wave_coding_again coding.Mu255 good = refl
+wave_coding_again coding.Alaw good = refl
+wave_coding_again coding.Lin16Big good = absurd cc
+wave_coding_again coding.Lin16Little good = refl
+wave_coding_again coding.U8 good = absurd cc
+
+low_tag : (c : Coding) → tag_of c < 2 ^ 16
+low_tag coding.Mu255 = lit< tt
+low_tag coding.Alaw = lit< tt
+low_tag coding.Lin16Big = lit< tt
+low_tag coding.Lin16Little = lit< tt
+low_tag coding.U8 = lit< tt
+
+low_bits : (c : Coding) → sample_size c * 8 < 2 ^ 16
+low_bits coding.Mu255 = lit< tt
+low_bits coding.Alaw = lit< tt
+low_bits coding.Lin16Big = lit< tt
+low_bits coding.Lin16Little = lit< tt
+low_bits coding.U8 = lit< tt
+
+-- the sixteen bytes of `fmt `
+sixteen : SoundHead → List ℕ
+sixteen head =
+    little16 (tag_of head.coding) ++ (little16 head.channels ++ (little head.rate
+    ++ ((little (head.rate * frame_size head % 2 ^ 32) ++ little16 (frame_size head)) ++ little16 (sample_size head.coding * 8))))
+
+format : SoundHead → Chunk
+format head = record { name = codes "fmt "; size = little 16; body = sixteen head; pad = [] }
+
+format_is : (head : SoundHead) → IsWritable Wave head → head.rate < 2 ^ 32 → IsFormat head.coding head.rate head.channels (format head)
+unfolding format sixteen
+format_is head writable rate =
+    let states : StatesFormat (tag_of head.coding) head.channels head.rate (sample_size head.coding * 8) (sixteen head) = record {
+      tag_field = little16 (tag_of head.coding);
+      channels_field = little16 head.channels;
+      rate_field = little head.rate;
+      ignored = little (head.rate * frame_size head % 2 ^ 32) ++ little16 (frame_size head);
+      bits_field = little16 (sample_size head.coding * 8);
+      is = refl;
+      is_tag = little16_is (tag_of head.coding) (low_tag head.coding);
+      is_channels = little16_is head.channels (low_shape head.channels writable.shape);
+      is_rate = little_is head.rate rate;
+      is_ignored = refl;
+      is_bits = little16_is (sample_size head.coding * 8) (low_bits head.coding);
+    } in
+    record {
+      is = record { is_name = refl; is_size = little_is 16 (lit< tt); is_pad = refl };
+      name = refl;
+      front = sixteen head;
+      more = [];
+      is_body = sym (append-nil (sixteen head));
+      tag = tag_of head.coding;
+      bits = sample_size head.coding * 8;
+      states = states;
+      is_coding = wave_coding_again head.coding writable.coding;
+      is_shape = writable.shape;
+    }
+
+before_is : (head : SoundHead) → IsBeforeFormat (codes "RIFF" ++ (little (riff_size head.length) ++ codes "WAVE"))
+before_is head = record {
+  riff = codes "RIFF" ++ (little (riff_size head.length) ++ codes "WAVE");
+  chunks = [];
+  is = sym (append-nil (codes "RIFF" ++ (little (riff_size head.length) ++ codes "WAVE")));
+  is_riff = record { size = little (riff_size head.length); is = refl; is_size = refl };
+  others = tt;
+}
+
+behind_is : (head : SoundHead) → IsWritable Wave head → head.rate < 2 ^ 32 →
+    IsBehindFormat head.coding head.rate head.channels
+    ((codes "RIFF" ++ (little (riff_size head.length) ++ codes "WAVE")) ++ (codes "fmt " ++ (little 16 ++ sixteen head)))
+unfolding format sixteen
+behind_is head writable rate = record {
+  before = codes "RIFF" ++ (little (riff_size head.length) ++ codes "WAVE");
+  format = format head;
+  behind = [];
+  is = refl;
+  is_before = before_is head;
+  is_format = format_is head writable rate;
+  others = tt;
+}
+
+pub wave_written : (head : SoundHead) (bytes : List ℕ) → bytes ≡ wave_bytes head → IsWritable Wave head → head.rate < 2 ^ 32 → IsWaveHead bytes head
+unfolding wave_bytes sixteen
+wave_written head bytes is writable rate = record {
+  front = (codes "RIFF" ++ (little (riff_size head.length) ++ codes "WAVE")) ++ (codes "fmt " ++ (little 16 ++ sixteen head));
+  size_field = little (size_of head.length);
+  size = size_of head.length;
+  is = is;
+  is_front = behind_is head writable rate;
+  is_size = little_is (size_of head.length) (low_size head.length writable.length);
+  is_length = stated_again head.length writable.length;
+}

@@ -1,0 +1,34 @@
+-- The sound of a file as a server takes it.
+use Rattle.std.specs.Prelude.{◌≡◌, ◌*◌, ◌%◌, ℕ, ℤ, pos, ◌-ℤ◌, ◌*ℤ◌, List, [], ◌∷◌, map}
+use Rattle.af_sample.specs.declared.sample_type.SampleType.TheVariants as ty
+use Rattle.af_sample.specs.Samples.{bytes_of}
+use Rattle.af_sound.specs.declared.head.Coding.{Coding}
+use Rattle.af_sound.specs.declared.head.Coding.TheVariants.{Mu255, Alaw, Lin16Big, Lin16Little, U8}
+
+-- the bytes of each pair swapped
+abbrev pub swapped : List ℕ → List ℕ
+swapped (low ∷ high ∷ rest) = high ∷ low ∷ swapped rest
+swapped _ = []
+
+-- the sample of a byte of which 128 is silence
+abbrev pub sample_of : ℕ → ℤ
+sample_of byte = (pos byte -ℤ pos 128) *ℤ pos 256
+
+-- the bytes that a server takes: mu-law, A-law or big-endian samples of 16 bits
+abbrev pub served : Coding → List ℕ → List ℕ
+served Mu255 bytes = bytes
+served Alaw bytes = bytes
+served Lin16Big bytes = bytes
+served Lin16Little bytes = swapped bytes
+served U8 bytes = bytes_of ty.Lin16 (map sample_of bytes)
+
+-- how many bytes a server takes in place of some
+abbrev pub served_length : Coding → ℕ → ℕ
+served_length U8 count = count * 2
+served_length _ count = count
+
+-- samples of 16 bits are whole
+abbrev pub IsWhole : Coding → ℕ → Type 0
+IsWhole Lin16Little count = count % 2 ≡ 0
+IsWhole Lin16Big count = count % 2 ≡ 0
+IsWhole _ count = Unit {0}

@@ -44,9 +44,9 @@ began_got (started.Child child) = got.Child child
 began_got started.Failed = got.Failed
 began_got started.OutOfMemory = got.NoMemory
 
-abbrev pub is_done : Put → Bool
-is_done put.Done = true
-is_done put.Failed = false
+abbrev pub is_given : Put → Bool
+is_given put.Done = true
+is_given put.Failed = false
 
 abbrev pub status_of : Finished → Option ℤ
 status_of (ended.Ended status) = Some status

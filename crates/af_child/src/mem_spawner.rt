@@ -3,7 +3,7 @@ ghost use Rattle.std.specs.Prelude.{◌≡◌, ◌≢◌, ◌↔◌, ◌⊎◌, 
 ghost use Rattle.std.specs.declared.option.Option.TheVariants.{None, Some};
 ghost use Rattle.arrayvec.specs.ArrayVec.{array_vec_len};
 ghost use Rattle.af_io.specs.Observed.{Appended, CountsOneFault, counted, faults_after};
-ghost use Rattle.af_child.specs.Acts.{told, noted, began, given, finished, began_got, status_of, is_done, words_of, IsNextChild, RunsWhereTold};
+ghost use Rattle.af_child.specs.Acts.{told, noted, began, given, finished, began_got, status_of, is_given, words_of, IsNextChild, RunsWhereTold};
 ghost use Rattle.af_child.specs.Memory.{status_at, started_after, ended_after};
 
 use crate::notes::{self, Notes};
@@ -119,7 +119,7 @@ impl Spawner for MemSpawner {
 
     fn give(&mut self, child: u32, bytes: &[u8]) -> Put
         requires { RunsWhereTold child self.old.acts }
-        ensures acts { Appended self.old.acts (given child bytes.now (is_done result) ∷ []) self.new.acts }
+        ensures acts { Appended self.old.acts (given child bytes.now (is_given result) ∷ []) self.new.acts }
         ensures faults { CountsOneFault (result ≡ Put.Failed) self.old.faults self.new.faults }
         ensures failed { (result ≡ Put.Failed) ↔ Contains self.old.fails self.old.calls }
         ensures calls { self.new.calls ≡ counted self.old.calls }

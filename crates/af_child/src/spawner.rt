@@ -27,7 +27,7 @@ pub enum Finished {
 /// No call moves the count of faults down.
 pub trait Spawner {
     ghost use Rattle.af_io.specs.Observed.{Appended, FaultCounted};
-    ghost use Rattle.af_child.specs.Acts.{noted, began, given, finished, began_got, status_of, is_done, words_of, IsNextChild, RunsWhereTold};
+    ghost use Rattle.af_child.specs.Acts.{noted, began, given, finished, began_got, status_of, is_given, words_of, IsNextChild, RunsWhereTold};
 
     /// All acts so far, in order, if they are observed.
     ghost acts: { Self → Option (List Told) };
@@ -51,7 +51,7 @@ pub trait Spawner {
     /// Gives a child the whole piece where it answers Done, and a prefix of it where it answers Failed.
     fn give(&mut self, child: u32, bytes: &[u8]) -> Put
         requires { RunsWhereTold child (acts self.old) }
-        ensures acts { Appended (acts self.old) (given child bytes.now (is_done result) ∷ []) (acts self.new) }
+        ensures acts { Appended (acts self.old) (given child bytes.now (is_given result) ∷ []) (acts self.new) }
         ensures count { faults self.old ≤ faults self.new }
         ensures cause { result ≡ Put.Failed → FaultCounted (faults self.old) (faults self.new) };
 

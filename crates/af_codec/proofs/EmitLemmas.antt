@@ -8,9 +8,9 @@ use Rattle.af_io.proofs.AppendedLemmas.{appended_on}
 use Rattle.af_child.specs.declared.act.BeganGot.{BeganGot}
 use Rattle.af_child.specs.Acts.{Told, noted, began, given, finished}
 use Rattle.af_codec.specs.declared.feeding.Feeding.{Feeding}
-use Rattle.af_codec.specs.Fed.{Emit, OrdersState, emit_acts, fed_behind, fed_on, feeding_start, give_acts, give_acts_for, give_for, put_of, start_acts_for, start_for, started, started_with}
-use Rattle.af_codec.specs.Codec.{AreTold, ChildRuns, Feeds, Gives, HasStart, IsFed, Starts}
-use Rattle.af_codec.proofs.FedLemmas.{AreTold-appended, acts_of-one_more, fed_behind-one_more}
+use Rattle.af_codec.specs.Fed.{Emit, OrdersState, emit_acts, fed_behind, fed_on, feeding_start, give_acts, give_acts_for, give_for, put_of, start_acts_for, start_for, behind_start, started_with}
+use Rattle.af_codec.specs.Codec.{TellsThese, ChildRuns, Feeds, Gives, HasStart, IsFed, Starts}
+use Rattle.af_codec.proofs.FedLemmas.{TellsThese-appended, acts_of-one_more, fed_behind-one_more}
 use Rattle.af_codec.proofs.StartLemmas.{HasStart-fed_behind}
 
 none_of : {A : Type 0} (r : Option A) → false ≡ is_some r → r ≡ None
@@ -45,7 +45,7 @@ Gives-lost o f child most sound status a b c runs is gave ended = record {
 pub Feeds-made : (o : OrdersState) (f g h : Feeding) (sound : List ℕ) (a b c d : Option (List Told)) (put : Put) → Appended a (noted sound ∷ []) b → Starts o f g b c →
     Gives o g h sound c d → put ≡ put_of h → Feeds o f h sound a d put
 Feeds-made o f g h sound a b c d put told starts gives answer =
-    let next = started o.restarts f starts.got in
+    let next = behind_start o.restarts f starts.got in
     let give : Appended c (give_acts next sound gives.done gives.status) d = subst (λ x. Appended c (give_acts x sound gives.done gives.status) d) starts.feeding gives.told in
     record {
       answers = record { start = starts.got; give = gives.done; finish = gives.status };
@@ -65,7 +65,7 @@ IsFed-on o f h emitted sound a d put live is feeds runs =
     record {
       emits = is.emits ++ e ∷ [];
       behind = feeds.feeding ∙ ap (λ x. fed_on o x feeds.answers) is.behind ∙ sym (fed_behind-one_more o feeding_start is.emits e still);
-      told = subst (λ x. AreTold x d) (sym (acts_of-one_more o feeding_start is.emits e still)) (AreTold-appended _ _ a d is.told acts);
+      told = subst (λ x. TellsThese x d) (sym (acts_of-one_more o feeding_start is.emits e still)) (TellsThese-appended _ _ a d is.told acts);
       none = λ no. grind arith;
       runs = runs;
     }

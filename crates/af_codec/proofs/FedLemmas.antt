@@ -6,7 +6,7 @@ use Rattle.af_io.specs.Observed.{Appended}
 use Rattle.af_child.specs.Acts.{Told}
 use Rattle.af_codec.specs.declared.feeding.Feeding.{Feeding}
 use Rattle.af_codec.specs.Fed.{Emit, OrdersState, acts_of, emit_acts, fed_behind, fed_on}
-use Rattle.af_codec.specs.Codec.{AreTold}
+use Rattle.af_codec.specs.Codec.{TellsThese}
 
 -- behind one more emit
 pub fed_behind-cons : (o : OrdersState) (f : Feeding) (e : Emit) (emits : List Emit) → f.failed ≡ false → fed_behind o f (e ∷ emits) ≡ fed_behind o (fed_on o f e.answers) emits
@@ -49,7 +49,7 @@ acts_of-one_more o f (d ∷ emits) e live =
     ∙ ap (λ acts. acts ++ emit_acts o (fed_behind o f (d ∷ emits)) e.sound e.answers) (sym (acts_of-cons o f d emits now))
 
 -- acts that are told go on
-pub AreTold-appended : (acts more : List Told) (before after : Option (List Told)) → AreTold acts before → Appended before more after → AreTold (acts ++ more) after
-AreTold-appended acts more before None told added = tt
-AreTold-appended acts more None (Some after) told added = absurd added
-AreTold-appended acts more (Some before) (Some after) told added = added ∙ ap (λ a. a ++ more) told
+pub TellsThese-appended : (acts more : List Told) (before after : Option (List Told)) → TellsThese acts before → Appended before more after → TellsThese (acts ++ more) after
+TellsThese-appended acts more before None told added = tt
+TellsThese-appended acts more None (Some after) told added = absurd added
+TellsThese-appended acts more (Some before) (Some after) told added = added ∙ ap (λ a. a ++ more) told

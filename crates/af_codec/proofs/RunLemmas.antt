@@ -6,8 +6,8 @@ use Rattle.af_child.specs.declared.act.BeganGot.{BeganGot}
 use Rattle.af_child.specs.declared.act.BeganGot.TheVariants.{Child, Failed, NoMemory}
 use Rattle.af_child.specs.Acts.{Told}
 use Rattle.af_codec.specs.declared.feeding.Feeding.{Feeding}
-use Rattle.af_codec.specs.Fed.{Answers, Emit, OrdersState, acts_of, begun_run, emit_acts, fed, fed_behind, fed_on, feeding_start, rest_of_run, sounds_of, taken_by}
-use Rattle.af_codec.specs.Codec.{AreTold, IsFed}
+use Rattle.af_codec.specs.Fed.{CallAnswers, Emit, OrdersState, acts_of, begun_run, emit_acts, fed, fed_behind, fed_on, feeding_start, rest_of_run, sounds_of, taken_by_child}
+use Rattle.af_codec.specs.Codec.{TellsThese, IsFed}
 use Rattle.af_codec.specs.Runs.{ArePartsInOrder, FeedsOnce, pieces_told, runs_told, sounds_told, starts_told}
 use Rattle.af_codec.proofs.StartLemmas.{HasStart-fed_behind}
 
@@ -15,7 +15,7 @@ use Rattle.af_codec.proofs.StartLemmas.{HasStart-fed_behind}
 abbrev live : Option ℕ → ℕ → Feeding
 live running starts = record { running = running; starts = starts; failed = false }
 
-abbrev answers_of : BeganGot → Bool → Option ℤ → Answers
+abbrev answers_of : BeganGot → Bool → Option ℤ → CallAnswers
 answers_of got done status = record { start = got; give = done; finish = status }
 
 -- what the acts of one emit tell, before others
@@ -39,7 +39,7 @@ starts_on o None n sound NoMemory done status acts = refl
 
 pieces_on : (o : OrdersState) (r : Option ℕ) (n : ℕ) (sound : List ℕ) (got : BeganGot) (done : Bool) (status : Option ℤ) (acts : List Told) (later : List (List ℕ)) →
     pieces_told acts ≡ later → ((fed_on o (live r n) (answers_of got done status)).running ≡ None → later ≡ []) →
-    pieces_told (emit_acts o (live r n) sound (answers_of got done status) ++ acts) ≡ taken_by r sound later
+    pieces_told (emit_acts o (live r n) sound (answers_of got done status) ++ acts) ≡ taken_by_child r sound later
 pieces_on o (Some c) n sound got true status acts later is idle = ap (λ x. sound ∷ x) is
 pieces_on o (Some c) n sound got false status acts later is idle = ap (λ x. sound ∷ x) is
 pieces_on o None n sound (Child c) true status acts later is idle = refl
@@ -108,7 +108,7 @@ AreRunsFrom : List (List ℕ) → List (List (List ℕ)) → List (List ℕ) →
 AreRunsFrom later runs sounds = (behind : List (List ℕ)) × (sounds ≡ later ++ behind) × ArePartsInOrder runs behind
 
 run_before : (r : Option ℕ) (got : BeganGot) (sound : List ℕ) (later : List (List ℕ)) (runs : List (List (List ℕ))) (sounds : List (List ℕ)) →
-    AreRunsFrom later runs sounds → AreRunsFrom (taken_by r sound later) (begun_run r got (sound ∷ later) ++ runs) (sound ∷ sounds)
+    AreRunsFrom later runs sounds → AreRunsFrom (taken_by_child r sound later) (begun_run r got (sound ∷ later) ++ runs) (sound ∷ sounds)
 unfolding AreRunsFrom
 run_before (Some c) got sound later runs sounds are = (are.0, ap (λ x. sound ∷ x) are.1, are.2)
 run_before None (Child c) sound later runs sounds are = (sound ∷ sounds, refl, ([], are.0, ap (λ x. sound ∷ x) are.1, are.2))
@@ -155,7 +155,7 @@ FeedsOnce-fed o emits = record {
   starts = rw (starts_told-fed o emits) (HasStart-fed_behind o emits).within;
 }
 
-once_where_told : (o : OrdersState) (emits : List Emit) (acts : Option (List Told)) → AreTold (acts_of o feeding_start emits) acts →
+once_where_told : (o : OrdersState) (emits : List Emit) (acts : Option (List Told)) → TellsThese (acts_of o feeding_start emits) acts →
     IfSome acts (λ acts. FeedsOnce o.restarts acts)
 once_where_told o emits None told = tt
 once_where_told o emits (Some acts) told = subst (λ a. FeedsOnce o.restarts a) (sym told) (FeedsOnce-fed o emits)

@@ -6,7 +6,7 @@ use Rattle.std.proofs.lemmas.Bool.{eq-eqb}
 use Rattle.af_child.specs.declared.act.BeganGot.{BeganGot}
 use Rattle.af_child.specs.declared.act.BeganGot.TheVariants.{Child, Failed, NoMemory}
 use Rattle.af_codec.specs.declared.feeding.Feeding.{Feeding}
-use Rattle.af_codec.specs.Fed.{Emit, OrdersState, fed_behind, fed_on, feeding_start, give_for, start_for, started, started_with}
+use Rattle.af_codec.specs.Fed.{Emit, OrdersState, fed_behind, fed_on, feeding_start, give_for, start_for, behind_start, started_with}
 use Rattle.af_codec.specs.Codec.{HasStart}
 use Rattle.af_codec.proofs.FedLemmas.{failed_stays, fed_behind-cons}
 
@@ -29,7 +29,7 @@ handed_where o f (Some child) false has = record { within = has.within; left = �
 
 pub HasStart-fed_on : (o : OrdersState) (f : Feeding) (e : Emit) → f.failed ≡ false → HasStart o f → HasStart o (fed_on o f e.answers)
 HasStart-fed_on o f e live has =
-    let g = started o.restarts f e.answers.start in
+    let g = behind_start o.restarts f e.answers.start in
     handed_where o g g.running e.answers.give (begun_where o f f.running e.answers.start refl live has)
 
 has_start : (o : OrdersState) (f : Feeding) (emits : List Emit) (b : Bool) → f.failed ≡ b → HasStart o f → HasStart o (fed_behind o f emits)

@@ -7,7 +7,7 @@ use Rattle.af_io.specs.Observed.{Appended}
 use Rattle.af_child.specs.declared.act.BeganGot.{BeganGot}
 use Rattle.af_child.specs.Acts.{Told, finished, RunsWhereTold}
 use Rattle.af_codec.specs.declared.feeding.Feeding.{Feeding}
-use Rattle.af_codec.specs.Fed.{Answers, Emit, OrdersState, acts_of, emit_acts, fed_behind, fed_on, feeding_start, give_acts, handed, put_of, start_acts, started}
+use Rattle.af_codec.specs.Fed.{CallAnswers, Emit, OrdersState, acts_of, emit_acts, fed_behind, fed_on, feeding_start, give_acts, handed, put_of, start_acts, behind_start}
 
 -- a codec: its spawner, what it was ordered, what is fed, and whether a sound was emitted
 pub record CodecState (S : Type 0) : Type 0 where
@@ -17,9 +17,9 @@ pub record CodecState (S : Type 0) : Type 0 where
   pub emitted : Bool
 
 -- the acts, if they are observed, are these
-abbrev pub AreTold : List Told → Option (List Told) → Type 0
-AreTold acts None = ⊤
-AreTold acts (Some told) = told ≡ acts
+abbrev pub TellsThese : List Told → Option (List Told) → Type 0
+TellsThese acts None = ⊤
+TellsThese acts (Some told) = told ≡ acts
 
 -- if a child runs and the acts are observed, they show that it does
 abbrev pub ChildRuns : Option ℕ → Option (List Told) → Type 0
@@ -31,13 +31,13 @@ ChildRuns (Some child) acts = RunsWhereTold child acts
 pub record IsFed (orders : OrdersState) (feeding : Feeding) (emitted : Bool) (acts : Option (List Told)) : Type 0 where
   pub emits : List Emit
   pub behind : feeding ≡ fed_behind orders feeding_start emits
-  pub told : AreTold (acts_of orders feeding_start emits) acts
+  pub told : TellsThese (acts_of orders feeding_start emits) acts
   pub none : emitted ≡ false → emits ≡ []
   pub runs : ChildRuns feeding.running acts
 
 -- what an emit adds to the acts, leaves fed, and answers
 pub record Feeds (orders : OrdersState) (before after : Feeding) (sound : List ℕ) (acts acts' : Option (List Told)) (put : Put) : Type 0 where
-  pub answers : Answers
+  pub answers : CallAnswers
   pub told : Appended acts (emit_acts orders before sound answers) acts'
   pub feeding : after ≡ fed_on orders before answers
   pub answer : put ≡ put_of after
@@ -46,7 +46,7 @@ pub record Feeds (orders : OrdersState) (before after : Feeding) (sound : List �
 pub record Starts (orders : OrdersState) (before after : Feeding) (acts acts' : Option (List Told)) : Type 0 where
   pub got : BeganGot
   pub told : Appended acts (start_acts orders.words before got) acts'
-  pub feeding : after ≡ started orders.restarts before got
+  pub feeding : after ≡ behind_start orders.restarts before got
 
 -- what a give of a sound adds to the acts, and leaves fed
 pub record Gives (orders : OrdersState) (before after : Feeding) (sound : List ℕ) (acts acts' : Option (List Told)) : Type 0 where

@@ -11,7 +11,7 @@ use Rattle.af_codec.specs.declared.feeding.Feeding.{Feeding}
 
 -- The answers of the calls that are made for a sound: of the start of a child, whether a give was done, and of the finish behind a
 -- give that failed. What stands for a call that is not made means nothing.
-pub record Answers : Type 0 where
+pub record CallAnswers : Type 0 where
   pub start : BeganGot
   pub give : Bool
   pub finish : Option ℤ
@@ -19,7 +19,7 @@ pub record Answers : Type 0 where
 -- a sound, with these answers
 pub record Emit : Type 0 where
   pub sound : List ℕ
-  pub answers : Answers
+  pub answers : CallAnswers
 
 -- how often a child may be started anew, and the words of each start
 pub record OrdersState : Type 0 where
@@ -43,8 +43,8 @@ abbrev pub start_for : Option ℕ → ℕ → Feeding → BeganGot → Feeding
 start_for None restarts f got = started_with restarts f got
 start_for (Some child) restarts f got = f
 
-abbrev pub started : ℕ → Feeding → BeganGot → Feeding
-started restarts f got = start_for f.running restarts f got
+abbrev pub behind_start : ℕ → Feeding → BeganGot → Feeding
+behind_start restarts f got = start_for f.running restarts f got
 
 abbrev pub start_acts_for : Option ℕ → List (List ℕ) → BeganGot → List Told
 start_acts_for None words got = began words got ∷ []
@@ -82,13 +82,13 @@ abbrev pub give_acts : Feeding → List ℕ → Bool → Option ℤ → List Tol
 give_acts f sound done status = give_acts_for f.running sound done status
 
 -- what is fed behind an emit
-abbrev pub fed_on : OrdersState → Feeding → Answers → Feeding
-fed_on orders f answers = handed orders.restarts (started orders.restarts f answers.start) answers.give
+abbrev pub fed_on : OrdersState → Feeding → CallAnswers → Feeding
+fed_on orders f answers = handed orders.restarts (behind_start orders.restarts f answers.start) answers.give
 
 -- the acts of an emit: the sound, and the calls that are made for it
-abbrev pub emit_acts : OrdersState → Feeding → List ℕ → Answers → List Told
+abbrev pub emit_acts : OrdersState → Feeding → List ℕ → CallAnswers → List Told
 emit_acts orders f sound answers =
-    noted sound ∷ (start_acts orders.words f answers.start ++ give_acts (started orders.restarts f answers.start) sound answers.give answers.finish)
+    noted sound ∷ (start_acts orders.words f answers.start ++ give_acts (behind_start orders.restarts f answers.start) sound answers.give answers.finish)
 
 -- the answer of an emit: Failed where its start or its give failed and no start is left
 abbrev pub put_of : Feeding → Put
@@ -110,14 +110,14 @@ abbrev pub sounds_of : List Emit → List (List ℕ)
 sounds_of emits = map (λ (emit : Emit). emit.sound) emits
 
 -- the sounds that a child which runs now is given from here on: each, until a give fails
-abbrev pub taken_by : Option ℕ → List ℕ → List (List ℕ) → List (List ℕ)
-taken_by None sound later = []
-taken_by (Some child) sound later = sound ∷ later
+abbrev pub taken_by_child : Option ℕ → List ℕ → List (List ℕ) → List (List ℕ)
+taken_by_child None sound later = []
+taken_by_child (Some child) sound later = sound ∷ later
 
 abbrev pub rest_of_run : OrdersState → Feeding → List Emit → List (List ℕ)
 rest_of_run orders f [] = []
 rest_of_run orders f (emit ∷ emits) =
-    if f.failed then [] else taken_by f.running emit.sound (rest_of_run orders (fed_on orders f emit.answers) emits)
+    if f.failed then [] else taken_by_child f.running emit.sound (rest_of_run orders (fed_on orders f emit.answers) emits)
 
 -- a child that is started begins a run, with the sound that it is started for
 abbrev pub begun_with : BeganGot → List (List ℕ) → List (List (List ℕ))

@@ -5,7 +5,7 @@ ghost use Rattle.arrayvec.specs.ArrayVec.{array_vec_len};
 ghost use Rattle.af_io.specs.Observed.{FaultCounted};
 ghost use Rattle.af_child.specs.Acts.{words_of};
 ghost use Rattle.af_codec.specs.Fed.{feeding_start};
-ghost use Rattle.af_codec.specs.Codec.{AreTold, Feeds, IsFed};
+ghost use Rattle.af_codec.specs.Codec.{TellsThese, Feeds, IsFed};
 ghost use Rattle.af_codec.specs.Runs.{FeedsOnce};
 
 use crate::feeding::Feeding;
@@ -39,7 +39,7 @@ impl<S: Spawner + Drop> Model for Codec<S> {
 impl<S: Spawner + Drop> Codec<S> {
     /// A codec that was given no orders, over a spawner that tells of no act.
     pub fn new(alloc: Global, spawner: S) -> Codec<S>
-        requires { AreTold [] (S.acts spawner) }
+        requires { TellsThese [] (S.acts spawner) }
         ensures { result ≡ record { spawner = spawner; orders = record { restarts = 0; words = [] }; feeding = feeding_start; emitted = false } }
     {
         Codec {

@@ -18,7 +18,7 @@ use Rattle.af_sound.specs.declared.au.AuField.TheVariants as au
 use Rattle.af_sound.specs.declared.au.AuNumbers.{AuNumbers}
 use Rattle.af_sound.specs.Fields.{has_shape, length_of, IsBig}
 use Rattle.af_sound.specs.Au.{au_coding, HasAuFault, IsAuHead, StatesAu}
-use Rattle.af_sound.specs.Reading.{au_coded, au_end, au_head, au_name, begun, is_inside, reached, start}
+use Rattle.af_sound.specs.Reading.{au_coded, au_end, au_head, au_name, field_begun, is_inside, reached, start}
 use Rattle.af_sound.proofs.ReachedLemmas.{bad_ends, different, field_read, head_ends, inside_says, Says, unsaid}
 
 -- a whole annotation ends in the head
@@ -64,13 +64,13 @@ stated_reads n channels bytes more s =
     let spelled : bytes ++ more ≡ codes ".snd" ++ r1 = ap (λ (b : List ℕ). b ++ more) s.is ∙ simp append_assoc in
     ap (λ (b : List ℕ). reached (start form.Au) b) spelled
     ∙ field_read (field.Au au.Offset) s.offset_field r2 s.is_offset.size
-    ∙ ap (λ (m : ℕ). reached (begun (field.Au (au.Size m))) r2) s.is_offset.is
+    ∙ ap (λ (m : ℕ). reached (field_begun (field.Au (au.Size m))) r2) s.is_offset.is
     ∙ field_read (field.Au (au.Size n.offset)) s.size_field r3 s.is_size.size
-    ∙ ap (λ (m : ℕ). reached (begun (field.Au (au.Encoding n.offset m))) r3) s.is_size.is
+    ∙ ap (λ (m : ℕ). reached (field_begun (field.Au (au.Encoding n.offset m))) r3) s.is_size.is
     ∙ field_read (field.Au (au.Encoding n.offset n.size)) s.encoding_field r4 s.is_encoding.size
-    ∙ ap (λ (m : ℕ). reached (begun (field.Au (au.Rate n.offset n.size m))) r4) s.is_encoding.is
+    ∙ ap (λ (m : ℕ). reached (field_begun (field.Au (au.Rate n.offset n.size m))) r4) s.is_encoding.is
     ∙ field_read (field.Au (au.Rate n.offset n.size n.encoding)) s.rate_field r5 s.is_rate.size
-    ∙ ap (λ (m : ℕ). reached (begun (field.Au (au.Channels (record { offset = n.offset; size = n.size; encoding = n.encoding; rate = m })))) r5) s.is_rate.is
+    ∙ ap (λ (m : ℕ). reached (field_begun (field.Au (au.Channels (record { offset = n.offset; size = n.size; encoding = n.encoding; rate = m })))) r5) s.is_rate.is
     ∙ field_read (field.Au (au.Channels n)) s.channels_field more s.is_channels.size
     ∙ ap (λ (m : ℕ). reached (au_end n (au_head n m)) more) s.is_channels.is
 
@@ -202,7 +202,7 @@ own : (a b c d : ℕ) → IsBig (from_be_bytes w32 (a ∷ b ∷ c ∷ d ∷ []))
 own a b c d = record { size = refl; is = refl }
 
 -- what is said behind the name
-named_says : (rest : List ℕ) (place : Place) → reached (begun (field.Au au.Offset)) rest ≡ Some place → Says form.Au (codes ".snd" ++ rest) place
+named_says : (rest : List ℕ) (place : Place) → reached (field_begun (field.Au au.Offset)) rest ≡ Some place → Says form.Au (codes ".snd" ++ rest) place
 named_says (o0 ∷ o1 ∷ o2 ∷ o3 ∷ s0 ∷ s1 ∷ s2 ∷ s3 ∷ e0 ∷ e1 ∷ e2 ∷ e3 ∷ r0 ∷ r1 ∷ r2 ∷ r3 ∷ c0 ∷ c1 ∷ c2 ∷ c3 ∷ more) place e =
     let offset : List ℕ = o0 ∷ o1 ∷ o2 ∷ o3 ∷ [] in
     let size : List ℕ = s0 ∷ s1 ∷ s2 ∷ s3 ∷ [] in

@@ -15,12 +15,12 @@ use Rattle.af_sound.specs.declared.wave.ChunkKind.TheVariants as kind
 use Rattle.af_sound.specs.declared.wave.Format.{Format}
 use Rattle.af_sound.specs.Fields.{IsLittle}
 use Rattle.af_sound.specs.Wave.{AreOthers, Chunk, chunk_bytes, chunks_bytes, IsChunk, IsOther}
-use Rattle.af_sound.specs.Reading.{before_rest, begun, behind_name, chunk_begun, chunk_kind, is_inside, reached}
+use Rattle.af_sound.specs.Reading.{before_rest, field_begun, behind_name, chunk_begun, chunk_kind, is_inside, reached}
 use Rattle.af_sound.proofs.ReachedLemmas.{different, field_read}
 
 -- before the name of a chunk
 abbrev pub at_name : Option Format → Place
-at_name format = begun (field.Wave (wave.ChunkName format))
+at_name format = field_begun (field.Wave (wave.ChunkName format))
 
 -- the rest of a chunk is passed
 rest_passes : (body more : List ℕ) (left : ℕ) (format : Option Format) → 1 ≤ left → length body ≡ left →
@@ -167,7 +167,7 @@ chunks_end (suc most) (a ∷ b ∷ c ∷ d ∷ bytes) format place few e =
       name : List ℕ
       name = a ∷ b ∷ c ∷ d ∷ []
 
-      sized : (rest : List ℕ) → length rest ≤ length bytes → name ≢ codes "fmt " → name ≢ codes "data" → reached (begun (field.Wave (wave.ChunkSize format))) rest ≡ Some place →
+      sized : (rest : List ℕ) → length rest ≤ length bytes → name ≢ codes "fmt " → name ≢ codes "data" → reached (field_begun (field.Wave (wave.ChunkSize format))) rest ≡ Some place →
           ((l : List ℕ) → length l ≤ most → reached (at_name format) l ≡ Some place → (is_inside place ≡ true) ⊎ Skips format l place) →
           (is_inside place ≡ true) ⊎ Skips format (a ∷ b ∷ c ∷ d ∷ rest) place
       sized (s0 ∷ s1 ∷ s2 ∷ s3 ∷ rest) shorter no_format no_data f next =

@@ -11,7 +11,7 @@ use Rattle.af_sound.specs.declared.head_reader.Place.{Place}
 use Rattle.af_sound.specs.declared.head_reader.Place.TheVariants.{Field, Annotation, Chunk, Head, Bad}
 use Rattle.af_sound.specs.declared.head_reader.Field as fields
 use Rattle.af_sound.specs.Heads.{IsHead, HasFault}
-use Rattle.af_sound.specs.Reading.{begun, behind, behind_field, is_inside, reached, step_of}
+use Rattle.af_sound.specs.Reading.{field_begun, behind, behind_field, is_inside, reached, step_at}
 
 -- what a place says of the bytes that lead to it
 abbrev pub Says : SoundForm → List ℕ → Place → Type 0
@@ -72,18 +72,18 @@ unsaid form bytes inner place e inside =
     subst (λ (p : Place). Says form bytes p) same (inside_says form bytes inner inside)
 
 -- four bytes are a field
-pub field_read : (of : fields.Field) (field rest : List ℕ) → length field ≡ 4 → reached (begun of) (field ++ rest) ≡ reached (behind_field of field) rest
+pub field_read : (of : fields.Field) (field rest : List ℕ) → length field ≡ 4 → reached (field_begun of) (field ++ rest) ≡ reached (behind_field of field) rest
 field_read of (a ∷ b ∷ c ∷ d ∷ []) rest four = refl
 field_read of _ rest four = absurd (omega arith)
 
-pub head_said : (place : Place) (head : SoundHead) → step_of place ≡ step.Head head → place ≡ Head head
+pub head_said : (place : Place) (head : SoundHead) → step_at place ≡ step.Head head → place ≡ Head head
 head_said (Head h) head e = cc
 head_said (Bad fault) head e = absurd cc
 head_said (Field of part) head e = absurd cc
 head_said (Annotation left h) head e = absurd cc
 head_said (Chunk left format) head e = absurd cc
 
-pub bad_said : (place : Place) (fault : SoundFault) → step_of place ≡ step.Bad fault → place ≡ Bad fault
+pub bad_said : (place : Place) (fault : SoundFault) → step_at place ≡ step.Bad fault → place ≡ Bad fault
 bad_said (Head h) fault e = absurd cc
 bad_said (Bad f) fault e = cc
 bad_said (Field of part) fault e = absurd cc

@@ -9,7 +9,7 @@ use Rattle.af_sound.specs.declared.head.HeadStep.TheVariants as step
 use Rattle.af_sound.specs.declared.head_reader.Place.{Place}
 use Rattle.af_sound.specs.declared.head_reader.Place.TheVariants.{Head, Bad}
 use Rattle.af_sound.specs.Heads.{HasFault, IsHead}
-use Rattle.af_sound.specs.Reading.{reached, start, step_of}
+use Rattle.af_sound.specs.Reading.{reached, start, step_at}
 use Rattle.af_sound.proofs.ReachedLemmas.{bad_ends, bad_said, head_ends, head_said, reached_more, Says}
 use Rattle.af_sound.proofs.AuLemmas.{au_fault_read, au_head_read, au_says}
 use Rattle.af_sound.proofs.WaveLemmas.{wave_fault_read, wave_head_read}
@@ -32,18 +32,18 @@ same_place one other e = cc
 
 -- a head is said exactly where the bytes are one
 pub head_exactly : (form : SoundForm) (bytes : List ℕ) (place : Place) (head : SoundHead) → reached (start form) bytes ≡ Some place →
-    (step_of place ≡ step.Head head) ↔ IsHead form bytes head
+    (step_at place ≡ step.Head head) ↔ IsHead form bytes head
 head_exactly form bytes place head e = (
   (λ said. subst (λ (p : Place). Says form bytes p) (head_said place head said) (says form bytes place e)),
-  λ is. let same : place ≡ Head head = same_place place (Head head) (sym e ∙ head_read form bytes head is) in ap step_of same,
+  λ is. let same : place ≡ Head head = same_place place (Head head) (sym e ∙ head_read form bytes head is) in ap step_at same,
 )
 
 -- a fault is said exactly where the bytes end with it
 pub fault_exactly : (form : SoundForm) (bytes : List ℕ) (place : Place) (fault : SoundFault) → reached (start form) bytes ≡ Some place →
-    (step_of place ≡ step.Bad fault) ↔ HasFault form bytes fault
+    (step_at place ≡ step.Bad fault) ↔ HasFault form bytes fault
 fault_exactly form bytes place fault e = (
   (λ said. subst (λ (p : Place). Says form bytes p) (bad_said place fault said) (says form bytes place e)),
-  λ has. let same : place ≡ Bad fault = same_place place (Bad fault) (sym e ∙ fault_read form bytes fault has) in ap step_of same,
+  λ has. let same : place ≡ Bad fault = same_place place (Bad fault) (sym e ∙ fault_read form bytes fault has) in ap step_at same,
 )
 
 -- no head begins with bytes that end with a fault

@@ -16,7 +16,7 @@ use Rattle.af_sound.specs.declared.wave.WaveField.TheVariants as wave
 use Rattle.af_sound.specs.declared.wave.Format.{Format}
 use Rattle.af_sound.specs.declared.wave.FormatFields.{FormatFields}
 use Rattle.af_sound.specs.Wave.{chunk_bytes, chunks_bytes, HasDataFirst, HasSecondFormat, HasShortFormat, HasWaveFault, IsBeforeFormat, IsBehindFormat, IsRiff, IsWaveHead, StatesSound}
-use Rattle.af_sound.specs.Reading.{begun, format_coded, format_end, format_of, format_size, head_with, reached, start, wave_name}
+use Rattle.af_sound.specs.Reading.{field_begun, format_coded, format_end, format_of, format_size, head_with, reached, start, wave_name}
 use Rattle.af_sound.proofs.ReachedLemmas.{field_read}
 use Rattle.af_sound.proofs.ChunkLemmas.{at_name, others_pass}
 use Rattle.af_sound.proofs.FormatLemmas.{format_passes, sixteen_read, size_read}
@@ -50,7 +50,7 @@ pub wave_head_read : (bytes : List ℕ) (head : SoundHead) → IsWaveHead bytes 
 wave_head_read bytes head h =
     let format : Format = record { coding = head.coding; rate = head.rate; channels = head.channels } in
     ap (λ (l : List ℕ). reached (start form.Wave) l) h.is ∙ behind_passes head.coding head.rate head.channels h.front (codes "data" ++ h.size_field) h.is_front
-    ∙ ap (λ (l : List ℕ). reached (begun (field.Wave (wave.DataSize format))) l) (sym (append-nil h.size_field))
+    ∙ ap (λ (l : List ℕ). reached (field_begun (field.Wave (wave.DataSize format))) l) (sym (append-nil h.size_field))
     ∙ field_read (field.Wave (wave.DataSize format)) h.size_field [] h.is_size.size
     ∙ ap (λ (n : ℕ). Some (at.Head (head_with format n))) h.is_size.is
     ∙ ap (λ (l : Option ℕ). Some (at.Head (record { coding = head.coding; rate = head.rate; channels = head.channels; length = l }))) (sym h.is_length)
@@ -67,9 +67,9 @@ short_format_read bytes h =
     let low : h.size < 16 = h.bad in
     let test : nat_lt h.size 16 ≡ true = grind (arith, nat_tests) in
     ap (λ (l : List ℕ). reached (start form.Wave) l) h.is ∙ before_passes h.front (codes "fmt " ++ h.size_field) h.is_front
-    ∙ ap (λ (l : List ℕ). reached (begun (field.Wave wave.FormatSize)) l) (sym (append-nil h.size_field))
+    ∙ ap (λ (l : List ℕ). reached (field_begun (field.Wave wave.FormatSize)) l) (sym (append-nil h.size_field))
     ∙ field_read (field.Wave wave.FormatSize) h.size_field [] h.is_size.size ∙ ap (λ (n : ℕ). reached (format_size n) []) h.is_size.is
-    ∙ ap (λ (t : Bool). reached (if t then at.Bad BadHead else begun (field.Wave (wave.FormatTag (h.size - 16)))) []) test
+    ∙ ap (λ (t : Bool). reached (if t then at.Bad BadHead else field_begun (field.Wave (wave.FormatTag (h.size - 16)))) []) test
 
 sound_read : (tag channels rate bits : ℕ) (bytes : List ℕ) (fault : SoundFault) → (s : StatesSound tag channels rate bits bytes) →
     format_of (record { more = s.size - 16; tag = tag; channels = channels; rate = rate }) bits ≡ Err fault → reached (start form.Wave) bytes ≡ Some (at.Bad fault)
@@ -77,7 +77,7 @@ sound_read tag channels rate bits bytes fault s said =
     let fields : FormatFields = record { more = s.size - 16; tag = tag; channels = channels; rate = rate } in
     ap (λ (l : List ℕ). reached (start form.Wave) l) s.is ∙ before_passes s.front (codes "fmt " ++ (s.size_field ++ s.format)) s.is_front
     ∙ size_read s.size s.size_field s.format s.is_size s.good_size
-    ∙ ap (λ (l : List ℕ). reached (begun (field.Wave (wave.FormatTag (s.size - 16)))) l) (sym (append-nil s.format))
+    ∙ ap (λ (l : List ℕ). reached (field_begun (field.Wave (wave.FormatTag (s.size - 16)))) l) (sym (append-nil s.format))
     ∙ sixteen_read fields bits s.format [] s.states ∙ ap (λ (r : Result Format SoundFault). reached (format_end fields r) []) said
 
 -- twelve bytes that are no front

@@ -19,7 +19,7 @@ use Rattle.af_sound.specs.declared.wave.Format.{Format}
 use Rattle.af_sound.specs.declared.wave.FormatFields.{FormatFields}
 use Rattle.af_sound.specs.Fields.{has_shape, IsLittle, IsLittle16}
 use Rattle.af_sound.specs.Wave.{Chunk, chunk_bytes, chunks_bytes, HasSecondFormat, HasShortFormat, HasWaveFault, IsBeforeFormat, IsBehindFormat, IsChunk, IsFormat, IsRiff, IsWaveHead, StatesFormat, StatesSound, wave_coding}
-use Rattle.af_sound.specs.Reading.{begun, format_coded, format_end, format_of, head_with, reached, start, wave_name}
+use Rattle.af_sound.specs.Reading.{field_begun, format_coded, format_end, format_of, head_with, reached, start, wave_name}
 use Rattle.af_sound.proofs.ReachedLemmas.{bad_ends, head_ends, inside_says, Says, unsaid}
 use Rattle.af_sound.proofs.ChunkLemmas.{at_name, BeginsWith, body_ends, chunks_end, Passes, pieces, Skips}
 use Rattle.af_sound.proofs.FormatLemmas.{sixteen_bytes}
@@ -36,7 +36,7 @@ regrouped a b c place said = subst (λ (l : List ℕ). Says form.Wave l place) (
 
 -- behind a name `data` that came behind `fmt `
 data_says : (front : List ℕ) (format : Format) (rest : List ℕ) (place : Place) → IsBehindFormat format.coding format.rate format.channels front →
-    reached (begun (field.Wave (wave.DataSize format))) rest ≡ Some place → Says form.Wave (front ++ (codes "data" ++ rest)) place
+    reached (field_begun (field.Wave (wave.DataSize format))) rest ≡ Some place → Says form.Wave (front ++ (codes "data" ++ rest)) place
 data_says front format (a ∷ b ∷ c ∷ d ∷ more) place is_front e =
     let size : List ℕ = a ∷ b ∷ c ∷ d ∷ [] in
     let head : SoundHead = head_with format (from_le_bytes w32 size) in
@@ -189,7 +189,7 @@ own16 a b = record { size = refl; is = refl }
 
 -- behind a size of `fmt ` that is large enough
 tag_says : (before size rest : List ℕ) (more : ℕ) (place : Place) → IsBeforeFormat before → IsLittle (16 + more) size →
-    reached (begun (field.Wave (wave.FormatTag more))) rest ≡ Some place → Says form.Wave (before ++ (codes "fmt " ++ (size ++ rest))) place
+    reached (field_begun (field.Wave (wave.FormatTag more))) rest ≡ Some place → Says form.Wave (before ++ (codes "fmt " ++ (size ++ rest))) place
 tag_says before size (t0 ∷ t1 ∷ c0 ∷ c1 ∷ r0 ∷ r1 ∷ r2 ∷ r3 ∷ i0 ∷ i1 ∷ i2 ∷ i3 ∷ i4 ∷ i5 ∷ b0 ∷ b1 ∷ after) more place is_before is_size e =
     let tag : List ℕ = t0 ∷ t1 ∷ [] in
     let channels : List ℕ = c0 ∷ c1 ∷ [] in
@@ -214,11 +214,11 @@ tag_says before size (t0 ∷ t1 ∷ c0 ∷ c1 ∷ r0 ∷ r1 ∷ r2 ∷ r3 ∷ i0
 tag_says before size rest more place is_before is_size e = unsaid form.Wave (before ++ (codes "fmt " ++ (size ++ rest))) _ place e refl
 
 -- behind the name `fmt `
-format_says : (before rest : List ℕ) (place : Place) → IsBeforeFormat before → reached (begun (field.Wave wave.FormatSize)) rest ≡ Some place →
+format_says : (before rest : List ℕ) (place : Place) → IsBeforeFormat before → reached (field_begun (field.Wave wave.FormatSize)) rest ≡ Some place →
     Says form.Wave (before ++ (codes "fmt " ++ rest)) place
 format_says before (a ∷ b ∷ c ∷ d ∷ rest) place is_before e = by (nat_lt (from_le_bytes w32 (a ∷ b ∷ c ∷ d ∷ [])) 16) refl e where
   by : (t : Bool) → nat_lt (from_le_bytes w32 (a ∷ b ∷ c ∷ d ∷ [])) 16 ≡ t →
-      reached (if t then at.Bad BadHead else begun (field.Wave (wave.FormatTag (from_le_bytes w32 (a ∷ b ∷ c ∷ d ∷ []) - 16)))) rest ≡ Some place →
+      reached (if t then at.Bad BadHead else field_begun (field.Wave (wave.FormatTag (from_le_bytes w32 (a ∷ b ∷ c ∷ d ∷ []) - 16)))) rest ≡ Some place →
       Says form.Wave (before ++ (codes "fmt " ++ ((a ∷ b ∷ c ∷ d ∷ []) ++ rest))) place
   by true test f =
       let size : List ℕ = a ∷ b ∷ c ∷ d ∷ [] in

@@ -11,7 +11,7 @@ use Rattle.af_sound.specs.declared.head.Coding.TheVariants as coding
 use Rattle.af_sound.specs.Fields.{IsBig, IsLittle, IsLittle16, length_of, has_shape}
 use Rattle.af_sound.specs.Au.{IsAuHead, StatesAu, au_coding}
 use Rattle.af_sound.specs.Wave.{Chunk, IsBeforeFormat, IsBehindFormat, IsFormat, IsWaveHead, StatesFormat, wave_coding}
-use Rattle.af_sound.specs.Written.{IsWritable, IsStatable, au_bytes, wave_bytes, size_of, encoding_of, is_written, big, little, little16, tag_of, sample_size, frame_size, riff_size}
+use Rattle.af_sound.specs.Written.{IsWritableHead, IsStatable, au_bytes, wave_bytes, size_of, encoding_of, is_written, big, little, little16, tag_of, sample_size, frame_size, riff_size}
 
 big_is : (number : ℕ) → number < 2 ^ 32 → IsBig number (big number)
 big_is number low = record { size = refl; is = from_be_bytes-to_be_bytes_4 number low }
@@ -41,7 +41,7 @@ low_encoding coding.Lin16Big = lit< tt
 low_encoding coding.Lin16Little = lit< tt
 low_encoding coding.U8 = lit< tt
 
-pub au_written : (head : SoundHead) (bytes : List ℕ) → bytes ≡ au_bytes head → IsWritable Au head → head.rate < 2 ^ 32 → IsAuHead bytes head
+pub au_written : (head : SoundHead) (bytes : List ℕ) → bytes ≡ au_bytes head → IsWritableHead Au head → head.rate < 2 ^ 32 → IsAuHead bytes head
 unfolding au_bytes
 au_written head bytes is writable rate =
     let channels : head.channels < 2 ^ 32 = omega (arith, low_shape head.channels writable.shape) in
@@ -108,7 +108,7 @@ sixteen head =
 format : SoundHead → Chunk
 format head = record { name = codes "fmt "; size = little 16; body = sixteen head; pad = [] }
 
-format_is : (head : SoundHead) → IsWritable Wave head → head.rate < 2 ^ 32 → IsFormat head.coding head.rate head.channels (format head)
+format_is : (head : SoundHead) → IsWritableHead Wave head → head.rate < 2 ^ 32 → IsFormat head.coding head.rate head.channels (format head)
 unfolding format sixteen
 format_is head writable rate =
     let states : StatesFormat (tag_of head.coding) head.channels head.rate (sample_size head.coding * 8) (sixteen head) = record {
@@ -146,7 +146,7 @@ before_is head = record {
   others = tt;
 }
 
-behind_is : (head : SoundHead) → IsWritable Wave head → head.rate < 2 ^ 32 →
+behind_is : (head : SoundHead) → IsWritableHead Wave head → head.rate < 2 ^ 32 →
     IsBehindFormat head.coding head.rate head.channels
     ((codes "RIFF" ++ (little (riff_size head.length) ++ codes "WAVE")) ++ (codes "fmt " ++ (little 16 ++ sixteen head)))
 unfolding format sixteen
@@ -160,7 +160,7 @@ behind_is head writable rate = record {
   others = tt;
 }
 
-pub wave_written : (head : SoundHead) (bytes : List ℕ) → bytes ≡ wave_bytes head → IsWritable Wave head → head.rate < 2 ^ 32 → IsWaveHead bytes head
+pub wave_written : (head : SoundHead) (bytes : List ℕ) → bytes ≡ wave_bytes head → IsWritableHead Wave head → head.rate < 2 ^ 32 → IsWaveHead bytes head
 unfolding wave_bytes sixteen
 wave_written head bytes is writable rate = record {
   front = (codes "RIFF" ++ (little (riff_size head.length) ++ codes "WAVE")) ++ (codes "fmt " ++ (little 16 ++ sixteen head));

@@ -31,8 +31,8 @@ use Rattle.af_sound.specs.Au.{au_coding}
 use Rattle.af_sound.specs.Wave.{wave_coding}
 
 -- before a field
-abbrev pub begun : fields.Field → Place
-begun of = Field of Nothing
+abbrev pub field_begun : fields.Field → Place
+field_begun of = Field of Nothing
 
 -- what six numbers of an .au file say
 abbrev pub au_shaped : AuNumbers → ℕ → Coding → Result SoundHead SoundFault
@@ -54,17 +54,17 @@ au_end numbers (Ok head) = if nat_lt 24 numbers.offset then Annotation (numbers.
 au_end numbers (Err fault) = Bad fault
 
 abbrev pub au_name : Bool → Place
-au_name true = begun (field.Au au.Offset)
+au_name true = field_begun (field.Au au.Offset)
 au_name false = Bad BadMagic
 
 -- behind a field of an .au file
 abbrev pub au_number : AuField → ℕ → Place
 au_number au.Name number = Bad BadMagic
-au_number au.Offset number = begun (field.Au (au.Size number))
-au_number (au.Size offset) number = begun (field.Au (au.Encoding offset number))
-au_number (au.Encoding offset size) number = begun (field.Au (au.Rate offset size number))
+au_number au.Offset number = field_begun (field.Au (au.Size number))
+au_number (au.Size offset) number = field_begun (field.Au (au.Encoding offset number))
+au_number (au.Encoding offset size) number = field_begun (field.Au (au.Rate offset size number))
 au_number (au.Rate offset size encoding) number =
-    begun (field.Au (au.Channels (record { offset = offset; size = size; encoding = encoding; rate = number })))
+    field_begun (field.Au (au.Channels (record { offset = offset; size = size; encoding = encoding; rate = number })))
 au_number (au.Channels numbers) number = au_end numbers (au_head numbers number)
 
 abbrev pub au_behind : AuField → List ℕ → Place
@@ -77,15 +77,15 @@ chunk_kind name =
     if bytes_eq name (codes "fmt ") then kind.Format else if bytes_eq name (codes "data") then kind.Data else kind.Other
 
 abbrev pub behind_name : ChunkKind → Option Format → Place
-behind_name kind.Format None = begun (field.Wave wave.FormatSize)
+behind_name kind.Format None = field_begun (field.Wave wave.FormatSize)
 behind_name kind.Format (Some format) = Bad BadHead
 behind_name kind.Data None = Bad BadHead
-behind_name kind.Data (Some format) = begun (field.Wave (wave.DataSize format))
-behind_name kind.Other format = begun (field.Wave (wave.ChunkSize format))
+behind_name kind.Data (Some format) = field_begun (field.Wave (wave.DataSize format))
+behind_name kind.Other format = field_begun (field.Wave (wave.ChunkSize format))
 
 -- before so many bytes of a chunk and its pad byte
 abbrev pub before_rest : ℕ → Option Format → Place
-before_rest left format = if left == 0 then begun (field.Wave (wave.ChunkName format)) else Chunk left format
+before_rest left format = if left == 0 then field_begun (field.Wave (wave.ChunkName format)) else Chunk left format
 
 abbrev pub chunk_begun : ℕ → Option Format → Place
 chunk_begun count format = before_rest (count + count % 2) format
@@ -112,7 +112,7 @@ abbrev pub head_with : Format → ℕ → SoundHead
 head_with format size = record { coding = format.coding; rate = format.rate; channels = format.channels; length = length_of size }
 
 abbrev pub wave_name : Bool → Place
-wave_name true = begun (field.Wave (wave.ChunkName None))
+wave_name true = field_begun (field.Wave (wave.ChunkName None))
 wave_name false = Bad BadMagic
 
 -- the number of two bytes of four
@@ -123,20 +123,20 @@ abbrev pub high_half : List ℕ → ℕ
 high_half bytes = from_le_bytes w16 (slice_index bytes 2 ∷ slice_index bytes 3 ∷ [])
 
 abbrev pub format_size : ℕ → Place
-format_size size = if nat_lt size 16 then Bad BadHead else begun (field.Wave (wave.FormatTag (size - 16)))
+format_size size = if nat_lt size 16 then Bad BadHead else field_begun (field.Wave (wave.FormatTag (size - 16)))
 
 -- behind four bytes of a WAVE file
 abbrev pub wave_behind : WaveField → List ℕ → Place
-wave_behind wave.Riff bytes = begun (field.Wave (wave.RiffSize (bytes_eq bytes (codes "RIFF"))))
-wave_behind (wave.RiffSize riff) bytes = begun (field.Wave (wave.Wave riff))
+wave_behind wave.Riff bytes = field_begun (field.Wave (wave.RiffSize (bytes_eq bytes (codes "RIFF"))))
+wave_behind (wave.RiffSize riff) bytes = field_begun (field.Wave (wave.Wave riff))
 wave_behind (wave.Wave riff) bytes = wave_name (riff && bytes_eq bytes (codes "WAVE"))
 wave_behind (wave.ChunkName format) bytes = behind_name (chunk_kind bytes) format
 wave_behind (wave.ChunkSize format) bytes = chunk_begun (from_le_bytes w32 bytes) format
 wave_behind wave.FormatSize bytes = format_size (from_le_bytes w32 bytes)
-wave_behind (wave.FormatTag more) bytes = begun (field.Wave (wave.FormatRate more (low_half bytes) (high_half bytes)))
+wave_behind (wave.FormatTag more) bytes = field_begun (field.Wave (wave.FormatRate more (low_half bytes) (high_half bytes)))
 wave_behind (wave.FormatRate more tag channels) bytes =
-    begun (field.Wave (wave.FormatIgnored (record { more = more; tag = tag; channels = channels; rate = from_le_bytes w32 bytes })))
-wave_behind (wave.FormatIgnored fields) bytes = begun (field.Wave (wave.FormatBits fields))
+    field_begun (field.Wave (wave.FormatIgnored (record { more = more; tag = tag; channels = channels; rate = from_le_bytes w32 bytes })))
+wave_behind (wave.FormatIgnored fields) bytes = field_begun (field.Wave (wave.FormatBits fields))
 wave_behind (wave.FormatBits fields) bytes = format_end fields (format_of fields (high_half bytes))
 wave_behind (wave.DataSize format) bytes = Head (head_with format (from_le_bytes w32 bytes))
 
@@ -155,15 +155,15 @@ grown of (Three a b c) byte = behind_field of (a ∷ b ∷ c ∷ byte ∷ [])
 abbrev pub behind : Place → ℕ → Place
 behind (Field of part) byte = grown of part byte
 behind (Annotation left head) byte = if nat_lt 1 left then Annotation (left - 1) head else Head head
-behind (Chunk left format) byte = if nat_lt 1 left then Chunk (left - 1) format else begun (field.Wave (wave.ChunkName format))
+behind (Chunk left format) byte = if nat_lt 1 left then Chunk (left - 1) format else field_begun (field.Wave (wave.ChunkName format))
 behind (Head head) byte = Head head
 behind (Bad fault) byte = Bad fault
 
 -- what a reader says at a place
-abbrev pub step_of : Place → HeadStep
-step_of (Head head) = step.Head head
-step_of (Bad fault) = step.Bad fault
-step_of _ = step.More
+abbrev pub step_at : Place → HeadStep
+step_at (Head head) = step.Head head
+step_at (Bad fault) = step.Bad fault
+step_at _ = step.More
 
 -- whether a place is inside of a head
 abbrev pub is_inside : Place → Bool
@@ -172,8 +172,8 @@ is_inside (Bad fault) = false
 is_inside _ = true
 
 abbrev pub start : SoundForm → Place
-start form.Au = begun (field.Au au.Name)
-start form.Wave = begun (field.Wave wave.Riff)
+start form.Au = field_begun (field.Au au.Name)
+start form.Wave = field_begun (field.Wave wave.Riff)
 
 -- the place behind some bytes, if all of them can be taken
 abbrev pub reached : Place → List ℕ → Option Place

@@ -28,7 +28,7 @@ served_length U8 count = count * 2
 served_length _ count = count
 
 -- samples of 16 bits are whole
-abbrev pub IsWhole : Coding → ℕ → Type 0
-IsWhole Lin16Little count = count % 2 ≡ 0
-IsWhole Lin16Big count = count % 2 ≡ 0
-IsWhole _ count = Unit {0}
+abbrev pub HasWholePairs : Coding → ℕ → Type 0
+HasWholePairs Lin16Little count = count % 2 ≡ 0
+HasWholePairs Lin16Big count = count % 2 ≡ 0
+HasWholePairs _ count = Unit {0}

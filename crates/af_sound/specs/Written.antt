@@ -22,7 +22,7 @@ IsStatable (Some length) = length < unknown_length
 IsStatable None = Unit {0}
 
 -- a head that is written in a form
-pub record IsWritable (form : SoundForm) (head : SoundHead) : Type 0 where
+pub record IsWritableHead (form : SoundForm) (head : SoundHead) : Type 0 where
   pub shape : IsTrue (has_shape head.channels)
   pub length : IsStatable head.length
   pub coding : IsTrue (is_written form head.coding)

@@ -67,7 +67,7 @@ impl AuField {
             }),
             AuField::Channels(numbers) => return numbers.behind(number),
         };
-        Field::Au(next).begun()
+        Field::Au(next).field_begun()
     }
 }
 

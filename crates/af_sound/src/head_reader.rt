@@ -5,7 +5,7 @@ ghost use Rattle.af_sound.specs.declared.head.SoundForm.{SoundForm};
 ghost use Rattle.af_sound.specs.declared.head.SoundHead.{SoundHead};
 ghost use Rattle.af_sound.specs.declared.head.SoundFault.{SoundFault};
 ghost use Rattle.af_sound.specs.Heads.{HasFault, IsHead};
-ghost use Rattle.af_sound.specs.Reading.{HasTaken, IsOpen, begun, behind, behind_field, grown, start, step_of};
+ghost use Rattle.af_sound.specs.Reading.{HasTaken, IsOpen, field_begun, behind, behind_field, grown, start, step_at};
 
 use crate::au::AuField;
 use crate::wave::{Format, WaveField};
@@ -60,7 +60,7 @@ impl HeadReader {
             SoundForm::Wave => Field::Wave(WaveField::Riff),
         };
         HeadReader {
-            place: first.begun(),
+            place: first.field_begun(),
         }
     }
 
@@ -96,14 +96,16 @@ impl Place {
                 left: left - 1,
                 format,
             },
-            Place::Chunk { format, .. } => Field::Wave(WaveField::ChunkName { format }).begun(),
+            Place::Chunk { format, .. } => Field::Wave(WaveField::ChunkName {
+                format,
+            }).field_begun(),
             Place::Head(_) | Place::Bad(_) => self,
         }
     }
 
     // What the reader says there.
     fn step(self) -> HeadStep
-        ensures { result ≡ step_of self }
+        ensures { result ≡ step_at self }
     {
         match self {
             Place::Head(head) => HeadStep::Head(head),
@@ -115,8 +117,8 @@ impl Place {
 
 impl Field {
     // The place before the field.
-    pub(crate) fn begun(self) -> Place
-        ensures { result ≡ begun self }
+    pub(crate) fn field_begun(self) -> Place
+        ensures { result ≡ field_begun self }
     {
         Place::Field {
             of: self,

@@ -2,7 +2,7 @@
 ghost use Rattle.std.specs.Prelude.{◌≡◌, ◌*◌, ◌%◌, length, map};
 ghost use Rattle.af_sample.specs.declared.sample_type.SampleType.TheVariants as ty;
 ghost use Rattle.af_sample.specs.Samples.{bytes_of};
-ghost use Rattle.af_sound.specs.Served.{IsWhole, sample_of, served, served_length, swapped};
+ghost use Rattle.af_sound.specs.Served.{HasWholePairs, sample_of, served, served_length, swapped};
 
 use crate::Coding;
 use af_sample::{SampleType, encode};
@@ -11,7 +11,7 @@ use af_sample::{SampleType, encode};
 /// what is passed. Of 8 bits each byte becomes a sample of 16.
 pub fn to_server(coding: Coding, bytes: &[u8], out: &mut [u8])
     requires room { length out.old ≡ served_length coding (length bytes.now) }
-    requires whole { IsWhole coding (length bytes.now) }
+    requires whole { HasWholePairs coding (length bytes.now) }
     ensures { out.new ≡ served coding bytes.now }
 {
     match coding {

@@ -91,7 +91,7 @@ impl WaveField {
             WaveField::FormatBits(fields) => return fields.behind(u16::from_le_bytes([c, d])),
             WaveField::DataSize { format } => return Place::Head(format.head(number)),
         };
-        Field::Wave(next).begun()
+        Field::Wave(next).field_begun()
     }
 }
 
@@ -118,7 +118,7 @@ impl ChunkKind {
             (ChunkKind::Other, format) => WaveField::ChunkSize { format },
             _ => return Place::Bad(SoundFault::BadHead),
         };
-        Field::Wave(next).begun()
+        Field::Wave(next).field_begun()
     }
 }
 
@@ -128,7 +128,7 @@ fn chunk_begun(count: u64, format: Option<Format>) -> Place
     ensures { result ≡ chunk_begun count format }
 {
     match count + count % 2 {
-        0 => Field::Wave(WaveField::ChunkName { format }).begun(),
+        0 => Field::Wave(WaveField::ChunkName { format }).field_begun(),
         left => Place::Chunk { left, format },
     }
 }

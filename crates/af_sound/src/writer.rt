@@ -5,7 +5,7 @@ ghost use Rattle.af_sound.specs.Heads.{IsHead};
 ghost use Rattle.af_sound.specs.Au.{IsAuHead};
 ghost use Rattle.af_sound.specs.Wave.{IsWaveHead};
 ghost use Rattle.af_sound.specs.declared.head.SoundForm.TheVariants.{Au, Wave};
-ghost use Rattle.af_sound.specs.Written.{IsStatable, IsWritable, au_bytes, big, encoding_of, head_size, little, riff_bytes, riff_size, sample_size, size_of, tag_of, wave_bytes, with_format, written};
+ghost use Rattle.af_sound.specs.Written.{IsStatable, IsWritableHead, au_bytes, big, encoding_of, head_size, little, riff_bytes, riff_size, sample_size, size_of, tag_of, wave_bytes, with_format, written};
 
 use crate::{Coding, SoundForm, SoundHead};
 
@@ -13,7 +13,7 @@ use crate::{Coding, SoundForm, SoundHead};
 /// one of the form: linear samples are big-endian in an .au file and little-endian in a WAVE file.
 pub fn write_sound_head(form: SoundForm, head: &SoundHead, out: &mut [u8]) -> usize
     requires room { 44 ≤ length out.old }
-    requires writable { IsWritable form head.now }
+    requires writable { IsWritableHead form head.now }
     ensures size { result ≡ head_size form }
     ensures bytes { take result out.new ≡ written form head.now }
     ensures rest { (k : ℕ) → result ≤ k → slice_index out.new k ≡ slice_index out.old k }
@@ -29,7 +29,7 @@ pub fn write_sound_head(form: SoundForm, head: &SoundHead, out: &mut [u8]) -> us
 #[tactic(auto, unfolding(crate::specs::Written::au_bytes))]
 fn write_au(head: SoundHead, out: &mut [u8]) -> usize
     requires room { 44 ≤ length out.old }
-    requires writable { IsWritable Au head }
+    requires writable { IsWritableHead Au head }
     ensures size { result ≡ 24 }
     ensures bytes { take result out.new ≡ au_bytes head }
     ensures rest { (k : ℕ) → result ≤ k → slice_index out.new k ≡ slice_index out.old k }
@@ -47,7 +47,7 @@ fn write_au(head: SoundHead, out: &mut [u8]) -> usize
 #[tactic(auto, unfolding(crate::specs::Written::wave_bytes))]
 fn write_wave(head: SoundHead, out: &mut [u8]) -> usize
     requires room { 44 ≤ length out.old }
-    requires writable { IsWritable Wave head }
+    requires writable { IsWritableHead Wave head }
     ensures size { result ≡ 44 }
     ensures bytes { take result out.new ≡ wave_bytes head }
     ensures rest { (k : ℕ) → result ≤ k → slice_index out.new k ≡ slice_index out.old k }

@@ -1,5 +1,5 @@
 -- CreateAC, ChangeAC and FreeAC: a link's contexts are created, changed and freed.
-use Rattle.std.specs.Prelude.{ℕ, ◌==◌, nat_le, nat_lt, not, Bool, ℤ, pos, List, [], ◌∷◌, ◌++◌, unwrap_or, if◌then◌else◌}
+use Rattle.std.specs.Prelude.{ℕ, ◌==◌, nat_lt, not, Bool, false, is_none, ℤ, pos, List, [], ◌∷◌, ◌++◌, unwrap_or, if◌then◌else◌}
 use Rattle.std.specs.declared.option.Option.{Option}
 use Rattle.std.specs.declared.option.Option.TheVariants.{None, Some}
 use Rattle.af_sample.specs.Gains.{gain_of}
@@ -18,15 +18,20 @@ use Rattle.af_model.specs.Checks.{check, check_gain, where_named, names, first_r
 abbrev pub with_contexts : List Context → OpenLink → OpenLink
 with_contexts contexts p = open_link p.environment (record p.link { contexts = contexts })
 
--- The settings of a new context, before its number is looked at. Each device has one channel.
-unfoldable pub creation_refusal : ℕ → ℕ → ℕ → ℕ → ℕ → ℤ → ℤ → Option Refusal
-creation_refusal devices device ty channels preempt play_gain record_gain = first_refusal
-    (check (nat_le devices device) BadDevice device
+-- whether so many channels are those of a device, if it is there
+abbrev pub is_match : Option ℕ → ℕ → Bool
+is_match None channels = false
+is_match (Some own) channels = own == channels
+
+-- the settings of a new context on a device with its own channels, if it is there, before the context's number is looked at
+unfoldable pub creation_refusal : Option ℕ → ℕ → ℕ → ℕ → ℕ → ℤ → ℤ → Option Refusal
+creation_refusal own device ty channels preempt play_gain record_gain = first_refusal
+    (check (is_none own) BadDevice device
     ∷ check (nat_lt 3 ty) BadValue ty
     ∷ check (nat_lt 1 preempt) BadValue preempt
     ∷ check_gain play_gain
     ∷ check_gain record_gain
-    ∷ check (not (channels == 1)) BadMatch channels ∷ [])
+    ∷ check (not (is_match own channels)) BadMatch channels ∷ [])
 
 -- The context that a request describes. Behind the checks its type is one of the four, and its gains are gains.
 abbrev pub described : ℕ → ℕ → ℕ → ℕ → ℤ → ℤ → Context

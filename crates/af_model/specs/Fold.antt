@@ -1,8 +1,7 @@
 -- That what a device hands out is the mix of all that it ever accepts.
-use Rattle.std.specs.Prelude.{◌≡◌, ℕ, Bool, List, [], ◌∷◌, ◌++◌, map, slice_get, IfSome, IsSomeAnd}
-use Rattle.std.specs.List.{range_with_len}
+use Rattle.std.specs.Prelude.{◌≡◌, ℕ, Bool, List, [], ◌∷◌, ◌++◌, slice_get, IfSome, IsSomeAnd}
 use Rattle.std.specs.declared.option.Option.TheVariants.{Some}
-use Rattle.af_sample.specs.Heard.{heard}
+use Rattle.af_sample.specs.Heard.{heard_from}
 use Rattle.af_sample.specs.Samples.{bytes_of}
 use Rattle.af_world.specs.declared.happening.Happening.TheVariants.{Woke, Captured, Emitted}
 use Rattle.af_world.specs.declared.happening.Wake.TheVariants.{Ticked}
@@ -13,7 +12,7 @@ use Rattle.af_model.specs.Controls.{through_output_control}
 use Rattle.af_model.specs.Run.{end_state}
 
 -- An emit stands behind a capture, and that behind the tick of its turn. Its sound is, of each time from the device's time before
--- that turn on, what is heard of all plays that the device has accepted at the end, later ones with them, behind the controls that
+-- that turn on and of each channel, what is heard of all plays that the device has accepted at the end, later ones with them, behind the controls that
 -- the device had before that turn, and in its sample type.
 pub record IsMixOfAll (config : List DeviceSpec) (front : Log) (d : ℕ) (sent : List ℕ) (end : State) : Type 0 where
   pub before : Log
@@ -24,7 +23,7 @@ pub record IsMixOfAll (config : List DeviceSpec) (front : Log) (d : ℕ) (sent :
   pub stood : IsSomeAnd (end_state config before) (λ s. slice_get s.devices d ≡ Some device)
   pub last : DeviceState
   pub stands : slice_get end.devices d ≡ Some last
-  pub mixes : sent ≡ bytes_of device.ty (through_output_control device.controls (map (heard last.accepted) (range_with_len device.now frames)))
+  pub mixes : sent ≡ bytes_of device.ty (through_output_control device.controls (heard_from device.channels last.accepted device.now frames))
 
 -- so it is of each emit in a run
 abbrev pub MixesAll : List DeviceSpec → Log → Type 0

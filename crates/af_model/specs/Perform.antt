@@ -1,5 +1,5 @@
 -- Performing a request.
-use Rattle.std.specs.Prelude.{ℕ, ◌+◌, ◌%◌, ◌^◌, length, slice_get}
+use Rattle.std.specs.Prelude.{ℕ, ◌+◌, ◌%◌, ◌^◌, List, option_map, slice_get}
 use Rattle.std.specs.declared.option.Option.{Option}
 use Rattle.std.specs.declared.option.Option.TheVariants.{None, Some}
 use Rattle.af_context.specs.declared.Context.{Context}
@@ -28,12 +28,16 @@ abbrev pub in_context : ℕ → ℕ → (Context → DeviceState → OpenLink �
 in_context opcode ac f None p = refused opcode (refusal BadAc ac) p
 in_context opcode ac f (Some c) p = in_device opcode c.device (f c) (slice_get p.environment.devices c.device) p
 
+-- the channels of a device, if it is there
+abbrev pub channels_at : List DeviceState → ℕ → Option ℕ
+channels_at devices d = option_map (λ device. device.channels) (slice_get devices d)
+
 -- what a request of link k does
 abbrev pub done : ℕ → Asked → OpenLink → OpenLink
 done k no_op p = p
 done k (get_time d) p = in_device 2 d tell_time (slice_get p.environment.devices d) p
 done k (create_ac d ac ty channels preempt play_gain record_gain) p =
-    refused_or 3 (creation_refusal (length p.environment.devices) d ty channels preempt play_gain record_gain)
+    refused_or 3 (creation_refusal (channels_at p.environment.devices d) d ty channels preempt play_gain record_gain)
     (create (described d ac ty preempt play_gain record_gain)) p
 done k (change_ac mask ac preempt play_gain record_gain) p =
     refused_or 4 (change_refusal p.link.contexts mask ac preempt play_gain record_gain) (change mask ac preempt play_gain record_gain) p

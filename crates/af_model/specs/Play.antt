@@ -4,7 +4,7 @@ use Rattle.std.specs.declared.option.Option.{Option}
 use Rattle.af_time.specs.DeviceTime.{unwrap}
 use Rattle.af_sample.specs.Gains.{gained}
 use Rattle.af_sample.specs.Samples.{samples}
-use Rattle.af_sample.specs.SampleTypes.{width_of}
+use Rattle.af_sample.specs.SampleTypes.{frame_bytes}
 use Rattle.af_sample.specs.Heard.{AcceptedPlay}
 use Rattle.af_context.specs.declared.Context.{Context}
 use Rattle.af_request.specs.Answer.{played}
@@ -15,13 +15,13 @@ use Rattle.af_model.specs.Reply.{replied, horizon_of}
 use Rattle.af_model.specs.Checks.{check, refused_or}
 use Rattle.af_model.specs.Waiting.{wait}
 
--- how many frames n bytes of a context are
-abbrev pub frames_of : Context → ℕ → ℕ
-frames_of c bytes = bytes / width_of c.ty
+-- how many frames n bytes of a context are, on a device with so many channels
+abbrev pub frames_of : ℕ → Context → ℕ → ℕ
+frames_of channels c bytes = bytes / frame_bytes c.ty channels
 
--- whether bytes are whole frames of a context
-abbrev pub are_frames : Context → ℕ → Bool
-are_frames c bytes = bytes % width_of c.ty == 0
+-- whether bytes are whole frames of a context there
+abbrev pub are_frames : ℕ → Context → ℕ → Bool
+are_frames channels c bytes = bytes % frame_bytes c.ty channels == 0
 
 -- the samples that a client sends by a context, with the gain that the context has now
 abbrev pub sent_sound : Context → List ℕ → List ℤ
@@ -32,8 +32,8 @@ abbrev pub frames_within_horizon : DeviceState → ℕ → ℕ
 frames_within_horizon device time = device.now + horizon_of device - unwrap device.now time
 
 -- a play has whole frames
-abbrev pub play_refusal : Context → ℕ → Option Refusal
-play_refusal c bytes = check (not (are_frames c bytes)) BadValue bytes
+abbrev pub play_refusal : ℕ → Context → ℕ → Option Refusal
+play_refusal channels c bytes = check (not (are_frames channels c bytes)) BadValue bytes
 
 -- a play that is accepted now
 abbrev pub entry_now : Context → DeviceState → ℕ → List ℕ → AcceptedPlay
@@ -63,9 +63,9 @@ tell_played quiet device p = if quiet then p else replied 6 (played (device.now 
 -- A play that ends within the horizon is accepted now, and so is one without a frame; any other waits, whole.
 abbrev pub start_play : ℕ → Bool → Context → ℕ → List ℕ → DeviceState → OpenLink → OpenLink
 start_play k quiet c time bytes device p =
-    if nat_le (frames_of c (length bytes)) (frames_within_horizon device time)
+    if nat_le (frames_of device.channels c (length bytes)) (frames_within_horizon device time)
     then tell_played quiet device (in_devices c.device (accepting k (entry_now c device time bytes)) p)
     else wait k c.device (deferred_play quiet (unwrap device.now time) (sent_sound c bytes) c.preempt) p
 
 abbrev pub play : ℕ → Bool → Context → ℕ → List ℕ → DeviceState → OpenLink → OpenLink
-play k quiet c time bytes device p = refused_or 6 (play_refusal c (length bytes)) (start_play k quiet c time bytes device) p
+play k quiet c time bytes device p = refused_or 6 (play_refusal device.channels c (length bytes)) (start_play k quiet c time bytes device) p

@@ -21,8 +21,8 @@ abbrev pub frames_before_now : DeviceState → ℕ → ℕ
 frames_before_now device time = device.now - unwrap device.now time
 
 -- a record has at most 16000 bytes, in whole frames
-unfoldable pub record_refusal : Context → ℕ → Option Refusal
-record_refusal c bytes = first_refusal (check (nat_lt longest_record bytes) BadValue bytes ∷ check (not (are_frames c bytes)) BadValue bytes ∷ [])
+unfoldable pub record_refusal : ℕ → Context → ℕ → Option Refusal
+record_refusal channels c bytes = first_refusal (check (nat_lt longest_record bytes) BadValue bytes ∷ check (not (are_frames channels c bytes)) BadValue bytes ∷ [])
 
 -- how many of the frames from a time on are given: all, or, of a record that does not block, those before now
 abbrev pub given_frames : Bool → DeviceState → ℕ → ℕ → ℕ
@@ -31,7 +31,7 @@ given_frames blocking device time frames = if blocking then frames else min (fra
 -- n frames that a device recorded from a whole time on, as a context takes them
 unfoldable pub recorded_bytes : Context → DeviceState → ℕ → ℕ → List ℕ
 recorded_bytes c device start n = bytes_of c.ty (map (λ x. gained x c.record_gain)
-    (window device.captured device.begin device.now (horizon_of device) start n))
+    (window device.channels device.captured device.begin device.now (horizon_of device) start n))
 
 -- a record is answered with n frames
 abbrev pub give_record : Context → ℕ → ℕ → DeviceState → OpenLink → OpenLink
@@ -43,9 +43,9 @@ is_to_wait blocking device time frames = blocking && nat_lt (frames_before_now d
 
 abbrev pub start_record : ℕ → Bool → Context → ℕ → ℕ → DeviceState → OpenLink → OpenLink
 start_record k blocking c time bytes device p =
-    if is_to_wait blocking device time (frames_of c bytes)
-    then wait k c.device (deferred_record c (unwrap device.now time) (frames_of c bytes)) p
-    else give_record c (unwrap device.now time) (given_frames blocking device time (frames_of c bytes)) device p
+    if is_to_wait blocking device time (frames_of device.channels c bytes)
+    then wait k c.device (deferred_record c (unwrap device.now time) (frames_of device.channels c bytes)) p
+    else give_record c (unwrap device.now time) (given_frames blocking device time (frames_of device.channels c bytes)) device p
 
 abbrev pub record_sound : ℕ → Bool → Context → ℕ → ℕ → DeviceState → OpenLink → OpenLink
-record_sound k blocking c time bytes device p = refused_or 7 (record_refusal c bytes) (start_record k blocking c time bytes device) p
+record_sound k blocking c time bytes device p = refused_or 7 (record_refusal device.channels c bytes) (start_record k blocking c time bytes device) p

@@ -32,13 +32,14 @@ pub record Completion : Type 0 where
 
 -- A device. Its time is unbounded, and begins 2^32 above the stated start, so that times before the start are natural
 -- numbers too: only differences of times, and times modulo 2^32, are ever seen.
--- What was accepted, captured and completed is history: all plays in the order of their acceptance, all samples since the
--- begin, and all requests that had waited. So are its actors, the numbers of the links that acted on it: of each that had a play
+-- What was accepted, captured and completed is history: all plays in the order of their acceptance, the samples of all frames since
+-- the begin, and all requests that had waited. So are its actors, the numbers of the links that acted on it: of each that had a play
 -- with a frame accepted, set its controls, or moved its hook, in that order. None of it goes with the link.
 -- Its controls act on what it captures and hands out. Its line, if it has one, has flags of its own.
 -- A device is dead once a capture or an emit of it has failed.
 pub record DeviceState : Type 0 where
   pub ty : SampleType
+  pub channels : ℕ
   pub rate : ℕ
   pub begin : ℕ
   pub now : ℕ
@@ -131,6 +132,7 @@ opening_line has_line = if has_line then Some quiet_line else None
 abbrev pub opening_device : DeviceSpec → DeviceState
 opening_device d = record {
   ty = d.ty;
+  channels = d.channels;
   rate = d.rate;
   begin = d.start + 2 ^ 32;
   now = d.start + 2 ^ 32;

@@ -1,10 +1,8 @@
 -- Sample periods of a device go by: it captures, hands its sound out, its time rises, and requests that waited for it complete.
-use Rattle.std.specs.Prelude.{ℕ, zero, suc, ◌+◌, Bool, pos, ℤ, List, [], ◌∷◌, ◌++◌, length, map, replicate, find, option_map, option_and_then, slice_get}
-use Rattle.std.specs.List.{range_with_len}
+use Rattle.std.specs.Prelude.{ℕ, zero, suc, ◌+◌, ◌*◌, Bool, pos, ℤ, List, [], ◌∷◌, ◌++◌, length, replicate, find, option_map, option_and_then, slice_get}
 use Rattle.std.specs.declared.option.Option.{Option}
 use Rattle.std.specs.declared.option.Option.TheVariants.{None, Some}
-use Rattle.af_sample.specs.declared.sample_type.SampleType.{SampleType}
-use Rattle.af_sample.specs.Heard.{AcceptedPlay, heard}
+use Rattle.af_sample.specs.Heard.{AcceptedPlay, heard_from}
 use Rattle.af_sample.specs.Samples.{bytes_of, samples}
 use Rattle.af_wait.specs.Waits.{without_first}
 use Rattle.af_model.specs.State.{DeviceState, Deferred, deferred_play, deferred_record, LinkState, State, Deferral, EnvironmentState, OpenLink, open_link, SlotLink, link_in_slot, slot_link_at, with_slot_link, with_device}
@@ -14,23 +12,23 @@ use Rattle.af_model.specs.Play.{in_devices, tell_played, with_actor, with_play}
 use Rattle.af_model.specs.Record.{give_record}
 use Rattle.af_model.specs.Advance.{advance, or_else}
 
--- the samples of the next n sample periods: what is heard of all that was accepted
+-- the samples of the next n frames: what is heard of all that was accepted
 abbrev pub next_sound : DeviceState → ℕ → List ℤ
-next_sound device n = map (heard device.accepted) (range_with_len device.now n)
+next_sound device n = heard_from device.channels device.accepted device.now n
 
 -- the sound that a device hands out in n sample periods, behind its output control and in its sample type
 abbrev pub sound : DeviceState → ℕ → List ℕ
 sound device n = bytes_of device.ty (through_output_control device.controls (next_sound device n))
 
 -- what a device captures in n sample periods: the samples of the bytes that came, or silence where none did
-abbrev pub captured_samples : SampleType → ℕ → Option (List ℕ) → List ℤ
-captured_samples ty n None = replicate n (pos 0)
-captured_samples ty n (Some bytes) = samples ty bytes
+abbrev pub captured_samples : DeviceState → ℕ → Option (List ℕ) → List ℤ
+captured_samples device n None = replicate (device.channels * n) (pos 0)
+captured_samples device n (Some bytes) = samples device.ty bytes
 
--- a device behind the sample periods in which these samples came before its input control, dead or not
-abbrev pub later : List ℤ → Bool → DeviceState → DeviceState
-later captured is_dead device =
-    record device { now = device.now + length captured; captured = device.captured ++ through_input_control device.controls captured; is_dead = is_dead }
+-- a device behind n sample periods in which these samples came before its input control, dead or not
+abbrev pub later : ℕ → List ℤ → Bool → DeviceState → DeviceState
+later n captured is_dead device =
+    record device { now = device.now + n; captured = device.captured ++ through_input_control device.controls captured; is_dead = is_dead }
 
 -- what a device has accepted when it has completed a request that had waited: a play is accepted now
 abbrev pub with_deferred : Deferred → ℕ → List AcceptedPlay → List AcceptedPlay
@@ -87,7 +85,7 @@ complete_by (suc n) d s = or_else s (complete_by n d) (complete_step d s)
 unfoldable pub complete_due : ℕ → State → State
 complete_due d s = complete_by (length s.waiting) d s
 
--- The sample periods of device d in which these samples came go by, behind which it is dead or not. Then the requests
+-- So many sample periods of device d, in which these samples came, go by, behind which it is dead or not. Then the requests
 -- that are due complete, in the order in which they began to wait.
-abbrev pub tick : ℕ → List ℤ → Bool → State → State
-tick d captured is_dead s = complete_due d (record s { devices = with_device d (later captured is_dead) s.devices })
+abbrev pub tick : ℕ → ℕ → List ℤ → Bool → State → State
+tick d n captured is_dead s = complete_due d (record s { devices = with_device d (later n captured is_dead) s.devices })

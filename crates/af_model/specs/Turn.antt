@@ -14,7 +14,7 @@ use Rattle.af_world.specs.declared.happening.Why.{Why}
 use Rattle.af_world.specs.declared.happening.Why.TheVariants as why
 use Rattle.af_phone.specs.declared.line.LineChange.{LineChange}
 use Rattle.af_phone.specs.Lines.{hook_due, is_change}
-use Rattle.af_sample.specs.SampleTypes.{width_of}
+use Rattle.af_sample.specs.SampleTypes.{frame_bytes}
 use Rattle.af_world.specs.Log.{Log}
 use Rattle.af_world.specs.Outside.{same_bytes}
 use Rattle.af_model.specs.State.{State, DeviceState, SlotState, LinkState, EnvironmentState, OpenLink, SlotLink, link_in_slot, slot_link_at, with_slot_link, Outline, open_link, opened, stopped, slot_at, with_slot, outline}
@@ -207,7 +207,7 @@ in_slot f slot = record slot { link = in_open f slot.link }
 -- a capture of n frames gives as many bytes as they have
 abbrev pub is_capture : ℕ → DeviceState → Option (List ℕ) → Bool
 is_capture n device None = true
-is_capture n device (Some bytes) = length bytes == n * width_of device.ty
+is_capture n device (Some bytes) = length bytes == n * frame_bytes device.ty device.channels
 
 -- the bytes that were captured, or none
 abbrev pub capture_by : ℕ → ℕ → DeviceState → Happening → Option (Option (List ℕ))
@@ -217,17 +217,17 @@ capture_by d n device _ = None
 
 abbrev pub emit_by : ℕ → ℕ → DeviceState → List ℤ → State → Happening → Option State
 emit_by d n device captured s (Emitted e bytes done) =
-    if e == d && same_bytes bytes (sound device n) then Some (tick d captured (not done) s) else None
+    if e == d && same_bytes bytes (sound device n) then Some (tick d n captured (not done) s) else None
 emit_by d n device captured s _ = None
 
 abbrev pub after_capture : ℕ → ℕ → DeviceState → State → Option (List ℕ) → Log → Option (Parsed State)
-after_capture d n device s None log = parsed (tick d (captured_samples device.ty n None) true s) log
-after_capture d n device s (Some bytes) log = parse_one (emit_by d n device (captured_samples device.ty n (Some bytes)) s) log
+after_capture d n device s None log = parsed (tick d n (captured_samples device n None) true s) log
+after_capture d n device s (Some bytes) log = parse_one (emit_by d n device (captured_samples device n (Some bytes)) s) log
 
 abbrev pub tick_phase : ℕ → ℕ → Option DeviceState → State → Log → Option (Parsed State)
 tick_phase d n None s log = None
 tick_phase d n (Some device) s log =
-    if device.is_dead then parsed (tick d (captured_samples device.ty n None) true s) log
+    if device.is_dead then parsed (tick d n (captured_samples device n None) true s) log
     else parse_then (parse_one (capture_by d n device) log) (after_capture d n device s)
 
 -- A line changes, and the links that select it are told

@@ -1,4 +1,5 @@
 pub mod SampleTypes
+pub mod Channels
 pub mod Rates
 pub mod Mixing
 pub mod Gains

@@ -1,5 +1,5 @@
 -- The sample types of the wire: their codes and the bytes of one sample.
-use Rattle.std.specs.Prelude.{ℕ, Option, Some, None, if◌then◌else◌, ◌==◌}
+use Rattle.std.specs.Prelude.{ℕ, ◌*◌, Option, Some, None, if◌then◌else◌, ◌==◌}
 use Rattle.af_sample.specs.declared.sample_type.SampleType.{SampleType}
 use Rattle.af_sample.specs.declared.sample_type.SampleType.TheVariants.{Mu255, Alaw, Lin16, Lin32}
 
@@ -16,6 +16,10 @@ width_of Mu255 = 1
 width_of Alaw = 1
 width_of Lin16 = 2
 width_of Lin32 = 4
+
+-- how many bytes a frame of so many channels takes: a sample for each of them
+abbrev pub frame_bytes : SampleType → ℕ → ℕ
+frame_bytes ty channels = width_of ty * channels
 
 -- the sample type of a code, if there is one
 abbrev pub type_of_code : ℕ → Option SampleType

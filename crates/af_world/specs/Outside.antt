@@ -4,7 +4,7 @@ use Rattle.std.specs.declared.option.Option.{Option}
 use Rattle.std.specs.declared.option.Option.TheVariants.{None, Some}
 use Rattle.af_sample.specs.declared.sample_type.SampleType.{SampleType}
 use Rattle.af_sample.specs.declared.sample_type.SampleType.TheVariants.{Mu255, Alaw, Lin16, Lin32}
-use Rattle.af_sample.specs.SampleTypes.{width_of}
+use Rattle.af_sample.specs.SampleTypes.{frame_bytes}
 use Rattle.af_phone.specs.Lines.{is_change}
 use Rattle.af_world.specs.declared.happening.Happening.{Happening}
 use Rattle.af_world.specs.declared.happening.Happening.TheVariants.{Woke, Read, Wrote, Closed, Captured, Emitted, Hooked}
@@ -156,12 +156,12 @@ wake_of o (step.FailHook d) = wake.Idle
 wake_of o step.Idle = wake.Idle
 
 -- how many bytes a frame of a device has
-abbrev pub width_in : Option DeviceSpec → ℕ
-width_in None = 0
-width_in (Some d) = width_of d.ty
+abbrev pub frame_bytes_in : Option DeviceSpec → ℕ
+frame_bytes_in None = 0
+frame_bytes_in (Some d) = frame_bytes d.ty d.channels
 
-abbrev pub width_at : List DeviceSpec → ℕ → ℕ
-width_at config d = width_in (slice_get config d)
+abbrev pub frame_bytes_at : List DeviceSpec → ℕ → ℕ
+frame_bytes_at config d = frame_bytes_in (slice_get config d)
 
 -- whether a device has a telephone line; one that is not there has none
 abbrev pub line_in : Option DeviceSpec → Bool
@@ -187,7 +187,7 @@ IsStep config (step.Open k) = k < 32
 IsStep config (step.Send k bytes) = (k < 32) × (1 ≤ length bytes) × (length bytes ≤ longest_send)
 IsStep config (step.End k) = k < 32
 IsStep config (step.Room k room) = (k < 32) × IsRoom room
-IsStep config (step.Tick d n captured) = (d < length config) × (1 ≤ n) × (n ≤ 4096) × IsCapture (n * width_at config d) captured
+IsStep config (step.Tick d n captured) = (d < length config) × (1 ≤ n) × (n ≤ 4096) × IsCapture (n * frame_bytes_at config d) captured
 IsStep config (step.Line d change) = IsTrue (spec_has_line config d) × IsTrue (is_change change)
 IsStep config (step.FailRead k) = k < 32
 IsStep config (step.FailWrite k) = k < 32

@@ -4,13 +4,14 @@ use af_phone::LineChange;
 use af_sample::SampleType;
 use arrayvec::ArrayVec;
 
-/// A device of a configuration: its sample type, its rate in frames a second, the device time at which it starts, and whether
-/// it has a telephone line.
+/// A device of a configuration: its sample type, its rate in frames a second, the device time at which it starts, its channels,
+/// one or two, and whether it has a telephone line.
 #[derive(Clone, Copy, Debug, PartialEq, Eq)]
 pub struct DeviceSpec {
     pub ty: SampleType,
     pub rate: u32,
     pub start: u32,
+    pub channels: u8,
     pub line: bool,
 }
 
@@ -20,6 +21,7 @@ impl Default for DeviceSpec {
             ty: SampleType::Lin16,
             rate: 8000,
             start: 0,
+            channels: 1,
             line: false,
         }
     }

@@ -1,5 +1,5 @@
 -- Horizons and the rings that hold them.
-use Rattle.std.proofs.Common.{◌≡◌, ℕ, ℤ, pos, ◌*◌, ◌%◌, ◌^◌, ◌<◌, ◌≤◌, ◌==◌, ◌||◌, inl, inr, true, List, [], ◌∷◌, replicate, length, get_or, ap, ◌∙◌, refl, arith}
+use Rattle.std.proofs.Common.{◌≡◌, ℕ, ℤ, pos, ◌*◌, ◌%◌, ◌^◌, ◌<◌, ◌≤◌, ◌==◌, ◌||◌, inl, inr, true, List, [], ◌∷◌, replicate, length, get_or, ap, ◌∙◌, refl, sym, subst, arith}
 use Rattle.std.proofs.Math.Bool.{or-true, true-or}
 use Rattle.std.specs.List.{list_any}
 use Rattle.std.proofs.lemmas.Bool.{cases_lt, or_cases, eqb-true, eq-eqb}
@@ -8,11 +8,22 @@ use Rattle.std.proofs.lemmas.List.{get_or-replicate, get_or_past, length-replica
 use Rattle.af_ring.specs.Cells.{cell}
 use Rattle.af_ring.proofs.RingStepLemmas.{size_of}
 use Rattle.af_sample.specs.Rates.{listed_rates, IsListedRate}
+use Rattle.af_sample.specs.Channels.{IsChannelCount}
+use Rattle.af_sample.proofs.FrameLemmas.{one_or_two}
 use Rattle.af_buffers.specs.Horizons.{IsHorizon, IsRoomFor}
 
 -- a horizon is from 32000 to 192000 frames
 pub horizon_within : (n : ℕ) → IsHorizon n → (32000 ≤ n) × (n ≤ 192000)
 horizon_within n h = (grind (arith, nat_tests), grind (arith, nat_tests))
+
+-- so one or two channels of it are from 32000 to 384000 samples
+pub samples_within : (channels n : ℕ) → IsChannelCount channels → IsHorizon n → (32000 ≤ channels * n) × (channels * n ≤ 384000)
+samples_within channels n count h =
+    let bounds : (32000 ≤ n) × (n ≤ 192000) = horizon_within n h in
+    elim (one_or_two channels count) [
+      | inl one ↦ subst (λ m. (32000 ≤ m * n) × (m * n ≤ 384000)) (sym one) (omega arith, omega arith)
+      | inr two ↦ subst (λ m. (32000 ≤ m * n) × (m * n ≤ 384000)) (sym two) (omega arith, omega arith)
+    ]
 
 -- what is a listed rate, is four times one as well
 listed_times : (rate : ℕ) (rates : List ℕ) → list_any (λ listed. rate == listed) rates ≡ true → list_any (λ listed. rate * 4 == listed * 4) rates ≡ true

@@ -1,4 +1,5 @@
 pub mod HorizonLemmas
+pub mod PlaceLemmas
 pub mod AcceptedPlayLemmas
 pub mod PlayRingLemmas
 pub mod PlayBufferLemmas

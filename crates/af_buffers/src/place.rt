@@ -1,4 +1,5 @@
-// Where a time is from a buffer's time.
+// Where a time is from a buffer's time, and where its frame is in a ring.
+ghost use Rattle.std.specs.Prelude.{◌≡◌, ◌*◌, ◌%◌, ◌^◌};
 ghost use Rattle.af_buffers.specs.Places.{IsPlace};
 
 use af_time::DevTime;
@@ -20,4 +21,11 @@ pub(crate) fn place_of(start: DevTime, now: DevTime) -> Place
     } else {
         Place::Ahead(start.0.wrapping_sub(now.0))
     }
+}
+
+/// The cell of the first channel of a time's frame, by the time that it has in the ring.
+pub(crate) fn first_cell(t: DevTime, channels: u8) -> DevTime
+    ensures { result.0 ≡ channels * t.0 % 2 ^ 32 }
+{
+    DevTime(t.0.wrapping_mul(u32::from(channels)))
 }

@@ -1,24 +1,26 @@
-// The next samples of a device.
-ghost use Rattle.std.specs.Prelude.{◌≡◌, ◌≤◌, length, IfOk, pos, replicate};
-ghost use Rattle.af_ring.specs.Cells.{ClearsRun};
+// The next frames of a device.
+ghost use Rattle.std.specs.Prelude.{◌≡◌, ◌≤◌, ◌*◌, ◌%◌, ◌^◌, length, IfOk, pos, replicate};
+ghost use Rattle.af_ring.specs.Cells.{ClearsRun, IsRunAt};
+ghost use Rattle.af_sample.specs.Channels.{AreWholeFrames, IsChannelCount, frame_count};
 ghost use Rattle.af_sample.specs.Sizes.{longest_play};
 ghost use Rattle.af_buffers.specs.Horizons.{IsHorizon};
 ghost use Rattle.af_buffers.specs.PlayBuffer.{accepted_by, frames_beyond, frames_within, ChangesCovered, EndsWithin, HandsOut, HoldsNext, OverlaysRun, Plays};
 
-use crate::place::{Place, place_of};
+use crate::place::{Place, first_cell, place_of};
 use crate::room::bits_for;
 use af_ring::TimeRing;
 use af_time::{DevTime, OutOfMemory};
 use std::alloc::Global;
 use std::marker::Model;
 
-/// A device's time, and its samples from then on. They lie in a ring, each in the cell of its time;
-/// all other cells are silent.
+/// A device's time, and its frames from then on, each with one sample for each channel. They lie in a ring: the sample of channel c
+/// at time t in the cell of channels * t + c. All other cells are silent.
 #[derive(Drop)]
 pub struct PlayBuffer {
     ring: TimeRing,
     time: DevTime,
-    // How many samples are next. The code needs it nowhere: the ring is silent past them.
+    channels: u8,
+    // How many frames are next. The code needs it nowhere but for a start: the ring is silent past them.
     horizon: u32,
 }
 
@@ -27,28 +29,45 @@ impl Model for PlayBuffer {
 
     ghost Value = { Next };
 
-    ghost view = { λ b. next_of b.ring b.time.0 b.horizon };
+    ghost view = { λ b. next_of b.ring b.time.0 b.channels b.horizon };
 
-    ghost invariant = { λ b. IsRingOf b.ring b.time.0 b.horizon };
+    ghost invariant = { λ b. IsRingOf b.ring b.time.0 b.channels b.horizon };
 }
 
 impl PlayBuffer {
-    /// Silence from a time on, over a horizon of frames: four seconds at a listed rate.
-    pub fn new(alloc: Global, now: DevTime, horizon: u32) -> Result<PlayBuffer, OutOfMemory>
-        requires { IsHorizon horizon }
+    /// Silence from a time on, over a horizon of frames, four seconds at a listed rate, in one or two channels.
+    pub fn new(
+        alloc: Global,
+        now: DevTime,
+        horizon: u32,
+        channels: u8,
+    ) -> Result<PlayBuffer, OutOfMemory>
+        requires horizon { IsHorizon horizon }
+        requires channels { IsChannelCount channels }
         ensures time { IfOk result (λ b. b.time ≡ now.0) }
-        ensures next { IfOk result (λ b. b.next ≡ replicate horizon (pos 0)) }
+        ensures channels { IfOk result (λ b. b.channels ≡ channels) }
+        ensures horizon { IfOk result (λ b. b.horizon ≡ horizon) }
+        ensures next { IfOk result (λ b. b.next ≡ replicate (channels * horizon) (pos 0)) }
         ensures ring { IfOk result (λ b. b.ring ≡ replicate (length b.ring) (pos 0)) }
     {
-        let ring = TimeRing::new(alloc, bits_for(horizon))?;
+        let ring = TimeRing::new(alloc, bits_for(u32::from(channels) * horizon))?;
         Ok(PlayBuffer {
             ring,
             time: now,
+            channels,
             horizon,
         })
     }
 
-    /// The time of the first of the next samples.
+    /// Its channels: one or two.
+    pub fn channels(&self) -> u8
+        ensures value { result ≡ self.now.channels }
+        ensures count { IsChannelCount result }
+    {
+        self.channels
+    }
+
+    /// The time of the first of the next frames.
     pub fn now(&self) -> DevTime
         ensures { result.0 ≡ self.now.time }
     {
@@ -78,7 +97,7 @@ impl PlayBuffer {
         }
     }
 
-    /// The cells by time: the next samples, and silence.
+    /// The cells by time and channel: the next samples, and silence.
     pub fn ring(&self) -> &TimeRing
         ensures cells { result.now ≡ self.now.ring }
         ensures held { HoldsNext self.now }
@@ -86,46 +105,53 @@ impl PlayBuffer {
         &self.ring
     }
 
-    /// Mixes samples from a time on into the next ones, each sum saturated, or puts them there. What
-    /// they say of times before now is dropped. At most 16368 samples, which end within the horizon.
+    /// Mixes frames from a time on into the next ones, each sum saturated, or puts them there. What they say of times before now is
+    /// dropped. At most 16368 samples, which are whole frames and end within the horizon.
     pub fn play(&mut self, start: DevTime, samples: &[i16], preempt: bool)
         requires count { length samples.now ≤ longest_play }
-        requires within { EndsWithin self.old start.0 (length samples.now) }
+        requires whole { AreWholeFrames self.old.channels samples.now }
+        requires within { EndsWithin self.old start.0 (frame_count self.old.channels samples.now) }
         ensures next { Plays self.old self.new (accepted_by self.old start.0 samples.now preempt) }
         ensures ring { ChangesCovered self.old self.new (accepted_by self.old start.0 samples.now preempt) }
     {
         match place_of(start, self.time) {
             Place::Before(late) => {
-                let late = late as usize;
-                if late < samples.len() {
-                    overlay(&mut self.ring, self.time, &samples[late..], preempt);
+                let past = late as usize * usize::from(self.channels);
+                if past < samples.len() {
+                    let cell = first_cell(self.time, self.channels);
+                    overlay(&mut self.ring, cell, &samples[past..], preempt);
                 }
             }
-            Place::Ahead(_) => overlay(&mut self.ring, start, samples, preempt),
+            Place::Ahead(_) => {
+                let cell = first_cell(start, self.channels);
+                overlay(&mut self.ring, cell, samples, preempt);
+            }
         }
     }
 
-    /// Gives the next samples, at most 4096, and moves now behind them.
+    /// Gives the next frames, at most 4096, and moves now behind them. The room is for whole frames.
     pub fn hand_out(&mut self, out: &mut [i16])
-        requires { length out.old ≤ 4096 }
+        requires count { frame_count self.old.channels out.old ≤ 4096 }
+        requires whole { AreWholeFrames self.old.channels out.old }
         ensures next { HandsOut self.old self.new out.new }
-        ensures ring { ClearsRun self.old.ring self.new.ring self.old.time (length out.new) }
+        ensures ring { ClearsRun self.old.ring self.new.ring (self.old.channels * self.old.time % 2 ^ 32) (length out.new) }
     {
-        self.ring.read_run(self.time, out);
-        let n = out.len() as u32;
-        self.ring.clear_run(self.time, n);
-        self.time = self.time.after(n);
+        let cell = first_cell(self.time, self.channels);
+        self.ring.read_run(cell, out);
+        self.ring.clear_run(cell, out.len() as u32);
+        let frames = out.len() / usize::from(self.channels);
+        self.time = self.time.after(frames as u32);
     }
 }
 
-// Mixes samples into the cells from a time on, or puts them there.
-fn overlay(ring: &mut TimeRing, t: DevTime, samples: &[i16], preempt: bool)
+// Mixes samples into the cells from one on, or puts them there.
+fn overlay(ring: &mut TimeRing, cell: DevTime, samples: &[i16], preempt: bool)
     requires { length samples.now ≤ length ring.old }
-    ensures { OverlaysRun ring.old ring.new t.0 samples.now preempt }
+    ensures { OverlaysRun ring.old ring.new cell.0 samples.now preempt }
 {
     if preempt {
-        ring.put_run(t, samples);
+        ring.put_run(cell, samples);
     } else {
-        ring.mix_run(t, samples);
+        ring.mix_run(cell, samples);
     }
 }

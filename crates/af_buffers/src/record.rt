@@ -1,22 +1,25 @@
-// The last samples of a device.
-ghost use Rattle.std.specs.Prelude.{◌≡◌, ◌≤◌, length, IfOk, pos, replicate};
+// The last frames of a device.
+ghost use Rattle.std.specs.Prelude.{◌≡◌, ◌≤◌, ◌*◌, ◌%◌, ◌^◌, length, IfOk, pos, replicate};
 ghost use Rattle.af_ring.specs.Cells.{PutsRun};
+ghost use Rattle.af_sample.specs.Channels.{AreWholeFrames, IsChannelCount, frame_count};
 ghost use Rattle.af_sample.specs.Sizes.{longest_record};
 ghost use Rattle.af_buffers.specs.Horizons.{IsHorizon};
 ghost use Rattle.af_buffers.specs.RecordBuffer.{frames_before, frames_until_past, Captures, HoldsLast, samples_from};
 
-use crate::place::{Place, place_of};
+use crate::place::{Place, first_cell, place_of};
 use crate::room::bits_for;
 use af_ring::TimeRing;
 use af_time::{DevTime, OutOfMemory};
 use std::alloc::Global;
 use std::marker::Model;
 
-/// A device's time, and its samples up to then. They lie in a ring, each in the cell of its time.
+/// A device's time, and its frames up to then, each with one sample for each channel. They lie in a ring: the sample of channel c
+/// at time t in the cell of channels * t + c.
 #[derive(Drop)]
 pub struct RecordBuffer {
     ring: TimeRing,
     time: DevTime,
+    channels: u8,
     horizon: u32,
 }
 
@@ -25,28 +28,37 @@ impl Model for RecordBuffer {
 
     ghost Value = { Last };
 
-    ghost view = { λ b. last_of b.ring b.time.0 b.horizon };
+    ghost view = { λ b. last_of b.ring b.time.0 b.channels b.horizon };
 
-    ghost invariant = { λ b. IsRoomOf b.ring b.horizon };
+    ghost invariant = { λ b. IsRoomOf b.ring b.channels b.horizon };
 }
 
 impl RecordBuffer {
-    /// Silence up to a time, over a horizon of frames: four seconds at a listed rate.
-    pub fn new(alloc: Global, now: DevTime, horizon: u32) -> Result<RecordBuffer, OutOfMemory>
-        requires { IsHorizon horizon }
+    /// Silence up to a time, over a horizon of frames, four seconds at a listed rate, in one or two channels.
+    pub fn new(
+        alloc: Global,
+        now: DevTime,
+        horizon: u32,
+        channels: u8,
+    ) -> Result<RecordBuffer, OutOfMemory>
+        requires horizon { IsHorizon horizon }
+        requires channels { IsChannelCount channels }
         ensures time { IfOk result (λ b. b.time ≡ now.0) }
-        ensures last { IfOk result (λ b. b.last ≡ replicate horizon (pos 0)) }
+        ensures channels { IfOk result (λ b. b.channels ≡ channels) }
+        ensures horizon { IfOk result (λ b. b.horizon ≡ horizon) }
+        ensures last { IfOk result (λ b. b.last ≡ replicate (channels * horizon) (pos 0)) }
         ensures ring { IfOk result (λ b. b.ring ≡ replicate (length b.ring) (pos 0)) }
     {
-        let ring = TimeRing::new(alloc, bits_for(horizon))?;
+        let ring = TimeRing::new(alloc, bits_for(u32::from(channels) * horizon))?;
         Ok(RecordBuffer {
             ring,
             time: now,
+            channels,
             horizon,
         })
     }
 
-    /// The cells by time: among them the last samples.
+    /// The cells by time and channel: among them the last samples.
     pub fn ring(&self) -> &TimeRing
         ensures cells { result.now ≡ self.now.ring }
         ensures held { HoldsLast self.now }
@@ -76,30 +88,36 @@ impl RecordBuffer {
         }
     }
 
-    /// Appends samples, at most 4096, and moves the time behind them.
+    /// Appends frames, at most 4096, and moves the time behind them.
     pub fn capture(&mut self, samples: &[i16])
-        requires { length samples.now ≤ 4096 }
+        requires count { frame_count self.old.channels samples.now ≤ 4096 }
+        requires whole { AreWholeFrames self.old.channels samples.now }
         ensures last { Captures self.old self.new samples.now }
-        ensures ring { PutsRun self.old.ring self.new.ring self.old.time samples.now }
+        ensures ring { PutsRun self.old.ring self.new.ring (self.old.channels * self.old.time % 2 ^ 32) samples.now }
     {
-        self.ring.put_run(self.time, samples);
-        self.time = self.time.after(samples.len() as u32);
+        let cell = first_cell(self.time, self.channels);
+        self.ring.put_run(cell, samples);
+        let frames = samples.len() / usize::from(self.channels);
+        self.time = self.time.after(frames as u32);
     }
 
-    /// Reads the samples from a time on, at most 16000: silence further back than the horizon, and
-    /// from now on.
+    /// Reads the frames from a time on, at most 16000 samples: silence further back than the horizon, and
+    /// from now on. The room is for whole frames.
     pub fn read(&self, start: DevTime, out: &mut [i16])
-        requires { length out.old ≤ longest_record }
-        ensures { out.new ≡ samples_from self.now start.0 (length out.new) }
+        requires count { length out.old ≤ longest_record }
+        requires whole { AreWholeFrames self.now.channels out.old }
+        ensures { out.new ≡ samples_from self.now start.0 (frame_count self.now.channels out.new) }
     {
-        // The kept samples among them are at begin..end.
+        // The kept frames among them are at begin..end.
+        let channels = usize::from(self.channels);
         let before = self.frames_before(start) as usize;
-        let end = out.len().min(before);
+        let end = (out.len() / channels).min(before);
         let begin = end.min(before.saturating_sub(self.horizon as usize));
-        let (before_now, from_now) = out.split_at_mut(end);
-        let (further_back, kept) = before_now.split_at_mut(begin);
+        let (before_now, from_now) = out.split_at_mut(end * channels);
+        let (further_back, kept) = before_now.split_at_mut(begin * channels);
         further_back.fill(0);
-        self.ring.read_run(start.after(begin as u32), kept);
+        self.ring
+            .read_run(first_cell(start.after(begin as u32), self.channels), kept);
         from_now.fill(0);
     }
 }

@@ -1,68 +1,97 @@
 -- What is heard, and what is recorded, as more is accepted and captured.
-use Rattle.std.proofs.Common.{◌≡◌, ◌<◌, ◌≤◌, ◌+◌, ◌-◌, ◌&&◌, inl, inr, ℕ, suc, ℤ, pos, negsuc, Bool, true, false, cond, nat_le, nat_lt, List, [], ◌∷◌, ◌++◌, length, slice_index_or, refl, sym, ap, ◌∙◌, arith}
+use Rattle.std.proofs.Common.{◌≡◌, ◌<◌, ◌≤◌, ◌+◌, ◌-◌, ◌*◌, ◌&&◌, inl, inr, ℕ, suc, ℤ, pos, negsuc, Bool, true, false, cond, nat_le, nat_lt, List, [], ◌∷◌, ◌++◌, length, slice_index_or, refl, sym, ap, ◌∙◌, arith}
 use Rattle.std.specs.List.{fold, All}
 use Rattle.std.proofs.lemmas.Bool.{cases_lt, le-leb, lt-leb, lt-ltb}
 use Rattle.std.proofs.lemmas.List.{get_or_append_left}
 use Rattle.std.proofs.lemmas.List.Sums.{fold_push, fold-append}
-use Rattle.af_sample.specs.Heard.{heard, with_entry, blended, AcceptedPlay}
+use Rattle.af_sample.specs.Channels.{frame_count}
+use Rattle.af_sample.specs.Heard.{heard, with_entry, blended, sample_of_entry, AcceptedPlay}
 use Rattle.af_sample.specs.Window.{recorded}
+use Rattle.af_sample.proofs.FrameLemmas.{place_before}
 
-pub heard-push : (accepted : List AcceptedPlay) (e : AcceptedPlay) (t : ℕ) → heard (accepted ++ e ∷ []) t ≡ with_entry t (heard accepted t) e
+pub heard-push : (channels : ℕ) (accepted : List AcceptedPlay) (e : AcceptedPlay) (t channel : ℕ) →
+    heard channels (accepted ++ e ∷ []) t channel ≡ with_entry channels t channel (heard channels accepted t channel) e
 unfolding heard
-heard-push accepted e t = fold_push (with_entry t) (pos 0) accepted e
+heard-push channels accepted e t channel = fold_push (with_entry channels t channel) (pos 0) accepted e
 
 -- an entry that was accepted after a time says nothing of it
-late_entry : (e : AcceptedPlay) (t : ℕ) (sound : ℤ) → t < e.at → with_entry t sound e ≡ sound
-late_entry e t sound late =
-    ap (λ b. cond (b && (nat_le e.start t && nat_lt t (e.start + length e.samples))) (blended e.preempt sound (slice_index_or e.samples (t - e.start) (pos 0))) sound)
+late_entry : (channels : ℕ) (e : AcceptedPlay) (t channel : ℕ) (sound : ℤ) → t < e.at → with_entry channels t channel sound e ≡ sound
+late_entry channels e t channel sound late =
+    ap (λ b. cond (b && (nat_le e.start t && nat_lt t (e.start + frame_count channels e.samples))) (blended e.preempt sound (sample_of_entry channels e t channel)) sound)
     (lt-leb e.at t late)
 
-late_entries : (more : List AcceptedPlay) (t : ℕ) (sound : ℤ) → All (λ e. t < e.at) more → fold (with_entry t) sound more ≡ sound
-late_entries [] t sound late = refl
-late_entries (e ∷ more) t sound late =
-    ap (λ s. fold (with_entry t) s more) (late_entry e t sound (late 0 e (omega arith)))
-    ∙ late_entries more t sound (λ k d low. late (suc k) d (omega arith))
+late_entries : (channels : ℕ) (more : List AcceptedPlay) (t channel : ℕ) (sound : ℤ) → All (λ e. t < e.at) more → fold (with_entry channels t channel) sound more ≡ sound
+late_entries channels [] t channel sound late = refl
+late_entries channels (e ∷ more) t channel sound late =
+    ap (λ s. fold (with_entry channels t channel) s more) (late_entry channels e t channel sound (late 0 e (omega arith)))
+    ∙ late_entries channels more t channel sound (λ k d low. late (suc k) d (omega arith))
 
-pub heard-append : (accepted more : List AcceptedPlay) (t : ℕ) → All (λ e. t < e.at) more → heard (accepted ++ more) t ≡ heard accepted t
+pub heard-append : (channels : ℕ) (accepted more : List AcceptedPlay) (t channel : ℕ) → All (λ e. t < e.at) more →
+    heard channels (accepted ++ more) t channel ≡ heard channels accepted t channel
 unfolding heard
-heard-append accepted more t late = fold-append (with_entry t) (pos 0) accepted more ∙ late_entries more t (heard accepted t) late
+heard-append channels accepted more t channel late =
+    fold-append (with_entry channels t channel) (pos 0) accepted more ∙ late_entries channels more t channel (heard channels accepted t channel) late
 
 -- three plays at one time: two that saturate, and a third that is mixed with their sum or replaces it
 abbrev play : ℤ → Bool → AcceptedPlay
 play x preempt = record { start = 2; samples = x ∷ []; preempt = preempt; at = 0 }
 
-mixed_third : heard (play (pos 30000) false ∷ play (pos 10000) false ∷ play (negsuc 19999) false ∷ []) 2 ≡ pos 12767
+mixed_third : heard 1 (play (pos 30000) false ∷ play (pos 10000) false ∷ play (negsuc 19999) false ∷ []) 2 0 ≡ pos 12767
 unfolding heard
 mixed_third = refl
 
-preempting_third : heard (play (pos 30000) false ∷ play (pos 10000) false ∷ play (negsuc 19999) true ∷ []) 2 ≡ negsuc 19999
+preempting_third : heard 1 (play (pos 30000) false ∷ play (pos 10000) false ∷ play (negsuc 19999) true ∷ []) 2 0 ≡ negsuc 19999
 unfolding heard
 preempting_third = refl
 
+-- two frames of two channels: each channel hears its own samples, and a time past the frames none
+abbrev play_of_two : AcceptedPlay
+play_of_two = record { start = 2; samples = pos 5 ∷ negsuc 6 ∷ pos 7 ∷ pos 0 ∷ []; preempt = false; at = 0 }
+
+left_of_first : heard 2 (play_of_two ∷ []) 2 0 ≡ pos 5
+unfolding heard
+left_of_first = refl
+
+right_of_first : heard 2 (play_of_two ∷ []) 2 1 ≡ negsuc 6
+unfolding heard
+right_of_first = refl
+
+left_of_second : heard 2 (play_of_two ∷ []) 3 0 ≡ pos 7
+unfolding heard
+left_of_second = refl
+
+past_both : heard 2 (play_of_two ∷ []) 4 0 ≡ pos 0
+unfolding heard
+past_both = refl
+
 -- a time of the window, and one before the begin
-pub recorded_within : (captured : List ℤ) (begin now horizon t : ℕ) → now ≤ t + horizon → t < now → begin ≤ t → recorded captured begin now horizon t ≡ slice_index_or captured (t - begin) (pos 0)
+pub recorded_within : (channels : ℕ) (captured : List ℤ) (begin now horizon t channel : ℕ) → now ≤ t + horizon → t < now → begin ≤ t →
+    recorded channels captured begin now horizon t channel ≡ slice_index_or captured (channels * (t - begin) + channel) (pos 0)
 unfolding recorded
-recorded_within captured begin now horizon t near past begun =
-    ap (λ b. cond (b && (nat_lt t now && nat_le begin t)) (slice_index_or captured (t - begin) (pos 0)) (pos 0)) (le-leb now (t + horizon) near)
-    ∙ ap (λ b. cond (b && nat_le begin t) (slice_index_or captured (t - begin) (pos 0)) (pos 0)) (lt-ltb t now past)
-    ∙ ap (λ b. cond b (slice_index_or captured (t - begin) (pos 0)) (pos 0)) (le-leb begin t begun)
+recorded_within channels captured begin now horizon t channel near past begun =
+    ap (λ b. cond (b && (nat_lt t now && nat_le begin t)) (slice_index_or captured (channels * (t - begin) + channel) (pos 0)) (pos 0)) (le-leb now (t + horizon) near)
+    ∙ ap (λ b. cond (b && nat_le begin t) (slice_index_or captured (channels * (t - begin) + channel) (pos 0)) (pos 0)) (lt-ltb t now past)
+    ∙ ap (λ b. cond b (slice_index_or captured (channels * (t - begin) + channel) (pos 0)) (pos 0)) (le-leb begin t begun)
 
-pub recorded_before : (captured : List ℤ) (begin now horizon t : ℕ) → now ≤ t + horizon → t < now → t < begin → recorded captured begin now horizon t ≡ pos 0
+pub recorded_before : (channels : ℕ) (captured : List ℤ) (begin now horizon t channel : ℕ) → now ≤ t + horizon → t < now → t < begin →
+    recorded channels captured begin now horizon t channel ≡ pos 0
 unfolding recorded
-recorded_before captured begin now horizon t near past early =
-    ap (λ b. cond (b && (nat_lt t now && nat_le begin t)) (slice_index_or captured (t - begin) (pos 0)) (pos 0)) (le-leb now (t + horizon) near)
-    ∙ ap (λ b. cond (b && nat_le begin t) (slice_index_or captured (t - begin) (pos 0)) (pos 0)) (lt-ltb t now past)
-    ∙ ap (λ b. cond b (slice_index_or captured (t - begin) (pos 0)) (pos 0)) (lt-leb begin t early)
+recorded_before channels captured begin now horizon t channel near past early =
+    ap (λ b. cond (b && (nat_lt t now && nat_le begin t)) (slice_index_or captured (channels * (t - begin) + channel) (pos 0)) (pos 0)) (le-leb now (t + horizon) near)
+    ∙ ap (λ b. cond (b && nat_le begin t) (slice_index_or captured (channels * (t - begin) + channel) (pos 0)) (pos 0)) (lt-ltb t now past)
+    ∙ ap (λ b. cond b (slice_index_or captured (channels * (t - begin) + channel) (pos 0)) (pos 0)) (lt-leb begin t early)
 
-pub recorded-append : (captured more : List ℤ) (begin now horizon t : ℕ) → now ≡ begin + length captured → t < now → now + length more ≤ t + horizon →
-    recorded (captured ++ more) begin (now + length more) horizon t ≡ recorded captured begin now horizon t
-recorded-append captured more begin now horizon t all past near =
+-- as n frames go by, whatever is captured in them
+pub recorded-append : (channels : ℕ) (captured more : List ℤ) (begin now n horizon t channel : ℕ) → length captured ≡ channels * (now - begin) → channel < channels → t < now → now + n ≤ t + horizon →
+    recorded channels (captured ++ more) begin (now + n) horizon t channel ≡ recorded channels captured begin now horizon t channel
+recorded-append channels captured more begin now n horizon t channel all listed past near =
     elim (cases_lt t begin) [
       | inl early ↦
-          recorded_before (captured ++ more) begin (now + length more) horizon t near (omega arith) early
-          ∙ sym (recorded_before captured begin now horizon t (omega arith) past early)
+          recorded_before channels (captured ++ more) begin (now + n) horizon t channel near (omega arith) early
+          ∙ sym (recorded_before channels captured begin now horizon t channel (omega arith) past early)
       | inr begun ↦
-          recorded_within (captured ++ more) begin (now + length more) horizon t near (omega arith) begun
-          ∙ get_or_append_left captured more (pos 0) (t - begin) (omega arith)
-          ∙ sym (recorded_within captured begin now horizon t (omega arith) past begun)
+          let inside : channels * (t - begin) + channel < channels * (now - begin) = place_before channels (t - begin) (now - begin) channel (omega arith) listed in
+          recorded_within channels (captured ++ more) begin (now + n) horizon t channel near (omega arith) begun
+          ∙ get_or_append_left captured more (pos 0) (channels * (t - begin) + channel) (omega arith)
+          ∙ sym (recorded_within channels captured begin now horizon t channel (omega arith) past begun)
     ]

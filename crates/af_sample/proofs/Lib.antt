@@ -9,5 +9,6 @@ pub mod LaneLemmas
 pub mod VectorLemmas
 pub mod SegmentTable
 pub mod RunLemmas
+pub mod FrameLemmas
 pub mod HeardLemmas
 pub mod SinglePlayLemmas

@@ -1,5 +1,5 @@
 //! Laws of samples, each the contract of a function that does nothing.
-ghost use Rattle.std.specs.Prelude.{◌≡◌, ◌≢◌, ◌+◌, ◌<◌, ◌≤◌, ◌↔◌, ℕ, ℤ, List, [], ◌∷◌, ◌++◌, length, IsTrue, FitsSigned};
+ghost use Rattle.std.specs.Prelude.{◌≡◌, ◌≢◌, ◌+◌, ◌-◌, ◌*◌, ◌<◌, ◌≤◌, ◌↔◌, ℕ, ℤ, List, [], ◌∷◌, ◌++◌, length, IsTrue, FitsSigned};
 ghost use Rattle.std.specs.Int.{w16};
 ghost use Rattle.std.specs.List.{All};
 ghost use Rattle.af_sample.specs.Gains.{is_within, multiplier};
@@ -30,18 +30,18 @@ pub fn greatest_multiplier()
     ensures { (db : ℤ) (m : ℕ) → IsTrue (is_within db m) ↔ (m ≤ multiplier db) }
 {}
 
-/// A play that is accepted is blended into what was heard before, and what was past by then stays.
+/// A play that is accepted is blended into what was heard before, channel by channel, and what was past by then stays.
 pub fn heard_grows()
-    ensures next { (accepted : List AcceptedPlay) (e : AcceptedPlay) (t : ℕ) →
-        heard (accepted ++ e ∷ []) t ≡ with_entry t (heard accepted t) e }
-    ensures past { (accepted more : List AcceptedPlay) (t : ℕ) → All (λ e. t < e.at) more →
-        heard (accepted ++ more) t ≡ heard accepted t }
+    ensures next { (channels : ℕ) (accepted : List AcceptedPlay) (e : AcceptedPlay) (t channel : ℕ) →
+        heard channels (accepted ++ e ∷ []) t channel ≡ with_entry channels t channel (heard channels accepted t channel) e }
+    ensures past { (channels : ℕ) (accepted more : List AcceptedPlay) (t channel : ℕ) → All (λ e. t < e.at) more →
+        heard channels (accepted ++ more) t channel ≡ heard channels accepted t channel }
 {}
 
-/// What was captured stays recorded until the horizon has passed it.
+/// What was captured stays recorded, in each channel, until the horizon has passed it.
 pub fn recorded_stays()
-    ensures { (captured more : List ℤ) (begin now horizon t : ℕ) →
-        now ≡ begin + length captured → t < now → now + length more ≤ t + horizon →
-        recorded (captured ++ more) begin (now + length more) horizon t
-        ≡ recorded captured begin now horizon t }
+    ensures { (channels : ℕ) (captured more : List ℤ) (begin now n horizon t channel : ℕ) →
+        length captured ≡ channels * (now - begin) → channel < channels → t < now → now + n ≤ t + horizon →
+        recorded channels (captured ++ more) begin (now + n) horizon t channel
+        ≡ recorded channels captured begin now horizon t channel }
 {}

@@ -13,7 +13,7 @@ pub enum SampleType {
 }
 
 impl SampleType {
-    ghost use Rattle.af_sample.specs.SampleTypes.{code_of, type_of_code, width_of};
+    ghost use Rattle.af_sample.specs.SampleTypes.{code_of, frame_bytes, type_of_code, width_of};
 
     /// The type of a code 0..3. None above.
     pub fn of_code(code: u8) -> Option<SampleType>
@@ -51,5 +51,12 @@ impl SampleType {
             SampleType::Lin16 => 2,
             SampleType::Lin32 => 4,
         }
+    }
+
+    /// The bytes of a frame of so many channels.
+    pub fn frame_bytes(self, channels: u8) -> usize
+        ensures { result ≡ frame_bytes self channels }
+    {
+        self.width() * usize::from(channels)
     }
 }

@@ -220,13 +220,13 @@ fn the_reply_to_a_setup_has_the_devices(rt: HostRuntime) {
     });
     devices.push(DeviceInfo {
         ty: SampleType::Mu255,
-        channels: 1,
+        channels: 2,
         line: false,
         rate: 48000,
         horizon: 192000,
     });
     let body = [
-        0, 1, 0, 0, 0, 0, 0, 2, 2, 1, 1, 0, 0, 0, 0x1F, 0x40, 0, 0, 0x7D, 0, 0, 1, 0, 0, 0, 0,
+        0, 1, 0, 0, 0, 0, 0, 2, 2, 1, 1, 0, 0, 0, 0x1F, 0x40, 0, 0, 0x7D, 0, 0, 2, 0, 0, 0, 0,
         0xBB, 0x80, 0, 2, 0xEE, 0,
     ];
     assert_replies(&rt, &[(0, Reply::Setup { devices }, 8, &body)]);
@@ -285,7 +285,7 @@ fn another_body_is_no_reply(rt: HostRuntime) {
             (10, &[1, 0, 0, 0, 0, 31, 0, 0]),
             (12, &[1, 0, 0, 1, 2, 0, 0, 0]),
             (12, &[1, 0, 0, 1, 0, 0, 0, 1]),
-            // no device, and devices of another type, count of channels, rate and horizon
+            // no device, and devices of another type, counts of channels, rate and horizon
             (0, &[0, 1, 0, 0, 0, 0, 0, 0]),
             (
                 0,
@@ -296,7 +296,13 @@ fn another_body_is_no_reply(rt: HostRuntime) {
             (
                 0,
                 &[
-                    0, 1, 0, 0, 0, 0, 0, 1, 2, 2, 0, 0, 0, 0, 0x1F, 0x40, 0, 0, 0x7D, 0,
+                    0, 1, 0, 0, 0, 0, 0, 1, 2, 0, 0, 0, 0, 0, 0x1F, 0x40, 0, 0, 0x7D, 0,
+                ],
+            ),
+            (
+                0,
+                &[
+                    0, 1, 0, 0, 0, 0, 0, 1, 2, 3, 0, 0, 0, 0, 0x1F, 0x40, 0, 0, 0x7D, 0,
                 ],
             ),
             (

@@ -1,5 +1,5 @@
 // The rings of a device's sound across the wrap of the 32-bit time, each over a horizon of four seconds at 8000 frames a second.
-ghost use Rattle.std.specs.Prelude.{◌≤◌, length};
+ghost use Rattle.std.specs.Prelude.{◌≡◌, ◌<◌, ◌≤◌, length};
 
 use crate::tests::asserts::{assert_number, assert_samples};
 use af_buffers::{PlayBuffer, RecordBuffer};
@@ -28,7 +28,7 @@ fn runs_go_on_across_the_wrap(rt: HostRuntime) -> Result<(), Fail> {
 // A play: its start, its samples, and whether it preempts.
 type Play = (u32, &'static [i16], bool);
 
-// What these plays make of the next samples from a time on, and that nothing comes back when the ring has gone round.
+// What these plays make of the next samples of one channel from a time on, and that nothing comes back when the ring has gone round.
 fn assert_heard(
     rt: &impl Abort,
     alloc: Global,
@@ -36,9 +36,9 @@ fn assert_heard(
     plays: &[Play],
     wanted: &[i16],
 ) -> Result<(), OutOfMemory> {
-    let mut buffer = PlayBuffer::new(alloc, DevTime(begin), 32000)?;
+    let mut buffer = PlayBuffer::new(alloc, DevTime(begin), 32000, 1)?;
     for play in plays {
-        accept(&mut buffer, play);
+        accept(&mut buffer, 1, play);
     }
     for sample in wanted {
         let mut out = [9];
@@ -53,12 +53,43 @@ fn assert_heard(
     Ok(())
 }
 
-// Accepts a play that ends within the horizon, and no other.
-fn accept(buffer: &mut PlayBuffer, play: &Play) {
+// The same of the next frames of two channels.
+fn assert_heard_in_two(
+    rt: &impl Abort,
+    alloc: Global,
+    begin: u32,
+    plays: &[Play],
+    wanted: &[[i16; 2]],
+) -> Result<(), OutOfMemory> {
+    let mut buffer = PlayBuffer::new(alloc, DevTime(begin), 32000, 2)?;
+    for play in plays {
+        accept(&mut buffer, 2, play);
+    }
+    for frame in wanted {
+        let mut out = [9; 2];
+        buffer.hand_out(&mut out);
+        assert_samples(rt, "heard", &out, frame);
+    }
+    for _ in 0..16u32 {
+        let mut out = [9; 4096];
+        buffer.hand_out(&mut out);
+        assert_samples(rt, "silence", &out, &[0; 4096]);
+    }
+    Ok(())
+}
+
+// Accepts a play of whole frames that end within the horizon, and no other.
+fn accept(buffer: &mut PlayBuffer, channels: usize, play: &Play)
+    requires some { 0 < channels }
+    requires same { buffer.old.channels ≡ channels }
+    ensures { buffer.new.channels ≡ channels }
+{
     let start = DevTime(play.0);
     let most = buffer.frames_within(start) as usize;
     let samples = play.1;
-    if !samples.is_empty() && samples.len() <= 16368 && samples.len() <= most {
+    let frames = samples.len() / channels;
+    let whole = samples.len() % channels == 0;
+    if frames > 0 && whole && samples.len() <= 16368 && frames <= most {
         buffer.play(start, samples, play.2);
     }
 }
@@ -84,6 +115,49 @@ fn plays_are_heard_once(rt: HostRuntime) -> Result<(), Fail> {
     Ok(())
 }
 
+#[test]
+fn plays_of_two_channels_are_heard_in_each(rt: HostRuntime) -> Result<(), Fail> {
+    let alloc = rt.alloc();
+    // over the wrap of the time, and with what is late dropped by whole frames
+    let wraps: [Play; 1] = [(4294967295, &[1, 2, 3, 4, 5, 6], false)];
+    assert_heard_in_two(
+        &rt,
+        alloc,
+        4294967295,
+        &wraps,
+        &[[1, 2], [3, 4], [5, 6], [0, 0]],
+    )?;
+    assert_heard_in_two(&rt, alloc, 0, &wraps, &[[3, 4], [5, 6], [0, 0]])?;
+    assert_heard_in_two(&rt, alloc, 2, &wraps, &[[0, 0]])?;
+    // of 65536 cells the frame at 32767 has the last two, and the next the first two
+    let around: [Play; 1] = [(32767, &[5, 6, 7, 8], false)];
+    assert_heard_in_two(
+        &rt,
+        alloc,
+        32766,
+        &around,
+        &[[0, 0], [5, 6], [7, 8], [0, 0]],
+    )?;
+    // where the number of a cell wraps, which is half of the way of the time
+    let halfway: [Play; 1] = [(2147483647, &[1, 2, 3, 4], false)];
+    assert_heard_in_two(&rt, alloc, 2147483647, &halfway, &[[1, 2], [3, 4], [0, 0]])?;
+    // a frame whose other sample is 0 changes one channel
+    let sides: [Play; 3] = [
+        (6, &[1, 2, 3, 4], false),
+        (6, &[10, 0], false),
+        (7, &[0, 20], false),
+    ];
+    assert_heard_in_two(&rt, alloc, 5, &sides, &[[0, 0], [11, 2], [3, 24], [0, 0]])?;
+    // a play that preempts takes the place of both channels, with a 0 as well, and a later one is mixed in
+    let preempts: [Play; 3] = [
+        (5, &[5, 6, 7, 8], false),
+        (5, &[9, 0], true),
+        (5, &[1, 1, 1, 1], false),
+    ];
+    assert_heard_in_two(&rt, alloc, 5, &preempts, &[[10, 1], [8, 9], [0, 0]])?;
+    Ok(())
+}
+
 // What is read from a time on, after these samples were captured from another on.
 fn assert_recorded(
     rt: &impl Abort,
@@ -95,7 +169,7 @@ fn assert_recorded(
 ) -> Result<(), OutOfMemory>
     requires { length captured.now ≤ 4096 }
 {
-    let mut buffer = RecordBuffer::new(alloc, DevTime(begin), 32000)?;
+    let mut buffer = RecordBuffer::new(alloc, DevTime(begin), 32000, 1)?;
     let mut out = [9; 3];
     buffer.capture(captured);
     buffer.read(DevTime(start), &mut out);
@@ -113,9 +187,38 @@ fn what_was_captured_is_read(rt: HostRuntime) -> Result<(), Fail> {
 }
 
 #[test]
+fn frames_of_two_channels_are_read_whole(rt: HostRuntime) -> Result<(), Fail> {
+    let mut buffer = RecordBuffer::new(rt.alloc(), DevTime(0), 32000, 2)?;
+    buffer.capture(&[1, 2, 3, 4]);
+    // over the start of the device, which is a wrap of its time, and on past its time
+    let mut out = [9; 8];
+    buffer.read(DevTime(4294967295), &mut out);
+    assert_samples(&rt, "recorded", &out, &[0, 0, 1, 2, 3, 4, 0, 0]);
+    Ok(())
+}
+
+#[test]
+fn frames_lie_over_the_last_cell(rt: HostRuntime) -> Result<(), Fail> {
+    // of 65536 cells the first frame has the last two
+    let mut buffer = RecordBuffer::new(rt.alloc(), DevTime(32767), 32000, 2)?;
+    buffer.capture(&[5, 6, 7, 8]);
+    let mut out = [9; 4];
+    buffer.read(DevTime(32767), &mut out);
+    assert_samples(&rt, "recorded", &out, &[5, 6, 7, 8]);
+    assert_number(
+        &rt,
+        "a right cell",
+        i128::from(buffer.ring().get(DevTime(65535))),
+        6,
+    );
+    Ok(())
+}
+
+#[test]
 fn a_buffer_tells_how_far_its_times_are(rt: HostRuntime) -> Result<(), Fail> {
-    let next = PlayBuffer::new(rt.alloc(), DevTime(10), 32000)?;
+    let next = PlayBuffer::new(rt.alloc(), DevTime(10), 32000, 1)?;
     assert_number(&rt, "now", i128::from(next.now().0), 10);
+    assert_number(&rt, "channels", i128::from(next.channels()), 1);
     assert_number(
         &rt,
         "a silent cell",
@@ -146,7 +249,7 @@ fn a_buffer_tells_how_far_its_times_are(rt: HostRuntime) -> Result<(), Fail> {
         i128::from(next.frames_beyond(DevTime(9), 2)),
         0,
     );
-    let last = RecordBuffer::new(rt.alloc(), DevTime(10), 32000)?;
+    let last = RecordBuffer::new(rt.alloc(), DevTime(10), 32000, 1)?;
     assert_number(
         &rt,
         "a silent cell",

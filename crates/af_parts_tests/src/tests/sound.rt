@@ -249,6 +249,18 @@ fn assert_types(rt: &impl Abort, cases: &[(SampleType, u8, usize)]) {
         assert_number(rt, "a code read", i128::from(read), 1);
         assert_number(rt, "a code", i128::from(ty.code()), i128::from(*code));
         assert_number(rt, "a width", ty.width() as i128, *width as i128);
+        assert_number(
+            rt,
+            "a frame of one",
+            ty.frame_bytes(1) as i128,
+            *width as i128,
+        );
+        assert_number(
+            rt,
+            "a frame of two",
+            ty.frame_bytes(2) as i128,
+            *width as i128 * 2,
+        );
     }
 }
 

@@ -1,5 +1,5 @@
 use Rattle.std.proofs.Common.{◌<◌, ◌^◌, refl, rules}
-use Rattle.af_buffers.proofs.PlayRingLemmas.{ahead_of_now, before_now, is_late, not_late}
+use Rattle.af_buffers.proofs.PlaceLemmas.{ahead_of_now, before_now, is_late, not_late}
 use Rattle.af_buffers.proofs.place.place_of.Goals as goal
 
 pub returns-then-is_before : goal.returns-then-is_before

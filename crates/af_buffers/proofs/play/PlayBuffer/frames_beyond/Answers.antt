@@ -1,14 +1,11 @@
 use Rattle.std.proofs.Common.{◌≡◌, subst, arith}
 use Rattle.af_buffers.specs.PlayBuffer.{Next, frames_beyond}
 use Rattle.af_buffers.proofs.HorizonLemmas.{horizon_within}
-use Rattle.af_buffers.proofs.PlayRingLemmas.{length-next_of}
 use Rattle.af_buffers.proofs.play.PlayBuffer.frames_beyond.Goals as goal
 
 pub returns-in-Before : goal.returns-in-Before
 returns-in-Before c =
     let late = c.in-Before.ensures.0 in
-    let some = c.in-Before.ensures.1 in
-    let long = length-next_of c.self.inside.ring c.self.inside.time.0 c.self.inside.horizon in
     let listed = horizon_within c.self.inside.horizon c.self.invariant.horizon in
     let enough = listed.0 in
     let few = c.requires in
@@ -17,6 +14,5 @@ returns-in-Before c =
 pub returns-in-Ahead : goal.returns-in-Ahead
 returns-in-Ahead c =
     let far = c.in-Ahead.ensures.0 in
-    let long = length-next_of c.self.inside.ring c.self.inside.time.0 c.self.inside.horizon in
     let left = c.saturating_sub.ensures in
     subst (λ (v : Next). c.saturating_sub.result ≡ frames_beyond v c.args.start.0 c.args.frames) c.self.view_is (omega (arith, far))

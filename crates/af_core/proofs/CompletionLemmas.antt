@@ -5,6 +5,8 @@ use Rattle.std.proofs.lemmas.List.Elements.{All-head, All-tail}
 use Rattle.std.specs.List.{All}
 use Rattle.std.specs.declared.option.Option.{Option}
 use Rattle.std.specs.declared.option.Option.TheVariants.{None, Some}
+use Rattle.af_buffers.specs.PlayBuffer.{frames_within}
+use Rattle.af_sample.specs.Channels.{frame_count}
 use Rattle.af_wait.specs.Waits.{without_first}
 use Rattle.af_model.specs.State.{State, DeviceState, Deferred, deferred_play, deferred_record, LinkState, Deferral, EnvironmentState, OpenLink, open_link, slot_link_at}
 use Rattle.af_model.specs.Reply.{horizon_of}
@@ -15,7 +17,7 @@ use Rattle.af_model.specs.Tick.{answer_deferred, complete, complete_at, complete
 use Rattle.af_model.proofs.BoolTestLemmas.{both-true}
 use Rattle.af_model.proofs.SlotLemmas.{some_link, slot_link, links_of-set}
 use Rattle.af_state.specs.Kept.{KeptDevice, StandsForDevice, StandForDevices}
-use Rattle.af_state.specs.Deferrals.{KeptDeferral, has_waiting, kept_due, worded, DeferredEndsWithin, OnlyQueues, IsNear, StandForDeferrals}
+use Rattle.af_state.specs.Deferrals.{KeptDeferral, has_waiting, kept_due, worded, CanComplete, OnlyQueues, IsNear, IsShort, StandForDeferrals}
 use Rattle.af_state.specs.Environment.{StandsForLink, KeptEnvironment, StepsLink, StandsForEnvironment}
 use Rattle.af_perform.specs.Sounds.{CompletesDeferred}
 use Rattle.af_state.proofs.DeferralLemmas.{dues, dues_few, dues_grown, dues_taken, first_due, only_queues_others, length-waits, none_due}
@@ -76,7 +78,8 @@ record DueFirst (d : ℕ) (s : DeviceState) (a : EnvironmentState) (ks : List Ke
   device : waiter.device ≡ d
   is : deferred ≡ worded waiter.deferred
   near : IsNear (s.rate * 4) s.now waiter.deferred
-  now : due (s.rate * 4) waiter.deferred ≤ s.now
+  short : IsShort s.channels waiter.deferred
+  now : due s.channels (s.rate * 4) waiter.deferred ≤ s.now
   rest : StandForDeferrals a.devices (without_first (kept_due d) ks) (without_first (falls_due d s) a.waiting)
 
 due_first : (env : KeptEnvironment) (d : ℕ) (s : DeviceState) (a : EnvironmentState) (number : ℕ) (deferred : Deferred) → StandsForEnvironment env a → slice_get a.devices d ≡ Some s → option_map (λ k. k.wait.link) (find (kept_due d) env.waits) ≡ Some number →
@@ -84,7 +87,7 @@ due_first : (env : KeptEnvironment) (d : ℕ) (s : DeviceState) (a : Environment
 due_first env d s a number deferred h here due_link room =
     let k = some_due d number (find (kept_due d) env.waits) due_link in
     let r = first_due a.devices d s env.waits a.waiting k.0 here h.1 k.1 in
-    let test = both-true (r.waiter.device == d) (nat_le (due (horizon_of s) r.waiter.deferred) s.now) (found_test (falls_due d s) a.waiting r.waiter r.first) in
+    let test = both-true (r.waiter.device == d) (nat_le (due s.channels (horizon_of s) r.waiter.deferred) s.now) (found_test (falls_due d s) a.waiting r.waiter r.first) in
     let device : r.waiter.device ≡ d = eqb-true r.waiter.device d test.0 in
     let past = test.1 in
     let state : r.stands.state ≡ s = let both : Some r.stands.state ≡ Some s = sym r.stands.here ∙ ap (slice_get a.devices) device ∙ here in cc in
@@ -95,26 +98,29 @@ due_first env d s a number deferred h here due_link room =
       device = device;
       is = found_all (λ k. k.wait.link ≡ number → deferred ≡ k.deferred) (kept_due d) env.waits k.0 room k.1 k.2 ∙ r.stands.deferred;
       near = subst (λ (t : DeviceState). IsNear (t.rate * 4) t.now r.waiter.deferred) state r.stands.near;
+      short = subst (λ (t : DeviceState). IsShort t.channels r.waiter.deferred) state r.stands.short;
       now = grind (arith, nat_tests);
       rest = r.rest;
     }
 
--- a play that is due ends within the horizon
-ends_now : (x : KeptDevice) (s : DeviceState) (deferred : Deferred) → StandsForDevice x s → IsNear (s.rate * 4) s.now deferred → due (s.rate * 4) deferred ≤ s.now → DeferredEndsWithin x (worded deferred)
-ends_now x s (deferred_play quiet whole sound preempt) stands near now =
+-- a play that is due ends within the horizon, and each request is as short as it was
+can_complete : (x : KeptDevice) (s : DeviceState) (deferred : Deferred) → StandsForDevice x s → IsNear (s.rate * 4) s.now deferred → IsShort s.channels deferred → due s.channels (s.rate * 4) deferred ≤ s.now → CanComplete x (worded deferred)
+can_complete x s (deferred_play quiet whole sound preempt) stands near short now =
     let early = near.0 in
     let word : whole % 2 ^ 32 < 2 ^ 32 = omega arith in
     let means = near_start x s (whole % 2 ^ 32) whole stands refl (omega arith) near.1 in
     let same = within-same x s (whole % 2 ^ 32) word stands in
-    omega (arith, means, same, now)
-ends_now x s (deferred_record c whole frames) stands near now = tt
+    let ends : frame_count s.channels sound ≤ frames_within x.next (whole % 2 ^ 32) = omega (arith, means, same, now) in
+    subst (λ c. CanComplete (record x { next = record x.next { channels = c } }) (deferred_play quiet (whole % 2 ^ 32) sound preempt)) (sym stands.hears.channels) (short, ends)
+can_complete x s (deferred_record c whole frames) stands near short now =
+    (subst (λ n. IsShort n (deferred_record c whole frames)) (sym stands.hears.channels) short, tt)
 
 pub fits_now : (env : KeptEnvironment) (d : ℕ) (x : KeptDevice) (a : EnvironmentState) (number : ℕ) (deferred : Deferred) → StandsForEnvironment env a → slice_get env.devices d ≡ Some x → option_map (λ k. k.wait.link) (find (kept_due d) env.waits) ≡ Some number →
-    All (λ k. k.wait.link ≡ number → deferred ≡ k.deferred) env.waits → DeferredEndsWithin x deferred
+    All (λ k. k.wait.link ≡ number → deferred ≡ k.deferred) env.waits → CanComplete x deferred
 fits_now env d x a number deferred h kept due_link room =
     let s = due_state a.devices d number env.waits a.waiting h.1 due_link in
     let f = due_first env d s.0 a number deferred h s.1 due_link room in
-    subst (DeferredEndsWithin x) (sym f.is) (ends_now x s.0 f.waiter.deferred (stands_here env.devices env.waits a d x s.0 h kept s.1) f.near f.now)
+    subst (CanComplete x) (sym f.is) (can_complete x s.0 f.waiter.deferred (stands_here env.devices env.waits a d x s.0 h kept s.1) f.near f.short f.now)
 
 -- it completes, and its link goes on
 pub completes_link : (env env' : KeptEnvironment) (ds1 : List KeptDevice) (ks1 : List KeptDeferral) (l l1 l2 : LinkState) (number d : ℕ) (deferred : Deferred) (a : EnvironmentState) (s : DeviceState) (w : Deferral) → StandsForEnvironment env a → slice_get a.devices d ≡ Some s →

@@ -100,7 +100,7 @@ lines_set kept d x x' line f s device here is there e h =
     subst (λ xs. StandsFor (record kept { devices = slice_set kept.devices d x' }) (record s { devices = xs })) (sym devices_are)
     (record {
       devices = stands_set kept.devices s.devices d x' (record device { line = option_map f device.line }) h.devices one;
-      waiting = waits_set s.devices d device (record device { line = option_map f device.line }) kept.waits s.waiting there refl refl h.waiting;
+      waiting = waits_set s.devices d device (record device { line = option_map f device.line }) kept.waits s.waiting there refl refl refl h.waiting;
       links = h.links;
     })
 

@@ -6,4 +6,5 @@ pub mod LinkPhaseLemmas
 pub mod EventLemmas
 pub mod CompletionLemmas
 pub mod OpenBelowLemmas
+pub mod TickSizeLemmas
 pub mod TurnLemmas

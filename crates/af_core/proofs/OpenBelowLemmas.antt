@@ -38,9 +38,9 @@ OpensAs f s log t = open_links t.slots ≡ f (open_links s.slots)
 ticked_opens : (d n : ℕ) (o : Option DeviceState) (s : State) → Takes (tick_phase d n o s) (OpensAs (λ w. w) s)
 ticked_opens d n None s = λ log b e. absurd (none_some e)
 ticked_opens d n (Some device) s =
-    elim device.is_dead as (λ t. Takes (λ log. cond t (parsed (tick d (captured_samples device.ty n None) true s) log) (parse_then (parse_one (capture_by d n device) log) (after_capture d n device s))) (OpensAs (λ w. w) s)) [
-      | true ↦ takes_nothing (tick d (captured_samples device.ty n None) true s) (OpensAs (λ w. w) s) (tick-opens d (captured_samples device.ty n None) true s)
-      | false ↦ live_takes d n device s (OpensAs (λ w. w) s) (tick-opens d (captured_samples device.ty n None) true s) (λ bytes done size. tick-opens d (captured_samples device.ty n (Some bytes)) (not done) s)
+    elim device.is_dead as (λ t. Takes (λ log. cond t (parsed (tick d n (captured_samples device n None) true s) log) (parse_then (parse_one (capture_by d n device) log) (after_capture d n device s))) (OpensAs (λ w. w) s)) [
+      | true ↦ takes_nothing (tick d n (captured_samples device n None) true s) (OpensAs (λ w. w) s) (tick-opens d n (captured_samples device n None) true s)
+      | false ↦ live_takes d n device s (OpensAs (λ w. w) s) (tick-opens d n (captured_samples device n None) true s) (λ bytes done size. tick-opens d n (captured_samples device n (Some bytes)) (not done) s)
     ]
 
 line_opens : (change : LineChange) (d : ℕ) (o : Option DeviceState) (s : State) → Takes (line_phase change d o s) (OpensAs (λ w. w) s)

@@ -1,7 +1,8 @@
 -- A wake and then all links are a turn.
 use Rattle.std.proofs.Common.{◌≡◌, ℕ, zero, suc, Bool, ℤ, pos, true, false, not, cond, ◌==◌, ◌<◌, ◌≤◌, ◌+◌, ◌*◌, List, [], ◌∷◌, ◌++◌, length, map, take, get_or, slice_get, slice_set, replicate, is_some, IfSome, IsSomeAnd, refl, sym, ap, ◌∙◌, subst, arith, append_assoc, length-set}
-use Rattle.std.proofs.lemmas.List.{length-map, length-replicate, take_more}
+use Rattle.std.proofs.lemmas.List.{length-map, take_more}
 use Rattle.std.proofs.lemmas.List.Elements.{All-cons}
+use Rattle.std.proofs.Math.Nat.{mul_comm}
 use Rattle.std.specs.List.{All}
 use Rattle.std.specs.declared.option.Option.{Option}
 use Rattle.std.specs.declared.option.Option.TheVariants.{None, Some}
@@ -17,7 +18,8 @@ use Rattle.af_model.specs.State.{State, DeviceState, LinkState, Deferral, openin
 use Rattle.af_model.specs.Reply.{horizon_of}
 use Rattle.af_model.specs.Waiting.{due, AreDueLater}
 use Rattle.af_model.specs.NoLoss.{LosesNone}
-use Rattle.af_model.specs.Tick.{sound, tick, later, captured_samples, complete_due}
+use Rattle.af_model.specs.Controls.{through_output_control}
+use Rattle.af_model.specs.Tick.{next_sound, sound, tick, later, captured_samples, complete_due}
 use Rattle.af_model.specs.Turn.{Parsed, parsed, parse_then, parse_one, turn, fits, is_open_at, wake_phase, tick_phase, is_capture, capture_by, after_capture, emit_by, serve_and_hook, ready, writable, in_open, in_slot}
 use Rattle.af_model.specs.Run.{wakes}
 use Rattle.af_model.proofs.RunLemmas.{wakes-append-none}
@@ -27,13 +29,15 @@ use Rattle.af_state.specs.Kept.{KeptDevice, StandsForDevice, StandForDevices}
 use Rattle.af_state.specs.Deferrals.{KeptDeferral, has_waiting, kept_passed, waits_of, AreLater, StandForDeferrals}
 use Rattle.af_state.specs.Environment.{KeptEnvironment}
 use Rattle.af_core.specs.Stands.{AreOrderly, AreSettled, IsBetweenPhases, IsSettled, IsSettledSlot, Kept, Stands, StandsFor, StandForWaiting, Turns, kept_lines, kept_of, outline_of}
-use Rattle.af_sample.specs.SampleTypes.{width_of}
-use Rattle.af_sample.proofs.RunLemmas.{length-samples}
+use Rattle.af_sample.specs.Channels.{frame_count}
+use Rattle.af_sample.specs.Samples.{bytes_of, samples}
+use Rattle.af_sample.specs.SampleTypes.{frame_bytes}
 use Rattle.af_core.specs.Simulates.{Simulates}
 use Rattle.af_core.specs.Live.{Passes, Ticks, TicksLive}
 use Rattle.af_io.proofs.AppendedLemmas.{appended_none, appended_on}
 use Rattle.af_core.proofs.LinkPhaseLemmas.{settled_set}
 use Rattle.af_core.proofs.SimulationLemmas.{simulates_nothing}
+use Rattle.af_core.proofs.TickSizeLemmas.{are_frames}
 use Rattle.af_state.proofs.DeviceLemmas.{found, stands_length, stands_set}
 use Rattle.af_state.proofs.DeferralLemmas.{waits_passed}
 use Rattle.af_state.proofs.PlayLemmas.{horizon_bounds}
@@ -46,7 +50,7 @@ due_later devices (k ∷ ks) [] l h = absurd h
 due_later devices (k ∷ ks) (w ∷ waiting) l h =
     let some = l.0 in
     let left = h.0.left in
-    (subst (λ o. IfSome o (λ s. s.now < due (horizon_of s) w.deferred)) (sym h.0.here) (omega (arith, some, left)), due_later devices ks waiting l.1 h.1)
+    (subst (λ o. IfSome o (λ s. s.now < due s.channels (horizon_of s) w.deferred)) (sym h.0.here) (omega (arith, some, left)), due_later devices ks waiting l.1 h.1)
 
 -- what is shown of the links that wait stands for them
 pub shown : (devices : List DeviceState) (ks : List KeptDeferral) (waiting : List Deferral) → AreLater ks → StandForDeferrals devices ks waiting → StandForWaiting devices (waits_of ks) waiting
@@ -56,7 +60,7 @@ shown devices (k ∷ ks) [] l h = absurd h
 shown devices (k ∷ ks) (w ∷ waiting) l h =
     let some = l.0 in
     let left = h.0.left in
-    (h.0.link, h.0.device, subst (λ o. IsSomeAnd o (λ s. s.now + k.wait.left ≡ due (horizon_of s) w.deferred)) (sym h.0.here) (omega (arith, some, left)), shown devices ks waiting l.1 h.1)
+    (h.0.link, h.0.device, subst (λ o. IsSomeAnd o (λ s. s.now + k.wait.left ≡ due s.channels (horizon_of s) w.deferred)) (sym h.0.here) (omega (arith, some, left)), shown devices ks waiting l.1 h.1)
 
 pub all_wait : (ks : List KeptDeferral) → AreLater ks → All (λ w. 0 < w.left) (waits_of ks)
 all_wait [] l = λ k d low. absurd (omega arith)
@@ -221,8 +225,8 @@ wake_keeps env links k link d old one =
 -- Ticks
 
 -- a device that failed
-pub fails : (d : KeptDevice) (captured : List ℤ) (b : Bool) (s : DeviceState) → StandsForDevice d (later captured b s) → StandsForDevice (record d { is_dead = true }) (later captured true s)
-fails d captured b s h = record { ty = h.ty; rate = h.rate; listed = h.listed; ahead = h.ahead; back = h.back; hears = h.hears; keeps = h.keeps; whole = h.whole; controls = h.controls; line = h.line; dead = refl }
+pub fails : (d : KeptDevice) (n : ℕ) (captured : List ℤ) (b : Bool) (s : DeviceState) → StandsForDevice d (later n captured b s) → StandsForDevice (record d { is_dead = true }) (later n captured true s)
+fails d n captured b s h = record { ty = h.ty; rate = h.rate; listed = h.listed; ahead = h.ahead; back = h.back; hears = h.hears; keeps = h.keeps; whole = h.whole; controls = h.controls; line = h.line; dead = refl }
 
 -- what is kept when n frames of a device have passed
 abbrev pub passed_kept : ℕ → ℕ → KeptDevice → Kept → Kept
@@ -232,17 +236,17 @@ passed_kept k n d kept = record kept { devices = slice_set kept.devices k d; wai
 record Passed (k n : ℕ) (kept : Kept) (d' : KeptDevice) (part : Log) (s : State) : Type 0 where
   captured : List ℤ
   is_dead : Bool
-  stands : StandsFor (passed_kept k n d' kept) (record s { devices = with_device k (later captured is_dead) s.devices })
-  same : (more : Log) → wake_phase (Ticked k n) s (part ++ more) ≡ parsed (tick k captured is_dead s) more
+  stands : StandsFor (passed_kept k n d' kept) (record s { devices = with_device k (later n captured is_dead) s.devices })
+  same : (more : Log) → wake_phase (Ticked k n) s (part ++ more) ≡ parsed (tick k n captured is_dead s) more
 
 -- a device has passed over sample periods, and those that wait for it have
 passed_on : (k n : ℕ) (kept : Kept) (d d' : KeptDevice) (s : State) (captured : List ℤ) (is_dead : Bool) (device : DeviceState) → n ≤ 4096 → AreLater kept.waits → StandsFor kept s →
-    slice_get s.devices k ≡ Some device → StandsForDevice d device → length captured ≡ n → StandsForDevice d' (later captured is_dead device) →
-    StandsFor (passed_kept k n d' kept) (record s { devices = with_device k (later captured is_dead) s.devices })
-passed_on k n kept d d' s captured is_dead device few l h here stands size one = record {
-  devices = subst (λ o. StandForDevices (slice_set kept.devices k d') (device_set k (later captured is_dead) s.devices o)) (sym here) (stands_set kept.devices s.devices k d' (later captured is_dead device) h.devices one);
-  waiting = subst (λ o. StandForDeferrals (device_set k (later captured is_dead) s.devices o) (map (kept_passed k n) kept.waits) s.waiting) (sym here)
-      (waits_passed s.devices k n device captured is_dead kept.waits s.waiting here size few (horizon_bounds device d stands).0 l h.waiting);
+    slice_get s.devices k ≡ Some device → StandsForDevice d device → StandsForDevice d' (later n captured is_dead device) →
+    StandsFor (passed_kept k n d' kept) (record s { devices = with_device k (later n captured is_dead) s.devices })
+passed_on k n kept d d' s captured is_dead device few l h here stands one = record {
+  devices = subst (λ o. StandForDevices (slice_set kept.devices k d') (device_set k (later n captured is_dead) s.devices o)) (sym here) (stands_set kept.devices s.devices k d' (later n captured is_dead device) h.devices one);
+  waiting = subst (λ o. StandForDeferrals (device_set k (later n captured is_dead) s.devices o) (map (kept_passed k n) kept.waits) s.waiting) (sym here)
+      (waits_passed s.devices k n device captured is_dead kept.waits s.waiting here few (horizon_bounds device d stands).0 l h.waiting);
   links = h.links;
 }
 
@@ -252,16 +256,15 @@ passes_dead : (k n : ℕ) (kept : Kept) (d d' : KeptDevice) (given : List ℕ) �
 unfolding wake_phase
 passes_dead k n kept d d' given few l here dead p s h =
     let r = found kept.devices s.devices k d here h.devices in
-    let silent = captured_samples r.state.ty n None in
-    let gone : StandsForDevice d' (later silent true r.state) =
-    subst (λ b. StandsForDevice d' (later silent b r.state)) (sym r.stands.dead ∙ dead) (subst (λ ty. StandsForDevice d' (later (captured_samples ty n None) r.state.is_dead r.state)) r.stands.ty (p.stands r.state r.stands)) in
+    let silent = captured_samples r.state n None in
+    let gone : StandsForDevice d' (later n silent true r.state) = subst (λ b. StandsForDevice d' (later n silent b r.state)) (sym r.stands.dead ∙ dead) (p.stands r.state r.stands) in
     record {
       captured = silent;
       is_dead = true;
-      stands = passed_on k n kept d d' s silent true r.state few l h r.here r.stands (length-replicate n (pos 0)) gone;
+      stands = passed_on k n kept d d' s silent true r.state few l h r.here r.stands gone;
       same = λ more.
-          subst (λ o. tick_phase k n o s more ≡ parsed (tick k silent true s) more) (sym r.here)
-          (ap (λ b. cond b (parsed (tick k silent true s) more) (parse_then (parse_one (capture_by k n r.state) more) (after_capture k n r.state s))) (sym r.stands.dead ∙ dead));
+          subst (λ o. tick_phase k n o s more ≡ parsed (tick k n silent true s) more) (sym r.here)
+          (ap (λ b. cond b (parsed (tick k n silent true s) more) (parse_then (parse_one (capture_by k n r.state) more) (after_capture k n r.state s))) (sym r.stands.dead ∙ dead));
     }
 
 -- a live device
@@ -271,12 +274,12 @@ unfolding wake_phase
 passes_live a b k n kept d d' few l here live t s h =
     let r = found kept.devices s.devices k d here h.devices in
     record {
-      captured = t.captured;
+      captured = captured_samples r.state n t.came;
       is_dead = t.is_dead;
-      stands = passed_on k n kept d d' s t.captured t.is_dead r.state few l h r.here r.stands t.size (t.stands r.state r.stands);
+      stands = passed_on k n kept d d' s (captured_samples r.state n t.came) t.is_dead r.state few l h r.here r.stands (t.stands r.state r.stands);
       same = λ more.
-          subst (λ o. tick_phase k n o s (t.part ++ more) ≡ parsed (tick k t.captured t.is_dead s) more) (sym r.here)
-          (ap (λ b. cond b (parsed (tick k (captured_samples r.state.ty n None) true s) (t.part ++ more)) (parse_then (parse_one (capture_by k n r.state) (t.part ++ more)) (after_capture k n r.state s))) (sym r.stands.dead ∙ live)
+          subst (λ o. tick_phase k n o s (t.part ++ more) ≡ parsed (tick k n (captured_samples r.state n t.came) t.is_dead s) more) (sym r.here)
+          (ap (λ b. cond b (parsed (tick k n (captured_samples r.state n None) true s) (t.part ++ more)) (parse_then (parse_one (capture_by k n r.state) (t.part ++ more)) (after_capture k n r.state s))) (sym r.stands.dead ∙ live)
           ∙ t.goes r.state r.stands s more);
     }
 
@@ -298,7 +301,7 @@ passes_all a b k n kept d d' few l here t =
 pub passed_state : (a b : Option Log) (k n : ℕ) (kept : Kept) (d d' : KeptDevice) → n ≤ 4096 → AreLater kept.waits → slice_get kept.devices k ≡ Some d → Ticks d.is_dead k n d d' a b →
     ((s : State) × StandsFor kept s) → (s : State) × StandsFor (passed_kept k n d' kept) s
 passed_state a b k n kept d d' few l here t h =
-    let p = (passes_all a b k n kept d d' few l here t).each h.0 h.1 in (record h.0 { devices = with_device k (later p.captured p.is_dead) h.0.devices }, p.stands)
+    let p = (passes_all a b k n kept d d' few l here t).each h.0 h.1 in (record h.0 { devices = with_device k (later n p.captured p.is_dead) h.0.devices }, p.stands)
 
 -- a tick, behind which requests complete
 pub ticks : (a b : Option Log) (k n : ℕ) (kept kept' : Kept) (d d' : KeptDevice) → n ≤ 4096 → AreLater kept.waits → slice_get kept.devices k ≡ Some d → Ticks d.is_dead k n d d' a b →
@@ -311,15 +314,35 @@ ticks a b k n kept kept' d d' few l here t complete =
       quiet = all.quiet;
       each = λ s h.
           let p = all.each s h in
-          record { state = tick k p.captured p.is_dead s; stands = complete (record s { devices = with_device k (later p.captured p.is_dead) s.devices }) p.stands; same = p.same };
+          record { state = tick k n p.captured p.is_dead s; stands = complete (record s { devices = with_device k (later n p.captured p.is_dead) s.devices }) p.stands; same = p.same };
     }
+
+-- what the samples are that come to a device
+came_samples : (came : Bool) (n m : ℕ) (bytes : List ℕ) (xs : List ℤ) (s : DeviceState) → m ≡ n * s.channels → xs ≡ cond came (samples s.ty bytes) (replicate m (pos 0)) → xs ≡ captured_samples s n (cond came (Some bytes) None)
+came_samples true n m bytes xs s all is = is
+came_samples false n m bytes xs s all is = is ∙ ap (λ k. replicate k (pos 0)) (all ∙ mul_comm n s.channels)
+
+-- a device that took them in, and the sound that it gave, behind n frames
+pub passes_by : (came : Bool) (n m : ℕ) (d d' : KeptDevice) (bytes given : List ℕ) (xs sound : List ℤ) → m ≡ n * d.next.channels → length xs ≡ m → xs ≡ cond came (samples d.ty bytes) (replicate m (pos 0)) → given ≡ bytes_of d.ty sound →
+    ((s : DeviceState) → StandsForDevice d s → StandsForDevice d' (later (frame_count s.channels xs) xs s.is_dead s)) →
+    ((s : DeviceState) → StandsForDevice d s → sound ≡ through_output_control s.controls (next_sound s (frame_count s.channels xs))) → Passes d d' n (cond came (Some bytes) None) given
+passes_by came n m d d' bytes given xs sound all size is told stands hands = record {
+  stands = λ s h.
+      let all' = all ∙ ap (λ c. n * c) h.hears.channels in
+      let frames = are_frames xs n s.channels (size ∙ all') h.hears.count in
+      let came_in = came_samples came n m bytes xs s all' (is ∙ ap (λ ty. cond came (samples ty bytes) (replicate m (pos 0))) h.ty) in
+      subst (λ ys. StandsForDevice d' (later n ys s.is_dead s)) came_in (subst (λ k. StandsForDevice d' (later k xs s.is_dead s)) frames (stands s h));
+  gives = λ s h.
+      let frames = are_frames xs n s.channels (size ∙ all ∙ ap (λ c. n * c) h.hears.channels) h.hears.count in
+      told ∙ ap (λ ty. bytes_of ty sound) h.ty ∙ ap (bytes_of s.ty) (hands s h ∙ ap (λ k. through_output_control s.controls (next_sound s k)) frames);
+}
 
 -- what a live device does by its calls
 
 capture_taken : (k n : ℕ) (device : DeviceState) (got : Option (List ℕ)) → is_capture n device got ≡ true → (log : Log) → parse_one (capture_by k n device) (Captured k n got ∷ log) ≡ parsed got log
 capture_taken k n device got fits log = rw (eq-refl k, eq-refl n, fits)
 
-emit_taken : (k n : ℕ) (device : DeviceState) (captured : List ℤ) (s : State) (done : Bool) (log : Log) → parse_one (emit_by k n device captured s) (Emitted k (sound device n) done ∷ log) ≡ parsed (tick k captured (not done) s) log
+emit_taken : (k n : ℕ) (device : DeviceState) (captured : List ℤ) (s : State) (done : Bool) (log : Log) → parse_one (emit_by k n device captured s) (Emitted k (sound device n) done ∷ log) ≡ parsed (tick k n captured (not done) s) log
 emit_taken k n device captured s done log = rw (eq-refl k, same_bytes-refl (sound device n))
 
 pub capture_failed : (a b : Option Log) (k n : ℕ) (d d' e : KeptDevice) (came : Bool) (bytes given : List ℕ) → came ≡ false → Passes d d' n (cond came (Some bytes) None) given →
@@ -329,48 +352,46 @@ capture_failed a b k n d d' e false bytes given f p told is = record {
   part = Captured k n None ∷ [];
   told = told;
   quiet = refl;
-  captured = captured_samples d.ty n None;
-  size = length-replicate n (pos 0);
+  came = None;
   is_dead = true;
-  stands = λ device h. subst (λ x. StandsForDevice x (later (captured_samples d.ty n None) true device)) (sym is) (fails d' (captured_samples d.ty n None) device.is_dead device (p.stands device h));
+  stands = λ device h. subst (λ x. StandsForDevice x (later n (captured_samples device n None) true device)) (sym is) (fails d' n (captured_samples device n None) device.is_dead device (p.stands device h));
   goes = λ device h s more. ap (λ x. parse_then x (after_capture k n device s)) (capture_taken k n device None refl more);
 }
 
 -- the bytes that came fit, and the sound that is handed out is the one
-capture_emitted : (a b c : Option Log) (k n : ℕ) (d d' e : KeptDevice) (bytes given : List ℕ) (done : Bool) → length bytes ≡ n * width_of d.ty → Passes d d' n (Some bytes) given →
+capture_emitted : (a b c : Option Log) (k n : ℕ) (d d' e : KeptDevice) (bytes given : List ℕ) (done : Bool) → length bytes ≡ n * frame_bytes d.ty d.next.channels → Passes d d' n (Some bytes) given →
     Appended a (Captured k n (Some bytes) ∷ []) b → Appended b (Emitted k given done ∷ []) c →
-    ((device : DeviceState) → StandsForDevice d device → StandsForDevice e (later (captured_samples d.ty n (Some bytes)) (not done) device)) → TicksLive k n d e a c
+    ((device : DeviceState) → StandsForDevice d device → StandsForDevice e (later n (captured_samples device n (Some bytes)) (not done) device)) → TicksLive k n d e a c
 capture_emitted a b c k n d d' e bytes given done size p told told' stands = record {
   part = Captured k n (Some bytes) ∷ Emitted k given done ∷ [];
   told = appended_on a b c (Captured k n (Some bytes) ∷ []) (Emitted k given done ∷ []) told told';
   quiet = refl;
-  captured = captured_samples d.ty n (Some bytes);
-  size = length-samples d.ty bytes n size;
+  came = Some bytes;
   is_dead = not done;
   stands = stands;
   goes = λ device h s more.
-      let fits : is_capture n device (Some bytes) ≡ true = ap (λ m. m == n * width_of device.ty) (size ∙ ap (λ t. n * width_of t) h.ty) ∙ eq-refl (n * width_of device.ty) in
+      let same : n * frame_bytes d.ty d.next.channels ≡ n * frame_bytes device.ty device.channels = ap (λ t. n * frame_bytes t d.next.channels) h.ty ∙ ap (λ c. n * frame_bytes device.ty c) h.hears.channels in
+      let fits : is_capture n device (Some bytes) ≡ true = ap (λ m. m == n * frame_bytes device.ty device.channels) (size ∙ same) ∙ eq-refl (n * frame_bytes device.ty device.channels) in
       ap (λ x. parse_then x (after_capture k n device s)) (capture_taken k n device (Some bytes) fits (Emitted k given done ∷ more))
-      ∙ ap (λ g. parse_one (emit_by k n device (captured_samples device.ty n (Some bytes)) s) (Emitted k g done ∷ more)) (p.gives device h)
-      ∙ emit_taken k n device (captured_samples device.ty n (Some bytes)) s done more
-      ∙ ap (λ ty. parsed (tick k (captured_samples ty n (Some bytes)) (not done) s) more) (sym h.ty);
+      ∙ ap (λ g. parse_one (emit_by k n device (captured_samples device n (Some bytes)) s) (Emitted k g done ∷ more)) (p.gives device h)
+      ∙ emit_taken k n device (captured_samples device n (Some bytes)) s done more;
 }
 
-pub emit_failed : (a b c : Option Log) (k n : ℕ) (d d' e : KeptDevice) (came done : Bool) (bytes given : List ℕ) → came ≡ true → done ≡ false → length bytes ≡ n * width_of d.ty → Passes d d' n (cond came (Some bytes) None) given →
+pub emit_failed : (a b c : Option Log) (k n : ℕ) (d d' e : KeptDevice) (came done : Bool) (bytes given : List ℕ) → came ≡ true → done ≡ false → length bytes ≡ n * frame_bytes d.ty d.next.channels → Passes d d' n (cond came (Some bytes) None) given →
     Appended a (Captured k n (cond came (Some bytes) None) ∷ []) b → Appended b (Emitted k given done ∷ []) c → e ≡ record d' { is_dead = true } → TicksLive k n d e a c
 emit_failed a b c k n d d' e false done bytes given t f size p told told' is = absurd cc
 emit_failed a b c k n d d' e true true bytes given t f size p told told' is = absurd cc
 emit_failed a b c k n d d' e true false bytes given t f size p told told' is =
     capture_emitted a b c k n d d' e bytes given false size p told told'
-    (λ device h. subst (λ x. StandsForDevice x (later (captured_samples d.ty n (Some bytes)) true device)) (sym is) (fails d' (captured_samples d.ty n (Some bytes)) device.is_dead device (p.stands device h)))
+    (λ device h. subst (λ x. StandsForDevice x (later n (captured_samples device n (Some bytes)) true device)) (sym is) (fails d' n (captured_samples device n (Some bytes)) device.is_dead device (p.stands device h)))
 
-pub emit_done : (a b c : Option Log) (k n : ℕ) (d d' : KeptDevice) (came done : Bool) (bytes given : List ℕ) → came ≡ true → done ≡ true → d.is_dead ≡ false → length bytes ≡ n * width_of d.ty → Passes d d' n (cond came (Some bytes) None) given →
+pub emit_done : (a b c : Option Log) (k n : ℕ) (d d' : KeptDevice) (came done : Bool) (bytes given : List ℕ) → came ≡ true → done ≡ true → d.is_dead ≡ false → length bytes ≡ n * frame_bytes d.ty d.next.channels → Passes d d' n (cond came (Some bytes) None) given →
     Appended a (Captured k n (cond came (Some bytes) None) ∷ []) b → Appended b (Emitted k given done ∷ []) c → TicksLive k n d d' a c
 emit_done a b c k n d d' false done bytes given t f live size p told told' = absurd cc
 emit_done a b c k n d d' true false bytes given t f live size p told told' = absurd cc
 emit_done a b c k n d d' true true bytes given t f live size p told told' =
     capture_emitted a b c k n d d' d' bytes given true size p told told'
-    (λ device h. subst (λ b. StandsForDevice d' (later (captured_samples d.ty n (Some bytes)) b device)) (sym h.dead ∙ live) (p.stands device h))
+    (λ device h. subst (λ b. StandsForDevice d' (later n (captured_samples device n (Some bytes)) b device)) (sym h.dead ∙ live) (p.stands device h))
 
 -- Starts
 

@@ -1,5 +1,5 @@
 -- What a live device adds to a log when it ticks.
-use Rattle.std.specs.Prelude.{◌≡◌, ◌≤◌, ℕ, ℤ, Bool, List, ◌++◌, length, true, false}
+use Rattle.std.specs.Prelude.{◌≡◌, ◌≤◌, ℕ, Bool, List, ◌++◌, true, false}
 use Rattle.std.specs.declared.option.Option.{Option}
 use Rattle.std.specs.declared.option.Option.TheVariants.{None}
 use Rattle.af_io.specs.Observed.{Appended}
@@ -17,21 +17,20 @@ IsTick t = (1 ≤ t.frames) × (t.frames ≤ 4096)
 
 -- n sample periods of a device went by in which these bytes came, or none, and this sound is handed out
 pub record Passes (old new : KeptDevice) (n : ℕ) (came : Option (List ℕ)) (given : List ℕ) : Type 0 where
-  pub stands : (device : DeviceState) → StandsForDevice old device → StandsForDevice new (later (captured_samples old.ty n came) device.is_dead device)
+  pub stands : (device : DeviceState) → StandsForDevice old device → StandsForDevice new (later n (captured_samples device n came) device.is_dead device)
   pub gives : (device : DeviceState) → StandsForDevice old device → given ≡ sound device n
 
--- One part was added to the log: a capture of device d in n sample periods and, if that was done, an emit of its sound.
--- The device has passed over these, and is dead behind them or not.
+-- One part was added to the log: a capture of device d in n sample periods, in which these bytes came or none, and, if that was
+-- done, an emit of its sound. The device has passed over these periods, and is dead behind them or not.
 pub record TicksLive (d n : ℕ) (old new : KeptDevice) (before after : Option Log) : Type 0 where
   pub part : Log
   pub told : Appended before part after
   pub quiet : wakes part ≡ 0
-  pub captured : List ℤ
-  pub size : length captured ≡ n
+  pub came : Option (List ℕ)
   pub is_dead : Bool
-  pub stands : (device : DeviceState) → StandsForDevice old device → StandsForDevice new (later captured is_dead device)
+  pub stands : (device : DeviceState) → StandsForDevice old device → StandsForDevice new (later n (captured_samples device n came) is_dead device)
   pub goes : (device : DeviceState) → StandsForDevice old device → (s : State) (more : Log) →
-      parse_then (parse_one (capture_by d n device) (part ++ more)) (after_capture d n device s) ≡ parsed (tick d captured is_dead s) more
+      parse_then (parse_one (capture_by d n device) (part ++ more)) (after_capture d n device s) ≡ parsed (tick d n (captured_samples device n came) is_dead s) more
 
 -- A dead device has passed over silence and nothing was added to the log, and a live one has made its calls.
 abbrev pub Ticks : Bool → ℕ → ℕ → KeptDevice → KeptDevice → Option Log → Option Log → Type 0

@@ -155,7 +155,7 @@ StandForWaiting devices [] [] = Unit {0}
 StandForWaiting devices [] (w ∷ waiting) = ⊥
 StandForWaiting devices (k ∷ shown) [] = ⊥
 StandForWaiting devices (k ∷ shown) (w ∷ waiting) =
-    (k.link ≡ w.link) × (k.device ≡ w.device) × IsSomeAnd (slice_get devices w.device) (λ s. s.now + k.left ≡ due (horizon_of s) w.deferred) × StandForWaiting devices shown waiting
+    (k.link ≡ w.link) × (k.device ≡ w.device) × IsSomeAnd (slice_get devices w.device) (λ s. s.now + k.left ≡ due s.channels (horizon_of s) w.deferred) × StandForWaiting devices shown waiting
 
 -- from a state, the part is one turn, to a state that the core stands for then, in which no request that had waited has lost a
 -- sample

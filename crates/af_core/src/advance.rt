@@ -13,7 +13,7 @@ ghost use Rattle.af_state.specs.Deferrals.{has_waiting, OnlyQueues};
 ghost use Rattle.af_state.specs.Environment.{StepsLink, MayAsk};
 ghost use Rattle.af_core.specs.Stands.{IsSettled, Advances};
 ghost use Rattle.af_wire.specs.Sizes.{longest_frame, longest_message};
-ghost use Rattle.af_world.specs.Sizes.{longest_read};
+ghost use Rattle.af_state.specs.Sizes.{longest_capture};
 ghost use Rattle.af_model.specs.Sizes.{most_to_send, event_limit};
 
 use af_perform::perform;
@@ -116,7 +116,7 @@ fn frame_once(
     work: &mut Work,
 ) -> bool
     requires asks { MayAsk number environment.old link.old }
-    requires size { length input.old ≡ longest_read }
+    requires size { length input.old ≡ longest_capture }
     ensures step { Advances result (after_frame number (frame_front link.old.rest))
         environment.old link.old environment.new link.new }
     ensures same { IsFalse result → (environment.new ≡ environment.old) × (link.new ≡ link.old) }

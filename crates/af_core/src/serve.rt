@@ -14,6 +14,9 @@ use crate::events::drop_link;
 use af_state::{Environment, Scratch, ServedLink};
 use af_world::{LinkGot, LinkTook, Why, World};
 
+// As much as one read of a link gives, in bytes.
+const LONGEST_READ: usize = 16384;
+
 // One read, if the link is to be read.
 fn read_link<W: World>(
     number: u8,
@@ -31,7 +34,7 @@ fn read_link<W: World>(
     if !link.wants_read(environment.waits.is_waiting(number)) {
         return;
     }
-    let input: &mut [u8] = &mut scratch.input;
+    let (input, _) = scratch.input.split_at_mut(LONGEST_READ);
     match world.read(number, input) {
         LinkGot::Bytes(n) => {
             link.take_in(&input[..n]);

@@ -1,6 +1,7 @@
 // The core: all that the server keeps, and one turn.
 ghost use Rattle.std.specs.Prelude.{◌≡◌, ◌≤◌, ◌<◌, ◌↔◌, ℕ, List, length, map, slice_get, All, IfOk, IsNone, IsTrue, IsSomeAnd, MatchOption, is_some, replicate};
 ghost use Rattle.std.specs.declared.option.Option.TheVariants.{None, Some};
+ghost use Rattle.af_sample.specs.Channels.{IsChannelCount};
 ghost use Rattle.af_sample.specs.Rates.{IsListedRate};
 ghost use Rattle.af_buffers.specs.PlayBuffer.{Next, Hears};
 ghost use Rattle.af_buffers.specs.RecordBuffer.{Last, Keeps};
@@ -51,6 +52,7 @@ impl Model for Core {
 // The devices at their starts.
 fn start_devices(alloc: Global, config: &[DeviceSpec]) -> Result<Vec<Device>, OutOfMemory>
     requires rates { All (λ d. IsListedRate d.rate) config.now }
+    requires channels { All (λ d. IsChannelCount d.channels) config.now }
     ensures stands { IfOk result (λ devices. StandForDevices devices.items (opening config.now).devices) }
     ensures count { IfOk result (λ devices. length devices.items ≡ length config.now) }
 {
@@ -166,9 +168,10 @@ fn turn_parts<W: World>(
 
 impl Core {
     /// A core where no link is open, and each device stands at its start. All memory of all links and devices is taken
-    /// here. There are 1 to 8 devices, of listed rates.
+    /// here. There are 1 to 8 devices, of listed rates and with one or two channels each.
     pub fn new(alloc: Global, config: &Config) -> Result<Core, OutOfMemory>
         requires rates { All (λ d. IsListedRate d.rate) config.now.items }
+        requires channels { All (λ d. IsChannelCount d.channels) config.now.items }
         ensures { IfOk result (λ core. Stands core (opening config.now.items)) }
     {
         let devices = start_devices(alloc, config.as_slice())?;
@@ -211,22 +214,22 @@ impl Core {
         any_wants(&self.environment.waits, &self.slots, self.open_below)
     }
 
-    /// The samples next of a device, which is there: what is heard of all accepted plays from its time on.
+    /// The frames next of a device, which is there: what is heard of all accepted plays from its time on.
     pub fn play_buffer(&self, device: u8) -> &PlayBuffer
         requires { device < length self.now.devices }
         ensures kept { slice_get (map {B = Next} (λ d. d.next) self.now.devices) device ≡ Some result.now }
         ensures hears { (s : State) → Stands self.now s →
-            IsSomeAnd (slice_get s.devices device) (λ d. Hears result.now d.accepted d.now) }
+            IsSomeAnd (slice_get s.devices device) (λ d. Hears result.now d.channels d.accepted d.now) }
     {
         self.environment.devices[usize::from(device)].next()
     }
 
-    /// The last samples of a device, which is there: what was captured up to its time.
+    /// The last frames of a device, which is there: what was captured up to its time.
     pub fn record_buffer(&self, device: u8) -> &RecordBuffer
         requires { device < length self.now.devices }
         ensures kept { slice_get (map {B = Last} (λ d. d.last) self.now.devices) device ≡ Some result.now }
         ensures keeps { (s : State) → Stands self.now s →
-            IsSomeAnd (slice_get s.devices device) (λ d. Keeps result.now d.captured d.begin d.now) }
+            IsSomeAnd (slice_get s.devices device) (λ d. Keeps result.now d.channels d.captured d.begin d.now) }
     {
         self.environment.devices[usize::from(device)].last()
     }

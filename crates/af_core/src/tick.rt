@@ -1,16 +1,16 @@
 // Sample periods of a device go by: it captures, hands its sound out, and its time rises.
 ghost use Rattle.std.specs.Prelude.{◌≡◌, ◌≤◌, ◌<◌, ◌*◌, [], ◌∷◌, List, length, pos, replicate, if◌then◌else◌, false};
 ghost use Rattle.std.specs.declared.option.Option.TheVariants.{None, Some};
-ghost use Rattle.af_sample.specs.SampleTypes.{width_of};
+ghost use Rattle.af_sample.specs.SampleTypes.{frame_bytes, width_of};
+ghost use Rattle.af_sample.specs.Samples.{samples as samples_of};
 ghost use Rattle.af_world.specs.declared.happening.Happening.TheVariants.{Captured, Emitted};
 ghost use Rattle.af_world.specs.declared.happening.Wake.TheVariants.{Ticked};
 ghost use Rattle.af_io.specs.Observed.{Appended};
-ghost use Rattle.af_model.specs.Tick.{captured_samples};
 ghost use Rattle.af_model.specs.Turn.{parsed, wake_phase};
 ghost use Rattle.af_core.specs.Simulates.{Simulates};
 ghost use Rattle.af_core.specs.Live.{IsTick, Passes, Ticks, TicksLive};
 ghost use Rattle.af_core.specs.Stands.{IsBetweenPhases, StandsFor, kept_of};
-ghost use Rattle.af_world.specs.Sizes.{longest_read};
+ghost use Rattle.af_state.specs.Sizes.{longest_capture};
 
 use crate::complete::complete_due;
 use crate::slot::Slot;
@@ -21,6 +21,9 @@ use af_world::World;
 
 /// How many frames a tick may have.
 pub const TICK_FRAMES: u32 = 4096;
+
+// How many samples these are of a device with two channels.
+const MOST_SAMPLES: usize = 8192;
 
 /// A tick of a device, by its number: so many sample periods go by.
 #[derive(Clone, Copy, Debug)]
@@ -45,7 +48,7 @@ fn capture<W: World>(tick: DeviceTick, bytes: &mut [u8], world: &mut W) -> bool
 // What comes to a device: the samples of the bytes that came, or silence where none did.
 fn captured(came: bool, ty: SampleType, bytes: &[u8], samples: &mut [i16])
     requires { length bytes.now ≡ length samples.old * width_of ty }
-    ensures { samples.new ≡ captured_samples ty (length samples.old) (if came then Some bytes.now else None) }
+    ensures { samples.new ≡ (if came then samples_of ty bytes.now else replicate (length samples.old) (pos 0)) }
 {
     if came {
         convert_in(ty, bytes, samples);
@@ -69,13 +72,14 @@ fn emit<W: World>(number: u8, sound: &[u8], world: &mut W) -> bool
 // The sample periods of a device go by. It captured what came, and its sound comes to stand in the bytes.
 fn pass(came: bool, frames: u32, device: &mut Device, bytes: &mut [u8], work: &mut Work)
     requires bound { frames ≤ 4096 }
-    requires size { length bytes.old ≡ frames * width_of device.old.ty }
+    requires size { length bytes.old ≡ frames * frame_bytes device.old.ty device.old.next.channels }
     ensures passes { Passes device.old device.new frames (if came then Some bytes.old else None) bytes.new }
 {
     let ty = device.ty();
-    let (before, after) = work.samples.split_at_mut(4096);
-    let samples = &mut before[..frames as usize];
-    let sound = &mut after[..frames as usize];
+    let count = frames as usize * usize::from(device.channels());
+    let (before, after) = work.samples.split_at_mut(MOST_SAMPLES);
+    let samples = &mut before[..count];
+    let sound = &mut after[..count];
     captured(came, ty, bytes, samples);
     device.pass(samples, sound);
     convert_out(ty, sound, bytes);
@@ -89,8 +93,9 @@ fn tick_live<W: World>(
     work: &mut Work,
     world: &mut W,
 )
-    requires tick { IsTick tick }
-    requires size { length bytes.old ≡ tick.frames * width_of device.old.ty }
+    requires some { 0 < length bytes.old }
+    requires size { length bytes.old ≡ tick.frames * frame_bytes device.old.ty device.old.next.channels }
+    requires few { tick.frames ≤ 4096 }
     requires alive { device.old.is_dead ≡ false }
     ensures ticks { TicksLive tick.device tick.frames device.old device.new (W.log world.old) (W.log world.new) }
     ensures leads { W.leads_to world.old world.new }
@@ -115,11 +120,11 @@ fn tick_device<W: World>(
     world: &mut W,
 )
     requires tick { IsTick tick }
-    requires size { length input.old ≡ longest_read }
+    requires size { length input.old ≡ longest_capture }
     ensures ticks { Ticks device.old.is_dead tick.device tick.frames device.old device.new (W.log world.old) (W.log world.new) }
     ensures leads { W.leads_to world.old world.new }
 {
-    let size = tick.frames as usize * device.ty().width();
+    let size = tick.frames as usize * device.ty().frame_bytes(device.channels());
     let bytes = &mut input[..size];
     if device.is_dead() {
         pass(false, tick.frames, device, bytes, work);

@@ -23,7 +23,7 @@ use Rattle.af_model.specs.Run.{end_state, IsRun}
 use Rattle.af_laws.specs.Without.{acted_on, without}
 
 abbrev config : List DeviceSpec
-config = record { ty = Lin16; rate = 8000; start = 0; line = true } ∷ []
+config = record { ty = Lin16; rate = 8000; start = 0; channels = 1; line = true } ∷ []
 
 abbrev setup : List ℕ
 setup = 0x41 ∷ 0x46 ∷ 0x42 ∷ 0 ∷ 0 ∷ 1 ∷ 0 ∷ 0 ∷ []

@@ -34,7 +34,7 @@ use Rattle.af_model.specs.ContextRequests.{creation_refusal, described, create, 
 use Rattle.af_model.specs.DeviceRequests.{controlling, controls_refusal, on_line, select, set_device_controls, switch_hook, switch_refusal, tell_controls, tell_phone, wanting_hook}
 use Rattle.af_model.specs.Play.{play, play_refusal, start_play, tell_played, accepting, entry_now, in_devices, frames_of, frames_within_horizon, sent_sound}
 use Rattle.af_model.specs.Record.{record_sound, record_refusal, recorded_bytes, start_record, give_record, given_frames, is_to_wait}
-use Rattle.af_model.specs.Perform.{done, perform, request_counted, tell_time, in_context}
+use Rattle.af_model.specs.Perform.{channels_at, done, perform, request_counted, tell_time, in_context}
 use Rattle.af_model.specs.Events.{dropped, mask_of, tell_link, tell_selected, without_waiter}
 use Rattle.af_model.specs.Advance.{advance, advance_by, advance_step, absorb, after_frame, after_front, after_setup, or_else, requested, takes_more, without_front}
 use Rattle.af_model.specs.Tick.{answer_deferred, complete_for, completing}
@@ -63,6 +63,14 @@ device_at_without k devices d = slice_get-map (device_without k) devices d
 pub devices_count : (k : ℕ) (devices : List DeviceState) → length (map (device_without k) devices) ≡ length devices
 devices_count k [] = refl
 devices_count k (device ∷ devices) = ap suc (devices_count k devices)
+
+-- the channels of each are the same
+channels_without : (k : ℕ) (devices : List DeviceState) (d : ℕ) → channels_at (map (device_without k) devices) d ≡ channels_at devices d
+channels_without k devices d = ap (option_map (λ device. device.channels)) (device_at_without k devices d) ∙ same (slice_get devices d)
+  where
+    same : (o : Option DeviceState) → option_map (λ device. device.channels) (option_map (device_without k) o) ≡ option_map (λ device. device.channels) o
+    same None = refl
+    same (Some device) = refl
 
 -- what a setup is told of the devices
 pub infos_without : (k : ℕ) (devices : List DeviceState) → infos_of (map (device_without k) devices) ≡ infos_of devices
@@ -179,8 +187,8 @@ module _ (k j : ℕ) (other : (j == k) ≡ false) (p : OpenLink) where
   play_same : (quiet : Bool) (c : Context) (time : ℕ) (bytes : List ℕ) (device : DeviceState) → play j quiet c time bytes (device_without k device) (open_without k p) ≡ open_without k (play j quiet c time bytes device p)
   play_same quiet c time bytes device =
       let f = accepting j (entry_now c device time bytes) in
-      refused_same k p 6 (play_refusal c (length bytes)) (start_play j quiet c time bytes device)
-      (either_same k p (nat_le (frames_of c (length bytes)) (frames_within_horizon device time)) (λ q. tell_played quiet device (in_devices c.device f q)) (wait j c.device (deferred_play quiet (unwrap device.now time) (sent_sound c bytes) c.preempt))
+      refused_same k p 6 (play_refusal device.channels c (length bytes)) (start_play j quiet c time bytes device)
+      (either_same k p (nat_le (frames_of device.channels c (length bytes)) (frames_within_horizon device time)) (λ q. tell_played quiet device (in_devices c.device f q)) (wait j c.device (deferred_play quiet (unwrap device.now time) (sent_sound c bytes) c.preempt))
       (ap (tell_played quiet device) (in_devices_without k c.device f (λ device. refl) p) ∙ played_without k quiet device (in_devices c.device f p))
       (wait_without k j other c.device (deferred_play quiet (unwrap device.now time) (sent_sound c bytes) c.preempt) p))
 
@@ -188,10 +196,10 @@ module _ (k j : ℕ) (other : (j == k) ≡ false) (p : OpenLink) where
   record_same : (blocking : Bool) (c : Context) (time bytes : ℕ) (device : DeviceState) → record_sound j blocking c time bytes (device_without k device) (open_without k p) ≡ open_without k (record_sound j blocking c time bytes device p)
   unfolding recorded_bytes
   record_same blocking c time bytes device =
-      refused_same k p 7 (record_refusal c bytes) (start_record j blocking c time bytes device)
-      (either_same k p (is_to_wait blocking device time (frames_of c bytes)) (wait j c.device (deferred_record c (unwrap device.now time) (frames_of c bytes)))
-      (give_record c (unwrap device.now time) (given_frames blocking device time (frames_of c bytes)) device)
-      (wait_without k j other c.device (deferred_record c (unwrap device.now time) (frames_of c bytes)) p) refl)
+      refused_same k p 7 (record_refusal device.channels c bytes) (start_record j blocking c time bytes device)
+      (either_same k p (is_to_wait blocking device time (frames_of device.channels c bytes)) (wait j c.device (deferred_record c (unwrap device.now time) (frames_of device.channels c bytes)))
+      (give_record c (unwrap device.now time) (given_frames blocking device time (frames_of device.channels c bytes)) device)
+      (wait_without k j other c.device (deferred_record c (unwrap device.now time) (frames_of device.channels c bytes)) p) refl)
 
 -- whatever another link requests
 pub done_other : (k j : ℕ) → (j == k) ≡ false → (request : Asked) (p : OpenLink) → done j request (open_without k p) ≡ open_without k (done j request p)
@@ -200,8 +208,8 @@ done_other k j other (get_time d) p = device_same k p 2 d tell_time (λ device. 
 done_other k j other (create_ac d ac ty channels preempt play_gain record_gain) p =
     let c = described d ac ty preempt play_gain record_gain in
     let q = open_without k p in
-    ap (λ n. refused_or 3 (creation_refusal n d ty channels preempt play_gain record_gain) (create c) q) (devices_count k p.environment.devices)
-    ∙ refused_same k p 3 (creation_refusal (length p.environment.devices) d ty channels preempt play_gain record_gain) (create c)
+    ap (λ n. refused_or 3 (creation_refusal n d ty channels preempt play_gain record_gain) (create c) q) (channels_without k p.environment.devices d)
+    ∙ refused_same k p 3 (creation_refusal (channels_at p.environment.devices d) d ty channels preempt play_gain record_gain) (create c)
     (refused_same k p 3 (context_refusal c.ac (creation p.link.contexts c.ac)) (λ q. replied 3 plain (with_contexts (q.link.contexts ++ c ∷ []) q)) refl)
 done_other k j other (change_ac mask ac preempt play_gain record_gain) p =
     refused_same k p 4 (change_refusal p.link.contexts mask ac preempt play_gain record_gain) (change mask ac preempt play_gain record_gain) refl

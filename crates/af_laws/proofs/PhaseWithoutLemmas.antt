@@ -89,12 +89,12 @@ same_option (Some x) = refl
 
 -- the device with its frames, if link k has not acted on any behind them
 module _ (k d n : ℕ) (device : DeviceState) (s : State) (there : slice_get s.devices d ≡ Some device) where
-  ticked_without : (got : Option (List ℕ)) (is_dead : Bool) → acted_on k (tick d (captured_samples device.ty n got) is_dead s).devices ≡ false →
-      tick d (captured_samples device.ty n got) is_dead (state_without k s) ≡ state_without k (tick d (captured_samples device.ty n got) is_dead s)
-  ticked_without got is_dead silent = tick_without k d (captured_samples device.ty n got) is_dead s device there silent
+  ticked_without : (got : Option (List ℕ)) (is_dead : Bool) → acted_on k (tick d n (captured_samples device n got) is_dead s).devices ≡ false →
+      tick d n (captured_samples device n got) is_dead (state_without k s) ≡ state_without k (tick d n (captured_samples device n got) is_dead s)
+  ticked_without got is_dead silent = tick_without k d n (captured_samples device n got) is_dead s device there silent
 
-  emit_without : (bytes : List ℕ) (h : Happening) (t : State) → emit_by d n device (captured_samples device.ty n (Some bytes)) s h ≡ Some t → acted_on k t.devices ≡ false →
-      (emit_by d n (device_without k device) (captured_samples device.ty n (Some bytes)) (state_without k s) h ≡ Some (state_without k t)) × ((log : Log) → without k (h ∷ log) ≡ h ∷ without k log)
+  emit_without : (bytes : List ℕ) (h : Happening) (t : State) → emit_by d n device (captured_samples device n (Some bytes)) s h ≡ Some t → acted_on k t.devices ≡ false →
+      (emit_by d n (device_without k device) (captured_samples device n (Some bytes)) (state_without k s) h ≡ Some (state_without k t)) × ((log : Log) → without k (h ∷ log) ≡ h ∷ without k log)
   emit_without bytes (Woke wake) t e silent = absurd (none_some e)
   emit_without bytes (Read j got) t e silent = absurd (none_some e)
   emit_without bytes (Wrote j offered took) t e silent = absurd (none_some e)
@@ -102,20 +102,20 @@ module _ (k d n : ℕ) (device : DeviceState) (s : State) (there : slice_get s.d
   emit_without bytes (Captured j m got) t e silent = absurd (none_some e)
   emit_without bytes (Hooked j off done) t e silent = absurd (none_some e)
   emit_without bytes (Emitted j out done) t e silent =
-      let next = tick d (captured_samples device.ty n (Some bytes)) (not done) s in
+      let next = tick d n (captured_samples device n (Some bytes)) (not done) s in
       let i = cond-some (j == d && same_bytes out (sound device n)) (Some next) t e in
       let is : next ≡ t = some_is i.1 in (
-        ap (λ b. cond b (Some (tick d (captured_samples device.ty n (Some bytes)) (not done) (state_without k s))) None) i.0
+        ap (λ b. cond b (Some (tick d n (captured_samples device n (Some bytes)) (not done) (state_without k s))) None) i.0
             ∙ ap (λ u. Some u) (ticked_without (Some bytes) (not done) (ap (λ (u : State). acted_on k u.devices) is ∙ silent) ∙ ap (state_without k) is),
         λ log. refl,
       )
 
-  emitted_without : (bytes : List ℕ) (log : Log) (b : Parsed State) → parse_one (emit_by d n device (captured_samples device.ty n (Some bytes)) s) log ≡ Some b → acted_on k b.state.devices ≡ false →
-      parse_one (emit_by d n (device_without k device) (captured_samples device.ty n (Some bytes)) (state_without k s)) (without k log) ≡ parsed (state_without k b.state) (without k b.log)
+  emitted_without : (bytes : List ℕ) (log : Log) (b : Parsed State) → parse_one (emit_by d n device (captured_samples device n (Some bytes)) s) log ≡ Some b → acted_on k b.state.devices ≡ false →
+      parse_one (emit_by d n (device_without k device) (captured_samples device n (Some bytes)) (state_without k s)) (without k log) ≡ parsed (state_without k b.state) (without k b.log)
   emitted_without bytes [] b e silent = absurd (none_some e)
   emitted_without bytes (h ∷ log) b e silent =
-      let f = emit_by d n device (captured_samples device.ty n (Some bytes)) s in
-      let g = emit_by d n (device_without k device) (captured_samples device.ty n (Some bytes)) (state_without k s) in
+      let f = emit_by d n device (captured_samples device n (Some bytes)) s in
+      let g = emit_by d n (device_without k device) (captured_samples device n (Some bytes)) (state_without k s) in
       elim (f h) as (λ o. f h ≡ o → then_go o (λ t. parsed t log) ≡ Some b → parse_one g (without k (h ∷ log)) ≡ parsed (state_without k b.state) (without k b.log)) [
         | None ↦ λ i e. absurd (none_some e)
         | Some t ↦ λ i e.
@@ -143,8 +143,8 @@ tick_phase_without : (k d n : ℕ) (o : Option DeviceState) (s : State) → slic
     tick_phase d n (option_map (device_without k) o) (state_without k s) (without k log) ≡ parsed (state_without k b.state) (without k b.log)
 tick_phase_without k d n None s there log b e silent = absurd (none_some e)
 tick_phase_without k d n (Some device) s there log b e silent =
-    elim device.is_dead as (λ t. cond t (parsed (tick d (captured_samples device.ty n None) true s) log) (parse_then (parse_one (capture_by d n device) log) (after_capture d n device s)) ≡ Some b →
-    cond t (parsed (tick d (captured_samples device.ty n None) true (state_without k s)) (without k log)) (parse_then (parse_one (capture_by d n (device_without k device)) (without k log)) (after_capture d n (device_without k device) (state_without k s)))
+    elim device.is_dead as (λ t. cond t (parsed (tick d n (captured_samples device n None) true s) log) (parse_then (parse_one (capture_by d n device) log) (after_capture d n device s)) ≡ Some b →
+    cond t (parsed (tick d n (captured_samples device n None) true (state_without k s)) (without k log)) (parse_then (parse_one (capture_by d n (device_without k device)) (without k log)) (after_capture d n (device_without k device) (state_without k s)))
     ≡ parsed (state_without k b.state) (without k b.log)) [
       | true ↦ λ e. captured_without k d n device s there None log b e silent
       | false ↦ λ e. live_without k d n device s there log b e silent

@@ -11,6 +11,7 @@ use Rattle.af_model.specs.Events.{without_waiter}
 use Rattle.af_model.proofs.BoolTestLemmas.{none_some, some_is}
 use Rattle.af_model.proofs.CompletionLemmas.{Few, count_alike, count_due, count_left, count_most, few_completed, same_due}
 use Rattle.af_model.proofs.DeviceHistoryLemmas.{with_there}
+use Rattle.af_model.proofs.SafeLemmas.{SameClock}
 use Rattle.af_model.proofs.WakeLemmas.{by_goes}
 use Rattle.af_laws.specs.Without.{acted_on, device_without, state_without}
 use Rattle.af_laws.proofs.OtherLinkLemmas.{complete_other, device_at_without, environment_without, slot_without}
@@ -137,18 +138,18 @@ there_without : (k d : ℕ) (s : State) (x : DeviceState) → slice_get s.device
 there_without k d s x there = device_at_without k s.devices d ∙ ap (option_map (device_without k)) there
 
 -- those that are due for a device are so by any at its time, with its rate
-due_alike : (n d : ℕ) (device x : DeviceState) (ws : List Deferral) → x.now ≡ device.now → x.rate ≡ device.rate → count_due (falls_due d device) ws ≤ n → count_due (falls_due d x) ws ≤ n
-due_alike n d device x ws now rate few = subst (λ m. m ≤ n) (sym (count_alike (falls_due d device) (falls_due d x) ws (λ w. same_due d device x w now rate))) few
+few_due_alike : (n d : ℕ) (device x : DeviceState) (ws : List Deferral) → SameClock device x → count_due (falls_due d device) ws ≤ n → count_due (falls_due d x) ws ≤ n
+few_due_alike n d device x ws same few = subst (λ m. m ≤ n) (sym (count_alike (falls_due d device) (falls_due d x) ws (λ w. same_due d device x w same))) few
 
 -- the first that is due completes, and then the rest
-module _ (n k d : ℕ) (device : DeviceState) (s : State) (x : DeviceState) (w : Deferral) (there : slice_get s.devices d ≡ Some x) (now : x.now ≡ device.now) (rate : x.rate ≡ device.rate) (found : find (falls_due d x) s.waiting ≡ Some w)
+module _ (n k d : ℕ) (device : DeviceState) (s : State) (x : DeviceState) (w : Deferral) (there : slice_get s.devices d ≡ Some x) (clock : SameClock device x) (found : find (falls_due d x) s.waiting ≡ Some w)
     (h : Few (suc n) d device s.devices s.waiting)
     (more : (m : ℕ) (t : State) → Few n d device t.devices t.waiting → Few m d device (state_without k t).devices (state_without k t).waiting → acted_on k (complete_by n d t).devices ≡ false → state_without k (complete_by n d t) ≡ complete_by m d (state_without k t)) where
   abbrev behind : State
   behind = complete w (record s { waiting = without_first (falls_due d x) s.waiting })
 
   few_behind : Few n d device behind.devices behind.waiting
-  few_behind = few_completed n d device x s w now rate found h
+  few_behind = few_completed n d device x s w clock found h
 
   -- it is link k's
   first_own : (m : ℕ) → (w.link == k) ≡ true → Few m d device (state_without k s).devices (state_without k s).waiting → acted_on k (complete_by n d behind).devices ≡ false → state_without k (complete_by n d behind) ≡ complete_by m d (state_without k s)
@@ -163,13 +164,13 @@ module _ (n k d : ℕ) (device : DeviceState) (s : State) (x : DeviceState) (w :
   first_other zero other i silent =
       let first = other_due k (falls_due d x) s.waiting w other found in
       let left = count_left (falls_due d x) (without_waiter k s.waiting) w first.0 in
-      let none = due_alike 0 d device x (without_waiter k s.waiting) now rate i.few in
+      let none = few_due_alike 0 d device x (without_waiter k s.waiting) clock i.few in
       absurd (omega (arith, left, none))
   first_other (suc m) other i silent =
       let first = other_due k (falls_due d x) s.waiting w other found in
       let same : complete w (record (state_without k s) { waiting = without_first (falls_due d x) (without_waiter k s.waiting) }) ≡ state_without k behind =
       ap (λ ws. complete w (record (state_without k s) { waiting = ws })) first.1 ∙ other_completes k w (record s { waiting = without_first (falls_due d x) s.waiting }) other in
-      more m behind few_behind (subst (λ (u : State). Few m d device u.devices u.waiting) same (few_completed m d device (device_without k x) (state_without k s) w now rate first.0 i)) silent
+      more m behind few_behind (subst (λ (u : State). Few m d device u.devices u.waiting) same (few_completed m d device (device_without k x) (state_without k s) w clock first.0 i)) silent
       ∙ sym (goes_on m d (state_without k s) (device_without k x) w (there_without k d s x there) first.0 ∙ ap (complete_by m d) same)
 
   first_completes : (m : ℕ) → Few m d device (state_without k s).devices (state_without k s).waiting → acted_on k (complete_by n d behind).devices ≡ false → state_without k (complete_by n d behind) ≡ complete_by m d (state_without k s)
@@ -188,26 +189,26 @@ none_completes n m k d s x there found =
 completes_without : (n m k d : ℕ) (device : DeviceState) (s : State) → Few n d device s.devices s.waiting → Few m d device (state_without k s).devices (state_without k s).waiting → acted_on k (complete_by n d s).devices ≡ false →
     state_without k (complete_by n d s) ≡ complete_by m d (state_without k s)
 completes_without zero m k d device s h i silent =
-    none_completes zero m k d s h.is h.there (none_count (falls_due d h.is) s.waiting (due_alike 0 d device h.is s.waiting h.now h.rate h.few))
+    none_completes zero m k d s h.is h.there (none_count (falls_due d h.is) s.waiting (few_due_alike 0 d device h.is s.waiting h.clock h.few))
 completes_without (suc n) m k d device s h i silent =
     elim (find (falls_due d h.is) s.waiting) as (λ o. find (falls_due d h.is) s.waiting ≡ o → state_without k (complete_by (suc n) d s) ≡ complete_by m d (state_without k s)) [
       | None ↦ λ found. none_completes (suc n) m k d s h.is h.there found
       | Some w ↦ λ found.
           let on = goes_on n d s h.is w h.there found in
           ap (state_without k) on
-          ∙ first_completes n k d device s h.is w h.there h.now h.rate found h (λ m t h i silent. completes_without n m k d device t h i silent) m i (ap (λ (t : State). acted_on k t.devices) (sym on) ∙ silent)
+          ∙ first_completes n k d device s h.is w h.there h.clock found h (λ m t h i silent. completes_without n m k d device t h i silent) m i (ap (λ (t : State). acted_on k t.devices) (sym on) ∙ silent)
     ] refl
 
 -- Sample periods go by
-pub tick_without : (k d : ℕ) (captured : List ℤ) (is_dead : Bool) (s : State) (device : DeviceState) → slice_get s.devices d ≡ Some device → acted_on k (tick d captured is_dead s).devices ≡ false → tick d captured is_dead (state_without k s) ≡ state_without k (tick d captured is_dead s)
+pub tick_without : (k d n : ℕ) (captured : List ℤ) (is_dead : Bool) (s : State) (device : DeviceState) → slice_get s.devices d ≡ Some device → acted_on k (tick d n captured is_dead s).devices ≡ false → tick d n captured is_dead (state_without k s) ≡ state_without k (tick d n captured is_dead s)
 unfolding complete_due
-tick_without k d captured is_dead s device there silent =
-    let f = later captured is_dead in
+tick_without k d n captured is_dead s device there silent =
+    let f = later n captured is_dead in
     let t : State = record s { devices = with_device d f s.devices } in
     let x = f device in
     let here = with_there d f s.devices device there in
-    let first : Few (length s.waiting) d x t.devices t.waiting = record { is = x; there = here; now = refl; rate = refl; few = count_most (falls_due d x) s.waiting } in
+    let first : Few (length s.waiting) d x t.devices t.waiting = record { is = x; there = here; clock = (refl, refl, refl); few = count_most (falls_due d x) s.waiting } in
     let second : Few (length (without_waiter k s.waiting)) d x (state_without k t).devices (state_without k t).waiting =
-    record { is = device_without k x; there = there_without k d t x here; now = refl; rate = refl; few = count_most (falls_due d x) (without_waiter k s.waiting) } in
+    record { is = device_without k x; there = there_without k d t x here; clock = (refl, refl, refl); few = count_most (falls_due d x) (without_waiter k s.waiting) } in
     ap (complete_by (length (without_waiter k s.waiting)) d) (device_changes_without k d f s (λ device. refl))
     ∙ sym (completes_without (length s.waiting) (length (without_waiter k s.waiting)) k d x t first second silent)

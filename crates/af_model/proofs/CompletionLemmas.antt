@@ -1,5 +1,5 @@
 -- The completions of a tick: nothing is lost by them, and behind them no request is due.
-use Rattle.std.proofs.Common.{◌≡◌, ℕ, zero, suc, ◌+◌, ◌*◌, ◌==◌, ◌&&◌, ◌<◌, ◌≤◌, Bool, true, false, cond, ℤ, List, [], ◌∷◌, ◌++◌, length, find, nat_le, option_map, option_and_then, slice_get, refl, sym, ap, ◌∙◌, subst, arith, eqb-true}
+use Rattle.std.proofs.Common.{◌≡◌, ℕ, zero, suc, ◌+◌, ◌==◌, ◌&&◌, ◌<◌, ◌≤◌, Bool, true, false, cond, ℤ, List, [], ◌∷◌, ◌++◌, length, find, nat_le, option_map, option_and_then, slice_get, refl, sym, ap, ◌∙◌, subst, arith, eqb-true}
 use Rattle.std.specs.List.{All}
 use Rattle.std.proofs.lemmas.List.Elements.{All-cons, All-head, All-nil, All-tail, All-weaker}
 use Rattle.std.specs.declared.option.Option.TheVariants.{None, Some}
@@ -13,7 +13,7 @@ use Rattle.af_model.proofs.BoolTestLemmas.{none_some, same_number, some_is}
 use Rattle.af_model.proofs.DeviceHistoryLemmas.{AllLive, Lives, all_live_get, all_live_with, lives_completing, with_other, with_same, with_there}
 use Rattle.af_model.proofs.DueLemmas.{IsToWait}
 use Rattle.af_model.proofs.LinkInvariantLemmas.{Keeps, complete_keeps}
-use Rattle.af_model.proofs.SafeLemmas.{AwaitedIn, IsAwaited, Safe, SafeState, all_without_first, loses_alike, safe_completing, safe_fewer, safe_keeps, safe_with, slack_for}
+use Rattle.af_model.proofs.SafeLemmas.{AwaitedIn, IsAwaited, Safe, SafeState, SameClock, all_without_first, due_alike, loses_alike, safe_completing, safe_fewer, safe_keeps, safe_with, slack_for}
 use Rattle.af_wire.specs.Sizes.{longest_frame}
 
 -- the one that is found is among them
@@ -80,33 +80,34 @@ pub count_alike : (passes other : Deferral → Bool) (ws : List Deferral) → ((
 count_alike passes other [] same = refl
 count_alike passes other (w ∷ ws) same = ap (λ n. cond (other w) (suc n) n) (count_alike passes other ws same) ∙ ap (λ t. cond t (suc (count_due passes ws)) (count_due passes ws)) (same w)
 
--- At most n of those that wait are due for device d, whose time and rate are those of this one.
+-- At most n of those that wait are due for device d, whose time, rate and channels are those of this one.
 pub record Few (n d : ℕ) (device : DeviceState) (ds : List DeviceState) (ws : List Deferral) : Type 0 where
   pub is : DeviceState
   pub there : slice_get ds d ≡ Some is
-  pub now : is.now ≡ device.now
-  pub rate : is.rate ≡ device.rate
+  pub clock : SameClock device is
   pub few : count_due (falls_due d device) ws ≤ n
 
-pub same_due : (d : ℕ) (a b : DeviceState) (w : Deferral) → b.now ≡ a.now → b.rate ≡ a.rate → falls_due d b w ≡ falls_due d a w
-same_due d a b w now rate = ap (λ r. w.device == d && nat_le (due (r * 4) w.deferred) b.now) rate ∙ ap (λ n. w.device == d && nat_le (due (a.rate * 4) w.deferred) n) now
+pub same_due : (d : ℕ) (a b : DeviceState) (w : Deferral) → SameClock a b → falls_due d b w ≡ falls_due d a w
+same_due d a b w same =
+    ap (λ n. w.device == d && nat_le n b.now) (due_alike a b w.deferred same.1 same.2) ∙ ap (λ n. w.device == d && nat_le (due a.channels (horizon_of a) w.deferred) n) same.0
 
 not_due : (a b : ℕ) → a < b → nat_le b a ≡ false
 not_due a b lt = grind arith
 
 pub few_lives : (n d : ℕ) (device : DeviceState) (ds es : List DeviceState) (ws : List Deferral) → AllLive ds es → Few n d device ds ws → Few n d device es ws
-few_lives n d device ds es ws l h = let got = all_live_get ds es d h.is l h.there in record { is = got.0; there = got.1; now = got.2.now ∙ h.now; rate = got.2.rate ∙ h.rate; few = h.few }
+few_lives n d device ds es ws l h = let got = all_live_get ds es d h.is l h.there in record { is = got.0; there = got.1; clock = (got.2.now ∙ h.clock.0, got.2.rate ∙ h.clock.1, got.2.channels ∙ h.clock.2); few = h.few }
 
 -- one that begins to wait is not due
-not_due_yet : (d : ℕ) (device is x : DeviceState) (ds : List DeviceState) (k e : ℕ) (deferred : Deferred) → slice_get ds d ≡ Some is → is.now ≡ device.now → is.rate ≡ device.rate → slice_get ds e ≡ Some x → IsToWait longest_frame x deferred →
+not_due_yet : (d : ℕ) (device is x : DeviceState) (ds : List DeviceState) (k e : ℕ) (deferred : Deferred) → slice_get ds d ≡ Some is → SameClock device is → slice_get ds e ≡ Some x → IsToWait longest_frame x deferred →
     falls_due d device (record { link = k; device = e; deferred = deferred }) ≡ false
-not_due_yet d device is x ds k e deferred there now rate is_there w =
-    elim (e == d) as (λ t. (e == d) ≡ t → (t && nat_le (due (device.rate * 4) deferred) device.now) ≡ false) [
+not_due_yet d device is x ds k e deferred there same_clock is_there w =
+    elim (e == d) as (λ t. (e == d) ≡ t → (t && nat_le (due device.channels (horizon_of device) deferred) device.now) ≡ false) [
       | true ↦ λ same.
           let one : is ≡ x = some_is (sym there ∙ ap (slice_get ds) (sym (eqb-true e d same)) ∙ is_there) in
-          let later : device.now < due (device.rate * 4) deferred =
-          subst (λ n. n < due (device.rate * 4) deferred) now (subst (λ r. is.now < due (r * 4) deferred) rate (subst (λ y. y.now < due (y.rate * 4) deferred) (sym one) w.later)) in
-          not_due device.now (due (device.rate * 4) deferred) later
+          let later : device.now < due device.channels (horizon_of device) deferred =
+          subst (λ n. n < due device.channels (horizon_of device) deferred) same_clock.0
+          (subst (λ n. is.now < n) (due_alike device is deferred same_clock.1 same_clock.2) (subst (λ y. y.now < due y.channels (horizon_of y) deferred) (sym one) w.later)) in
+          not_due device.now (due device.channels (horizon_of device) deferred) later
       | false ↦ λ same. refl
     ] refl
 
@@ -123,52 +124,51 @@ few_keeps k n d device = record {
   waits = λ p e x deferred there w open' h. record {
     is = h.is;
     there = h.there;
-    now = h.now;
-    rate = h.rate;
-    few = subst (λ m. m ≤ n) (sym (count_push (falls_due d device) p.environment.waiting (record { link = k; device = e; deferred = deferred }) (not_due_yet d device h.is x p.environment.devices k e deferred h.there h.now h.rate there w))) h.few;
+    clock = h.clock;
+    few = subst (λ m. m ≤ n) (sym (count_push (falls_due d device) p.environment.waiting (record { link = k; device = e; deferred = deferred }) (not_due_yet d device h.is x p.environment.devices k e deferred h.there h.clock there w))) h.few;
   };
 }
 
 -- one fewer is due behind a completion
-pub few_completed : (n d : ℕ) (device x : DeviceState) (s : State) (w : Deferral) → x.now ≡ device.now → x.rate ≡ device.rate → find (falls_due d x) s.waiting ≡ Some w → Few (suc n) d device s.devices s.waiting →
+pub few_completed : (n d : ℕ) (device x : DeviceState) (s : State) (w : Deferral) → SameClock device x → find (falls_due d x) s.waiting ≡ Some w → Few (suc n) d device s.devices s.waiting →
     Few n d device (complete w (record s { waiting = without_first (falls_due d x) s.waiting })).devices (complete w (record s { waiting = without_first (falls_due d x) s.waiting })).waiting
-few_completed n d device x s w now rate found h =
+few_completed n d device x s w same found h =
     let passes = falls_due d x in
     let fewer : State = record s { waiting = without_first passes s.waiting } in
-    let alike = count_alike (falls_due d device) passes s.waiting (λ v. same_due d device x v now rate) in
-    let alike' = count_alike (falls_due d device) passes fewer.waiting (λ v. same_due d device x v now rate) in
+    let alike = count_alike (falls_due d device) passes s.waiting (λ v. same_due d device x v same) in
+    let alike' = count_alike (falls_due d device) passes fewer.waiting (λ v. same_due d device x v same) in
     let left = count_left passes s.waiting w found in
     let one : count_due (falls_due d device) fewer.waiting ≤ n = let all = h.few in omega (arith, alike, alike', left, all) in
     completed_keeps (Few n d device) w fewer (few_keeps w.link n d device)
     (λ g. few_lives n d device s.devices (with_device w.device (completing w.link w.deferred) s.devices) fewer.waiting (all_live_with w.device (completing w.link w.deferred) s.devices (λ y is. lives_completing w.link y w.deferred)) g)
-    (record { is = h.is; there = h.there; now = h.now; rate = h.rate; few = one })
+    (record { is = h.is; there = h.there; clock = h.clock; few = one })
 
 -- as long as one is due
 record Completed (slack d : ℕ) (device : DeviceState) (s : State) : Type 0 where
   safe : SafeState slack d s
   none : Few 0 d device s.devices s.waiting
 
-completes_first : (n slack d : ℕ) (device x : DeviceState) (s : State) → slack ≤ 4096 → x.now ≡ device.now → x.rate ≡ device.rate → SafeState slack d s → Few (suc n) d device s.devices s.waiting →
+completes_first : (n slack d : ℕ) (device x : DeviceState) (s : State) → slack ≤ 4096 → SameClock device x → SafeState slack d s → Few (suc n) d device s.devices s.waiting →
     ((t : State) → SafeState slack d t → Few n d device t.devices t.waiting → Completed slack d device (complete_by n d t)) → Completed slack d device (or_else s (complete_by n d) (complete_first d s x))
-completes_first n slack d device x s few now rate safe h more =
+completes_first n slack d device x s few same safe h more =
     elim (find (falls_due d x) s.waiting) as (λ o. find (falls_due d x) s.waiting ≡ o → Completed slack d device (or_else s (complete_by n d) (option_map (λ w. complete w (record s { waiting = without_first (falls_due d x) s.waiting })) o))) [
       | None ↦ λ found.
-          let alike = count_alike (falls_due d device) (falls_due d x) s.waiting (λ v. same_due d device x v now rate) in
-          record { safe = safe; none = record { is = h.is; there = h.there; now = h.now; rate = h.rate; few = omega (arith, alike, count_none (falls_due d x) s.waiting found) } }
-      | Some w ↦ λ found. more _ (completed_safe slack d (falls_due d x) s w few found safe) (few_completed n d device x s w now rate found h)
+          let alike = count_alike (falls_due d device) (falls_due d x) s.waiting (λ v. same_due d device x v same) in
+          record { safe = safe; none = record { is = h.is; there = h.there; clock = h.clock; few = omega (arith, alike, count_none (falls_due d x) s.waiting found) } }
+      | Some w ↦ λ found. more _ (completed_safe slack d (falls_due d x) s w few found safe) (few_completed n d device x s w same found h)
     ] refl
 
 completes_by : (n slack d : ℕ) (device : DeviceState) (s : State) → slack ≤ 4096 → SafeState slack d s → Few n d device s.devices s.waiting → Completed slack d device (complete_by n d s)
 completes_by zero slack d device s few safe h = record { safe = safe; none = h }
 completes_by (suc n) slack d device s few safe h =
     subst (λ o. Completed slack d device (or_else s (complete_by n d) (option_and_then (complete_first d s) o))) (sym h.there)
-    (completes_first n slack d device h.is s few h.now h.rate safe h (λ t safe h. completes_by n slack d device t few safe h))
+    (completes_first n slack d device h.is s few h.clock safe h (λ t safe h. completes_by n slack d device t few safe h))
 
 -- behind them each is due later
-no_slack : (slack d : ℕ) (device : DeviceState) (ds : List DeviceState) (w : Deferral) → (x : DeviceState) → slice_get ds d ≡ Some x → x.now ≡ device.now → x.rate ≡ device.rate → falls_due d device w ≡ false → AwaitedIn slack d ds w → AwaitedIn 0 0 ds w
-no_slack slack d device ds w x there now rate late one y is =
+no_slack : (slack d : ℕ) (device : DeviceState) (ds : List DeviceState) (w : Deferral) → (x : DeviceState) → slice_get ds d ≡ Some x → SameClock device x → falls_due d device w ≡ false → AwaitedIn slack d ds w → AwaitedIn 0 0 ds w
+no_slack slack d device ds w x there same_clock late one y is =
     let h = one y is in
-    record { soon = subst (λ n. y.now < due (horizon_of y) w.deferred + n) (sym (nothing (w.device == 0) 0)) (soon (w.device == d) refl late h.soon); ever = h.ever; short = h.short }
+    record { soon = subst (λ n. y.now < due y.channels (horizon_of y) w.deferred + n) (sym (nothing (w.device == 0) 0)) (soon (w.device == d) refl late h.soon); ever = h.ever; short = h.short }
   where
     nothing : (b : Bool) (n : ℕ) → cond b n n ≡ n
     nothing true n = refl
@@ -177,38 +177,40 @@ no_slack slack d device ds w x there now rate late one y is =
     due_later : (a b : ℕ) → nat_le b a ≡ false → a < b + 0
     due_later a b e = grind arith
 
-    soon : (b : Bool) → (w.device == d) ≡ b → (b && nat_le (due (device.rate * 4) w.deferred) device.now) ≡ false → y.now < due (horizon_of y) w.deferred + cond b slack 0 → y.now < due (horizon_of y) w.deferred + 0
+    soon : (b : Bool) → (w.device == d) ≡ b → (b && nat_le (due device.channels (horizon_of device) w.deferred) device.now) ≡ false →
+        y.now < due y.channels (horizon_of y) w.deferred + cond b slack 0 → y.now < due y.channels (horizon_of y) w.deferred + 0
     soon true same late h =
         let one : x ≡ y = some_is (sym there ∙ ap (slice_get ds) (sym (eqb-true w.device d same)) ∙ is) in
-        subst (λ z. z.now < due (z.rate * 4) w.deferred + 0) one
-        (subst (λ n. n < due (x.rate * 4) w.deferred + 0) (sym now) (subst (λ r. device.now < due (r * 4) w.deferred + 0) (sym rate) (due_later device.now (due (device.rate * 4) w.deferred) late)))
+        subst (λ z. z.now < due z.channels (horizon_of z) w.deferred + 0) one
+        (subst (λ n. n < due x.channels (horizon_of x) w.deferred + 0) (sym same_clock.0)
+        (subst (λ n. device.now < n + 0) (sym (due_alike device x w.deferred same_clock.1 same_clock.2)) (due_later device.now (due device.channels (horizon_of device) w.deferred) late)))
     soon false same late h = h
 
-all_later : (slack d : ℕ) (device : DeviceState) (ds : List DeviceState) (ws : List Deferral) → (x : DeviceState) → slice_get ds d ≡ Some x → x.now ≡ device.now → x.rate ≡ device.rate → count_due (falls_due d device) ws ≤ 0 →
+all_later : (slack d : ℕ) (device : DeviceState) (ds : List DeviceState) (ws : List Deferral) → (x : DeviceState) → slice_get ds d ≡ Some x → SameClock device x → count_due (falls_due d device) ws ≤ 0 →
     All (λ w. AwaitedIn slack d ds w) ws → All (λ w. AwaitedIn 0 0 ds w) ws
-all_later slack d device ds [] x there now rate none h = All-nil (λ w. AwaitedIn 0 0 ds w)
-all_later slack d device ds (w ∷ ws) x there now rate none h =
+all_later slack d device ds [] x there same none h = All-nil (λ w. AwaitedIn 0 0 ds w)
+all_later slack d device ds (w ∷ ws) x there same none h =
     elim (falls_due d device w) as (λ t. falls_due d device w ≡ t → cond t (suc (count_due (falls_due d device) ws)) (count_due (falls_due d device) ws) ≤ 0 → All (λ w. AwaitedIn 0 0 ds w) (w ∷ ws)) [
       | true ↦ λ late none. absurd (omega (arith, none))
       | false ↦ λ late none.
-          All-cons (λ w. AwaitedIn 0 0 ds w) w ws (no_slack slack d device ds w x there now rate late (All-head (λ w. AwaitedIn slack d ds w) w ws h))
-          (all_later slack d device ds ws x there now rate none (All-tail (λ w. AwaitedIn slack d ds w) w ws h))
+          All-cons (λ w. AwaitedIn 0 0 ds w) w ws (no_slack slack d device ds w x there same late (All-head (λ w. AwaitedIn slack d ds w) w ws h))
+          (all_later slack d device ds ws x there same none (All-tail (λ w. AwaitedIn slack d ds w) w ws h))
     ] refl none
 
 -- A tick of at most 4096 frames leaves nothing due, and loses nothing
 
 -- what waits for a device is due for as many frames as went by
-passed_awaited : (d : ℕ) (captured : List ℤ) (is_dead : Bool) (ds : List DeviceState) (device : DeviceState) (w : Deferral) → length captured ≤ 4096 → slice_get ds d ≡ Some device → AwaitedIn 0 0 ds w →
-    AwaitedIn 4096 d (with_device d (later captured is_dead) ds) w
-passed_awaited d captured is_dead ds device w few there one x is =
+passed_awaited : (d n : ℕ) (captured : List ℤ) (is_dead : Bool) (ds : List DeviceState) (device : DeviceState) (w : Deferral) → n ≤ 4096 → slice_get ds d ≡ Some device → AwaitedIn 0 0 ds w →
+    AwaitedIn 4096 d (with_device d (later n captured is_dead) ds) w
+passed_awaited d n captured is_dead ds device w few there one x is =
     elim (d == w.device) as (λ t. (d == w.device) ≡ t → IsAwaited (slack_for 4096 d w) x w.deferred) [
       | true ↦ λ same.
-          let here = with_same d (later captured is_dead) ds x (subst (λ n. slice_get (with_device d (later captured is_dead) ds) n ≡ Some x) (sym (eqb-true d w.device same)) is) in
+          let here = with_same d (later n captured is_dead) ds x (subst (λ m. slice_get (with_device d (later n captured is_dead) ds) m ≡ Some x) (sym (eqb-true d w.device same)) is) in
           let h = one here.0 (subst (λ n. slice_get ds n ≡ Some here.0) (eqb-true d w.device same) here.1) in
           let own : slack_for 4096 d w ≡ 4096 = ap (λ n. cond (n == d) 4096 0) (sym (eqb-true d w.device same)) ∙ ap (λ t. cond t 4096 0) (same_number d) in
           subst (λ n. IsAwaited n x w.deferred) (sym own) (subst (λ y. IsAwaited 4096 y w.deferred) here.2 (record { soon = rises here.0 h.soon; ever = h.ever; short = h.short }))
       | false ↦ λ other.
-          let h = one x (sym (with_other d (later captured is_dead) ds w.device other) ∙ is) in
+          let h = one x (sym (with_other d (later n captured is_dead) ds w.device other) ∙ is) in
           record { soon = stays h.soon; ever = h.ever; short = h.short }
     ] refl
   where
@@ -216,21 +218,21 @@ passed_awaited d captured is_dead ds device w few there one x is =
     nothing true n = refl
     nothing false n = refl
 
-    rises : (y : DeviceState) → y.now < due (horizon_of y) w.deferred + slack_for 0 0 w → y.now + length captured < due (horizon_of y) w.deferred + 4096
+    rises : (y : DeviceState) → y.now < due y.channels (horizon_of y) w.deferred + slack_for 0 0 w → y.now + n < due y.channels (horizon_of y) w.deferred + 4096
     rises y h = let z : slack_for 0 0 w ≡ 0 = nothing (w.device == 0) 0 in omega (arith, h, z, few)
 
-    stays : x.now < due (horizon_of x) w.deferred + slack_for 0 0 w → x.now < due (horizon_of x) w.deferred + slack_for 4096 d w
+    stays : x.now < due x.channels (horizon_of x) w.deferred + slack_for 0 0 w → x.now < due x.channels (horizon_of x) w.deferred + slack_for 4096 d w
     stays h = let z : slack_for 0 0 w ≡ 0 = nothing (w.device == 0) 0 in omega (arith, h, z)
 
-pub ticks_safe : (d : ℕ) (captured : List ℤ) (is_dead : Bool) (s : State) (device : DeviceState) → length captured ≤ 4096 → slice_get s.devices d ≡ Some device → SafeState 0 0 s → SafeState 0 0 (tick d captured is_dead s)
+pub ticks_safe : (d n : ℕ) (captured : List ℤ) (is_dead : Bool) (s : State) (device : DeviceState) → n ≤ 4096 → slice_get s.devices d ≡ Some device → SafeState 0 0 s → SafeState 0 0 (tick d n captured is_dead s)
 unfolding complete_due
-ticks_safe d captured is_dead s device few there h =
-    let f = later captured is_dead in
+ticks_safe d n captured is_dead s device few there h =
+    let f = later n captured is_dead in
     let t : State = record s { devices = with_device d f s.devices } in
     let safe : SafeState 4096 d t = record {
       devices = safe_with d f s.devices (λ x is safe. loses_alike x (f x) refl refl safe) h.devices;
-      waiting = All-weaker (λ w. AwaitedIn 0 0 s.devices w) (λ w. AwaitedIn 4096 d t.devices w) (λ w one. passed_awaited d captured is_dead s.devices device w few there one) s.waiting h.waiting;
+      waiting = All-weaker (λ w. AwaitedIn 0 0 s.devices w) (λ w. AwaitedIn 4096 d t.devices w) (λ w one. passed_awaited d n captured is_dead s.devices device w few there one) s.waiting h.waiting;
     } in
-    let first : Few (length s.waiting) d (f device) t.devices t.waiting = record { is = f device; there = with_there d f s.devices device there; now = refl; rate = refl; few = count_most (falls_due d (f device)) s.waiting } in
+    let first : Few (length s.waiting) d (f device) t.devices t.waiting = record { is = f device; there = with_there d f s.devices device there; clock = (refl, refl, refl); few = count_most (falls_due d (f device)) s.waiting } in
     let c = completes_by (length s.waiting) 4096 d (f device) t (omega arith) safe first in
-    record { devices = c.safe.devices; waiting = all_later 4096 d (f device) (complete_due d t).devices (complete_due d t).waiting c.none.is c.none.there c.none.now c.none.rate c.none.few c.safe.waiting }
+    record { devices = c.safe.devices; waiting = all_later 4096 d (f device) (complete_due d t).devices (complete_due d t).waiting c.none.is c.none.there c.none.clock c.none.few c.safe.waiting }

@@ -10,7 +10,7 @@ use Rattle.af_world.specs.declared.happening.Wake.TheVariants.{Opened, Readable,
 use Rattle.af_world.specs.declared.script.Step.{Step}
 use Rattle.af_world.specs.Log.{Log}
 use Rattle.af_world.specs.Outside.{Outside, ScriptedDevice, answered_as_stated, capture_answered, emit_answered, hook_answered, captured, scripted_at, with_scripted, same_bytes}
-use Rattle.af_sample.specs.SampleTypes.{width_of}
+use Rattle.af_sample.specs.SampleTypes.{frame_bytes}
 use Rattle.af_model.specs.State.{State, DeviceState, opened, slot_at, with_slot}
 use Rattle.af_model.specs.Tick.{sound, captured_samples, tick}
 use Rattle.af_model.specs.Turn.{Parsed, parsed, parse_then, parse_one, serve_all, ready, writable, in_slot, is_capture, capture_by, emit_by, after_capture, tick_phase, line_phase, wake_phase, same_flag, hook_wanted, hook_by, hook_for, hook_at, hook_from, hook_all, serve_and_hook}
@@ -54,12 +54,12 @@ capture_answer w o o' d size scripted (Some bytes) e l =
       opens = λ p. subst (λ x. opens x ≡ w) same p;
     }
 
-is_capture-size : (n : ℕ) (device : DeviceState) (got : Option (List ℕ)) → is_capture n device got ≡ true → IfSome got (λ bytes. length bytes ≡ n * width_of device.ty)
+is_capture-size : (n : ℕ) (device : DeviceState) (got : Option (List ℕ)) → is_capture n device got ≡ true → IfSome got (λ bytes. length bytes ≡ n * frame_bytes device.ty device.channels)
 is_capture-size n device None e = tt
-is_capture-size n device (Some bytes) e = eqb-true (length bytes) (n * width_of device.ty) e
+is_capture-size n device (Some bytes) e = eqb-true (length bytes) (n * frame_bytes device.ty device.channels) e
 
 capture_one : (w : List Bool) (d n : ℕ) (device : DeviceState) (s : State) (o : Outside) (h : Happening) (t : Option (List ℕ)) → capture_by d n device h ≡ Some t →
-    TakesOne (λ (s : State). capture_by d n device) (λ s o. opens o ≡ w) (λ t o. opens o ≡ w) s o h (Captured d n (expected_capture (n * width_of device.ty) (scripted_at o d)))
+    TakesOne (λ (s : State). capture_by d n device) (λ s o. opens o ≡ w) (λ t o. opens o ≡ w) s o h (Captured d n (expected_capture (n * frame_bytes device.ty device.channels) (scripted_at o d)))
 capture_one w d n device s o (Woke wake) t e = absurd (none_some e)
 capture_one w d n device s o (Hooked x off y) t e = absurd (none_some e)
 capture_one w d n device s o (Read j got) t e = absurd (none_some e)
@@ -76,8 +76,8 @@ capture_one w d n device s o (Captured j frames got) t e =
     record {
       quiet = refl;
       is = λ o' a. ap (λ m. Captured m frames got) at ∙ ap (λ m. Captured d m got) (eqb-true frames n u.1)
-          ∙ ap (Captured d n) (capture_answer w o o' d (n * width_of device.ty) (scripted_at o d) got (here o' a) size).is;
-      stands = λ t o' p f a. (capture_answer w o o' d (n * width_of device.ty) (scripted_at o d) got (here o' a) size).opens p;
+          ∙ ap (Captured d n) (capture_answer w o o' d (n * frame_bytes device.ty device.channels) (scripted_at o d) got (here o' a) size).is;
+      stands = λ t o' p f a. (capture_answer w o o' d (n * frame_bytes device.ty device.channels) (scripted_at o d) got (here o' a) size).opens p;
     }
 
 -- Emits
@@ -104,7 +104,7 @@ emit_one d n device heard s o (Wrote j offered took) t e = absurd (none_some e)
 emit_one d n device heard s o (Closed j why) t e = absurd (none_some e)
 emit_one d n device heard s o (Captured j frames got) t e = absurd (none_some e)
 emit_one d n device heard s o (Emitted j bytes done) t e =
-    let i = cond-some (j == d && same_bytes bytes (sound device n)) (Some (tick d heard (not done) s)) t e in
+    let i = cond-some (j == d && same_bytes bytes (sound device n)) (Some (tick d n heard (not done) s)) t e in
     let u = both-true (j == d) (same_bytes bytes (sound device n)) i.0 in
     let at : j ≡ d = eqb-true j d u.0 in
     let here : (o' : Outside) → answered_as_stated o (Emitted j bytes done) ≡ Some o' → emit_answered o d (scripted_at o d) done ≡ Some o' = λ o' a. subst (λ m. emit_answered o m (scripted_at o m) done ≡ Some o') at a in
@@ -112,18 +112,18 @@ emit_one d n device heard s o (Emitted j bytes done) t e =
       quiet = refl;
       is = λ o' a. ap (λ m. Emitted m bytes done) at ∙ ap (λ b. Emitted d b done) (same_bytes-true bytes (sound device n) u.1) ∙ ap (Emitted d (sound device n)) (emit_answer (opens o) o o' d (scripted_at o d) done (here o' a)).0;
       stands = λ t o' p f a.
-          let g : Some (tick d heard (not done) s) ≡ Some t = (cond-some (j == d && same_bytes bytes (sound device n)) (Some (tick d heard (not done) s)) t f).1 in
-          let next : tick d heard (not done) s ≡ t = cc in
-          subst (λ x. Agree x o') next ((emit_answer (open_links s.slots) o o' d (scripted_at o d) done (here o' a)).1 p ∙ sym (tick-opens d heard (not done) s));
+          let g : Some (tick d n heard (not done) s) ≡ Some t = (cond-some (j == d && same_bytes bytes (sound device n)) (Some (tick d n heard (not done) s)) t f).1 in
+          let next : tick d n heard (not done) s ≡ t = cc in
+          subst (λ x. Agree x o') next ((emit_answer (open_links s.slots) o o' d (scripted_at o d) done (here o' a)).1 p ∙ sym (tick-opens d n heard (not done) s));
     }
 
 -- Ticks
 
 after_capture_alike : (d n : ℕ) (device : DeviceState) (s : State) → GoesAlike (after_capture d n device s) (λ (t : Option (List ℕ)) o. opens o ≡ open_links s.slots) Agree
 after_capture_alike d n device s steps None o log1 log2 b1 b2 e1 e2 at f1 f2 r1 r2 =
-    alike_nothing (λ (t : Option (List ℕ)). tick d (captured_samples device.ty n None) true s) (λ t o. opens o ≡ open_links s.slots) Agree (λ t o at. at ∙ sym (tick-opens d (captured_samples device.ty n None) true s)) steps None o log1 log2 b1 b2 e1 e2 at f1 f2 r1 r2
+    alike_nothing (λ (t : Option (List ℕ)). tick d n (captured_samples device n None) true s) (λ t o. opens o ≡ open_links s.slots) Agree (λ t o at. at ∙ sym (tick-opens d n (captured_samples device n None) true s)) steps None o log1 log2 b1 b2 e1 e2 at f1 f2 r1 r2
 after_capture_alike d n device s steps (Some bytes) o log1 log2 b1 b2 e1 e2 at f1 f2 r1 r2 =
-    alike_one (λ s. emit_by d n device (captured_samples device.ty n (Some bytes)) s) Agree Agree (λ s o. Emitted d (sound device n) (not (scripted_at o d).fails_emit)) (emit_one d n device (captured_samples device.ty n (Some bytes))) steps s o log1 log2 b1 b2 e1 e2 at f1 f2 r1 r2
+    alike_one (λ s. emit_by d n device (captured_samples device n (Some bytes)) s) Agree Agree (λ s o. Emitted d (sound device n) (not (scripted_at o d).fails_emit)) (emit_one d n device (captured_samples device n (Some bytes))) steps s o log1 log2 b1 b2 e1 e2 at f1 f2 r1 r2
 
 live_alike : (d n : ℕ) (device : DeviceState) (steps : List Step) (s : State) (o : Outside) (log1 log2 : Log) (b1 b2 : Parsed State) (e1 e2 : Outside) → Agree s o →
     parse_then (parse_one (capture_by d n device) log1) (after_capture d n device s) ≡ Some b1 → parse_then (parse_one (capture_by d n device) log2) (after_capture d n device s) ≡ Some b2 →
@@ -131,7 +131,7 @@ live_alike : (d n : ℕ) (device : DeviceState) (steps : List Step) (s : State) 
 live_alike d n device steps s o log1 log2 b1 b2 e1 e2 at f1 f2 r1 r2 =
     let w = open_links s.slots in
     alike_then (λ (u : State) log. parse_one (capture_by d n device) log) (after_capture d n device s) (λ u o. opens o ≡ w) (λ t o. opens o ≡ w) Agree
-    (alike_one (λ (s : State). capture_by d n device) (λ s o. opens o ≡ w) (λ (t : Option (List ℕ)) o. opens o ≡ w) (λ s o. Captured d n (expected_capture (n * width_of device.ty) (scripted_at o d))) (capture_one w d n device))
+    (alike_one (λ (s : State). capture_by d n device) (λ s o. opens o ≡ w) (λ (t : Option (List ℕ)) o. opens o ≡ w) (λ s o. Captured d n (expected_capture (n * frame_bytes device.ty device.channels) (scripted_at o d))) (capture_one w d n device))
     (after_capture_alike d n device s)
     steps s o log1 log2 b1 b2 e1 e2 at f1 f2 r1 r2
 
@@ -139,9 +139,9 @@ tick_alike : (d n : ℕ) (device : Option DeviceState) (steps : List Step) (s : 
     Agree s o → tick_phase d n device s log1 ≡ Some b1 → tick_phase d n device s log2 ≡ Some b2 → AnswersTo o log1 steps e1 → AnswersTo o log2 steps e2 → Agreed steps Agree log1 log2 e1 e2 b1 b2
 tick_alike d n None steps s o log1 log2 b1 b2 e1 e2 at f1 f2 r1 r2 = absurd (none_some f1)
 tick_alike d n (Some device) steps s o log1 log2 b1 b2 e1 e2 at f1 f2 r1 r2 =
-    elim device.is_dead as (λ t. cond t (parsed (tick d (captured_samples device.ty n None) true s) log1) (parse_then (parse_one (capture_by d n device) log1) (after_capture d n device s)) ≡ Some b1 →
-    cond t (parsed (tick d (captured_samples device.ty n None) true s) log2) (parse_then (parse_one (capture_by d n device) log2) (after_capture d n device s)) ≡ Some b2 → Agreed steps Agree log1 log2 e1 e2 b1 b2) [
-      | true ↦ λ f1 f2. alike_nothing (λ s. tick d (captured_samples device.ty n None) true s) Agree Agree (λ s o at. at ∙ sym (tick-opens d (captured_samples device.ty n None) true s)) steps s o log1 log2 b1 b2 e1 e2 at f1 f2 r1 r2
+    elim device.is_dead as (λ t. cond t (parsed (tick d n (captured_samples device n None) true s) log1) (parse_then (parse_one (capture_by d n device) log1) (after_capture d n device s)) ≡ Some b1 →
+    cond t (parsed (tick d n (captured_samples device n None) true s) log2) (parse_then (parse_one (capture_by d n device) log2) (after_capture d n device s)) ≡ Some b2 → Agreed steps Agree log1 log2 e1 e2 b1 b2) [
+      | true ↦ λ f1 f2. alike_nothing (λ s. tick d n (captured_samples device n None) true s) Agree Agree (λ s o at. at ∙ sym (tick-opens d n (captured_samples device n None) true s)) steps s o log1 log2 b1 b2 e1 e2 at f1 f2 r1 r2
       | false ↦ λ f1 f2. live_alike d n device steps s o log1 log2 b1 b2 e1 e2 at f1 f2 r1 r2
     ] f1 f2
 

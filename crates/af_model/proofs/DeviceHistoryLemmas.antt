@@ -86,10 +86,10 @@ later_completing k d (deferred_play quiet start sound preempt) =
 later_completing k d (deferred_record c start frames) = later_same d (completing k (deferred_record c start frames) d) refl refl refl (λ j h. h)
 
 -- sample periods go by
-pub later_passed : (d : DeviceState) (captured : List ℤ) (is_dead : Bool) → Later d (later captured is_dead d)
-later_passed d captured is_dead = record { more = []; accepted = sym (append-nil d.accepted); ats = none_more d.now; now = omega arith; line = refl; acted = λ j h. h }
+pub later_passed : (d : DeviceState) (n : ℕ) (captured : List ℤ) (is_dead : Bool) → Later d (later n captured is_dead d)
+later_passed d n captured is_dead = record { more = []; accepted = sym (append-nil d.accepted); ats = none_more d.now; now = omega arith; line = refl; acted = λ j h. h }
 
--- A device that became later at the same time, with the same rate, and is as dead as it was, as its line is
+-- A device that became later at the same time, with the same rate and channels, and is as dead as it was, as its line is
 
 -- whether its line is dead, if it has one
 abbrev pub dead_line : DeviceState → Option Bool
@@ -101,16 +101,17 @@ pub record Lives (d e : DeviceState) : Type 0 where
   pub line_dead : dead_line e ≡ dead_line d
   pub now : e.now ≡ d.now
   pub rate : e.rate ≡ d.rate
+  pub channels : e.channels ≡ d.channels
 
 lives_refl : (d : DeviceState) → Lives d d
-lives_refl d = record { later = later_refl d; dead = refl; line_dead = refl; now = refl; rate = refl }
+lives_refl d = record { later = later_refl d; dead = refl; line_dead = refl; now = refl; rate = refl; channels = refl }
 
 lives_trans : (d e f : DeviceState) → Lives d e → Lives e f → Lives d f
-lives_trans d e f l m = record { later = later_trans d e f l.later m.later; dead = m.dead ∙ l.dead; line_dead = m.line_dead ∙ l.line_dead; now = m.now ∙ l.now; rate = m.rate ∙ l.rate }
+lives_trans d e f l m = record { later = later_trans d e f l.later m.later; dead = m.dead ∙ l.dead; line_dead = m.line_dead ∙ l.line_dead; now = m.now ∙ l.now; rate = m.rate ∙ l.rate; channels = m.channels ∙ l.channels }
 
 -- a line that becomes another, as dead as it was
 pub lives_line : (f : Phone → Phone) (d : DeviceState) → ((line : Phone) → (f line).dead ≡ line.dead) → Lives d (record d { line = option_map f d.line })
-lives_line f d alike = record { later = later_line f d; dead = refl; line_dead = mapped d.line; now = refl; rate = refl }
+lives_line f d alike = record { later = later_line f d; dead = refl; line_dead = mapped d.line; now = refl; rate = refl; channels = refl }
   where
     mapped : (o : Option Phone) → option_map (λ line. line.dead) (option_map f o) ≡ option_map (λ line. line.dead) o
     mapped None = refl
@@ -120,13 +121,13 @@ lives_line f d alike = record { later = later_line f d; dead = refl; line_dead =
 pub lives_wanting : (k : ℕ) (off : Bool) (d : DeviceState) → Lives d (wanting_hook k off d)
 lives_wanting k off d =
     let line = lives_line (wanting off) d (λ line. refl) in
-    record { later = later_same d (wanting_hook k off d) refl refl (line_there (wanting off) d.line) (λ j h. still_acted j k d.actors h); dead = refl; line_dead = line.line_dead; now = refl; rate = refl }
+    record { later = later_same d (wanting_hook k off d) refl refl (line_there (wanting off) d.line) (λ j h. still_acted j k d.actors h); dead = refl; line_dead = line.line_dead; now = refl; rate = refl; channels = refl }
 
 pub lives_accepting : (k : ℕ) (d : DeviceState) (entry : AcceptedPlay) → entry.at ≡ d.now → Lives d (accepting k entry d)
-lives_accepting k d entry at = record { later = later_accepting k d entry at; dead = refl; line_dead = refl; now = refl; rate = refl }
+lives_accepting k d entry at = record { later = later_accepting k d entry at; dead = refl; line_dead = refl; now = refl; rate = refl; channels = refl }
 
 pub lives_completing : (k : ℕ) (d : DeviceState) (deferred : Deferred) → Lives d (completing k deferred d)
-lives_completing k d deferred = record { later = later_completing k d deferred; dead = refl; line_dead = refl; now = refl; rate = refl }
+lives_completing k d deferred = record { later = later_completing k d deferred; dead = refl; line_dead = refl; now = refl; rate = refl; channels = refl }
 
 -- what a request makes of a device
 -- link k leaves a device as it is, or acts on it

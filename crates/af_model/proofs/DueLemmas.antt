@@ -1,14 +1,14 @@
--- What a request is like that begins to wait: it is due later than its device's time, and it has not more frames than it may.
-use Rattle.std.proofs.Common.{◌≡◌, ℕ, ◌+◌, ◌-◌, ◌*◌, ◌/◌, ◌%◌, ◌<◌, ◌≤◌, Bool, true, false, not, List, [], ◌∷◌, length, nat_le, nat_lt, refl, sym, ◌∙◌, arith, eqb-true}
+-- What a request is like that begins to wait: it is due later than its device's time, and it has not more samples than it may.
+use Rattle.std.proofs.Common.{◌≡◌, ℕ, ◌+◌, ◌-◌, ◌/◌, ◌<◌, ◌≤◌, Bool, true, false, not, List, [], ◌∷◌, length, nat_le, nat_lt, refl, sym, ap, ◌∙◌, arith}
 use Rattle.std.proofs.lemmas.List.{length-map}
-use Rattle.std.proofs.Math.Nat.{div-le_self}
-use Rattle.std.proofs.lemmas.Nat.{div-add-mod'}
+use Rattle.std.proofs.Math.Nat.{div-le_self, div-div-eq-div-mul}
 use Rattle.std.specs.declared.option.Option.TheVariants.{None}
 use Rattle.af_time.specs.DeviceTime.{unwrap}
 use Rattle.af_sample.specs.Gains.{gained}
-use Rattle.af_sample.specs.Samples.{samples}
-use Rattle.af_sample.specs.SampleTypes.{width_of}
-use Rattle.af_sample.proofs.RunLemmas.{length-samples}
+use Rattle.af_sample.specs.Samples.{decoded, piece, samples}
+use Rattle.af_sample.specs.SampleTypes.{frame_bytes, width_of}
+use Rattle.af_sample.specs.Channels.{frame_count}
+use Rattle.std.proofs.lemmas.List.FromFn.{length-map-range_with_len}
 use Rattle.af_context.specs.declared.Context.{Context}
 use Rattle.af_request.specs.Asked.{Asked, play_run, record_run}
 use Rattle.af_model.specs.declared.refusal.RefusalCause.TheVariants.{BadValue}
@@ -16,12 +16,12 @@ use Rattle.af_model.specs.State.{DeviceState, Deferred, deferred_play, deferred_
 use Rattle.af_model.specs.Reply.{horizon_of}
 use Rattle.af_model.specs.Checks.{check, first_refusal}
 use Rattle.af_model.specs.Waiting.{due}
-use Rattle.af_model.specs.Play.{are_frames, frames_of, frames_within_horizon, play_refusal, sent_sound}
+use Rattle.af_model.specs.Play.{are_frames, frames_of, frames_within_horizon, sent_sound}
 use Rattle.af_model.specs.Record.{frames_before_now, is_to_wait, record_refusal}
 use Rattle.af_model.proofs.BoolTestLemmas.{both-true, none_some}
 use Rattle.af_sample.specs.Sizes.{longest_record}
 
--- how many frames a request has that waits
+-- how many samples a play has that waits, and how many frames a record
 abbrev pub frames_deferred : Deferred → ℕ
 frames_deferred (deferred_play quiet start sound preempt) = length sound
 frames_deferred (deferred_record c start frames) = frames
@@ -33,7 +33,7 @@ most_asked (record_run blocking ac start bytes) = longest_record
 most_asked _ = 0
 
 pub record IsToWait (most : ℕ) (device : DeviceState) (deferred : Deferred) : Type 0 where
-  pub later : device.now < due (horizon_of device) deferred
+  pub later : device.now < due device.channels (horizon_of device) deferred
   pub short : frames_deferred deferred ≤ most
 
 -- a check that refuses nothing did not fail
@@ -41,39 +41,41 @@ unfailed : (fails : Bool) (value : ℕ) → check fails BadValue value ≡ None 
 unfailed true value e = absurd (none_some (sym e))
 unfailed false value e = refl
 
--- bytes that are whole frames are as many samples
-whole_sound : (c : Context) (bytes : List ℕ) → play_refusal c (length bytes) ≡ None → length (sent_sound c bytes) ≡ frames_of c (length bytes)
-whole_sound c bytes e =
-    let whole : are_frames c (length bytes) ≡ true = unfailed_not (are_frames c (length bytes)) (unfailed (not (are_frames c (length bytes))) (length bytes) e) in
-    let none : length bytes % width_of c.ty ≡ 0 = eqb-true (length bytes % width_of c.ty) 0 whole in
-    let parts = div-add-mod' (length bytes) (width_of c.ty) in
-    let size : length bytes ≡ length bytes / width_of c.ty * width_of c.ty = sym parts ∙ omega (arith, none) in
-    length-map (samples c.ty bytes) (λ x. gained x c.play_gain) ∙ length-samples c.ty bytes (length bytes / width_of c.ty) size
-  where
-    unfailed_not : (b : Bool) → not b ≡ false → b ≡ true
-    unfailed_not true e = refl
-    unfailed_not false e = absurd cc
+-- the samples that are sent are as many frames as their bytes, whole or not
+pub sent_frames : (channels : ℕ) (c : Context) (bytes : List ℕ) → frame_count channels (sent_sound c bytes) ≡ frames_of channels c (length bytes)
+unfolding samples
+sent_frames channels c bytes =
+    ap (λ n. n / channels) (length-map (samples c.ty bytes) (λ x. gained x c.play_gain) ∙ length-map-range_with_len (λ i. decoded c.ty (piece c.ty bytes i)) 0 (length bytes / width_of c.ty))
+    ∙ div-div-eq-div-mul (length bytes) (width_of c.ty) channels
+
+-- no more samples than bytes
+sent_few : (c : Context) (bytes : List ℕ) → length (sent_sound c bytes) ≤ length bytes
+unfolding samples
+sent_few c bytes =
+    let long : length (sent_sound c bytes) ≡ length bytes / width_of c.ty =
+    length-map (samples c.ty bytes) (λ x. gained x c.play_gain) ∙ length-map-range_with_len (λ i. decoded c.ty (piece c.ty bytes i)) 0 (length bytes / width_of c.ty) in
+    omega (arith, long, div-le_self (length bytes) (width_of c.ty))
 
 -- a play that ends beyond the horizon
-pub play_waits : (quiet : Bool) (c : Context) (device : DeviceState) (time : ℕ) (bytes : List ℕ) (most : ℕ) → play_refusal c (length bytes) ≡ None → length bytes ≤ most →
-    nat_le (frames_of c (length bytes)) (frames_within_horizon device time) ≡ false → IsToWait most device (deferred_play quiet (unwrap device.now time) (sent_sound c bytes) c.preempt)
-play_waits quiet c device time bytes most whole short beyond =
-    let size = whole_sound c bytes whole in
-    let fewer = div-le_self (length bytes) (width_of c.ty) in
-    record { later = past device.now (horizon_of device) (unwrap device.now time) (length (sent_sound c bytes)) (frames_of c (length bytes)) size beyond; short = omega (arith, size, fewer, short) }
+pub play_waits : (quiet : Bool) (c : Context) (device : DeviceState) (time : ℕ) (bytes : List ℕ) (most : ℕ) → length bytes ≤ most →
+    nat_le (frames_of device.channels c (length bytes)) (frames_within_horizon device time) ≡ false → IsToWait most device (deferred_play quiet (unwrap device.now time) (sent_sound c bytes) c.preempt)
+play_waits quiet c device time bytes most short beyond = record {
+  later = past device.now (horizon_of device) (unwrap device.now time) (frame_count device.channels (sent_sound c bytes)) (frames_of device.channels c (length bytes)) (sent_frames device.channels c bytes) beyond;
+  short = omega (arith, sent_few c bytes, short);
+}
   where
     past : (now horizon start sound frames : ℕ) → sound ≡ frames → nat_le frames (now + horizon - start) ≡ false → now < start + sound - horizon
     past now horizon start sound frames same e = grind arith
 
 -- a record of what is not there yet
-pub record_waits : (blocking : Bool) (c : Context) (device : DeviceState) (time bytes most : ℕ) → record_refusal c bytes ≡ None → longest_record ≤ most → is_to_wait blocking device time (frames_of c bytes) ≡ true →
-    IsToWait most device (deferred_record c (unwrap device.now time) (frames_of c bytes))
+pub record_waits : (blocking : Bool) (c : Context) (device : DeviceState) (time bytes most : ℕ) → record_refusal device.channels c bytes ≡ None → longest_record ≤ most →
+    is_to_wait blocking device time (frames_of device.channels c bytes) ≡ true → IsToWait most device (deferred_record c (unwrap device.now time) (frames_of device.channels c bytes))
 unfolding record_refusal
 record_waits blocking c device time bytes most allowed most_is waits =
-    let test = (both-true blocking (nat_lt (frames_before_now device time) (frames_of c bytes)) waits).1 in
-    let few : nat_lt longest_record bytes ≡ false = first (check (not (are_frames c bytes)) BadValue bytes ∷ []) (nat_lt longest_record bytes) allowed in
-    let fewer = div-le_self bytes (width_of c.ty) in
-    record { later = past device.now (unwrap device.now time) (frames_of c bytes) test; short = bounded bytes (frames_of c bytes) few fewer }
+    let test = (both-true blocking (nat_lt (frames_before_now device time) (frames_of device.channels c bytes)) waits).1 in
+    let few : nat_lt longest_record bytes ≡ false = first (check (not (are_frames device.channels c bytes)) BadValue bytes ∷ []) (nat_lt longest_record bytes) allowed in
+    let fewer = div-le_self bytes (frame_bytes c.ty device.channels) in
+    record { later = past device.now (unwrap device.now time) (frames_of device.channels c bytes) test; short = bounded bytes (frames_of device.channels c bytes) few fewer }
   where
     first : (rest : _) (fails : Bool) → first_refusal (check fails BadValue bytes ∷ rest) ≡ None → fails ≡ false
     first rest true e = absurd (none_some (sym e))

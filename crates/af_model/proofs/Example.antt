@@ -26,7 +26,7 @@ use Rattle.af_model.specs.Causes.{IsCause}
 use Rattle.af_model.specs.Dead.{fails_device}
 
 abbrev config : List DeviceSpec
-config = record { ty = Lin16; rate = 8000; start = 0; line = false } ∷ []
+config = record { ty = Lin16; rate = 8000; start = 0; channels = 1; line = false } ∷ []
 
 -- a setup, and SetControls of device 0 with its output off
 abbrev sent : List ℕ
@@ -150,10 +150,10 @@ cut_absorbs = refl
 abbrev plays : ℕ → AcceptedPlay
 plays at = record { start = 0; samples = pos 7 ∷ pos 7 ∷ []; preempt = false; at = at }
 
-later_unheard : heard (plays 0 ∷ plays 2 ∷ []) 1 ≡ pos 7
+later_unheard : heard 1 (plays 0 ∷ plays 2 ∷ []) 1 0 ≡ pos 7
 unfolding heard
 later_unheard = refl
 
-earlier_heard : heard (plays 0 ∷ plays 1 ∷ []) 1 ≡ pos 14
+earlier_heard : heard 1 (plays 0 ∷ plays 1 ∷ []) 1 0 ≡ pos 14
 unfolding heard
 earlier_heard = refl

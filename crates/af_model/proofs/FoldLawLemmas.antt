@@ -1,9 +1,9 @@
 -- What is accepted after a sound was handed out changes nothing of it.
-use Rattle.std.proofs.Common.{◌≡◌, ℕ, zero, suc, ◌+◌, ◌≤◌, ◌<◌, ◌⊎◌, inl, inr, Bool, true, false, List, [], ◌∷◌, ◌++◌, map, slice_get, refl, sym, ap, ◌∙◌, subst, arith, append_assoc, IfSome, IsSomeAnd}
+use Rattle.std.proofs.Common.{◌≡◌, ℕ, zero, suc, ◌+◌, ◌*◌, ◌/◌, ◌%◌, ◌≤◌, ◌<◌, ◌⊎◌, inl, inr, Bool, true, false, List, [], ◌∷◌, ◌++◌, slice_get, refl, sym, ap, ◌∙◌, subst, arith, append_assoc, IfSome, IsSomeAnd}
 use Rattle.std.proofs.lemmas.List.Elements.{All-weaker}
-use Rattle.std.specs.List.{range_with_len}
+use Rattle.std.proofs.Math.Nat.{div-lt_iff_lt-mul, mul_comm}
 use Rattle.std.specs.declared.option.Option.TheVariants.{None, Some}
-use Rattle.af_sample.specs.Heard.{AcceptedPlay, heard}
+use Rattle.af_sample.specs.Heard.{AcceptedPlay, heard, heard_from}
 use Rattle.af_sample.specs.Samples.{bytes_of}
 use Rattle.af_sample.proofs.HeardLemmas.{heard-append}
 use Rattle.af_world.specs.declared.happening.Happening.{Happening}
@@ -18,6 +18,7 @@ use Rattle.af_model.specs.Turn.{turn}
 use Rattle.af_model.specs.Run.{end_by, end_state, then_end, wakes}
 use Rattle.af_model.specs.Fold.{IsMixOfAll, MixesAll}
 use Rattle.af_model.proofs.BoolTestLemmas.{both-true, none_some, some_is}
+use Rattle.af_model.proofs.ListLemmas.{map-range_alike}
 use Rattle.af_model.proofs.DeviceHistoryLemmas.{AtLeast, Laters, later_trans, laters_get, laters_refl, laters_trans}
 use Rattle.af_model.proofs.RunLemmas.{run_inv, wakes-append, wakes-append-none}
 use Rattle.af_model.proofs.ServeLemmas.{inner, inner-append, is_inner}
@@ -25,21 +26,27 @@ use Rattle.af_model.proofs.WakeLemmas.{HandedOut, Hands, Turned, turned}
 
 -- Later entries
 
-heard_range : (accepted more : List AcceptedPlay) (u t n : ℕ) → t + n ≤ u → AtLeast u more → map (heard (accepted ++ more)) (range_with_len t n) ≡ map (heard accepted) (range_with_len t n)
-heard_range accepted more u t zero le ats = refl
-heard_range accepted more u t (suc n) le ats =
-    let first : heard (accepted ++ more) t ≡ heard accepted t = heard-append accepted more t (All-weaker (λ (e : AcceptedPlay). u ≤ e.at) (λ (e : AcceptedPlay). t < e.at) (λ e h. omega (arith, h, le)) more ats) in
-    let rest = heard_range accepted more u (t + 1) n (omega (arith, le)) ats in
-    ap (λ x. x ∷ map (heard (accepted ++ more)) (range_with_len (t + 1) n)) first ∙ ap (λ l. heard accepted t ∷ l) rest
+-- the frame of a place among those of n frames
+frame_within : (channels n j : ℕ) → j < channels * n → j / channels < n
+frame_within zero n j low = absurd (omega (arith, low))
+frame_within (suc more) n j low = (div-lt_iff_lt-mul {k = suc more} {x = j} {y = n} (omega arith)).1 (subst (λ m. j < m) (mul_comm (suc more) n) low)
+
+heard_range : (channels : ℕ) (accepted more : List AcceptedPlay) (u t n : ℕ) → t + n ≤ u → AtLeast u more → heard_from channels (accepted ++ more) t n ≡ heard_from channels accepted t n
+heard_range channels accepted more u t n le ats =
+    map-range_alike (λ j. heard channels (accepted ++ more) (t + j / channels) (j % channels)) (λ j. heard channels accepted (t + j / channels) (j % channels)) 0 (channels * n)
+    (λ j from to.
+    let frame : j / channels < n = frame_within channels n j (omega (arith, to)) in
+    heard-append channels accepted more (t + j / channels) (j % channels)
+    (All-weaker (λ (e : AcceptedPlay). u ≤ e.at) (λ (e : AcceptedPlay). t + j / channels < e.at) (λ e h. omega (arith, h, le, frame)) more ats))
 
 -- what was handed out is the mix of all that was accepted since
-handed_mixes : (s : State) (d frames : ℕ) (sent : List ℕ) (e : State) (o : HandedOut s d frames sent e) → sent ≡ bytes_of o.device.ty (through_output_control o.device.controls (map (heard o.last.accepted) (range_with_len o.device.now frames)))
+handed_mixes : (s : State) (d frames : ℕ) (sent : List ℕ) (e : State) (o : HandedOut s d frames sent e) → sent ≡ bytes_of o.device.ty (through_output_control o.device.controls (heard_from o.device.channels o.last.accepted o.device.now frames))
 handed_mixes s d frames sent e o =
     let l = o.becomes in
     let past : o.device.now + frames ≤ o.after.now = o.past in
     let same : o.last.accepted ≡ o.device.accepted ++ l.more = l.accepted ∙ ap (λ a. a ++ l.more) o.accepted in
     o.same ∙ ap (λ x. bytes_of o.device.ty (through_output_control o.device.controls x))
-    (sym (ap (λ a. map (heard a) (range_with_len o.device.now frames)) same ∙ heard_range o.device.accepted l.more o.after.now o.device.now frames past l.ats))
+    (sym (ap (λ a. heard_from o.device.channels a o.device.now frames) same ∙ heard_range o.device.channels o.device.accepted l.more o.after.now o.device.now frames past l.ats))
 
 later_handed : (s t u : State) (d frames : ℕ) (sent : List ℕ) → Laters t.devices u.devices → HandedOut s d frames sent t → HandedOut s d frames sent u
 later_handed s t u d frames sent l o =

@@ -1,5 +1,6 @@
--- Lists in which the element at a place is another.
-use Rattle.std.proofs.Common.{◌≡◌, ◌≢◌, ℕ, zero, suc, List, [], ◌∷◌, slice_get, slice_set, refl, ap}
+-- Lists in which the element at a place is another, and lists over ranges of numbers.
+use Rattle.std.proofs.Common.{◌≡◌, ◌≢◌, ℕ, zero, suc, ◌+◌, ◌<◌, ◌≤◌, List, [], ◌∷◌, map, slice_get, slice_set, refl, ap, ◌∙◌, arith}
+use Rattle.std.specs.List.{range_with_len}
 use Rattle.std.specs.declared.option.Option.TheVariants.{Some}
 
 module _ {A : Type 0} where
@@ -14,3 +15,10 @@ module _ {A : Type 0} where
   get-set_same [] k x y there = absurd cc
   get-set_same (z ∷ xs) zero x y there = refl
   get-set_same (z ∷ xs) (suc k) x y there = get-set_same xs k x y there
+
+  -- what is the same at each number of a range is the same over the range
+  pub map-range_alike : (f g : ℕ → A) (a n : ℕ) → ((j : ℕ) → a ≤ j → j < a + n → f j ≡ g j) → map f (range_with_len a n) ≡ map g (range_with_len a n)
+  map-range_alike f g a zero same = refl
+  map-range_alike f g a (suc n) same =
+      ap (λ x. x ∷ map f (range_with_len (a + 1) n)) (same a (omega arith) (omega arith))
+      ∙ ap (λ l. g a ∷ l) (map-range_alike f g (a + 1) n (λ j from to. same j (omega arith) (omega arith)))

@@ -95,9 +95,9 @@ complete_by-opens (suc n) d s =
       | Some t ↦ λ h. complete_by-opens n d t ∙ h
     ] (complete_step-opens d s (slice_get s.devices d))
 
-pub tick-opens : (d : ℕ) (captured : List ℤ) (is_dead : Bool) (s : State) → open_links (tick d captured is_dead s).slots ≡ open_links s.slots
+pub tick-opens : (d n : ℕ) (captured : List ℤ) (is_dead : Bool) (s : State) → open_links (tick d n captured is_dead s).slots ≡ open_links s.slots
 unfolding complete_due
-tick-opens d captured is_dead s = complete_by-opens (length s.waiting) d (record s { devices = with_device d (later captured is_dead) s.devices })
+tick-opens d n captured is_dead s = complete_by-opens (length s.waiting) d (record s { devices = with_device d (later n captured is_dead) s.devices })
 
 -- Events leave the links as open as they are
 

@@ -2,7 +2,7 @@
 use Rattle.std.proofs.Common.{◌≡◌, ℕ, ◌*◌, ◌==◌, Bool, true, false, not, cond, ◌&&◌, List, [], ◌∷◌, ◌++◌, length, refl, sym, ap, ◌∙◌, subst, eqb-true, append_assoc}
 use Rattle.std.specs.declared.option.Option.{Option}
 use Rattle.std.specs.declared.option.Option.TheVariants.{None, Some}
-use Rattle.af_sample.specs.SampleTypes.{width_of}
+use Rattle.af_sample.specs.SampleTypes.{frame_bytes}
 use Rattle.af_world.specs.declared.happening.Happening.{Happening}
 use Rattle.af_world.specs.declared.happening.Happening.TheVariants.{Woke, Read, Wrote, Closed, Captured, Emitted, Hooked}
 use Rattle.af_world.specs.declared.happening.ReadGot.{ReadGot}
@@ -166,9 +166,9 @@ capture_one d n device (Captured j m x) got e =
     (cc, ap (is_capture n device) (sym same) ∙ first.1)
 
 module _ (d n : ℕ) (device : DeviceState) (s : State) (M : Log → State → Type 0)
-    (failed : M (Captured d n None ∷ []) (tick d (captured_samples device.ty n None) true s))
-    (sounded : (bytes : List ℕ) (done : Bool) → length bytes ≡ n * width_of device.ty → M (Captured d n (Some bytes) ∷ Emitted d (sound device n) done ∷ []) (tick d (captured_samples device.ty n (Some bytes)) (not done) s)) where
-  emit_one : (bytes : List ℕ) → length bytes ≡ n * width_of device.ty → (h : Happening) (t : State) → emit_by d n device (captured_samples device.ty n (Some bytes)) s h ≡ Some t → M (Captured d n (Some bytes) ∷ h ∷ []) t
+    (failed : M (Captured d n None ∷ []) (tick d n (captured_samples device n None) true s))
+    (sounded : (bytes : List ℕ) (done : Bool) → length bytes ≡ n * frame_bytes device.ty device.channels → M (Captured d n (Some bytes) ∷ Emitted d (sound device n) done ∷ []) (tick d n (captured_samples device n (Some bytes)) (not done) s)) where
+  emit_one : (bytes : List ℕ) → length bytes ≡ n * frame_bytes device.ty device.channels → (h : Happening) (t : State) → emit_by d n device (captured_samples device n (Some bytes)) s h ≡ Some t → M (Captured d n (Some bytes) ∷ h ∷ []) t
   emit_one bytes size (Woke wake) t e = absurd (none_some e)
   emit_one bytes size (Read j got) t e = absurd (none_some e)
   emit_one bytes size (Wrote j offered took) t e = absurd (none_some e)
@@ -176,7 +176,7 @@ module _ (d n : ℕ) (device : DeviceState) (s : State) (M : Log → State → T
   emit_one bytes size (Captured j m got) t e = absurd (none_some e)
   emit_one bytes size (Hooked j off done) t e = absurd (none_some e)
   emit_one bytes size (Emitted j out done) t e =
-      let next = tick d (captured_samples device.ty n (Some bytes)) (not done) s in
+      let next = tick d n (captured_samples device n (Some bytes)) (not done) s in
       let i = cond-some (j == d && same_bytes out (sound device n)) (Some next) t e in
       let both = both-true (j == d) (same_bytes out (sound device n)) i.0 in
       let here : d ≡ j = sym (eqb-true j d both.0) in
@@ -185,10 +185,10 @@ module _ (d n : ℕ) (device : DeviceState) (s : State) (M : Log → State → T
       (subst (λ m. M (Captured d n (Some bytes) ∷ Emitted m out done ∷ []) next) here (subst (λ x. M (Captured d n (Some bytes) ∷ Emitted d x done ∷ []) next) same (sounded bytes done size)))
 
   captured_takes : (part : Log) (got : Option (List ℕ)) → (part ≡ Captured d n got ∷ []) × (is_capture n device got ≡ true) → Takes (after_capture d n device s got) (λ more t. M (part ++ more) t)
-  captured_takes part None h = takes_nothing (tick d (captured_samples device.ty n None) true s) (λ more t. M (part ++ more) t) (subst (λ l. M (l ++ []) (tick d (captured_samples device.ty n None) true s)) (sym h.0) failed)
+  captured_takes part None h = takes_nothing (tick d n (captured_samples device n None) true s) (λ more t. M (part ++ more) t) (subst (λ l. M (l ++ []) (tick d n (captured_samples device n None) true s)) (sym h.0) failed)
   captured_takes part (Some bytes) h =
-      takes_one (emit_by d n device (captured_samples device.ty n (Some bytes)) s) (λ more t. M (part ++ more) t)
-      (λ x t e. subst (λ l. M (l ++ x ∷ []) t) (sym h.0) (emit_one bytes (eqb-true (length bytes) (n * width_of device.ty) h.1) x t e))
+      takes_one (emit_by d n device (captured_samples device n (Some bytes)) s) (λ more t. M (part ++ more) t)
+      (λ x t e. subst (λ l. M (l ++ x ∷ []) t) (sym h.0) (emit_one bytes (eqb-true (length bytes) (n * frame_bytes device.ty device.channels) h.1) x t e))
 
   pub live_takes : Takes (λ log. parse_then (parse_one (capture_by d n device) log) (after_capture d n device s)) M
   live_takes =

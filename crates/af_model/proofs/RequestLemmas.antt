@@ -17,7 +17,7 @@ use Rattle.af_model.specs.DeviceRequests.{controlling, controls_refusal, on_line
 use Rattle.af_model.specs.Waiting.{wait}
 use Rattle.af_model.specs.Play.{play, play_refusal, start_play, tell_played, accepting, entry_now, in_devices, frames_of, frames_within_horizon, sent_sound}
 use Rattle.af_model.specs.Record.{record_sound, record_refusal, start_record, give_record, given_frames, is_to_wait}
-use Rattle.af_model.specs.Perform.{done, tell_time, in_context}
+use Rattle.af_model.specs.Perform.{channels_at, done, tell_time, in_context}
 use Rattle.af_model.proofs.DeviceHistoryLemmas.{Requested, acts_accepting, later_same, lives_accepting, lives_wanting, now_acted, still_acted}
 use Rattle.af_model.proofs.DueLemmas.{IsToWait, most_asked, play_waits, record_waits}
 use Rattle.af_sample.specs.Sizes.{longest_record}
@@ -71,25 +71,25 @@ module _ (k : ℕ) (p : OpenLink) (r : List ℕ) (most : ℕ) (M : OpenLink → 
 
   play_both : (quiet : Bool) (c : Context) (time : ℕ) (bytes : List ℕ) (device : DeviceState) → slice_get p.environment.devices c.device ≡ Some device → length bytes ≤ most → Both (play k quiet c time bytes device)
   play_both quiet c time bytes device there short =
-      refused_both 6 (play_refusal c (length bytes)) (start_play k quiet c time bytes device)
-      (λ whole. either_both (nat_le (frames_of c (length bytes)) (frames_within_horizon device time)) (λ q. tell_played quiet device (in_devices c.device (accepting k (entry_now c device time bytes)) q))
+      refused_both 6 (play_refusal device.channels c (length bytes)) (start_play k quiet c time bytes device)
+      (λ whole. either_both (nat_le (frames_of device.channels c (length bytes)) (frames_within_horizon device time)) (λ q. tell_played quiet device (in_devices c.device (accepting k (entry_now c device time bytes)) q))
       (wait k c.device (deferred_play quiet (unwrap device.now time) (sent_sound c bytes) c.preempt))
       (λ within. played_both quiet c.device device (accepting k (entry_now c device time bytes)) there (record { lives = lives_accepting k device (entry_now c device time bytes) refl; completed = refl; acts = acts_accepting k device (entry_now c device time bytes) }))
-      (λ beyond. waits c.device device (deferred_play quiet (unwrap device.now time) (sent_sound c bytes) c.preempt) there (play_waits quiet c device time bytes most whole short beyond)))
+      (λ beyond. waits c.device device (deferred_play quiet (unwrap device.now time) (sent_sound c bytes) c.preempt) there (play_waits quiet c device time bytes most short beyond)))
 
   record_both : (blocking : Bool) (c : Context) (time bytes : ℕ) (device : DeviceState) → slice_get p.environment.devices c.device ≡ Some device → longest_record ≤ most → Both (record_sound k blocking c time bytes device)
   record_both blocking c time bytes device there short =
-      refused_both 7 (record_refusal c bytes) (start_record k blocking c time bytes device)
-      (λ allowed. either_both (is_to_wait blocking device time (frames_of c bytes)) (wait k c.device (deferred_record c (unwrap device.now time) (frames_of c bytes)))
-      (give_record c (unwrap device.now time) (given_frames blocking device time (frames_of c bytes)) device)
-      (λ wanted. waits c.device device (deferred_record c (unwrap device.now time) (frames_of c bytes)) there (record_waits blocking c device time bytes most allowed short wanted)) (λ given. answers _))
+      refused_both 7 (record_refusal device.channels c bytes) (start_record k blocking c time bytes device)
+      (λ allowed. either_both (is_to_wait blocking device time (frames_of device.channels c bytes)) (wait k c.device (deferred_record c (unwrap device.now time) (frames_of device.channels c bytes)))
+      (give_record c (unwrap device.now time) (given_frames blocking device time (frames_of device.channels c bytes)) device)
+      (λ wanted. waits c.device device (deferred_record c (unwrap device.now time) (frames_of device.channels c bytes)) there (record_waits blocking c device time bytes most allowed short wanted)) (λ given. answers _))
 
   pub done_both : (request : Asked) → most_asked request ≤ most → Both (done k request)
   done_both no_op short = stays
   done_both (get_time d) short = device_both 2 d tell_time (slice_get p.environment.devices d) refl (λ device there. answers _)
   done_both (create_ac d ac ty channels preempt play_gain record_gain) short =
       let c = described d ac ty preempt play_gain record_gain in
-      refused_both 3 (creation_refusal (length p.environment.devices) d ty channels preempt play_gain record_gain) (create c)
+      refused_both 3 (creation_refusal (channels_at p.environment.devices d) d ty channels preempt play_gain record_gain) (create c)
       (λ allowed. refused_both 3 (context_refusal c.ac (creation p.link.contexts c.ac)) (λ q. replied 3 plain (with_contexts (q.link.contexts ++ c ∷ []) q)) (λ free. says (p.link.contexts ++ c ∷ []) p.link.selections _))
   done_both (change_ac mask ac preempt play_gain record_gain) short =
       refused_both 4 (change_refusal p.link.contexts mask ac preempt play_gain record_gain) (change mask ac preempt play_gain record_gain) (λ allowed. says _ p.link.selections _)
@@ -104,7 +104,7 @@ module _ (k : ℕ) (p : OpenLink) (r : List ℕ) (most : ℕ) (M : OpenLink → 
       let f = controlling k mask input_on output_on input_gain output_gain in
       device_both 9 d (set_device_controls k d mask input_on output_on input_gain output_gain) (slice_get p.environment.devices d) refl
       (λ device there. refused_both 9 (controls_refusal mask input_on output_on input_gain output_gain) (λ q. replied 9 plain (in_devices d f q)) (λ allowed. tells d device f _ there
-      (record { lives = record { later = later_same device (f device) refl refl refl (λ j h. still_acted j k device.actors h); dead = refl; line_dead = refl; now = refl; rate = refl }; completed = refl; acts = inr (now_acted k device.actors) })))
+      (record { lives = record { later = later_same device (f device) refl refl refl (λ j h. still_acted j k device.actors h); dead = refl; line_dead = refl; now = refl; rate = refl; channels = refl }; completed = refl; acts = inr (now_acted k device.actors) })))
   done_both (query_controls d) short = device_both 10 d tell_controls (slice_get p.environment.devices d) refl (λ device there. answers _)
   done_both (hook_switch d off) short =
       let f = wanting_hook k (off == 1) in

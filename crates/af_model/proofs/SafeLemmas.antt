@@ -1,7 +1,8 @@
 -- What holds between turns so that nothing is lost: each request that waits is due later than its device's time, and has not too many
--- frames. While a device ticks its requests may be due for as many frames as went by.
-use Rattle.std.proofs.Common.{◌≡◌, ℕ, zero, suc, ◌+◌, ◌*◌, ◌==◌, ◌<◌, ◌≤◌, Bool, true, false, not, cond, List, [], ◌∷◌, slice_get, slice_set, refl, sym, ◌∙◌, subst, arith}
+-- samples. While a device ticks its requests may be due for as many frames as went by.
+use Rattle.std.proofs.Common.{◌≡◌, ℕ, zero, suc, ◌+◌, ◌*◌, ◌==◌, ◌<◌, ◌≤◌, Bool, true, false, not, cond, List, [], ◌∷◌, length, slice_get, slice_set, refl, sym, ap, ◌∙◌, subst, arith}
 use Rattle.std.specs.List.{All, AllZip}
+use Rattle.std.proofs.Math.Nat.{div-le_self}
 use Rattle.std.proofs.lemmas.List.Elements.{All-cons, All-filter, All-head, All-push, All-tail, All-weaker}
 use Rattle.std.specs.declared.option.Option.TheVariants.{None, Some}
 use Rattle.af_wait.specs.Waits.{without_first}
@@ -24,8 +25,8 @@ pub record IsSafe (device : DeviceState) : Type 0 where
 
 -- a request that is due no more than some frames ago
 pub record IsAwaited (slack : ℕ) (device : DeviceState) (deferred : Deferred) : Type 0 where
-  pub soon : device.now < due (horizon_of device) deferred + slack
-  pub ever : 0 < due (horizon_of device) deferred
+  pub soon : device.now < due device.channels (horizon_of device) deferred + slack
+  pub ever : 0 < due device.channels (horizon_of device) deferred
   pub short : frames_deferred deferred ≤ longest_frame
 
 -- of those that wait, the ones that wait for a device have slack
@@ -68,20 +69,26 @@ module _ {X : Type 0} (P : X → Type 0) where
 
 -- Devices change
 
-awaited_alike : (slack : ℕ) (a b : DeviceState) (deferred : Deferred) → b.now ≡ a.now → b.rate ≡ a.rate → IsAwaited slack a deferred → IsAwaited slack b deferred
-awaited_alike slack a b deferred now rate h = record {
-  soon = subst (λ n. n < due (horizon_of b) deferred + slack) (sym now) (subst (λ r. a.now < due (r * 4) deferred + slack) (sym rate) h.soon);
-  ever = subst (λ r. 0 < due (r * 4) deferred) (sym rate) h.ever;
-  short = h.short;
-}
-
--- a device at the same time, with the same rate
+-- a device at the same time, with the same rate and channels
 abbrev pub SameClock : DeviceState → DeviceState → Type 0
-SameClock d e = (e.now ≡ d.now) × (e.rate ≡ d.rate)
+SameClock d e = (e.now ≡ d.now) × (e.rate ≡ d.rate) × (e.channels ≡ d.channels)
+
+-- requests are due at the same time of it
+pub due_alike : (a b : DeviceState) (deferred : Deferred) → b.rate ≡ a.rate → b.channels ≡ a.channels → due b.channels (horizon_of b) deferred ≡ due a.channels (horizon_of a) deferred
+due_alike a b deferred rate channels = ap (λ r. due b.channels (r * 4) deferred) rate ∙ ap (λ c. due c (horizon_of a) deferred) channels
+
+awaited_alike : (slack : ℕ) (a b : DeviceState) (deferred : Deferred) → SameClock a b → IsAwaited slack a deferred → IsAwaited slack b deferred
+awaited_alike slack a b deferred same h =
+    let at = due_alike a b deferred same.1 same.2 in
+    record {
+      soon = subst (λ n. n < due b.channels (horizon_of b) deferred + slack) (sym same.0) (subst (λ n. a.now < n + slack) (sym at) h.soon);
+      ever = subst (λ n. 0 < n) (sym at) h.ever;
+      short = h.short;
+    }
 
 awaited_still : (slack d : ℕ) (ds es : List DeviceState) (ws : List Deferral) → AllZip SameClock ds es → All (λ w. AwaitedIn slack d ds w) ws → All (λ w. AwaitedIn slack d es w) ws
 awaited_still slack d ds es ws l h =
-    All-weaker (λ w. AwaitedIn slack d ds w) (λ w. AwaitedIn slack d es w) (λ w one e there. let got = zip_back SameClock ds es w.device e l there in awaited_alike (slack_for slack d w) got.0 e w.deferred got.2.0 got.2.1 (one got.0 got.1)) ws h
+    All-weaker (λ w. AwaitedIn slack d ds w) (λ w. AwaitedIn slack d es w) (λ w one e there. let got = zip_back SameClock ds es w.device e l there in awaited_alike (slack_for slack d w) got.0 e w.deferred got.2 (one got.0 got.1)) ws h
 
 pub safe_with : (d : ℕ) (f : DeviceState → DeviceState) (ds : List DeviceState) → ((device : DeviceState) → slice_get ds d ≡ Some device → IsSafe device → IsSafe (f device)) → All (λ x. IsSafe x) ds → All (λ x. IsSafe x) (with_device d f ds)
 safe_with d f ds g h =
@@ -92,7 +99,7 @@ safe_with d f ds g h =
 
 pub safe_becomes : (slack c d : ℕ) (f : DeviceState → DeviceState) (ds : List DeviceState) (ws : List Deferral) → ((device : DeviceState) → slice_get ds d ≡ Some device → SameClock device (f device)) →
     ((device : DeviceState) → slice_get ds d ≡ Some device → IsSafe device → IsSafe (f device)) → Safe slack c ds ws → Safe slack c (with_device d f ds) ws
-safe_becomes slack c d f ds ws l g h = record { devices = safe_with d f ds g h.devices; waiting = awaited_still slack c ds (with_device d f ds) ws (zip_with SameClock (λ x. (refl, refl)) d f ds l) h.waiting }
+safe_becomes slack c d f ds ws l g h = record { devices = safe_with d f ds g h.devices; waiting = awaited_still slack c ds (with_device d f ds) ws (zip_with SameClock (λ x. (refl, refl, refl)) d f ds l) h.waiting }
 
 pub loses_alike : (d e : DeviceState) → e.rate ≡ d.rate → e.completed ≡ d.completed → IsSafe d → IsSafe e
 loses_alike d e rate completed h = record {
@@ -108,7 +115,7 @@ safe_keeps k slack c = record {
   sets_up = λ p open' unset e h. h;
   stops = λ p cause open' bad h. h;
   says = λ p bytes stays h. h;
-  becomes = λ p d device f there l h. safe_becomes slack c d f p.environment.devices p.environment.waiting (λ x is. subst (λ y. SameClock y (f y)) (some_is (sym there ∙ is)) (l.lives.now, l.lives.rate))
+  becomes = λ p d device f there l h. safe_becomes slack c d f p.environment.devices p.environment.waiting (λ x is. subst (λ y. SameClock y (f y)) (some_is (sym there ∙ is)) (l.lives.now, l.lives.rate, l.lives.channels))
       (λ x is. subst (λ y. IsSafe y → IsSafe (f y)) (some_is (sym there ∙ is)) (loses_alike device (f device) l.lives.rate l.completed)) h;
   waits = λ p d device deferred there w open' h. record {
     devices = h.devices;
@@ -124,13 +131,13 @@ safe_keeps k slack c = record {
 
 -- one that is due no more than 4096 frames ago loses nothing
 whole_now : (device : DeviceState) (deferred : Deferred) (slack : ℕ) → slack ≤ 4096 → 8000 ≤ device.rate → IsAwaited slack device deferred → IsWholeAt (horizon_of device) device.now deferred
-whole_now device (deferred_play quiet start sound preempt) slack few rate h = omega (arith, few, rate, h.soon, h.ever, h.short)
+whole_now device (deferred_play quiet start sound preempt) slack few rate h = omega (arith, few, rate, h.soon, h.ever, h.short, div-le_self (length sound) device.channels)
 whole_now device (deferred_record c start frames) slack few rate h = omega (arith, few, rate, h.soon, h.ever, h.short)
 
 pub safe_completing : (slack c : ℕ) (w : Deferral) (ds : List DeviceState) (ws : List Deferral) → slack ≤ 4096 → AwaitedIn slack c ds w → Safe slack c ds ws →
     Safe slack c (with_device w.device (completing w.link w.deferred) ds) ws
 safe_completing slack c w ds ws few one h =
-    safe_becomes slack c w.device (completing w.link w.deferred) ds ws (λ device there. (refl, refl)) (λ device there safe. record {
+    safe_becomes slack c w.device (completing w.link w.deferred) ds ws (λ device there. (refl, refl, refl)) (λ device there safe. record {
       rate = safe.rate;
       loses_none = All-push (λ x. IsWholeAt (horizon_of device) x.at x.deferred) device.completed (record { link = w.link; deferred = w.deferred; at = device.now }) safe.loses_none
           (whole_now device w.deferred (slack_for slack c w) (within (w.device == c)) safe.rate (one device there));

@@ -1,12 +1,7 @@
 -- What a wake makes of a state, and a whole turn.
-use Rattle.std.proofs.Common.{◌≡◌, ℕ, zero, suc, ◌+◌, ◌*◌, ◌≤◌, ◌==◌, ◌&&◌, ◌||◌, ◌⊎◌, inl, inr, Bool, true, false, not, cond, ℤ, List, [], ◌∷◌, ◌++◌, length, map, replicate, pos, nat_lt, find, is_some, option_map, option_and_then, slice_get, slice_set, refl, sym, ap, ◌∙◌, subst, eqb-true, arith, IfSome, nat_le}
+use Rattle.std.proofs.Common.{◌≡◌, ℕ, zero, suc, ◌+◌, ◌≤◌, ◌==◌, ◌&&◌, ◌||◌, ◌⊎◌, inl, inr, Bool, true, false, not, cond, ℤ, List, [], ◌∷◌, ◌++◌, length, map, nat_lt, find, is_some, option_map, option_and_then, slice_get, slice_set, refl, sym, ap, ◌∙◌, subst, eqb-true, arith, IfSome, nat_le}
 use Rattle.std.specs.declared.option.Option.{Option}
 use Rattle.std.specs.declared.option.Option.TheVariants.{None, Some}
-use Rattle.std.proofs.lemmas.List.{length-replicate}
-use Rattle.af_sample.specs.declared.sample_type.SampleType.{SampleType}
-use Rattle.af_sample.specs.Samples.{samples}
-use Rattle.af_sample.specs.SampleTypes.{width_of}
-use Rattle.af_sample.proofs.RunLemmas.{length-samples}
 use Rattle.af_wire.specs.declared.event.Event.{Event}
 use Rattle.af_wire.specs.declared.event.EventKind.{EventKind}
 use Rattle.af_wire.specs.declared.event.EventKind.TheVariants as kind
@@ -50,7 +45,7 @@ becomes_goes d f s l same =
       devices = live_laters s.devices (with_device d f s.devices) all;
       deaths = λ c x y h. lives_dead c x y s.devices (with_device d f s.devices) all h;
       queued = λ k g h. h;
-      safe = λ h. safe_becomes 0 0 d f s.devices s.waiting (λ x there. ((l x).now, (l x).rate)) (λ x there safe. loses_alike x (f x) (l x).rate (same x) safe) h;
+      safe = λ h. safe_becomes 0 0 d f s.devices s.waiting (λ x there. ((l x).now, (l x).rate, (l x).channels)) (λ x there safe. loses_alike x (f x) (l x).rate (same x) safe) h;
     }
 
 -- Completions
@@ -119,17 +114,17 @@ record Ticks (d : ℕ) (is_dead : Bool) (s t : State) : Type 0 where
   queued : (k : ℕ) (g : LinkHistory) → OwingAt k g s → OwingAt k g t
   safe : SafeState 0 0 s → SafeState 0 0 t
 
-ticks : (d : ℕ) (captured : List ℤ) (is_dead : Bool) (s : State) (device : DeviceState) → slice_get s.devices d ≡ Some device → length captured ≤ 4096 → Ticks d is_dead s (tick d captured is_dead s)
-ticks d captured is_dead s device there few =
-    let f = later captured is_dead in
+ticks : (d n : ℕ) (captured : List ℤ) (is_dead : Bool) (s : State) (device : DeviceState) → slice_get s.devices d ≡ Some device → n ≤ 4096 → Ticks d is_dead s (tick d n captured is_dead s)
+ticks d n captured is_dead s device there few =
+    let f = later n captured is_dead in
     let t : State = record s { devices = with_device d f s.devices } in
     let goes = due_goes d t in
     record {
-      devices = laters_trans s.devices t.devices (complete_due d t).devices (laters_with d f s.devices (λ device there. later_passed device captured is_dead)) goes.devices;
+      devices = laters_trans s.devices t.devices (complete_due d t).devices (laters_with d f s.devices (λ device there. later_passed device n captured is_dead)) goes.devices;
       deaths = λ c x y h. goes.deaths c (cond (d == c) is_dead x) y
           (with_dead d f s.devices c x y (cond (d == c) is_dead x) y (λ device same was. (sym (ap (λ b. cond b is_dead x) same), was.1)) (λ other. (sym (ap (λ b. cond b is_dead x) other), refl)) h);
       queued = goes.queued;
-      safe = λ h. ticks_safe d captured is_dead s device few there h;
+      safe = λ h. ticks_safe d n captured is_dead s device few there h;
     }
 
 -- Events
@@ -185,7 +180,7 @@ refused_goes d off s =
           with_dead d f s.devices c x y x ((d == c) || y) (λ device same was. (was.0, subst (λ b. IfSome (option_map (hooked false) device.line) (λ line. line.dead ≡ (b || y))) (sym same) (dies device.line)))
           (λ other. (refl, sym (ap (λ b. b || y) other))) h;
       queued = λ k g h. h;
-      safe = λ h. safe_becomes 0 0 d f s.devices s.waiting (λ x there. (refl, refl)) (λ x there safe. loses_alike x (f x) refl refl safe) h;
+      safe = λ h. safe_becomes 0 0 d f s.devices s.waiting (λ x there. (refl, refl, refl)) (λ x there safe. loses_alike x (f x) refl refl safe) h;
     }
   where
     dies : (line : Option Phone) → IfSome (option_map (hooked false) line) (λ line. line.dead ≡ true)
@@ -242,15 +237,14 @@ pub record Woken (s : State) (w : Wake) (part : Log) (t : State) : Type 0 where
   pub goes : Goes s (Woke w ∷ part) t
   pub emits : (inner part ≡ true) ⊎ Hands s w part t
 
-ticked : (d n : ℕ) (device : DeviceState) (s : State) (bytes : List ℕ) (done : Bool) → slice_get s.devices d ≡ Some device → length bytes ≡ n * width_of device.ty →
-    HandedOut s d n (sound device n) (tick d (captured_samples device.ty n (Some bytes)) (not done) s)
-ticked d n device s bytes done there size =
-    let captured = captured_samples device.ty n (Some bytes) in
-    let after : DeviceState = later captured (not done) device in
-    let t : State = record s { devices = with_device d (later captured (not done)) s.devices } in
-    let long : length captured ≡ n = length-samples device.ty bytes n size in
-    let got = laters_get t.devices (complete_due d t).devices d after (due_goes d t).devices (with_there d (later captured (not done)) s.devices device there) in
-    record { device = device; there = there; same = refl; after = after; accepted = refl; past = omega (arith, long); last = got.0; stands = got.1; becomes = got.2 }
+ticked : (d n : ℕ) (device : DeviceState) (s : State) (bytes : List ℕ) (done : Bool) → slice_get s.devices d ≡ Some device →
+    HandedOut s d n (sound device n) (tick d n (captured_samples device n (Some bytes)) (not done) s)
+ticked d n device s bytes done there =
+    let captured = captured_samples device n (Some bytes) in
+    let after : DeviceState = later n captured (not done) device in
+    let t : State = record s { devices = with_device d (later n captured (not done)) s.devices } in
+    let got = laters_get t.devices (complete_due d t).devices d after (due_goes d t).devices (with_there d (later n captured (not done)) s.devices device there) in
+    record { device = device; there = there; same = refl; after = after; accepted = refl; past = omega arith; last = got.0; stands = got.1; becomes = got.2 }
 
 -- a device that fails dies, and another is as dead as it was
 sound_dead : (same done x : Bool) → (same ≡ true → x ≡ false) → cond same (not done) x ≡ ((not done && same) || x)
@@ -263,18 +257,11 @@ sound_dead false false x alive = refl
 as_dead : (d : ℕ) (device : DeviceState) (s : State) (c : ℕ) (x y : Bool) → slice_get s.devices d ≡ Some device → DeadAs c x y s → (d == c) ≡ true → x ≡ device.is_dead
 as_dead d device s c x y there h same = sym (h device (subst (λ n. slice_get s.devices n ≡ Some device) (eqb-true d c same) there)).0
 
--- what was captured has as many samples as frames went by
-silence_few : (n : ℕ) → n ≤ 4096 → length (replicate n (pos 0)) ≤ 4096
-silence_few n few = omega (arith, few, length-replicate n (pos 0))
-
-sound_few : (ty : SampleType) (n : ℕ) (bytes : List ℕ) → n ≤ 4096 → length bytes ≡ n * width_of ty → length (samples ty bytes) ≤ 4096
-sound_few ty n bytes few size = omega (arith, few, length-samples ty bytes n size)
-
 -- sample periods of a dead device
-dead_goes : (d n : ℕ) (device : DeviceState) (s : State) → n ≤ 4096 → slice_get s.devices d ≡ Some device → device.is_dead ≡ true → Goes s (Woke (Ticked d n) ∷ []) (tick d (captured_samples device.ty n None) true s)
+dead_goes : (d n : ℕ) (device : DeviceState) (s : State) → n ≤ 4096 → slice_get s.devices d ≡ Some device → device.is_dead ≡ true → Goes s (Woke (Ticked d n) ∷ []) (tick d n (captured_samples device n None) true s)
 dead_goes d n device s few there dead =
-    let t = tick d (captured_samples device.ty n None) true s in
-    let g = ticks d (captured_samples device.ty n None) true s device there (silence_few n few) in
+    let t = tick d n (captured_samples device n None) true s in
+    let g = ticks d n (captured_samples device n None) true s device there few in
     record {
       devices = g.devices;
       deaths = λ c x y h. subst (λ z. DeadAs c z y t) (stays (d == c) x (λ same. as_dead d device s c x y there h same ∙ dead)) (g.deaths c x y h);
@@ -287,10 +274,10 @@ dead_goes d n device s few there dead =
     stays false x h = refl
 
 -- a capture that fails
-failed_goes : (d n : ℕ) (device : DeviceState) (s : State) → n ≤ 4096 → slice_get s.devices d ≡ Some device → Goes s (Woke (Ticked d n) ∷ Captured d n None ∷ []) (tick d (captured_samples device.ty n None) true s)
+failed_goes : (d n : ℕ) (device : DeviceState) (s : State) → n ≤ 4096 → slice_get s.devices d ≡ Some device → Goes s (Woke (Ticked d n) ∷ Captured d n None ∷ []) (tick d n (captured_samples device n None) true s)
 failed_goes d n device s few there =
-    let t = tick d (captured_samples device.ty n None) true s in
-    let g = ticks d (captured_samples device.ty n None) true s device there (silence_few n few) in
+    let t = tick d n (captured_samples device n None) true s in
+    let g = ticks d n (captured_samples device n None) true s device there few in
     record { devices = g.devices; deaths = λ c x y h. subst (λ z. DeadAs c z y t) (either (d == c) x) (g.deaths c x y h); queued = g.queued; safe = g.safe }
   where
     either : (same x : Bool) → cond same true x ≡ (same || x)
@@ -298,11 +285,11 @@ failed_goes d n device s few there =
     either false x = refl
 
 -- a capture, and an emit that is done or fails
-sounded_goes : (d n : ℕ) (device : DeviceState) (s : State) (bytes sent : List ℕ) (done : Bool) → n ≤ 4096 → length bytes ≡ n * width_of device.ty → slice_get s.devices d ≡ Some device → device.is_dead ≡ false →
-    Goes s (Woke (Ticked d n) ∷ Captured d n (Some bytes) ∷ Emitted d sent done ∷ []) (tick d (captured_samples device.ty n (Some bytes)) (not done) s)
-sounded_goes d n device s bytes sent done few size there alive =
-    let t = tick d (captured_samples device.ty n (Some bytes)) (not done) s in
-    let g = ticks d (captured_samples device.ty n (Some bytes)) (not done) s device there (sound_few device.ty n bytes few size) in
+sounded_goes : (d n : ℕ) (device : DeviceState) (s : State) (bytes sent : List ℕ) (done : Bool) → n ≤ 4096 → slice_get s.devices d ≡ Some device → device.is_dead ≡ false →
+    Goes s (Woke (Ticked d n) ∷ Captured d n (Some bytes) ∷ Emitted d sent done ∷ []) (tick d n (captured_samples device n (Some bytes)) (not done) s)
+sounded_goes d n device s bytes sent done few there alive =
+    let t = tick d n (captured_samples device n (Some bytes)) (not done) s in
+    let g = ticks d n (captured_samples device n (Some bytes)) (not done) s device there few in
     record {
       devices = g.devices;
       deaths = λ c x y h. subst (λ z. DeadAs c z y t) (sound_dead (d == c) done x (λ same. as_dead d device s c x y there h same ∙ alive)) (g.deaths c x y h);
@@ -313,12 +300,12 @@ sounded_goes d n device s bytes sent done few size there alive =
 woken_ticked : (d n : ℕ) (o : Option DeviceState) (s : State) → n ≤ 4096 → slice_get s.devices d ≡ o → Takes (tick_phase d n o s) (Woken s (Ticked d n))
 woken_ticked d n None s few there = λ log b e. absurd (none_some e)
 woken_ticked d n (Some device) s few there =
-    elim device.is_dead as (λ t. device.is_dead ≡ t → Takes (λ log. cond t (parsed (tick d (captured_samples device.ty n None) true s) log) (parse_then (parse_one (capture_by d n device) log) (after_capture d n device s))) (Woken s (Ticked d n))) [
-      | true ↦ λ dead. takes_nothing (tick d (captured_samples device.ty n None) true s) (Woken s (Ticked d n)) (record { goes = dead_goes d n device s few there dead; emits = inl refl })
+    elim device.is_dead as (λ t. device.is_dead ≡ t → Takes (λ log. cond t (parsed (tick d n (captured_samples device n None) true s) log) (parse_then (parse_one (capture_by d n device) log) (after_capture d n device s))) (Woken s (Ticked d n))) [
+      | true ↦ λ dead. takes_nothing (tick d n (captured_samples device n None) true s) (Woken s (Ticked d n)) (record { goes = dead_goes d n device s few there dead; emits = inl refl })
       | false ↦ λ alive. live_takes d n device s (Woken s (Ticked d n)) (record { goes = failed_goes d n device s few there; emits = inl refl })
           (λ bytes done size. record {
-            goes = sounded_goes d n device s bytes (sound device n) done few size there alive;
-            emits = inr (record { d = d; frames = n; captured = bytes; sent = sound device n; done = done; wake = refl; is = refl; out = ticked d n device s bytes done there size });
+            goes = sounded_goes d n device s bytes (sound device n) done few there alive;
+            emits = inr (record { d = d; frames = n; captured = bytes; sent = sound device n; done = done; wake = refl; is = refl; out = ticked d n device s bytes done there });
           })
     ] refl
 

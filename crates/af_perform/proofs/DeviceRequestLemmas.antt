@@ -13,6 +13,7 @@ use Rattle.af_model.specs.Checks.{in_device}
 use Rattle.af_model.specs.DeviceRequests.{controlling, on_line, tell_controls, wanting_hook, with_named}
 use Rattle.af_phone.specs.Lines.{wanting}
 use Rattle.af_model.specs.Play.{in_devices}
+use Rattle.af_model.proofs.SafeLemmas.{SameClock}
 use Rattle.af_state.specs.Kept.{KeptDevice, StandsForDevice}
 use Rattle.af_perform.specs.Lines.{device_line_or, line_at, line_or}
 use Rattle.af_state.specs.Deferrals.{KeptDeferral}
@@ -20,12 +21,12 @@ use Rattle.af_state.specs.Environment.{StandsForEnvironment, StandsForLink, Chan
 use Rattle.af_state.proofs.DeviceLemmas.{Found, found, not_found}
 use Rattle.af_perform.proofs.LinkRequestLemmas.{device_changes, with_error}
 
--- a device changes, but not its time and its rate, and the link is replied to
+-- a device changes, but not its time, its rate and its channels, and the link is replied to
 pub changed_replied : (ds : List KeptDevice) (ks : List KeptDeferral) (i : ℕ) (x' : KeptDevice) (l l' : LinkState) (opcode d : ℕ) (answer : Answer) (f : DeviceState → DeviceState) (a : EnvironmentState) (s : DeviceState) → i ≡ d → StandsForEnvironment (kept ds ks) a →
-    slice_get a.devices d ≡ Some s → StandsForDevice x' (f s) → (f s).now ≡ s.now → (f s).rate ≡ s.rate → l' ≡ record l { pending = l.pending ++ reply_message opcode answer l.sequence } →
+    slice_get a.devices d ≡ Some s → StandsForDevice x' (f s) → SameClock s (f s) → l' ≡ record l { pending = l.pending ++ reply_message opcode answer l.sequence } →
     StandsForLink (kept (slice_set ds i x') ks) l' (replied opcode answer (in_devices d f (open_link a l)))
-changed_replied ds ks i x' l l' opcode d answer f a s number h there stands now rate e =
-    subst (λ i. StandsForLink (kept (slice_set ds i x') ks) l' (replied opcode answer (in_devices d f (open_link a l)))) (sym number) (device_changes ds ks d x' a s f h there stands now rate, sym e)
+changed_replied ds ks i x' l l' opcode d answer f a s number h there stands same e =
+    subst (λ i. StandsForLink (kept (slice_set ds i x') ks) l' (replied opcode answer (in_devices d f (open_link a l)))) (sym number) (device_changes ds ks d x' a s f h there stands same, sym e)
 
 pub controlled : (k : ℕ) (x x' : KeptDevice) (c : Controls) (s : DeviceState) (mask input_on output_on : ℕ) (input_gain output_gain : ℤ) → StandsForDevice x s → c ≡ with_named mask input_on output_on input_gain output_gain x.controls → x' ≡ record x { controls = c } →
     StandsForDevice x' (controlling k mask input_on output_on input_gain output_gain s)

@@ -1,9 +1,11 @@
 -- Requests of a link, at whatever place it is.
-use Rattle.std.proofs.Common.{◌≡◌, ℕ, ℤ, Bool, true, false, not, nat_lt, nat_le, ◌&&◌, cond, min, Ok, Err, [], ◌∷◌, ◌+◌, ◌-◌, ◌*◌, ◌%◌, ◌^◌, ◌<◌, ◌≤◌, List, ◌++◌, length, get_or, slice_get, slice_set, refl, sym, ap, ◌∙◌, subst, arith}
+use Rattle.std.proofs.Common.{◌≡◌, ℕ, zero, suc, ℤ, Bool, true, false, not, nat_lt, nat_le, ◌&&◌, cond, min, Ok, Err, [], ◌∷◌, ◌+◌, ◌-◌, ◌*◌, ◌%◌, ◌^◌, ◌<◌, ◌≤◌, List, ◌++◌, length, get_or, slice_get, slice_set, refl, sym, ap, ◌∙◌, subst, arith}
 use Rattle.std.proofs.lemmas.Bool.Decides.{nat_tests}
 use Rattle.std.specs.declared.option.Option.{Option}
 use Rattle.std.specs.declared.option.Option.TheVariants.{None, Some}
 use Rattle.af_time.specs.DeviceTime.{unwrap}
+use Rattle.af_sample.specs.Channels.{AreWholeFrames, IsChannelCount, frame_count}
+use Rattle.af_sample.specs.SampleTypes.{frame_bytes}
 use Rattle.af_sample.specs.Heard.{AcceptedPlay}
 use Rattle.af_context.specs.declared.Context.{Context}
 use Rattle.af_context.specs.declared.ContextFault.TheVariants.{BadAc as BadAc'}
@@ -22,16 +24,18 @@ use Rattle.af_model.specs.Waiting.{wait}
 use Rattle.af_model.specs.Play.{accepting, entry_now, frames_of, in_devices, sent_sound, start_play, tell_played}
 use Rattle.af_model.specs.Record.{give_record, given_frames, recorded_bytes, start_record}
 use Rattle.af_model.specs.Tick.{answer_deferred, completing}
-use Rattle.af_model.specs.Perform.{tell_time}
+use Rattle.af_model.specs.Perform.{channels_at, tell_time}
+use Rattle.af_model.proofs.DueLemmas.{sent_frames}
+use Rattle.af_model.proofs.SafeLemmas.{SameClock}
 use Rattle.af_model.proofs.BoolTestLemmas.{both-true}
-use Rattle.af_state.specs.Kept.{KeptDevice, StandsForDevice, StandForDevices}
+use Rattle.af_state.specs.Kept.{KeptDevice, StandsForDevice, StandForDevices, kept_channels_at}
 use Rattle.af_state.specs.Deferrals.{KeptDeferral, IsNear, StandsForDeferral, StandForDeferrals, worded}
 use Rattle.af_state.specs.Environment.{KeptEnvironment, StandsForEnvironment, StandsForLink, ChangesLinkIn, ChangesLink, kept}
-use Rattle.af_state.proofs.DeviceLemmas.{Found, device_at, found, not_found, same_set, state_there, stands_length, stands_set}
+use Rattle.af_state.proofs.DeviceLemmas.{Found, device_at, found, not_found, same_channels, same_set, state_there, stands_set}
 use Rattle.af_state.proofs.PlayLemmas.{before-same, within-same, play_beyond-same, record_beyond-same, near_start, start_meant, horizon_bounds, completes}
 use Rattle.af_state.proofs.DeferredRequestLemmas.{play_is, record_is}
 use Rattle.af_state.proofs.DeferralLemmas.{waits_push, waits_set}
-use Rattle.af_perform.proofs.CheckLemmas.{pass_first, not_false}
+use Rattle.af_perform.proofs.CheckLemmas.{frames_fit, pass_first, not_false}
 use Rattle.af_sample.specs.Sizes.{longest_play, longest_record}
 
 -- what leads a link, leads it at each place
@@ -49,16 +53,16 @@ leads_refused l l' opcode o r f is e = subst (λ o. ChangesLink (refused_or opco
 pub leads_passed : (l l' : LinkState) (opcode : ℕ) (o : Option Refusal) (f : OpenLink → OpenLink) → o ≡ None → ChangesLink f l l' → ChangesLink (refused_or opcode o f) l l'
 leads_passed l l' opcode o f is leads = subst (λ o. ChangesLink (refused_or opcode o f) l l') (sym is) leads
 
--- the same of checks that look at how many devices there are
-pub counts_refused : (ds : List KeptDevice) (ks : List KeptDeferral) (l l' : LinkState) (opcode : ℕ) (check : ℕ → Option Refusal) (r : Refusal) (f : OpenLink → OpenLink) → check (length ds) ≡ Some r → l' ≡ with_error opcode r l →
-    (a : EnvironmentState) → StandsForEnvironment (kept ds ks) a → StandsForLink (kept ds ks) l' (refused_or opcode (check (length a.devices)) f (open_link a l))
-counts_refused ds ks l l' opcode check r f is e a h =
-    leads_at ds ks l l' (refused_or opcode (check (length a.devices)) f) a (leads_refused l l' opcode (check (length a.devices)) r f (ap check (stands_length ds a.devices h.0) ∙ is) e a) h
+-- the same of checks that look at the channels of a device
+pub matches_refused : (ds : List KeptDevice) (ks : List KeptDeferral) (l l' : LinkState) (opcode d : ℕ) (check : Option ℕ → Option Refusal) (r : Refusal) (f : OpenLink → OpenLink) → check (kept_channels_at ds d) ≡ Some r → l' ≡ with_error opcode r l →
+    (a : EnvironmentState) → StandsForEnvironment (kept ds ks) a → StandsForLink (kept ds ks) l' (refused_or opcode (check (channels_at a.devices d)) f (open_link a l))
+matches_refused ds ks l l' opcode d check r f is e a h =
+    leads_at ds ks l l' (refused_or opcode (check (channels_at a.devices d)) f) a (leads_refused l l' opcode (check (channels_at a.devices d)) r f (ap check (sym (same_channels ds a.devices d h.0)) ∙ is) e a) h
 
-pub counts_passed : (ds : List KeptDevice) (ks : List KeptDeferral) (l l' : LinkState) (opcode : ℕ) (check : ℕ → Option Refusal) (f : OpenLink → OpenLink) → check (length ds) ≡ None → ChangesLink f l l' →
-    (a : EnvironmentState) → StandsForEnvironment (kept ds ks) a → StandsForLink (kept ds ks) l' (refused_or opcode (check (length a.devices)) f (open_link a l))
-counts_passed ds ks l l' opcode check f is leads a h =
-    leads_at ds ks l l' (refused_or opcode (check (length a.devices)) f) a (leads_passed l l' opcode (check (length a.devices)) f (ap check (stands_length ds a.devices h.0) ∙ is) leads a) h
+pub matches_passed : (ds : List KeptDevice) (ks : List KeptDeferral) (l l' : LinkState) (opcode d : ℕ) (check : Option ℕ → Option Refusal) (f : OpenLink → OpenLink) → check (kept_channels_at ds d) ≡ None → ChangesLink f l l' →
+    (a : EnvironmentState) → StandsForEnvironment (kept ds ks) a → StandsForLink (kept ds ks) l' (refused_or opcode (check (channels_at a.devices d)) f (open_link a l))
+matches_passed ds ks l l' opcode d check f is leads a h =
+    leads_at ds ks l l' (refused_or opcode (check (channels_at a.devices d)) f) a (leads_passed l l' opcode (check (channels_at a.devices d)) f (ap check (sym (same_channels ds a.devices d h.0)) ∙ is) leads a) h
 
 -- a request that names a device
 
@@ -90,6 +94,22 @@ device_here e ds ks a i d x s view number there at h known =
     let low = subst (λ (e : KeptEnvironment). d < length e.devices) (sym view) there in
     let here = device_at ds i d x number (omega (arith, low, number)) ∙ ap (λ x. Some x) (sym at) in
     (environment, stands_here ds ks a d x s environment here known)
+
+-- a device is there whose number is below how many there are
+pub kept_there : (ds : List KeptDevice) (d : ℕ) → d < length ds → (x : KeptDevice) × (slice_get ds d ≡ Some x)
+kept_there [] d low = absurd (omega arith)
+kept_there (x ∷ ds) zero low = (x, refl)
+kept_there (x ∷ ds) (suc d) low = kept_there ds d (omega arith)
+
+-- it is there in its environment
+pub device_there : (e : KeptEnvironment) (ds : List KeptDevice) (ks : List KeptDeferral) (i d : ℕ) (x : KeptDevice) → kept ds ks ≡ e → i ≡ d → d < length e.devices → x ≡ get_or ds i x → slice_get e.devices d ≡ Some x
+device_there e ds ks i d x view number there at =
+    let low = subst (λ (e : KeptEnvironment). d < length e.devices) (sym view) there in
+    subst (λ (e : KeptEnvironment). slice_get e.devices d ≡ Some x) view (device_at ds i d x number (omega (arith, low, number)) ∙ ap (λ x. Some x) (sym at))
+
+-- and what is kept of it is one
+pub device_kept : (e : KeptEnvironment) (ds : List KeptDevice) (ks : List KeptDeferral) (i d : ℕ) (x y : KeptDevice) → kept ds ks ≡ e → i ≡ d → d < length e.devices → x ≡ get_or ds i x → slice_get e.devices d ≡ Some y → x ≡ y
+device_kept e ds ks i d x y view number there at known = let both : Some x ≡ Some y = sym (device_there e ds ks i d x view number there at) ∙ known in cc
 
 -- a device that is there
 pub any_device : (ds ds' : List KeptDevice) (ks ks' : List KeptDeferral) (l l' : LinkState) (opcode d : ℕ) (f : DeviceState → OpenLink → OpenLink) → d < length ds →
@@ -143,45 +163,53 @@ told_at : (ds : List KeptDevice) (ks : List KeptDeferral) (a : EnvironmentState)
 told_at ds ks a l l' true s t h is e = (h, sym e)
 told_at ds ks a l l' false s t h is e = (h, ap (λ t. record l { pending = l.pending ++ reply_message 6 (played t) l.sequence }) (sym is) ∙ sym e)
 
--- one device changes, but not its time and its rate
+-- one device changes, but not its time, its rate and its channels
 pub device_changes : (ds : List KeptDevice) (ks : List KeptDeferral) (d : ℕ) (x' : KeptDevice) (a : EnvironmentState) (s : DeviceState) (f : DeviceState → DeviceState) → StandsForEnvironment (kept ds ks) a → slice_get a.devices d ≡ Some s →
-    StandsForDevice x' (f s) → (f s).now ≡ s.now → (f s).rate ≡ s.rate → StandForDevices (slice_set ds d x') (with_device d f a.devices) × StandForDeferrals (with_device d f a.devices) ks a.waiting
-device_changes ds ks d x' a s f h there stands now rate =
+    StandsForDevice x' (f s) → SameClock s (f s) → StandForDevices (slice_set ds d x') (with_device d f a.devices) × StandForDeferrals (with_device d f a.devices) ks a.waiting
+device_changes ds ks d x' a s f h there stands same =
     subst (λ o. StandForDevices (slice_set ds d x') (device_set d f a.devices o) × StandForDeferrals (device_set d f a.devices o) ks a.waiting) (sym there)
-    (stands_set ds a.devices d x' (f s) h.0 stands, waits_set a.devices d s (f s) ks a.waiting there now rate h.1)
+    (stands_set ds a.devices d x' (f s) h.0 stands, waits_set a.devices d s (f s) ks a.waiting there same.0 same.1 same.2 h.1)
 
 -- a device that changed in answer to a play, of which the link is told
 pub play_told : (ds : List KeptDevice) (ks : List KeptDeferral) (i : ℕ) (x' : KeptDevice) (l l' : LinkState) (quiet : Bool) (d t : ℕ) (f : DeviceState → DeviceState) (a : EnvironmentState) (s : DeviceState) → i ≡ d → StandsForEnvironment (kept ds ks) a →
-    slice_get a.devices d ≡ Some s → StandsForDevice x' (f s) → (f s).now ≡ s.now → (f s).rate ≡ s.rate → t ≡ x'.next.time → l' ≡ cond quiet l (record l { pending = l.pending ++ reply_message 6 (played t) l.sequence }) →
+    slice_get a.devices d ≡ Some s → StandsForDevice x' (f s) → SameClock s (f s) → t ≡ x'.next.time → l' ≡ cond quiet l (record l { pending = l.pending ++ reply_message 6 (played t) l.sequence }) →
     StandsForLink (kept (slice_set ds i x') ks) l' (tell_played quiet s (in_devices d f (open_link a l)))
-play_told ds ks i x' l l' quiet d t f a s number h there stands now rate is e =
-    let time : t ≡ s.now % 2 ^ 32 = is ∙ stands.hears.time ∙ ap (λ n. n % 2 ^ 32) now in
+play_told ds ks i x' l l' quiet d t f a s number h there stands same is e =
+    let time : t ≡ s.now % 2 ^ 32 = is ∙ stands.hears.time ∙ ap (λ n. n % 2 ^ 32) same.0 in
     subst (λ i. StandsForLink (kept (slice_set ds i x') ks) l' (tell_played quiet s (in_devices d f (open_link a l)))) (sym number)
-    (told_at (slice_set ds d x') ks (in_devices d f (open_link a l)).environment l l' quiet s t (device_changes ds ks d x' a s f h there stands now rate) time e)
+    (told_at (slice_set ds d x') ks (in_devices d f (open_link a l)).environment l l' quiet s t (device_changes ds ks d x' a s f h there stands same) time e)
+
+-- how many frames a sound is that a client sends
+sound_frames : (x : KeptDevice) (s : DeviceState) (c : Context) (bytes : List ℕ) (sound : List ℤ) → StandsForDevice x s → sound ≡ sent_sound c bytes → frame_count x.next.channels sound ≡ frames_of s.channels c (length bytes)
+sound_frames x s c bytes sound h is = ap (λ n. frame_count n sound) h.hears.channels ∙ ap (frame_count s.channels) is ∙ sent_frames s.channels c bytes
 
 -- a play that ends within the horizon is accepted
 pub play_started : (ds ds' : List KeptDevice) (ks : List KeptDeferral) (x : KeptDevice) (l l' : LinkState) (k : ℕ) (quiet : Bool) (c : Context) (start : ℕ) (bytes : List ℕ) (sound : List ℤ) (a : EnvironmentState) (s : DeviceState) → start < 2 ^ 32 → StandsForDevice x s →
-    sound ≡ sent_sound c bytes → length sound ≡ frames_of c (length bytes) → length sound ≤ frames_within x.next start →
+    sound ≡ sent_sound c bytes → frame_count x.next.channels sound ≤ frames_within x.next start →
     StandsForLink (kept ds' ks) l' (tell_played quiet s (in_devices c.device (accepting k (accepted_at s.now start sound c.preempt)) (open_link a l))) → StandsForLink (kept ds' ks) l' (start_play k quiet c start bytes s (open_link a l))
-play_started ds ds' ks x l l' k quiet c start bytes sound a s word h is size within at =
+play_started ds ds' ks x l l' k quiet c start bytes sound a s word h is within at =
     let same = within-same x s start word h in
-    let test : nat_le (frames_of c (length bytes)) (s.now + s.rate * 4 - unwrap s.now start) ≡ true = grind (arith, nat_tests) in
-    either_at ds' ks l' (nat_le (frames_of c (length bytes)) (s.now + s.rate * 4 - unwrap s.now start)) true (tell_played quiet s (in_devices c.device (accepting k (entry_now c s start bytes)) (open_link a l)))
+    let size = sound_frames x s c bytes sound h is in
+    let test : nat_le (frames_of s.channels c (length bytes)) (s.now + s.rate * 4 - unwrap s.now start) ≡ true = grind (arith, nat_tests) in
+    either_at ds' ks l' (nat_le (frames_of s.channels c (length bytes)) (s.now + s.rate * 4 - unwrap s.now start)) true (tell_played quiet s (in_devices c.device (accepting k (entry_now c s start bytes)) (open_link a l)))
     (wait k c.device (deferred_play quiet (unwrap s.now start) (sent_sound c bytes) c.preempt) (open_link a l)) test
     (subst (λ xs. StandsForLink (kept ds' ks) l' (tell_played quiet s (in_devices c.device (accepting k (accepted_at s.now start xs c.preempt)) (open_link a l)))) is at)
 
 -- and any other waits
 pub play_waits : (ds : List KeptDevice) (ks ks' : List KeptDeferral) (x : KeptDevice) (l : LinkState) (k : ℕ) (quiet : Bool) (c : Context) (start : ℕ) (bytes : List ℕ) (sound : List ℤ) (left : ℕ) (a : EnvironmentState) (s : DeviceState) → start < 2 ^ 32 → StandsForEnvironment (kept ds ks) a →
-    slice_get a.devices c.device ≡ Some s → StandsForDevice x s → sound ≡ sent_sound c bytes → length sound ≡ frames_of c (length bytes) → length sound ≤ longest_play → frames_within x.next start < length sound → left ≡ play_beyond x.next start (length sound) →
+    slice_get a.devices c.device ≡ Some s → StandsForDevice x s → sound ≡ sent_sound c bytes → length sound ≤ longest_play → AreWholeFrames x.next.channels sound → frames_within x.next start < frame_count x.next.channels sound →
+    left ≡ play_beyond x.next start (frame_count x.next.channels sound) →
     ks' ≡ ks ++ record { wait = record { link = k; device = c.device; left = left }; deferred = deferred_play quiet start sound c.preempt } ∷ [] → StandsForLink (kept ds ks') l (start_play k quiet c start bytes s (open_link a l))
-play_waits ds ks ks' x l k quiet c start bytes sound left a s word h there stands is size few past count e =
+play_waits ds ks ks' x l k quiet c start bytes sound left a s word h there stands is few whole past count e =
+    let size = sound_frames x s c bytes sound stands is in
+    let frames : frame_count x.next.channels sound ≡ frame_count s.channels sound = ap (λ n. frame_count n sound) stands.hears.channels in
     let same = within-same x s start word stands in
     let meant = start_meant x s start word stands in
     let bounds = horizon_bounds s x stands in
     let far = bounds.0 in
     let late = meant.late in
-    let beyond = play_beyond-same x s start (length sound) word stands in
-    let test : nat_le (frames_of c (length bytes)) (s.now + s.rate * 4 - unwrap s.now start) ≡ false = grind (arith, nat_tests) in
+    let beyond = play_beyond-same x s start (frame_count x.next.channels sound) word stands in
+    let test : nat_le (frames_of s.channels c (length bytes)) (s.now + s.rate * 4 - unwrap s.now start) ≡ false = grind (arith, nat_tests) in
     let deferred : ℕ → List ℤ → Deferred = λ w xs. deferred_play quiet w xs c.preempt in
     let one : StandsForDeferral a.devices (record { wait = record { link = k; device = c.device; left = left }; deferred = deferred_play quiet start sound c.preempt }) (record { link = k; device = c.device; deferred = deferred_play quiet (unwrap s.now start) sound c.preempt }) = record {
       link = refl;
@@ -190,9 +218,10 @@ play_waits ds ks ks' x l k quiet c start bytes sound left a s word h there stand
       state = s;
       here = there;
       left = omega arith;
-      near = (omega arith, late, few);
+      near = (omega arith, late);
+      short = (few, subst (λ n. AreWholeFrames n sound) stands.hears.channels whole);
     } in
-    either_at ds ks' l (nat_le (frames_of c (length bytes)) (s.now + s.rate * 4 - unwrap s.now start)) false (tell_played quiet s (in_devices c.device (accepting k (entry_now c s start bytes)) (open_link a l)))
+    either_at ds ks' l (nat_le (frames_of s.channels c (length bytes)) (s.now + s.rate * 4 - unwrap s.now start)) false (tell_played quiet s (in_devices c.device (accepting k (entry_now c s start bytes)) (open_link a l)))
     (wait k c.device (deferred_play quiet (unwrap s.now start) (sent_sound c bytes) c.preempt) (open_link a l)) test
     (subst (λ xs. StandsForLink (kept ds ks') l (wait k c.device (deferred_play quiet (unwrap s.now start) xs c.preempt) (open_link a l))) is
     (subst (λ qs. StandsForLink (kept ds qs) l (wait k c.device (deferred_play quiet (unwrap s.now start) sound c.preempt) (open_link a l))) (sym e)
@@ -208,7 +237,7 @@ play_completed k ds ks i x' x l l' quiet d start t sound preempt a s whole numbe
     let means : unwrap s.now start ≡ whole = near_start x s start whole stands word (omega arith) near.1 in
     let entry : ℕ → AcceptedPlay = λ w. record { start = w; samples = sound; preempt = preempt; at = s.now } in
     play_told ds ks i x' l l' quiet d t (completing k deferred) a s number h there
-    (completes k x' s deferred (subst (λ w. StandsForDevice x' (accepting k (entry w) s)) means accepted) early) refl refl is e
+    (completes k x' s deferred (subst (λ w. StandsForDevice x' (accepting k (entry w) s)) means accepted) early) (refl, refl, refl) is e
 
 pub play_completes : (k : ℕ) (ds : List KeptDevice) (ks : List KeptDeferral) (i : ℕ) (x' : KeptDevice) (x : KeptDevice) (l l' : LinkState) (quiet : Bool) (d start t : ℕ) (sound : List ℤ) (preempt : Bool) (a : EnvironmentState) (s : DeviceState) (deferred : Deferred) → i ≡ d → StandsForEnvironment (kept ds ks) a →
     slice_get a.devices d ≡ Some s → StandsForDevice x s → deferred_play quiet start sound preempt ≡ worded deferred → IsNear (s.rate * 4) s.now deferred → StandsForDevice x' (accepting k (accepted_at s.now start sound preempt) s) → t ≡ x'.next.time →
@@ -234,23 +263,26 @@ record_given l l' blocking c start frames x n word few leads s h =
 
 -- a record that is answered now
 pub record_started : (ds : List KeptDevice) (ks : List KeptDeferral) (x : KeptDevice) (l l' : LinkState) (k : ℕ) (blocking : Bool) (c : Context) (start bytes frames : ℕ) (a : EnvironmentState) (s : DeviceState) → start < 2 ^ 32 → StandsForEnvironment (kept ds ks) a → StandsForDevice x s →
-    frames ≡ frames_of c bytes → (blocking && nat_lt (frames_before x.last start) frames) ≡ false → ChangesLink (give_record c (unwrap s.now start) (given_frames blocking s start (frames_of c bytes)) s) l l' →
+    frames ≡ frames_of x.next.channels c bytes → (blocking && nat_lt (frames_before x.last start) frames) ≡ false → ChangesLink (give_record c (unwrap s.now start) (given_frames blocking s start (frames_of s.channels c bytes)) s) l l' →
     StandsForLink (kept ds ks) l' (start_record k blocking c start bytes s (open_link a l))
-record_started ds ks x l l' k blocking c start bytes frames a s word h stands all now leads =
-    let test : (blocking && nat_lt (s.now - unwrap s.now start) (frames_of c bytes)) ≡ false =
+record_started ds ks x l l' k blocking c start bytes frames a s word h stands asked now leads =
+    let all : frames ≡ frames_of s.channels c bytes = asked ∙ ap (λ n. frames_of n c bytes) stands.hears.channels in
+    let test : (blocking && nat_lt (s.now - unwrap s.now start) (frames_of s.channels c bytes)) ≡ false =
     sym (ap (λ m. blocking && nat_lt m frames) (before-same x s start word stands) ∙ ap (λ m. blocking && nat_lt (s.now - unwrap s.now start) m) all) ∙ now in
-    either_at ds ks l' (blocking && nat_lt (s.now - unwrap s.now start) (frames_of c bytes)) false (wait k c.device (deferred_record c (unwrap s.now start) (frames_of c bytes)) (open_link a l))
-    (give_record c (unwrap s.now start) (given_frames blocking s start (frames_of c bytes)) s (open_link a l)) test
-    (leads_at ds ks l l' (give_record c (unwrap s.now start) (given_frames blocking s start (frames_of c bytes)) s) a (leads a) h)
+    either_at ds ks l' (blocking && nat_lt (s.now - unwrap s.now start) (frames_of s.channels c bytes)) false (wait k c.device (deferred_record c (unwrap s.now start) (frames_of s.channels c bytes)) (open_link a l))
+    (give_record c (unwrap s.now start) (given_frames blocking s start (frames_of s.channels c bytes)) s (open_link a l)) test
+    (leads_at ds ks l l' (give_record c (unwrap s.now start) (given_frames blocking s start (frames_of s.channels c bytes)) s) a (leads a) h)
 
 -- and one that waits
 pub record_waits : (ds : List KeptDevice) (ks ks' : List KeptDeferral) (x : KeptDevice) (l : LinkState) (k : ℕ) (blocking : Bool) (c : Context) (start bytes frames left : ℕ) (a : EnvironmentState) (s : DeviceState) → start < 2 ^ 32 → StandsForEnvironment (kept ds ks) a →
-    slice_get a.devices c.device ≡ Some s → StandsForDevice x s → frames ≡ frames_of c bytes → frames ≤ longest_record → (blocking && nat_lt (frames_before x.last start) frames) ≡ true → left ≡ record_beyond x.last start frames →
+    slice_get a.devices c.device ≡ Some s → StandsForDevice x s → frames ≡ frames_of x.next.channels c bytes → frames * frame_bytes c.ty x.next.channels ≤ longest_record → (blocking && nat_lt (frames_before x.last start) frames) ≡ true → left ≡ record_beyond x.last start frames →
     ks' ≡ ks ++ record { wait = record { link = k; device = c.device; left = left }; deferred = deferred_record c start frames } ∷ [] → StandsForLink (kept ds ks') l (start_record k blocking c start bytes s (open_link a l))
-record_waits ds ks ks' x l k blocking c start bytes frames left a s word h there stands all few waits count e =
+record_waits ds ks ks' x l k blocking c start bytes frames left a s word h there stands asked few waits count e =
+    let all : frames ≡ frames_of s.channels c bytes = asked ∙ ap (λ n. frames_of n c bytes) stands.hears.channels in
     let before = before-same x s start word stands in
-    let test : (blocking && nat_lt (s.now - unwrap s.now start) (frames_of c bytes)) ≡ true =
+    let test : (blocking && nat_lt (s.now - unwrap s.now start) (frames_of s.channels c bytes)) ≡ true =
     sym (ap (λ m. blocking && nat_lt m frames) before ∙ ap (λ m. blocking && nat_lt (s.now - unwrap s.now start) m) all) ∙ waits in
+    let most : frames ≤ longest_record = (frames_fit c.ty x.next.channels frames (subst (λ n. IsChannelCount n) (sym stands.hears.channels) stands.hears.count) few).frames_few in
     let past : nat_lt (frames_before x.last start) frames ≡ true = (both-true blocking (nat_lt (frames_before x.last start) frames) waits).1 in
     let meant = start_meant x s start word stands in
     let late = meant.late in
@@ -265,10 +297,11 @@ record_waits ds ks ks' x l k blocking c start bytes frames left a s word h there
       state = s;
       here = there;
       left = count ∙ beyond;
-      near = (omega arith, late, few);
+      near = (omega arith, late);
+      short = (most, subst (λ n. frames * frame_bytes c.ty n ≤ longest_record) stands.hears.channels few);
     } in
-    either_at ds ks' l (blocking && nat_lt (s.now - unwrap s.now start) (frames_of c bytes)) true (wait k c.device (deferred_record c (unwrap s.now start) (frames_of c bytes)) (open_link a l))
-    (give_record c (unwrap s.now start) (given_frames blocking s start (frames_of c bytes)) s (open_link a l)) test
+    either_at ds ks' l (blocking && nat_lt (s.now - unwrap s.now start) (frames_of s.channels c bytes)) true (wait k c.device (deferred_record c (unwrap s.now start) (frames_of s.channels c bytes)) (open_link a l))
+    (give_record c (unwrap s.now start) (given_frames blocking s start (frames_of s.channels c bytes)) s (open_link a l)) test
     (subst (λ m. StandsForLink (kept ds ks') l (wait k c.device (deferred_record c (unwrap s.now start) m) (open_link a l))) all
     (subst (λ qs. StandsForLink (kept ds qs) l (wait k c.device (deferred_record c (unwrap s.now start) frames) (open_link a l))) (sym e)
     ((h.0, waits_push a.devices ks a.waiting (record { wait = record { link = k; device = c.device; left = left }; deferred = deferred_record c start frames }) (record { link = k; device = c.device; deferred = deferred_record c (unwrap s.now start) frames }) h.1 one), refl)))
@@ -285,7 +318,7 @@ record_completed k ds ks x l l' c d start frames a s whole here h there stands w
     let means : unwrap s.now start ≡ whole = near_start x s start whole stands word (omega arith) near.1 in
     let environment = (in_devices d (completing k deferred) (open_link a l)).environment in
     let gives : ChangesLink (give_record c whole frames s) l l' = subst (λ w. ChangesLink (give_record c w frames s) l l') means leads in
-    let changed = device_changes ds ks d x a s (completing k deferred) h there (completes k x s deferred stands early) refl refl in
+    let changed = device_changes ds ks d x a s (completing k deferred) h there (completes k x s deferred stands early) (refl, refl, refl) in
     leads_at ds ks l l' (give_record c whole frames s) environment (gives environment)
     (subst (λ xs. StandForDevices xs environment.devices × StandForDeferrals environment.devices ks a.waiting) (same_set ds d x here) changed)
 

@@ -1,6 +1,8 @@
 -- What plays and records lead to, and those that waited.
-use Rattle.std.specs.Prelude.{◌≡◌, ℕ, List, length, slice_get}
+use Rattle.std.specs.Prelude.{◌≡◌, ℕ, ◌*◌, ◌/◌, ◌%◌, List, slice_get}
 use Rattle.std.specs.declared.option.Option.TheVariants.{Some}
+use Rattle.af_sample.specs.declared.sample_type.SampleType.{SampleType}
+use Rattle.af_sample.specs.SampleTypes.{width_of}
 use Rattle.af_context.specs.declared.Context.{Context}
 use Rattle.af_buffers.specs.PlayBuffer.{accepted_at}
 use Rattle.af_model.specs.State.{EnvironmentState, DeviceState, Deferred, LinkState, OpenLink, open_link}
@@ -10,6 +12,7 @@ use Rattle.af_model.specs.Play.{accepting, frames_of, in_devices, play, sent_sou
 use Rattle.af_model.specs.Record.{record_sound}
 use Rattle.af_model.specs.Tick.{answer_deferred, completing}
 use Rattle.af_state.specs.declared.deferred_request.Play.{Play}
+use Rattle.af_state.specs.declared.deferred_request.Record.{Record}
 use Rattle.af_state.specs.Kept.{KeptDevice}
 use Rattle.af_state.specs.Deferrals.{IsNear, KeptDeferral, worded}
 use Rattle.af_perform.specs.declared.play.ContextPlay.{ContextPlay}
@@ -21,7 +24,15 @@ pub record IsSoundOf (p : Play) (c : Context) (bytes : List ℕ) : Type 0 where
   pub device : p.device ≡ c.device
   pub preempt : p.preempt ≡ c.preempt
   pub sound : p.sound.now ≡ sent_sound c bytes
-  pub frames : length p.sound.now ≡ frames_of c (length bytes)
+
+-- bytes of a sample type are whole samples, and these are whole frames of so many channels
+pub record WholeBytes (ty : SampleType) (channels n : ℕ) : Type 0 where
+  pub samples : n % width_of ty ≡ 0
+  pub frames : n / width_of ty ≡ channels * (n / width_of ty / channels)
+
+-- a record has the frames of so many bytes by its context, on a device
+abbrev pub IsRecordOn : Record → ℕ → KeptDevice → Type 0
+IsRecordOn r bytes device = r.frames ≡ frames_of device.next.channels r.context bytes
 
 -- a request that names a device is done with it, if it is there
 abbrev pub with_named_device : ℕ → ℕ → (DeviceState → OpenLink → OpenLink) → OpenLink → OpenLink

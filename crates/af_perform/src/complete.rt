@@ -1,12 +1,9 @@
 // A request that waited completes.
-ghost use Rattle.std.specs.Prelude.{◌≡◌, ◌≤◌, ◌<◌, ◌*◌, length, slice_get};
-ghost use Rattle.std.specs.declared.option.Option.TheVariants.{Some};
-ghost use Rattle.af_sample.specs.SampleTypes.{width_of};
+ghost use Rattle.std.specs.Prelude.{◌≡◌, ◌≤◌, ◌<◌, length};
 ghost use Rattle.af_state.specs.Deferred.{deferred_of_record};
-ghost use Rattle.af_state.specs.Kept.{KeptDevice};
-ghost use Rattle.af_state.specs.Deferrals.{DeferredEndsWithin};
+ghost use Rattle.af_state.specs.Kept.{OfDeviceAt};
+ghost use Rattle.af_state.specs.Deferrals.{CanComplete};
 ghost use Rattle.af_perform.specs.Sounds.{CompletesDeferred};
-ghost use Rattle.af_sample.specs.Sizes.{longest_record};
 ghost use Rattle.af_model.specs.Sizes.{event_limit};
 
 use crate::play::accept;
@@ -22,8 +19,8 @@ fn complete_record(
     work: &mut Work,
 )
     requires room { length link.old.pending ≤ event_limit }
-    requires fits { asked.frames * width_of asked.context.ty ≤ longest_record }
     requires there { device < length devices.now }
+    requires can { OfDeviceAt devices.now device (λ d. CanComplete d (deferred_of_record asked)) }
     ensures step { CompletesDeferred (deferred_of_record asked) device devices.now link.old devices.now link.new }
     ensures rest { link.new.rest ≡ link.old.rest }
 {
@@ -40,7 +37,7 @@ pub fn complete_deferred(
 )
     requires room { length link.old.pending ≤ event_limit }
     requires there { device < length devices.old }
-    requires fits { (d : KeptDevice) → slice_get devices.old device ≡ Some d → DeferredEndsWithin d deferred.now }
+    requires can { OfDeviceAt devices.old device (λ d. CanComplete d deferred.now) }
     ensures step { CompletesDeferred deferred.now device devices.old link.old devices.new link.new }
     ensures rest { link.new.rest ≡ link.old.rest }
 {

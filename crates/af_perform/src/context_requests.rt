@@ -3,8 +3,9 @@ ghost use Rattle.std.specs.Prelude.{◌≡◌, ℕ, ◌≤◌, length, pos, unwr
 ghost use Rattle.std.specs.declared.option.Option.TheVariants.{None};
 ghost use Rattle.af_sample.specs.Gains.{gain_of};
 ghost use Rattle.af_request.specs.Asked.{free_ac};
-ghost use Rattle.af_model.specs.ContextRequests.{creation_refusal, described, create, change_refusal, change, named_preempt};
+ghost use Rattle.af_model.specs.ContextRequests.{creation_refusal, described, create, change_refusal, change, is_match, named_preempt};
 ghost use Rattle.af_model.specs.Perform.{done};
+ghost use Rattle.af_state.specs.Kept.{kept_channels_at};
 ghost use Rattle.af_state.specs.Environment.{StepsDevices, ChangesLink};
 ghost use Rattle.af_perform.specs.Asked.{new_context, new_settings};
 ghost use Rattle.af_model.specs.Sizes.{most_to_send};
@@ -41,14 +42,32 @@ pub struct NewSettings {
     pub record_gain: i16,
 }
 
-// The settings of a new context, before its number is looked at.
-fn creation_refusal(devices: usize, asked: NewContext) -> Option<Refusal>
+// The channels of a device, if it is there.
+fn channels_at(device: u8, devices: &[Device]) -> Option<u8>
+    ensures { result ≡ kept_channels_at devices.now device }
+{
+    let device = devices.get(usize::from(device))?;
+    Some(device.channels())
+}
+
+// Whether so many channels are those of a device, if it is there.
+fn is_match(own: Option<u8>, channels: u8) -> bool
+    ensures { result ≡ is_match own channels }
+{
+    match own {
+        Some(own) => own == channels,
+        None => false,
+    }
+}
+
+// The settings of a new context on a device with its own channels, if it is there, before the context's number is looked at.
+fn creation_refusal(own: Option<u8>, asked: NewContext) -> Option<Refusal>
     ensures { result ≡
-        creation_refusal devices asked.device asked.ty asked.channels asked.preempt asked.play_gain asked.record_gain }
+        creation_refusal own asked.device asked.ty asked.channels asked.preempt asked.play_gain asked.record_gain }
 {
     first_refusal(&[
         check(
-            usize::from(asked.device) >= devices,
+            own.is_none(),
             RefusalCause::BadDevice,
             u32::from(asked.device),
         ),
@@ -61,7 +80,7 @@ fn creation_refusal(devices: usize, asked: NewContext) -> Option<Refusal>
         check_gain(asked.play_gain),
         check_gain(asked.record_gain),
         check(
-            asked.channels != 1,
+            !is_match(own, asked.channels),
             RefusalCause::BadMatch,
             u32::from(asked.channels),
         ),
@@ -108,7 +127,7 @@ pub fn create_ac(asked: NewContext, devices: &[Device], link: &mut ServedLink, w
     ensures step { (k : ℕ) → StepsDevices (done k (new_context asked)) devices.now link.old devices.now link.new }
     ensures rest { link.new.rest ≡ link.old.rest }
 {
-    match creation_refusal(devices.len(), asked) {
+    match creation_refusal(channels_at(asked.device, devices), asked) {
         Some(refusal) => link.refuse(opcode::CREATE_AC, refusal),
         None => create(described(asked), link, work),
     }

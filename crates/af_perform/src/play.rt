@@ -1,18 +1,18 @@
 // Play: sound of a client from a time on.
-ghost use Rattle.std.specs.Prelude.{◌≡◌, ℕ, ◌≤◌, ◌<◌, ◌*◌, ◌/◌, ◌%◌, ◌++◌, List, length, slice_get, take, if◌then◌else◌};
-ghost use Rattle.std.specs.declared.option.Option.TheVariants.{Some};
+ghost use Rattle.std.specs.Prelude.{◌≡◌, ℕ, ◌≤◌, ◌<◌, ◌*◌, ◌/◌, ◌%◌, ◌++◌, List, length, take, if◌then◌else◌};
+ghost use Rattle.af_sample.specs.Channels.{AreWholeFrames, IsChannelCount};
 ghost use Rattle.af_sample.specs.SampleTypes.{width_of};
 ghost use Rattle.af_context.specs.declared.Context.{Context};
 ghost use Rattle.af_request.specs.Answer.{played};
-ghost use Rattle.af_buffers.specs.PlayBuffer.{frames_within};
 ghost use Rattle.af_model.specs.Reply.{reply_message};
 ghost use Rattle.af_model.specs.Play.{play_refusal, sent_sound, start_play};
 ghost use Rattle.af_model.specs.Perform.{done};
 ghost use Rattle.af_state.specs.Deferred.{deferred_of_play};
-ghost use Rattle.af_state.specs.Kept.{KeptDevice};
+ghost use Rattle.af_state.specs.Kept.{OfDeviceAt};
+ghost use Rattle.af_state.specs.Deferrals.{CanComplete};
 ghost use Rattle.af_state.specs.Environment.{StepsLink, StepsLinkFor, Leaves, MayAsk};
 ghost use Rattle.af_perform.specs.Asked.{new_play};
-ghost use Rattle.af_perform.specs.Sounds.{play_by_context, start_play_of, with_named_device, AcceptsPlay, CompletesDeferred, IsSoundOf};
+ghost use Rattle.af_perform.specs.Sounds.{play_by_context, start_play_of, with_named_device, AcceptsPlay, CompletesDeferred, IsSoundOf, WholeBytes};
 ghost use Rattle.af_sample.specs.Sizes.{longest_play};
 ghost use Rattle.af_wire.specs.Sizes.{longest_message};
 ghost use Rattle.af_model.specs.Sizes.{event_limit};
@@ -45,12 +45,13 @@ pub struct ContextPlay<'a> {
 }
 
 // A play has whole frames.
-fn play_refusal(context: &Context, bytes: usize) -> Option<Refusal>
+fn play_refusal(context: &Context, channels: u8, bytes: usize) -> Option<Refusal>
     requires few { bytes ≤ longest_play }
-    ensures { result ≡ play_refusal context.now bytes }
+    requires count { IsChannelCount channels }
+    ensures { result ≡ play_refusal channels context.now bytes }
 {
     check(
-        bytes % context.ty.width() != 0,
+        bytes % context.ty.frame_bytes(channels) != 0,
         RefusalCause::BadValue,
         bytes as u32,
     )
@@ -86,8 +87,7 @@ pub fn accept(play: &Play<'_>, devices: &mut [Device], link: &mut ServedLink, me
     requires size { length message.old ≡ longest_message }
     requires few { length play.now.sound.now ≤ longest_play }
     requires there { play.now.device < length devices.old }
-    requires within { (d : KeptDevice) → slice_get devices.old play.now.device ≡ Some d →
-        length play.now.sound.now ≤ frames_within d.next play.now.start.0 }
+    requires can { OfDeviceAt devices.old play.now.device (λ d. CanComplete d (deferred_of_play play.now)) }
     ensures accepts { AcceptsPlay play.now devices.old link.old devices.new link.new }
     ensures completes { CompletesDeferred (deferred_of_play play.now) play.now.device devices.old link.old devices.new link.new }
     ensures rest { link.new.rest ≡ link.old.rest }
@@ -110,13 +110,14 @@ fn accept_or_defer(
     requires size { length message.old ≡ longest_message }
     requires few { length play.now.sound.now ≤ longest_play }
     requires there { play.now.device < length environment.old.devices }
+    requires whole { OfDeviceAt environment.old.devices play.now.device (λ d. AreWholeFrames d.next.channels play.now.sound.now) }
     ensures step { (c : Context) (bytes : List ℕ) → IsSoundOf play.now c bytes →
         StepsLinkFor c.device (start_play number play.now.quiet c play.now.start.0 bytes)
         environment.old link.old environment.new link.new }
     ensures leaves { Leaves number environment.old link.old environment.new link.new }
 {
-    let frames = play.sound.len() as u32;
     let device = &environment.devices[usize::from(play.device)];
+    let frames = (play.sound.len() / usize::from(device.channels())) as u32;
     if frames <= device.frames_within(play.start) {
         accept(play, &mut environment.devices, link, message);
     } else {
@@ -136,7 +137,8 @@ fn convert_play(
     requires asks { MayAsk number environment.old link.old }
     requires few { length asked.now.bytes.now ≤ longest_play }
     requires there { asked.now.context.device < length environment.old.devices }
-    requires whole { length asked.now.bytes.now % width_of asked.now.context.ty ≡ 0 }
+    requires whole { OfDeviceAt environment.old.devices asked.now.context.device
+        (λ d. WholeBytes asked.now.context.ty d.next.channels (length asked.now.bytes.now)) }
     ensures step { StepsLinkFor asked.now.context.device (start_play_of number asked.now)
         environment.old link.old environment.new link.new }
     ensures leaves { Leaves number environment.old link.old environment.new link.new }
@@ -171,7 +173,8 @@ fn check_play(
         link.refuse(opcode::PLAY, no_device(asked.context.device));
         return;
     }
-    match play_refusal(&asked.context, asked.bytes.len()) {
+    let channels = environment.devices[usize::from(asked.context.device)].channels();
+    match play_refusal(&asked.context, channels, asked.bytes.len()) {
         Some(refusal) => link.refuse(opcode::PLAY, refusal),
         None => convert_play(number, asked, environment, link, work),
     }

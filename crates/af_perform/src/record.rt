@@ -1,15 +1,15 @@
 // Record: sound of a device from a time on.
 ghost use Rattle.std.specs.Prelude.{◌≡◌, ℕ, ◌≤◌, ◌<◌, ◌*◌, ◌&&◌, nat_lt, drop, length, min, take, if◌then◌else◌};
 ghost use Rattle.af_time.specs.DeviceTime.{unwrap};
-ghost use Rattle.af_sample.specs.SampleTypes.{width_of};
+ghost use Rattle.af_sample.specs.Channels.{IsChannelCount};
+ghost use Rattle.af_sample.specs.SampleTypes.{frame_bytes};
 ghost use Rattle.af_model.specs.State.{DeviceState};
-ghost use Rattle.af_model.specs.Play.{frames_of};
 ghost use Rattle.af_model.specs.Record.{give_record, given_frames, record_refusal, recorded_bytes, start_record};
 ghost use Rattle.af_model.specs.Perform.{done};
-ghost use Rattle.af_state.specs.Kept.{StandsForDevice};
+ghost use Rattle.af_state.specs.Kept.{OfDeviceAt, StandsForDevice};
 ghost use Rattle.af_state.specs.Environment.{StepsLink, StepsLinkFor, ChangesLink, Leaves, MayAsk};
 ghost use Rattle.af_perform.specs.Asked.{new_record};
-ghost use Rattle.af_perform.specs.Sounds.{record_by_context, with_named_device};
+ghost use Rattle.af_perform.specs.Sounds.{record_by_context, with_named_device, IsRecordOn};
 ghost use Rattle.af_sample.specs.Sizes.{longest_record};
 ghost use Rattle.af_wire.specs.Sizes.{longest_frame, longest_message};
 ghost use Rattle.af_model.specs.Sizes.{most_to_send, event_limit};
@@ -44,13 +44,14 @@ pub struct ContextRecord {
 const LONGEST_RECORD: u32 = 16000;
 
 // A record has at most 16000 bytes, in whole frames.
-fn record_refusal(context: &Context, bytes: u32) -> Option<Refusal>
-    ensures { result ≡ record_refusal context.now bytes }
+fn record_refusal(context: &Context, channels: u8, bytes: u32) -> Option<Refusal>
+    requires { IsChannelCount channels }
+    ensures { result ≡ record_refusal channels context.now bytes }
 {
-    let width = context.ty.width() as u32;
+    let frame = context.ty.frame_bytes(channels) as u32;
     first_refusal(&[
         check(bytes > LONGEST_RECORD, RefusalCause::BadValue, bytes),
-        check(bytes % width != 0, RefusalCause::BadValue, bytes),
+        check(bytes % frame != 0, RefusalCause::BadValue, bytes),
     ])
 }
 
@@ -64,16 +65,15 @@ fn given_frames(blocking: bool, before: u32, frames: u32) -> u32
 
 // The frames of a record come to stand in the message that answers it, and their samples at the front of `samples`.
 fn read_frames(asked: Record, device: &Device, samples: &mut [i16], message: &mut [u8])
-    requires few { asked.frames ≤ longest_record }
-    requires fits { asked.frames * width_of asked.context.ty ≤ longest_record }
+    requires fits { asked.frames * frame_bytes asked.context.ty device.now.next.channels ≤ longest_record }
     requires samples { length samples.old ≡ longest_frame }
     requires message { length message.old ≡ longest_message }
     ensures size { length message.new ≡ longest_message }
     ensures frames { (s : DeviceState) → StandsForDevice device.now s →
-        take (asked.frames * width_of asked.context.ty) (drop 16 message.new)
+        take (asked.frames * frame_bytes asked.context.ty device.now.next.channels) (drop 16 message.new)
         ≡ recorded_bytes asked.context s (unwrap s.now asked.start.0) asked.frames }
 {
-    let n = asked.frames as usize;
+    let n = asked.frames as usize * usize::from(device.channels());
     let size = n * asked.context.ty.width();
     let samples = &mut samples[..n];
     let (_, behind) = message.split_at_mut(RECORDED_AT);
@@ -83,14 +83,12 @@ fn read_frames(asked: Record, device: &Device, samples: &mut [i16], message: &mu
 /// A record is answered with its frames.
 pub fn answer_record(asked: Record, device: &Device, link: &mut ServedLink, work: &mut Work)
     requires room { length link.old.pending ≤ event_limit }
-    requires few { asked.frames ≤ longest_record }
-    requires fits { asked.frames * width_of asked.context.ty ≤ longest_record }
+    requires fits { asked.frames * frame_bytes asked.context.ty device.now.next.channels ≤ longest_record }
     ensures step { (s : DeviceState) → StandsForDevice device.now s →
         ChangesLink (give_record asked.context (unwrap s.now asked.start.0) asked.frames s) link.old link.new }
     ensures rest { link.new.rest ≡ link.old.rest }
 {
-    let n = asked.frames as usize;
-    let size = n * asked.context.ty.width();
+    let size = asked.frames as usize * asked.context.ty.frame_bytes(device.channels());
     read_frames(asked, device, &mut work.samples, &mut work.message);
     link.reply_recorded(device.time(), size, &mut work.message);
 }
@@ -98,8 +96,7 @@ pub fn answer_record(asked: Record, device: &Device, link: &mut ServedLink, work
 // A record is answered with all of its frames, or, if it does not block, with those before now.
 fn answer_available(asked: Record, device: &Device, link: &mut ServedLink, work: &mut Work)
     requires room { length link.old.pending ≤ most_to_send }
-    requires few { asked.frames ≤ longest_record }
-    requires fits { asked.frames * width_of asked.context.ty ≤ longest_record }
+    requires fits { asked.frames * frame_bytes asked.context.ty device.now.next.channels ≤ longest_record }
     ensures step { (s : DeviceState) → StandsForDevice device.now s → ChangesLink
         (give_record asked.context (unwrap s.now asked.start.0) (given_frames asked.blocking s asked.start.0 asked.frames) s)
         link.old link.new }
@@ -128,8 +125,9 @@ fn answer_or_defer(
     requires asks { MayAsk number environment.old link.old }
     requires there { asked.context.device < length environment.old.devices }
     requires few { asked.frames ≤ longest_record }
-    requires fits { asked.frames * width_of asked.context.ty ≤ longest_record }
-    ensures step { (bytes : ℕ) → asked.frames ≡ frames_of asked.context bytes →
+    requires fits { OfDeviceAt environment.old.devices asked.context.device
+        (λ d. asked.frames * frame_bytes asked.context.ty d.next.channels ≤ longest_record) }
+    ensures step { (bytes : ℕ) → OfDeviceAt environment.old.devices asked.context.device (IsRecordOn asked bytes) →
         StepsLinkFor asked.context.device (start_record number asked.blocking asked.context asked.start.0 bytes)
         environment.old link.old environment.new link.new }
     ensures leaves { Leaves number environment.old link.old environment.new link.new }
@@ -164,10 +162,11 @@ fn check_record(
         link.refuse(opcode::RECORD, no_device(asked.context.device));
         return;
     }
-    match record_refusal(&asked.context, asked.bytes) {
+    let channels = environment.devices[usize::from(asked.context.device)].channels();
+    match record_refusal(&asked.context, channels, asked.bytes) {
         Some(refusal) => link.refuse(opcode::RECORD, refusal),
         None => {
-            let frames = asked.bytes / asked.context.ty.width() as u32;
+            let frames = asked.bytes / asked.context.ty.frame_bytes(channels) as u32;
             let asked = Record {
                 blocking: asked.blocking,
                 context: asked.context,

@@ -85,7 +85,7 @@ rate_below rate listed = grind (arith, nat_tests)
 -- a device that may be stated is read as it is
 stated_again : (d : DeviceInfo) → IsDeviceInfo d → device_info_of (Some d.ty) d.channels (Some d.line) d.rate d.horizon ≡ Some d
 stated_again d s =
-    ap_3 (λ a b c. if a && b && c then Some d else None) (eq-eqb _ _ s.channels) s.rate (eq-eqb _ _ s.horizon)
+    ap_3 (λ a b c. if a && b && c then Some d else None) s.channels s.rate (eq-eqb _ _ s.horizon)
 
 device_again : (d : DeviceInfo) (rest : List ℕ) → IsDeviceInfo d → device_in (take 12 (device_bytes d ++ rest)) ≡ Some d
 device_again d rest s =

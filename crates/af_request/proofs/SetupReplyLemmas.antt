@@ -6,25 +6,25 @@ use Rattle.std.specs.Prelude.{All, Some, None, option_map}
 use Rattle.std.specs.declared.option.Option.{Option}
 use Rattle.af_sample.specs.declared.sample_type.SampleType.{SampleType}
 use Rattle.af_sample.specs.SampleTypes.{type_of_code}
+use Rattle.af_sample.specs.Channels.{is_channel_count}
 use Rattle.af_sample.specs.Rates.{is_listed_rate}
 use Rattle.af_request.specs.declared.reply.DeviceInfo.{DeviceInfo}
 use Rattle.af_request.specs.Answer.{setup}
 use Rattle.af_request.specs.Fields.{u8_at, u16_at, u32_at}
 use Rattle.af_request.specs.Replies.{answer_in, device_in, device_info_of, device_then, devices_in, flag_of, IsReplyTo, IsDeviceInfo}
 
-fits_stated : (ty : SampleType) (channels rate horizon : ℕ) (line b : Bool) (d : DeviceInfo) → (channels == 1 && is_listed_rate rate && horizon == rate * 4) ≡ b →
+fits_stated : (ty : SampleType) (channels rate horizon : ℕ) (line b : Bool) (d : DeviceInfo) → (is_channel_count channels && is_listed_rate rate && horizon == rate * 4) ≡ b →
     (let o : Option DeviceInfo = if b then Some (record { ty = ty; channels = channels; line = line; rate = rate; horizon = horizon }) else None in o ≡ Some d) → IsDeviceInfo d
 fits_stated ty channels rate horizon line true d test is =
-    let p = and_parts (channels == 1 && is_listed_rate rate) (horizon == rate * 4) test in
-    let q = and_parts (channels == 1) (is_listed_rate rate) p.0 in
-    let one : (channels == 1) ≡ true = q.0 in
+    let p = and_parts (is_channel_count channels && is_listed_rate rate) (horizon == rate * 4) test in
+    let q = and_parts (is_channel_count channels) (is_listed_rate rate) p.0 in
     let four : (horizon == rate * 4) ≡ true = p.1 in
     let same : (let x : DeviceInfo = record { ty = ty; channels = channels; line = line; rate = rate; horizon = horizon } in x ≡ d) = cc in
-    subst (λ (x : DeviceInfo). IsDeviceInfo x) same (record { channels = grind (arith, nat_tests); rate = q.1; horizon = grind (arith, nat_tests) })
+    subst (λ (x : DeviceInfo). IsDeviceInfo x) same (record { channels = q.0; rate = q.1; horizon = grind (arith, nat_tests) })
 fits_stated ty channels rate horizon line false d test is = cc
 
 of_stated : (ty : Option SampleType) (channels : ℕ) (line : Option Bool) (rate horizon : ℕ) (d : DeviceInfo) → device_info_of ty channels line rate horizon ≡ Some d → IsDeviceInfo d
-of_stated (Some ty) channels (Some line) rate horizon d is = fits_stated ty channels rate horizon line (channels == 1 && is_listed_rate rate && horizon == rate * 4) d refl is
+of_stated (Some ty) channels (Some line) rate horizon d is = fits_stated ty channels rate horizon line (is_channel_count channels && is_listed_rate rate && horizon == rate * 4) d refl is
 of_stated (Some ty) channels None rate horizon d is = cc
 of_stated None channels line rate horizon d is = cc
 

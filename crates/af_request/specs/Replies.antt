@@ -4,6 +4,7 @@ use Rattle.std.specs.List.{list_all, list_any, flat_map}
 use Rattle.af_wire.specs.Message.{head}
 use Rattle.af_sample.specs.declared.sample_type.SampleType.{SampleType}
 use Rattle.af_sample.specs.SampleTypes.{code_of, type_of_code}
+use Rattle.af_sample.specs.Channels.{is_channel_count, IsChannelCount}
 use Rattle.af_sample.specs.Rates.{is_listed_rate, IsListedRate}
 use Rattle.af_sample.specs.Gains.{gain_of, IsGain}
 use Rattle.af_request.specs.declared.reply.DeviceInfo.{DeviceInfo}
@@ -20,10 +21,10 @@ is_zero bytes = list_all (λ b. b == 0) bytes
 abbrev pub flag_of : ℕ → Option Bool
 flag_of byte = if byte == 0 then Some false else if byte == 1 then Some true else None
 
--- a device of n channels, of a listed rate, that can be played to four seconds ahead
+-- a device of one or two channels, of a listed rate, that can be played to four seconds ahead
 abbrev pub device_info_of : Option SampleType → ℕ → Option Bool → ℕ → ℕ → Option DeviceInfo
 device_info_of (Some ty) channels (Some line) rate horizon =
-    if channels == 1 && is_listed_rate rate && horizon == rate * 4
+    if is_channel_count channels && is_listed_rate rate && horizon == rate * 4
     then Some (record { ty = ty; channels = channels; line = line; rate = rate; horizon = horizon })
     else None
 device_info_of _ _ _ _ _ = None
@@ -148,7 +149,7 @@ FitsMessage _ = ⊤
 
 -- a device as the reply to a setup may state it
 pub record IsDeviceInfo (d : DeviceInfo) : Type 0 where
-  pub channels : d.channels ≡ 1
+  pub channels : IsChannelCount d.channels
   pub rate : IsListedRate d.rate
   pub horizon : d.horizon ≡ d.rate * 4
 

@@ -1,6 +1,7 @@
 // Reading the body of a reply: one function for each kind of body.
 ghost use Rattle.std.specs.Prelude.{◌≡◌, ◌≤◌, ◌*◌, length, option_map, slice_index, true};
 ghost use Rattle.std.specs.Int.{w16, cast_signed, from_be_bytes};
+ghost use Rattle.af_sample.specs.Channels.{is_channel_count};
 ghost use Rattle.af_sample.specs.Gains.{gain_of};
 ghost use Rattle.af_request.specs.Answer.{reply_meaning, items_of};
 ghost use Rattle.af_request.specs.Replies.{answer_in, controls_in, device_in, devices_in, flag_of, phone_in, phone_of, plain_in, played_in, recorded_body, setup_in, time_in, is_zero};
@@ -10,8 +11,8 @@ use af_sample::{Gain, SampleType, is_listed_rate};
 use af_time::DevTime;
 
 /// Reads the body of a reply to a request of this opcode, 0 standing for a setup. None exactly where it is no such body:
-/// a length that does not fit, a flag above 1, a gain outside -30..30, a type above 3, channels other than 1, a rate that
-/// is not listed, a horizon that is not 4 seconds, fewer than 1 or more than 8 devices, or padding that is not zero.
+/// a length that does not fit, a flag above 1, a gain outside -30..30, a type above 3, channels other than 1 and 2, a rate
+/// that is not listed, a horizon that is not 4 seconds, fewer than 1 or more than 8 devices, or padding that is not zero.
 pub fn read_reply<'a>(opcode: u8, body: &'a [u8]) -> Option<Reply<'a>>
     ensures { option_map reply_meaning result ≡ answer_in opcode body.entry.now }
 {
@@ -164,7 +165,7 @@ fn device(bytes: &[u8]) -> Option<DeviceInfo>
     let horizon = u32::from_be_bytes([*e, *f, *g, *h]);
     let ty = SampleType::of_code(*ty)?;
     let line = flag(*line)?;
-    if *channels == 1 && is_listed_rate(rate) && horizon == rate * 4 {
+    if is_channel_count(*channels) && is_listed_rate(rate) && horizon == rate * 4 {
         Some(DeviceInfo {
             ty,
             channels: *channels,
@@ -175,6 +176,13 @@ fn device(bytes: &[u8]) -> Option<DeviceInfo>
     } else {
         None
     }
+}
+
+// Whether a device can have so many channels.
+fn is_channel_count(channels: u8) -> bool
+    ensures { result ≡ is_channel_count channels }
+{
+    channels == 1 || channels == 2
 }
 
 fn flag(byte: u8) -> Option<bool>

@@ -2,6 +2,8 @@
 use Rattle.std.proofs.Common.{◌≡◌, ◌≢◌, ℕ, zero, suc, ℤ, ◌+◌, ◌-◌, ◌*◌, ◌<◌, ◌≤◌, ◌==◌, ◌&&◌, ◌||◌, nat_le, Bool, true, false, not, cond, eqb-true, List, [], ◌∷◌, ◌++◌, length, map, find, slice_get, slice_set, refl, sym, ap, ◌∙◌, subst, arith, append_assoc, append-nil}
 use Rattle.std.proofs.lemmas.Bool.Decides.{nat_tests}
 use Rattle.std.specs.declared.option.Option.TheVariants.{None, Some}
+use Rattle.std.proofs.Math.Nat.{div-le_self}
+use Rattle.af_sample.specs.Sizes.{longest_play, longest_record}
 use Rattle.af_wait.specs.declared.Wait.{Wait}
 use Rattle.af_wait.specs.Waits.{without_first}
 use Rattle.af_wait.proofs.WaitLemmas.{passed-link}
@@ -11,7 +13,7 @@ use Rattle.af_model.specs.Waiting.{due, falls_due, has_deferral}
 use Rattle.af_model.specs.Tick.{later}
 use Rattle.af_model.specs.Events.{without_waiter}
 use Rattle.af_model.proofs.ListLemmas.{get-set_other, get-set_same}
-use Rattle.af_state.specs.Deferrals.{KeptDeferral, has_waiting, kept_due, kept_passed, kept_without, AreLater, AreLaterBut, AreNew, OnlyQueues, LeavesOthers, IsNear, StandsForDeferral, StandForDeferrals}
+use Rattle.af_state.specs.Deferrals.{KeptDeferral, has_waiting, kept_due, kept_passed, kept_without, AreLater, AreLaterBut, AreNew, OnlyQueues, LeavesOthers, IsNear, IsShort, StandsForDeferral, StandForDeferrals}
 
 -- Devices change
 
@@ -21,84 +23,96 @@ record Found (devices : List DeviceState) (e : ℕ) (t : DeviceState) : Type 0 w
   here : slice_get devices e ≡ Some state
   now : state.now ≡ t.now
   rate : state.rate ≡ t.rate
+  channels : state.channels ≡ t.channels
 
-found : (devices : List DeviceState) (d e : ℕ) (s s' t : DeviceState) → slice_get devices d ≡ Some s → slice_get devices e ≡ Some t → s'.now ≡ s.now → s'.rate ≡ s.rate → Found (slice_set devices d s') e t
-found [] d e s s' t here there now rate = absurd cc
-found (x ∷ devices) zero zero s s' t here there now rate =
+found : (devices : List DeviceState) (d e : ℕ) (s s' t : DeviceState) → slice_get devices d ≡ Some s → slice_get devices e ≡ Some t → s'.now ≡ s.now → s'.rate ≡ s.rate → s'.channels ≡ s.channels → Found (slice_set devices d s') e t
+found [] d e s s' t here there now rate channels = absurd cc
+found (x ∷ devices) zero zero s s' t here there now rate channels =
     let same : s ≡ t = let both : Some s ≡ Some t = sym here ∙ there in cc in
-    record { state = s'; here = refl; now = now ∙ ap (λ (y : DeviceState). y.now) same; rate = rate ∙ ap (λ (y : DeviceState). y.rate) same }
-found (x ∷ devices) zero (suc e) s s' t here there now rate = record { state = t; here = there; now = refl; rate = refl }
-found (x ∷ devices) (suc d) zero s s' t here there now rate = record { state = t; here = there; now = refl; rate = refl }
-found (x ∷ devices) (suc d) (suc e) s s' t here there now rate =
-    let r = found devices d e s s' t here there now rate in record { state = r.state; here = r.here; now = r.now; rate = r.rate }
+    record { state = s'; here = refl; now = now ∙ ap (λ (y : DeviceState). y.now) same; rate = rate ∙ ap (λ (y : DeviceState). y.rate) same; channels = channels ∙ ap (λ (y : DeviceState). y.channels) same }
+found (x ∷ devices) zero (suc e) s s' t here there now rate channels = record { state = t; here = there; now = refl; rate = refl; channels = refl }
+found (x ∷ devices) (suc d) zero s s' t here there now rate channels = record { state = t; here = there; now = refl; rate = refl; channels = refl }
+found (x ∷ devices) (suc d) (suc e) s s' t here there now rate channels =
+    let r = found devices d e s s' t here there now rate channels in record { state = r.state; here = r.here; now = r.now; rate = r.rate; channels = r.channels }
 
 wait_after : (devices devices' : List DeviceState) (k : KeptDeferral) (w : Deferral) (h : StandsForDeferral devices k w) → Found devices' w.device h.state → StandsForDeferral devices' k w
 wait_after devices devices' k w h r =
-    let at : ℕ → ℕ → Type 0 = λ rate now. (k.wait.left ≡ due (rate * 4) w.deferred - now) × IsNear (rate * 4) now w.deferred in
-    let both = subst (λ now. at r.state.rate now) (sym r.now) (subst (λ rate. at rate h.state.now) (sym r.rate) (h.left, h.near)) in
-    record { link = h.link; device = h.device; deferred = h.deferred; state = r.state; here = r.here; left = both.0; near = both.1 }
+    let at : ℕ → ℕ → ℕ → Type 0 = λ channels rate now. (k.wait.left ≡ due channels (rate * 4) w.deferred - now) × IsNear (rate * 4) now w.deferred × IsShort channels w.deferred in
+    let all = subst (λ now. at r.state.channels r.state.rate now) (sym r.now)
+    (subst (λ rate. at r.state.channels rate h.state.now) (sym r.rate) (subst (λ channels. at channels h.state.rate h.state.now) (sym r.channels) (h.left, h.near, h.short))) in
+    record { link = h.link; device = h.device; deferred = h.deferred; state = r.state; here = r.here; left = all.0; near = all.1; short = all.2 }
 
--- a device changes, but not its time and its rate
-pub waits_set : (devices : List DeviceState) (d : ℕ) (s s' : DeviceState) (ks : List KeptDeferral) (ws : List Deferral) → slice_get devices d ≡ Some s → s'.now ≡ s.now → s'.rate ≡ s.rate →
+-- a device changes, but not its time, its rate and its channels
+pub waits_set : (devices : List DeviceState) (d : ℕ) (s s' : DeviceState) (ks : List KeptDeferral) (ws : List Deferral) → slice_get devices d ≡ Some s → s'.now ≡ s.now → s'.rate ≡ s.rate → s'.channels ≡ s.channels →
     StandForDeferrals devices ks ws → StandForDeferrals (slice_set devices d s') ks ws
-waits_set devices d s s' [] [] here now rate h = tt
-waits_set devices d s s' [] (w ∷ ws) here now rate h = absurd h
-waits_set devices d s s' (k ∷ ks) [] here now rate h = absurd h
-waits_set devices d s s' (k ∷ ks) (w ∷ ws) here now rate h =
-    (wait_after devices (slice_set devices d s') k w h.0 (found devices d w.device s s' h.0.state here h.0.here now rate), waits_set devices d s s' ks ws here now rate h.1)
+waits_set devices d s s' [] [] here now rate channels h = tt
+waits_set devices d s s' [] (w ∷ ws) here now rate channels h = absurd h
+waits_set devices d s s' (k ∷ ks) [] here now rate channels h = absurd h
+waits_set devices d s s' (k ∷ ks) (w ∷ ws) here now rate channels h =
+    (wait_after devices (slice_set devices d s') k w h.0 (found devices d w.device s s' h.0.state here h.0.here now rate channels), waits_set devices d s s' ks ws here now rate channels h.1)
 
 -- Time goes on
 
-near_later : (horizon now n : ℕ) (deferred : Deferred) → 32000 ≤ horizon → n ≤ 4096 → now < due horizon deferred → IsNear horizon now deferred → IsNear horizon (now + n) deferred
-near_later horizon now n (deferred_play quiet start sound preempt) far few before near =
-    let a = near.0 in let b = near.1 in let c = near.2 in (omega arith, omega arith, c)
-near_later horizon now n (deferred_record context start frames) far few before near =
-    let a = near.0 in let b = near.1 in let c = near.2 in (omega arith, omega arith, c)
+near_later : (channels horizon now n : ℕ) (deferred : Deferred) → 32000 ≤ horizon → n ≤ 4096 → IsShort channels deferred → now < due channels horizon deferred → IsNear horizon now deferred → IsNear horizon (now + n) deferred
+near_later channels horizon now n (deferred_play quiet start sound preempt) far few short before near =
+    let a = near.0 in
+    let b = near.1 in
+    let most : length sound ≤ longest_play = short.0 in
+    let frames = div-le_self (length sound) channels in
+    (omega arith, omega arith)
+near_later channels horizon now n (deferred_record context start frames) far few short before near =
+    let a = near.0 in
+    let b = near.1 in
+    let most : frames ≤ longest_record = short.0 in
+    (omega arith, omega arith)
 
-wait_passed : (devices : List DeviceState) (d n : ℕ) (s : DeviceState) (captured : List ℤ) (is_dead : Bool) (k : KeptDeferral) (w : Deferral) → slice_get devices d ≡ Some s → length captured ≡ n → n ≤ 4096 → 32000 ≤ s.rate * 4 →
-    0 < k.wait.left → StandsForDeferral devices k w → StandsForDeferral (slice_set devices d (later captured is_dead s)) (kept_passed d n k) w
-wait_passed devices d n s captured is_dead k w here size few far some h =
-    elim (w.device == d) as (λ b. (w.device == d) ≡ b → StandsForDeferral (slice_set devices d (later captured is_dead s)) (kept_passed d n k) w) [
+wait_passed : (devices : List DeviceState) (d n : ℕ) (s : DeviceState) (captured : List ℤ) (is_dead : Bool) (k : KeptDeferral) (w : Deferral) → slice_get devices d ≡ Some s → n ≤ 4096 → 32000 ≤ s.rate * 4 →
+    0 < k.wait.left → StandsForDeferral devices k w → StandsForDeferral (slice_set devices d (later n captured is_dead s)) (kept_passed d n k) w
+wait_passed devices d n s captured is_dead k w here few far some h =
+    elim (w.device == d) as (λ b. (w.device == d) ≡ b → StandsForDeferral (slice_set devices d (later n captured is_dead s)) (kept_passed d n k) w) [
       | true ↦ λ same.
           let number : w.device ≡ d = grind (arith, nat_tests) in
           let is : h.state ≡ s = let both : Some h.state ≡ Some s = sym h.here ∙ ap (slice_get devices) number ∙ here in cc in
-          let left : k.wait.left ≡ due (s.rate * 4) w.deferred - s.now = h.left ∙ ap (λ (t : DeviceState). due (t.rate * 4) w.deferred - t.now) is in
+          let left : k.wait.left ≡ due s.channels (s.rate * 4) w.deferred - s.now = h.left ∙ ap (λ (t : DeviceState). due t.channels (t.rate * 4) w.deferred - t.now) is in
           let near : IsNear (s.rate * 4) s.now w.deferred = subst (λ (t : DeviceState). IsNear (t.rate * 4) t.now w.deferred) is h.near in
+          let short : IsShort s.channels w.deferred = subst (λ (t : DeviceState). IsShort t.channels w.deferred) is h.short in
           let test : (k.wait.device == d) ≡ true = ap (λ m. m == d) h.device ∙ same in
           let on : kept_passed d n k ≡ record k { wait = record k.wait { left = k.wait.left - n } } = ap (λ b. record k { wait = cond b (record k.wait { left = k.wait.left - n }) k.wait }) test in
-          subst (λ (x : KeptDeferral). StandsForDeferral (slice_set devices d (later captured is_dead s)) x w) (sym on)
+          subst (λ (x : KeptDeferral). StandsForDeferral (slice_set devices d (later n captured is_dead s)) x w) (sym on)
           (record {
             link = h.link;
             device = h.device;
             deferred = h.deferred;
-            state = later captured is_dead s;
-            here = ap (slice_get (slice_set devices d (later captured is_dead s))) number ∙ get-set_same devices d s (later captured is_dead s) here;
+            state = later n captured is_dead s;
+            here = ap (slice_get (slice_set devices d (later n captured is_dead s))) number ∙ get-set_same devices d s (later n captured is_dead s) here;
             left = omega arith;
-            near = subst (λ m. IsNear (s.rate * 4) (s.now + m) w.deferred) (sym size) (near_later (s.rate * 4) s.now n w.deferred far few (omega arith) near);
+            near = near_later s.channels (s.rate * 4) s.now n w.deferred far few short (omega arith) near;
+            short = short;
           })
       | false ↦ λ apart.
           let test : (k.wait.device == d) ≡ false = ap (λ m. m == d) h.device ∙ apart in
           let on : kept_passed d n k ≡ k = ap (λ b. record k { wait = cond b (record k.wait { left = k.wait.left - n }) k.wait }) test in
-          subst (λ (x : KeptDeferral). StandsForDeferral (slice_set devices d (later captured is_dead s)) x w) (sym on)
+          subst (λ (x : KeptDeferral). StandsForDeferral (slice_set devices d (later n captured is_dead s)) x w) (sym on)
           (record {
             link = h.link;
             device = h.device;
             deferred = h.deferred;
             state = h.state;
-            here = get-set_other devices d w.device (later captured is_dead s) (let other : w.device ≢ d = grind (arith, nat_tests) in other) ∙ h.here;
+            here = get-set_other devices d w.device (later n captured is_dead s) (let other : w.device ≢ d = grind (arith, nat_tests) in other) ∙ h.here;
             left = h.left;
             near = h.near;
+            short = h.short;
           })
     ] refl
 
 -- n frames of a device go by
-pub waits_passed : (devices : List DeviceState) (d n : ℕ) (s : DeviceState) (captured : List ℤ) (is_dead : Bool) (ks : List KeptDeferral) (ws : List Deferral) → slice_get devices d ≡ Some s → length captured ≡ n → n ≤ 4096 → 32000 ≤ s.rate * 4 →
-    AreLater ks → StandForDeferrals devices ks ws → StandForDeferrals (slice_set devices d (later captured is_dead s)) (map (kept_passed d n) ks) ws
-waits_passed devices d n s captured is_dead [] [] here size few far l h = tt
-waits_passed devices d n s captured is_dead [] (w ∷ ws) here size few far l h = absurd h
-waits_passed devices d n s captured is_dead (k ∷ ks) [] here size few far l h = absurd h
-waits_passed devices d n s captured is_dead (k ∷ ks) (w ∷ ws) here size few far l h =
-    (wait_passed devices d n s captured is_dead k w here size few far l.0 h.0, waits_passed devices d n s captured is_dead ks ws here size few far l.1 h.1)
+pub waits_passed : (devices : List DeviceState) (d n : ℕ) (s : DeviceState) (captured : List ℤ) (is_dead : Bool) (ks : List KeptDeferral) (ws : List Deferral) → slice_get devices d ≡ Some s → n ≤ 4096 → 32000 ≤ s.rate * 4 →
+    AreLater ks → StandForDeferrals devices ks ws → StandForDeferrals (slice_set devices d (later n captured is_dead s)) (map (kept_passed d n) ks) ws
+waits_passed devices d n s captured is_dead [] [] here few far l h = tt
+waits_passed devices d n s captured is_dead [] (w ∷ ws) here few far l h = absurd h
+waits_passed devices d n s captured is_dead (k ∷ ks) [] here few far l h = absurd h
+waits_passed devices d n s captured is_dead (k ∷ ks) (w ∷ ws) here few far l h =
+    (wait_passed devices d n s captured is_dead k w here few far l.0 h.0, waits_passed devices d n s captured is_dead ks ws here few far l.1 h.1)
 
 -- then each that is not due waits a frame or more still
 pub later_passed : (d n : ℕ) (ks : List KeptDeferral) → AreLater ks → AreLaterBut d (map (kept_passed d n) ks)
@@ -116,11 +130,11 @@ later_passed d n (k ∷ ks) l = (
 same_due : (devices : List DeviceState) (d : ℕ) (s : DeviceState) (k : KeptDeferral) (w : Deferral) → slice_get devices d ≡ Some s → StandsForDeferral devices k w → kept_due d k ≡ falls_due d s w
 same_due devices d s k w here h =
     ap (λ m. m == d && k.wait.left == 0) h.device
-    ∙ elim (w.device == d) as (λ b. (w.device == d) ≡ b → (b && k.wait.left == 0) ≡ (b && nat_le (due (horizon_of s) w.deferred) s.now)) [
+    ∙ elim (w.device == d) as (λ b. (w.device == d) ≡ b → (b && k.wait.left == 0) ≡ (b && nat_le (due s.channels (horizon_of s) w.deferred) s.now)) [
       | true ↦ λ same.
           let number : w.device ≡ d = grind (arith, nat_tests) in
           let is : h.state ≡ s = let both : Some h.state ≡ Some s = sym h.here ∙ ap (slice_get devices) number ∙ here in cc in
-          let left : k.wait.left ≡ due (s.rate * 4) w.deferred - s.now = h.left ∙ ap (λ (t : DeviceState). due (t.rate * 4) w.deferred - t.now) is in
+          let left : k.wait.left ≡ due s.channels (s.rate * 4) w.deferred - s.now = h.left ∙ ap (λ (t : DeviceState). due t.channels (t.rate * 4) w.deferred - t.now) is in
           grind (arith, nat_tests)
       | false ↦ λ apart. refl
     ] refl

@@ -8,7 +8,8 @@ use Rattle.af_request.specs.declared.reply.DeviceInfo.{DeviceInfo}
 use Rattle.af_request.specs.declared.reply.Phone.{Phone}
 use Rattle.af_model.specs.State.{DeviceState}
 use Rattle.af_model.specs.Reply.{info_of, infos_of}
-use Rattle.af_state.specs.Kept.{KeptDevice, StandsForDevice, StandForDevices, kept_info}
+use Rattle.af_model.specs.Perform.{channels_at}
+use Rattle.af_state.specs.Kept.{KeptDevice, StandsForDevice, StandForDevices, kept_channels_at, kept_info}
 
 -- there are as many
 pub stands_length : (ds : List KeptDevice) (ss : List DeviceState) → StandForDevices ds ss → length ss ≡ length ds
@@ -23,12 +24,21 @@ same_infos [] [] h = refl
 same_infos [] (s ∷ ss) h = absurd h
 same_infos (d ∷ ds) [] h = absurd h
 same_infos (d ∷ ds) (s ∷ ss) h =
-    let with_type : SampleType → DeviceInfo = λ ty. record { ty = ty; channels = 1; line = is_some d.line; rate = d.rate; horizon = d.rate * 4 } in
-    let with_rate : ℕ → DeviceInfo = λ rate. record { ty = s.ty; channels = 1; line = is_some d.line; rate = rate; horizon = rate * 4 } in
-    let with_phone : Option Phone → DeviceInfo = λ line. record { ty = s.ty; channels = 1; line = is_some line; rate = s.rate; horizon = s.rate * 4 } in
-    let one : kept_info d ≡ info_of s = ap with_type h.0.ty ∙ ap with_rate h.0.rate ∙ ap with_phone h.0.line in
+    let with_channels : ℕ → DeviceInfo = λ channels. record { ty = d.ty; channels = channels; line = is_some d.line; rate = d.rate; horizon = d.rate * 4 } in
+    let with_type : SampleType → DeviceInfo = λ ty. record { ty = ty; channels = s.channels; line = is_some d.line; rate = d.rate; horizon = d.rate * 4 } in
+    let with_rate : ℕ → DeviceInfo = λ rate. record { ty = s.ty; channels = s.channels; line = is_some d.line; rate = rate; horizon = rate * 4 } in
+    let with_phone : Option Phone → DeviceInfo = λ line. record { ty = s.ty; channels = s.channels; line = is_some line; rate = s.rate; horizon = s.rate * 4 } in
+    let one : kept_info d ≡ info_of s = ap with_channels h.0.hears.channels ∙ ap with_type h.0.ty ∙ ap with_rate h.0.rate ∙ ap with_phone h.0.line in
     let rest = same_infos ds ss h.1 in
     ap (λ i. i ∷ map {A = KeptDevice} {B = DeviceInfo} kept_info ds) one ∙ ap (λ l. info_of s ∷ l) rest
+
+-- the channels that are kept of a device are those of its state
+pub same_channels : (ds : List KeptDevice) (ss : List DeviceState) (d : ℕ) → StandForDevices ds ss → kept_channels_at ds d ≡ channels_at ss d
+same_channels [] [] d h = refl
+same_channels [] (s ∷ ss) d h = absurd h
+same_channels (x ∷ ds) [] d h = absurd h
+same_channels (x ∷ ds) (s ∷ ss) zero h = ap (λ n. Some n) h.0.hears.channels
+same_channels (x ∷ ds) (s ∷ ss) (suc d) h = same_channels ds ss d h.1
 
 -- the device at a number, and the state that it stands for
 pub record Found (ss : List DeviceState) (d : ℕ) (x : KeptDevice) : Type 0 where

@@ -1,5 +1,5 @@
 -- The requests that wait, as the server keeps them.
-use Rattle.std.specs.Prelude.{◌≡◌, ◌≢◌, ℕ, ◌+◌, ◌-◌, ◌%◌, ◌^◌, ◌<◌, ◌≤◌, ◌==◌, Bool, false, List, [], ◌∷◌, ◌++◌, length, map, filter, not, slice_get, slice_index_or}
+use Rattle.std.specs.Prelude.{◌≡◌, ◌≢◌, ℕ, ◌+◌, ◌-◌, ◌*◌, ◌%◌, ◌^◌, ◌<◌, ◌≤◌, ◌==◌, Bool, false, List, [], ◌∷◌, ◌++◌, length, map, filter, not, slice_get, slice_index_or}
 use Rattle.std.specs.declared.option.Option.TheVariants.{Some}
 use Rattle.af_wait.specs.declared.Wait.{Wait}
 use Rattle.af_wait.specs.Waits.{is_due, is_waiting, passed}
@@ -8,6 +8,8 @@ use Rattle.af_model.specs.Reply.{horizon_of}
 use Rattle.af_model.specs.Waiting.{due}
 use Rattle.af_buffers.specs.PlayBuffer.{frames_within}
 use Rattle.af_state.specs.Kept.{KeptDevice}
+use Rattle.af_sample.specs.Channels.{AreWholeFrames, frame_count}
+use Rattle.af_sample.specs.SampleTypes.{frame_bytes}
 use Rattle.af_sample.specs.Sizes.{longest_play, longest_record}
 
 -- a link that waits: how long it has to, and for what; of the start only the 32-bit word is kept
@@ -73,16 +75,24 @@ abbrev pub worded : Deferred → Deferred
 worded (deferred_play quiet start sound preempt) = deferred_play quiet (start % 2 ^ 32) sound preempt
 worded (deferred_record c start frames) = deferred_record c (start % 2 ^ 32) frames
 
--- A request is near a time: completed then it loses nothing, its word means its start, and it has no more than a play or a record
--- may.
+-- a request has no more than a play or a record may on a device with so many channels, and a play has whole frames
+abbrev pub IsShort : ℕ → Deferred → Type 0
+IsShort channels (deferred_play quiet start sound preempt) = (length sound ≤ longest_play) × AreWholeFrames channels sound
+IsShort channels (deferred_record c start frames) = (frames ≤ longest_record) × (frames * frame_bytes c.ty channels ≤ longest_record)
+
+-- a request is near a time: completed then it loses nothing, and its word means its start
 abbrev pub IsNear : ℕ → ℕ → Deferred → Type 0
-IsNear horizon now (deferred_play quiet start sound preempt) = (now ≤ start) × (start < now + 2 ^ 31) × (length sound ≤ longest_play)
-IsNear horizon now (deferred_record c start frames) = (now ≤ start + horizon) × (start < now + 2 ^ 31) × (frames ≤ longest_record)
+IsNear horizon now (deferred_play quiet start sound preempt) = (now ≤ start) × (start < now + 2 ^ 31)
+IsNear horizon now (deferred_record c start frames) = (now ≤ start + horizon) × (start < now + 2 ^ 31)
 
 -- a play ends within a device's horizon
 abbrev pub DeferredEndsWithin : KeptDevice → Deferred → Type 0
-DeferredEndsWithin d (deferred_play quiet start sound preempt) = length sound ≤ frames_within d.next start
+DeferredEndsWithin d (deferred_play quiet start sound preempt) = frame_count d.next.channels sound ≤ frames_within d.next start
 DeferredEndsWithin d (deferred_record c start frames) = Unit {0}
+
+-- a request can complete on a device: it is short enough, and ends within the horizon
+abbrev pub CanComplete : KeptDevice → Deferred → Type 0
+CanComplete d deferred = IsShort d.next.channels deferred × DeferredEndsWithin d deferred
 
 -- What is kept of a link that waits stands for it: the frames that are left are the due time less now.
 pub record StandsForDeferral (devices : List DeviceState) (k : KeptDeferral) (w : Deferral) : Type 0 where
@@ -91,8 +101,9 @@ pub record StandsForDeferral (devices : List DeviceState) (k : KeptDeferral) (w 
   pub deferred : k.deferred ≡ worded w.deferred
   pub state : DeviceState
   pub here : slice_get devices w.device ≡ Some state
-  pub left : k.wait.left ≡ due (horizon_of state) w.deferred - state.now
+  pub left : k.wait.left ≡ due state.channels (horizon_of state) w.deferred - state.now
   pub near : IsNear (horizon_of state) state.now w.deferred
+  pub short : IsShort state.channels w.deferred
 
 -- they stand for those that wait one by one
 abbrev pub StandForDeferrals : List DeviceState → List KeptDeferral → List Deferral → Type 0

@@ -1,12 +1,10 @@
 -- Plays and records, and the requests that are held of them.
-use Rattle.std.specs.Prelude.{◌*◌, ◌≤◌, ℕ, ℤ, List}
-use Rattle.af_sample.specs.SampleTypes.{width_of}
+use Rattle.std.specs.Prelude.{ℕ, ℤ, List}
 use Rattle.af_model.specs.State.{Deferred, deferred_play, deferred_record}
 use Rattle.af_state.specs.declared.deferred_request.Play.{Play as SoundPlay}
 use Rattle.af_state.specs.declared.deferred_request.Record.{Record as FrameRecord}
 use Rattle.af_state.specs.declared.deferred_request.DeferredWork.{DeferredWork}
 use Rattle.af_state.specs.declared.deferred_request.DeferredWork.TheVariants.{Play, Record}
-use Rattle.af_sample.specs.Sizes.{longest_record}
 
 -- a play and a record as they are held
 abbrev pub deferred_of_play : SoundPlay → Deferred
@@ -19,8 +17,3 @@ deferred_of_record r = deferred_record r.context r.start.0 r.frames
 abbrev pub deferred_as : DeferredWork → ℕ → List ℤ → Deferred
 deferred_as (Play quiet preempt) start sound = deferred_play quiet start sound preempt
 deferred_as (Record context frames) start sound = deferred_record context start frames
-
--- a record has no more bytes than it may
-abbrev pub IsDeferred : DeferredWork → Type 0
-IsDeferred (Play quiet preempt) = Unit {0}
-IsDeferred (Record context frames) = frames * width_of context.ty ≤ longest_record

@@ -1,6 +1,7 @@
 -- What the core keeps of a device and of a link.
-use Rattle.std.specs.Prelude.{◌≡◌, ℕ, ◌+◌, ◌*◌, ◌≤◌, Bool, List, [], ◌∷◌, length, is_some}
+use Rattle.std.specs.Prelude.{◌≡◌, ℕ, ◌+◌, ◌*◌, ◌≤◌, Bool, List, [], ◌∷◌, length, is_some, option_map, slice_get}
 use Rattle.std.specs.declared.option.Option.{Option}
+use Rattle.std.specs.declared.option.Option.TheVariants.{Some}
 use Rattle.af_sample.specs.declared.sample_type.SampleType.{SampleType}
 use Rattle.af_sample.specs.Rates.{IsListedRate}
 use Rattle.af_buffers.specs.PlayBuffer.{Next, Hears}
@@ -14,7 +15,7 @@ use Rattle.af_model.specs.NoLoss.{LosesNone}
 use Rattle.af_wire.specs.Sizes.{longest_message}
 use Rattle.af_model.specs.Sizes.{event_limit}
 
--- A device: the samples next from its time on, and the last ones up to then. The time is that of both.
+-- A device: the frames next from its time on, and the last ones up to then. The time and the channels are those of both.
 pub record KeptDevice : Type 0 where
   pub ty : SampleType
   pub rate : ℕ
@@ -31,10 +32,10 @@ pub record StandsForDevice (d : KeptDevice) (s : DeviceState) : Type 0 where
   pub ty : d.ty ≡ s.ty
   pub rate : d.rate ≡ s.rate
   pub listed : IsListedRate s.rate
-  pub ahead : length d.next.next ≡ horizon_of s
-  pub back : length d.last.last ≡ horizon_of s
-  pub hears : Hears d.next s.accepted s.now
-  pub keeps : Keeps d.last s.captured s.begin s.now
+  pub ahead : d.next.horizon ≡ horizon_of s
+  pub back : d.last.horizon ≡ horizon_of s
+  pub hears : Hears d.next s.channels s.accepted s.now
+  pub keeps : Keeps d.last s.channels s.captured s.begin s.now
   pub whole : LosesNone s
   pub controls : d.controls ≡ s.controls
   pub line : d.line ≡ s.line
@@ -47,9 +48,17 @@ StandForDevices [] (s ∷ ss) = ⊥
 StandForDevices (d ∷ ds) [] = ⊥
 StandForDevices (d ∷ ds) (s ∷ ss) = StandsForDevice d s × StandForDevices ds ss
 
+-- the channels of a device, if it is there
+abbrev pub kept_channels_at : List KeptDevice → ℕ → Option ℕ
+kept_channels_at ds d = option_map (λ device. device.next.channels) (slice_get ds d)
+
+-- of the device at a number this holds, if it is there
+abbrev pub OfDeviceAt : List KeptDevice → ℕ → (KeptDevice → Type 0) → Type 0
+OfDeviceAt ds d Holds = (device : KeptDevice) → slice_get ds d ≡ Some device → Holds device
+
 -- what the reply to a setup says of a device
 abbrev pub kept_info : KeptDevice → DeviceInfo
-kept_info d = record { ty = d.ty; channels = 1; line = is_some d.line; rate = d.rate; horizon = d.rate * 4 }
+kept_info d = record { ty = d.ty; channels = d.next.channels; line = is_some d.line; rate = d.rate; horizon = d.rate * 4 }
 
 -- A link never has more than 32768 bytes unread, nor more to send than 49152 bytes and the reply that is made while no more
 -- than these wait to be sent.

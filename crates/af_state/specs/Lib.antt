@@ -1,4 +1,5 @@
 pub mod Deferred
+pub mod Sizes
 pub mod Kept
 pub mod Environment
 pub mod Deferrals

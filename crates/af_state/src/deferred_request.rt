@@ -1,8 +1,7 @@
 // A request that waits, with room for the samples of a play that is taken once.
-ghost use Rattle.std.specs.Prelude.{◌≡◌, ◌≤◌, ◌*◌, length};
-ghost use Rattle.af_sample.specs.SampleTypes.{width_of};
-ghost use Rattle.af_state.specs.Deferred.{deferred_as, deferred_of_play, deferred_of_record, IsDeferred};
-ghost use Rattle.af_sample.specs.Sizes.{longest_play, longest_record};
+ghost use Rattle.std.specs.Prelude.{◌≡◌, ◌≤◌, length};
+ghost use Rattle.af_state.specs.Deferred.{deferred_as, deferred_of_play, deferred_of_record};
+ghost use Rattle.af_sample.specs.Sizes.{longest_play};
 
 use af_context::Context;
 use af_time::{DevTime, OutOfMemory};
@@ -49,14 +48,14 @@ pub struct DeferredRequest {
 impl Model for DeferredRequest {
     ghost use Rattle.std.specs.Prelude.{◌≤◌, vec_capacity, vec_len};
     ghost use Rattle.af_model.specs.State.{Deferred};
-    ghost use Rattle.af_state.specs.Deferred.{deferred_as, IsDeferred};
+    ghost use Rattle.af_state.specs.Deferred.{deferred_as};
     ghost use Rattle.af_sample.specs.Sizes.{longest_play};
 
     ghost Value = { Deferred };
 
     ghost view = { λ a. deferred_as a.what a.start.0 a.sound.items };
 
-    ghost invariant = { λ a. (vec_len a.sound ≤ longest_play) × (longest_play ≤ vec_capacity a.sound) × IsDeferred a.what };
+    ghost invariant = { λ a. (vec_len a.sound ≤ longest_play) × (longest_play ≤ vec_capacity a.sound) };
 }
 
 impl DeferredRequest {
@@ -86,9 +85,8 @@ impl DeferredRequest {
         self.start = play.start;
     }
 
-    /// Holds a record of at most 16000 bytes.
+    /// Holds a record.
     pub fn defer_record(&mut self, asked: Record)
-        requires { asked.frames * width_of asked.context.ty ≤ longest_record }
         ensures { self.new ≡ deferred_of_record asked }
     {
         self.what = DeferredWork::Record {
@@ -102,7 +100,6 @@ impl DeferredRequest {
     pub fn parts(&self) -> (DeferredWork, DevTime, &[i16])
         ensures deferred { self.now ≡ deferred_as result.0 result.1.0 result.2.now }
         ensures few { length result.2.now ≤ longest_play }
-        ensures bytes { IsDeferred result.0 }
     {
         (self.what, self.start, &self.sound)
     }

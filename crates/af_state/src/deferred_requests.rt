@@ -3,13 +3,12 @@
 // each of 32 links, by number: the request, and room for the samples of a play, all taken once. A link that begins to wait fills
 // its place and goes to the end of the list. One that ends leaves the list alone: no sample is moved, and what stands in its
 // place means nothing any more. Contracts see one list: each that waits, in order, joined with what its place holds.
-ghost use Rattle.std.specs.Prelude.{◌≡◌, ◌<◌, ◌≤◌, ◌*◌, false, [], ◌∷◌, ◌++◌, length, map, find, option_map, IfOk, IfSome};
+ghost use Rattle.std.specs.Prelude.{◌≡◌, ◌<◌, ◌≤◌, false, [], ◌∷◌, ◌++◌, length, map, find, option_map, IfOk, IfSome};
 ghost use Rattle.std.specs.List.{All};
-ghost use Rattle.af_sample.specs.SampleTypes.{width_of};
 ghost use Rattle.af_wait.specs.Waits.{without_first};
 ghost use Rattle.af_state.specs.Deferred.{deferred_of_play, deferred_of_record};
 ghost use Rattle.af_state.specs.Deferrals.{has_waiting, kept_due, kept_passed, kept_without, waiting, waits_of};
-ghost use Rattle.af_sample.specs.Sizes.{longest_play, longest_record};
+ghost use Rattle.af_sample.specs.Sizes.{longest_play};
 
 use crate::deferred_request::{DeferredRequest, Play, Record};
 use af_time::OutOfMemory;
@@ -99,7 +98,6 @@ impl DeferredRequests {
         requires link { link < 32 }
         requires apart { has_waiting self.old link ≡ false }
         requires later { 0 < left }
-        requires few { asked.frames * width_of asked.context.ty ≤ longest_record }
         ensures { self.new ≡ self.old ++ waiting link asked.context.device left (deferred_of_record asked) ∷ [] }
     {
         self.order.add(link, asked.context.device, left);

@@ -2,6 +2,7 @@
 ghost use Rattle.std.specs.Prelude.{◌≡◌, ℕ, ◌*◌, ◌≤◌, length, IfOk, MatchOption, true};
 ghost use Rattle.af_time.specs.DeviceTime.{unwrap};
 ghost use Rattle.af_sample.specs.SampleTypes.{width_of};
+ghost use Rattle.af_sample.specs.Channels.{AreWholeFrames, IsChannelCount, frame_count};
 ghost use Rattle.af_sample.specs.Rates.{IsListedRate};
 ghost use Rattle.af_buffers.specs.PlayBuffer.{accepted_at, frames_beyond as play_beyond, frames_within};
 ghost use Rattle.af_buffers.specs.RecordBuffer.{frames_before, frames_until_past as record_beyond};
@@ -37,7 +38,7 @@ pub struct Device {
 }
 
 impl Model for Device {
-    ghost use Rattle.std.specs.Prelude.{length};
+    ghost use Rattle.std.specs.Prelude.{◌≡◌, length};
     ghost use Rattle.af_sample.specs.Rates.{IsListedRate};
     ghost use Rattle.af_state.specs.Kept.{KeptDevice};
 
@@ -45,7 +46,7 @@ impl Model for Device {
 
     ghost view = { λ d. record { ty = d.ty; rate = d.rate; next = d.next; last = d.last; controls = d.controls; line = d.line; is_dead = d.is_dead } };
 
-    ghost invariant = { λ d. IsListedRate d.rate };
+    ghost invariant = { λ d. IsListedRate d.rate × (d.last.channels ≡ d.next.channels) };
 }
 
 // Input and output are on, and both gains 0.
@@ -70,13 +71,14 @@ fn opening_line(has_line: bool) -> Option<Line>
 impl Device {
     /// A device at its start, with silence ahead and behind.
     pub fn new(alloc: Global, spec: DeviceSpec) -> Result<Device, OutOfMemory>
-        requires { IsListedRate spec.rate }
+        requires rate { IsListedRate spec.rate }
+        requires channels { IsChannelCount spec.channels }
         ensures { IfOk result (λ d. StandsForDevice d (opening_device spec)) }
     {
         let start = DevTime(spec.start);
         let horizon = spec.rate * 4;
-        let next = PlayBuffer::new(alloc, start, horizon)?;
-        let last = RecordBuffer::new(alloc, start, horizon)?;
+        let next = PlayBuffer::new(alloc, start, horizon, spec.channels)?;
+        let last = RecordBuffer::new(alloc, start, horizon, spec.channels)?;
         Ok(Device {
             ty: spec.ty,
             rate: spec.rate,
@@ -92,6 +94,14 @@ impl Device {
         ensures { result ≡ self.now.ty }
     {
         self.ty
+    }
+
+    /// Its channels: one or two.
+    pub fn channels(&self) -> u8
+        ensures value { result ≡ self.now.next.channels }
+        ensures count { IsChannelCount result }
+    {
+        self.next.channels()
     }
 
     pub fn time(&self) -> DevTime
@@ -112,7 +122,7 @@ impl Device {
     {
         DeviceInfo {
             ty: self.ty,
-            channels: 1,
+            channels: self.channels(),
             line: self.line.is_some(),
             rate: self.rate,
             horizon: self.rate * 4,
@@ -161,10 +171,11 @@ impl Device {
         self.last.frames_beyond(start, frames)
     }
 
-    /// Accepts a play, which ends within the horizon.
+    /// Accepts a play, whose samples are whole frames and end within the horizon.
     pub fn accept(&mut self, start: DevTime, sound: &[i16], preempt: bool)
         requires few { length sound.now ≤ longest_play }
-        requires within { length sound.now ≤ frames_within self.old.next start.0 }
+        requires whole { AreWholeFrames self.old.next.channels sound.now }
+        requires within { frame_count self.old.next.channels sound.now ≤ frames_within self.old.next start.0 }
         ensures { (k : ℕ) (s : DeviceState) → StandsForDevice self.old s →
             StandsForDevice self.new (accepting k (accepted_at s.now start.0 sound.now preempt) s) }
     {
@@ -178,23 +189,25 @@ impl Device {
     pub fn record(&self, context: &Context, start: DevTime, samples: &mut [i16], bytes: &mut [u8])
         requires count { length bytes.old ≡ length samples.old * width_of context.now.ty }
         requires few { length samples.old ≤ longest_record }
+        requires whole { AreWholeFrames self.now.next.channels samples.old }
         ensures { (s : DeviceState) → StandsForDevice self.now s →
-            bytes.new ≡ recorded_bytes context.now s (unwrap s.now start.0) (length samples.old) }
+            bytes.new ≡ recorded_bytes context.now s (unwrap s.now start.0) (frame_count s.channels samples.old) }
     {
         self.last.read(start, samples);
         gain_run(samples, context.record_gain);
         convert_out(context.ty, samples, bytes);
     }
 
-    /// As many sample periods go by as samples came. These are kept behind the input control, and the next ones are handed out
+    /// As many sample periods go by as frames came. These are kept behind the input control, and the next ones are handed out
     /// behind the output control.
     pub fn pass(&mut self, captured: &mut [i16], sound: &mut [i16])
         requires same { length sound.old ≡ length captured.old }
-        requires few { length captured.old ≤ 4096 }
+        requires few { frame_count self.old.next.channels captured.old ≤ 4096 }
+        requires whole { AreWholeFrames self.old.next.channels captured.old }
         ensures stands { (s : DeviceState) → StandsForDevice self.old s →
-            StandsForDevice self.new (later captured.old s.is_dead s) }
+            StandsForDevice self.new (later (frame_count s.channels captured.old) captured.old s.is_dead s) }
         ensures sound { (s : DeviceState) → StandsForDevice self.old s →
-            sound.new ≡ through_output_control s.controls (next_sound s (length captured.old)) }
+            sound.new ≡ through_output_control s.controls (next_sound s (frame_count s.channels captured.old)) }
     {
         level(self.controls.input_on, self.controls.input_gain, captured);
         self.last.capture(captured);

@@ -4,8 +4,9 @@ use af_time::OutOfMemory;
 use std::alloc::Global;
 use std::marker::Model;
 
-/// The most that is read of a link at once, in bytes. No more is captured of a device at once.
-const LONGEST_READ: usize = 16384;
+/// The most that is captured of a device at once, in bytes: 4096 frames of two samples of 32 bits. No more is read of a link at
+/// once.
+const LONGEST_CAPTURE: usize = 32768;
 
 /// The longest frame, in bytes. No request has more samples, nor more bytes of them.
 const LONGEST_FRAME: usize = 16384;
@@ -42,18 +43,18 @@ pub struct Scratch {
 
 impl Model for Scratch {
     ghost use Rattle.std.specs.Prelude.{◌≡◌, length};
-    ghost use Rattle.af_world.specs.Sizes.{longest_read};
+    ghost use Rattle.af_state.specs.Sizes.{longest_capture};
 
     ghost Value = { Unit {0} };
 
     ghost view = { λ a. tt };
 
-    ghost invariant = { λ a. length a.input.items ≡ longest_read };
+    ghost invariant = { λ a. length a.input.items ≡ longest_capture };
 }
 
 impl Scratch {
     pub fn new(alloc: Global) -> Result<Scratch, OutOfMemory> {
-        let input = vec![in alloc; 0; LONGEST_READ]?;
+        let input = vec![in alloc; 0; LONGEST_CAPTURE]?;
         let samples = vec![in alloc; 0; LONGEST_FRAME]?;
         let bytes = vec![in alloc; 0; LONGEST_FRAME]?;
         let message = vec![in alloc; 0; LONGEST_MESSAGE]?;

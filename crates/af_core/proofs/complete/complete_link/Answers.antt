@@ -13,8 +13,8 @@ complete_deferred-requires-clause-there c =
     let due = due_inside c.args.device c.args.number c.environment.view_is c.requires.due in
     subst (λ (ds : List KeptDevice). c.args.device < length ds) (sym c.deref_mut.ensures.value) (due_there _ c.requires.stands.0 c.args.device c.args.number environment due)
 
-pub complete_deferred-requires-clause-fits : goal.complete_deferred-requires-clause-fits
-complete_deferred-requires-clause-fits c = λ x here.
+pub complete_deferred-requires-clause-can : goal.complete_deferred-requires-clause-can
+complete_deferred-requires-clause-can c = λ x here.
     let environment = around_inside c.requires.stands.0 c.environment.view_is c.requires.stands.1 in
     let due = due_inside c.args.device c.args.number c.environment.view_is c.requires.due in
     fits_now _ c.args.device x c.requires.stands.0 c.args.number _ environment (subst (λ (ds : List KeptDevice). slice_get ds c.args.device ≡ Some x) c.deref_mut.ensures.value here) due c.deferred-deferred.ensures

@@ -1,13 +1,28 @@
-use Rattle.std.proofs.Common.{◌≡◌, ◌∙◌, ap, ◌++◌, take, refl, arith, rules, false}
+use Rattle.std.proofs.Common.{◌≡◌, ◌<◌, ◌≤◌, ◌∙◌, ap, ◌++◌, length, length-take-le, take, refl, arith, rules, true, false}
 use Rattle.af_world.specs.declared.happening.ReadGot.TheVariants.{Given, NotYet, Ended, Failed}
 use Rattle.af_world.specs.declared.happening.Why.TheVariants as why
 use Rattle.af_model.specs.State.{stopped}
-use Rattle.af_model.specs.Advance.{absorb}
+use Rattle.af_model.specs.Advance.{absorb, takes_more}
 use Rattle.af_model.specs.Events.{dropped}
+use Rattle.af_model.specs.Turn.{wants_read}
+use Rattle.af_model.proofs.BoolTestLemmas.{both-true}
+use Rattle.af_state.specs.Deferrals.{has_waiting}
+use Rattle.af_wire.specs.Sizes.{longest_frame}
+use Rattle.af_world.specs.Sizes.{longest_read}
 use Rattle.af_state.specs.Environment.{KeptEnvironment}
 use Rattle.af_state.proofs.DeferralLemmas.{leaves_others_dropped, leaves_others_grown, leaves_others_nothing}
 use Rattle.af_core.proofs.LinkPhaseLemmas.{absorbed, reads, reads_nothing, at_open_link, at_update, given_fits}
 use Rattle.af_core.proofs.serve.read_link.Goals as goal
+
+pub take_in-requires : goal.take_in-requires
+take_in-requires g c =
+    let waits = has_waiting c.args.environment.now.waits c.args.number in
+    let wants : wants_read waits c.args.link.now ≡ true = search rules in
+    let short : length c.args.link.now.rest < longest_frame = c.requires.link.settled.short (both-true c.args.link.now.is_ready (takes_more waits c.args.link.now) wants).1 in
+    let room : length c.read.new.into ≡ longest_read = omega arith in
+    let within : c.in-Bytes.n ≤ length c.read.new.into = c.in-Bytes.ensures.bound.1 in
+    let taken = length-take-le c.in-Bytes.n c.read.new.into within in
+    omega (arith, short, room, within, taken)
 
 pub returns-then-not-wants_read-clause-simulates : goal.returns-then-not-wants_read-clause-simulates
 returns-then-not-wants_read-clause-simulates g c = reads_nothing _ _ c.args.environment.now _ (search rules)

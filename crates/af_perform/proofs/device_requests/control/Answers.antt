@@ -15,4 +15,4 @@ returns-clause-step c = λ k ks a s h there.
     let stands = stands_here c.args.devices.now ks a e.device _ s h (device_at c.args.devices.now _ _ _ c.from.ensures (search rules)) there in
     at_passed _ ks c.args.link.now _ 9 (controls_refusal e.mask e.input_on e.output_on e.input_gain e.output_gain) (λ q. replied 9 plain (in_devices e.device change q)) a c.requires.passes
     (changed_replied c.args.devices.now ks _ _ c.args.link.now _ 9 e.device plain change a s c.from.ensures h there
-    (controlled k _ _ _ s e.mask e.input_on e.output_on e.input_gain e.output_gain stands (c.with_named-controls.ensures ∙ ap (with_named e.mask e.input_on e.output_on e.input_gain e.output_gain) c.controls.ensures) c.set_controls.ensures) refl refl c.reply.ensures)
+    (controlled k _ _ _ s e.mask e.input_on e.output_on e.input_gain e.output_gain stands (c.with_named-controls.ensures ∙ ap (with_named e.mask e.input_on e.output_on e.input_gain e.output_gain) c.controls.ensures) c.set_controls.ensures) (refl, refl, refl) c.reply.ensures)

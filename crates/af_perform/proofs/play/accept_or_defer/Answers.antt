@@ -1,12 +1,13 @@
-use Rattle.std.proofs.Common.{◌≡◌, ◌<◌, ◌≤◌, ◌^◌, ◌∙◌, ◌++◌, ◌∷◌, [], ap, sym, subst, length, refl, rules}
+use Rattle.std.proofs.Common.{◌≡◌, ◌/◌, ◌<◌, ◌≤◌, ◌^◌, ◌∙◌, ◌++◌, ◌∷◌, [], ap, sym, subst, length, refl, rules}
 use Rattle.std.specs.declared.option.Option.TheVariants.{Some}
 use Rattle.std.specs.Prelude.{slice_get}
 use Rattle.std.proofs.lemmas.List.{with_items_is}
-use Rattle.af_buffers.specs.PlayBuffer.{accepted_at}
+use Rattle.af_sample.specs.Channels.{frame_count}
+use Rattle.af_buffers.specs.PlayBuffer.{accepted_at, frames_beyond}
 use Rattle.af_model.specs.State.{deferred_play, open_link}
 use Rattle.af_model.specs.Play.{accepting, in_devices, start_play, tell_played}
 use Rattle.af_state.specs.Environment.{StandsForLink, StandsForEnvironment, kept}
-use Rattle.af_perform.proofs.LinkRequestLemmas.{device_here, play_started, play_waits}
+use Rattle.af_perform.proofs.LinkRequestLemmas.{device_here, device_there, play_started, play_waits}
 use Rattle.af_perform.proofs.LeavesLemmas.{leaves_opened, leaves_waiting}
 use Rattle.af_perform.proofs.play.accept_or_defer.Goals as goal
 
@@ -20,8 +21,8 @@ returns-then-frames-frames_within-clause-step c = λ x bytes is a s h there.
     let here = device_here _ ds ks a _ p.device _ s c.environment.view_is c.from.ensures c.requires.there c.index-device.ensures h known in
     let lent = subst (λ xs. StandsForEnvironment (kept xs ks) a) (sym c.deref_mut.ensures.value) here.0 in
     subst (λ xs. StandsForLink (kept xs ks) c.accept.new.link (start_play c.args.number p.quiet x p.start.0 bytes s (open_link a c.args.link.now))) (sym (with_items_is c.environment.inside.devices c.accept.new.devices (search rules)))
-    (play_started ds c.accept.new.devices ks _ c.args.link.now _ c.args.number p.quiet x p.start.0 bytes p.sound.now a s word here.1 is.sound is.frames
-    (subst (λ n. length p.sound.now ≤ n) c.frames_within.ensures c.if-frames-frames_within.true)
+    (play_started ds c.accept.new.devices ks _ c.args.link.now _ c.args.number p.quiet x p.start.0 bytes p.sound.now a s word here.1 is.sound
+    (subst (λ n. frame_count c.index-device.result.now.next.channels p.sound.now ≤ n) c.frames_within.ensures (subst (λ n. length p.sound.now / n ≤ c.frames_within.result) (c.from-2.ensures ∙ c.channels.ensures.value) c.if-frames-frames_within.true))
     (subst (λ d. StandsForLink (kept c.accept.new.devices ks) c.accept.new.link (tell_played p.quiet s (in_devices d (accepting c.args.number (accepted_at s.now p.start.0 p.sound.now x.preempt)) (open_link a c.args.link.now)))) is.device
     (subst (λ b. StandsForLink (kept c.accept.new.devices ks) c.accept.new.link (tell_played p.quiet s (in_devices p.device (accepting c.args.number (accepted_at s.now p.start.0 p.sound.now b)) (open_link a c.args.link.now)))) is.preempt
     (c.accept.ensures.accepts c.args.number ks a s lent known))))
@@ -38,8 +39,9 @@ returns-else-frames-frames_within-clause-step c = λ x bytes is a s h there.
     let word : p.start.0 < 2 ^ 32 = search rules in
     let known : slice_get a.devices p.device ≡ Some s = ap (λ d. slice_get a.devices d) is.device ∙ there in
     let here = device_here _ ds ks a _ p.device _ s c.environment.view_is c.from.ensures c.requires.there c.index-device.ensures h known in
-    play_waits ds ks _ _ c.args.link.now c.args.number p.quiet x p.start.0 bytes p.sound.now c.play_due_in-left.result a s word here.0 there here.1 is.sound is.frames c.requires.few
-    (subst (λ n. n < length p.sound.now) c.frames_within.ensures c.if-frames-frames_within.false) c.play_due_in-left.ensures
+    play_waits ds ks _ _ c.args.link.now c.args.number p.quiet x p.start.0 bytes p.sound.now c.play_due_in-left.result a s word here.0 there here.1 is.sound c.requires.few (c.requires.whole _ (device_there _ ds ks _ p.device _ c.environment.view_is c.from.ensures c.requires.there c.index-device.ensures))
+    (subst (λ n. n < frame_count c.index-device.result.now.next.channels p.sound.now) c.frames_within.ensures (subst (λ n. c.frames_within.result < length p.sound.now / n) (c.from-2.ensures ∙ c.channels.ensures.value) c.if-frames-frames_within.false))
+    (c.play_due_in-left.ensures ∙ ap (λ n. frames_beyond c.index-device.result.now.next p.start.0 (length p.sound.now / n)) (c.from-2.ensures ∙ c.channels.ensures.value))
     (c.begin_play.ensures
     ∙ ap (λ d. ks ++ record { wait = record { link = c.args.number; device = d; left = c.play_due_in-left.result }; deferred = deferred_play p.quiet p.start.0 p.sound.now p.preempt } ∷ []) is.device
     ∙ ap (λ b. ks ++ record { wait = record { link = c.args.number; device = x.device; left = c.play_due_in-left.result }; deferred = deferred_play p.quiet p.start.0 p.sound.now b } ∷ []) is.preempt)

@@ -1,4 +1,4 @@
-use Rattle.std.proofs.Common.{◌≡◌, ◌+◌, ◌-◌, ◌*◌, ◌++◌, drop, length, take, replicate, rules, ap, sym, ◌∙◌, subst, ℕ, List}
+use Rattle.std.proofs.Common.{◌≡◌, ◌+◌, ◌-◌, ◌*◌, ◌++◌, drop, length, take, replicate, rules, ap, ◌∙◌, ℕ, List}
 use Rattle.af_wire.specs.Message.{head}
 use Rattle.af_request.specs.Fields.{u32_bytes, words_for}
 use Rattle.af_request.proofs.ReplyMessageLemmas.{around_samples}

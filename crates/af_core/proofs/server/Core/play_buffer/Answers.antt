@@ -13,4 +13,4 @@ returns-clause-hears c = λ s st.
     let kept = subst (λ (x : Inside). StandForDevices x.environment.devices s.devices) (sym c.self-inside.view_is) stands.kept.devices in
     let r = found ds s.devices c.args.device _ (device_at ds _ _ c.index.result.now c.from.ensures (search rules)) kept in
     let same = c.next.ensures ∙ ap (λ (d : KeptDevice). d.next) c.index.ensures in
-    subst (λ o. IsSomeAnd o (λ d. Hears c.next.result.now d.accepted d.now)) (sym r.here) (subst (λ (v : Next). Hears v r.state.accepted r.state.now) (sym same) r.stands.hears)
+    subst (λ o. IsSomeAnd o (λ d. Hears c.next.result.now d.channels d.accepted d.now)) (sym r.here) (subst (λ (v : Next). Hears v r.state.channels r.state.accepted r.state.now) (sym same) r.stands.hears)

@@ -290,8 +290,8 @@ end
 local DEVICE = { { "type", 0, 1 }, { "channels", 1, 1 }, { "has_line", 2, 1 }, { "rate", 4, 4 }, { "horizon", 8, 4 } }
 
 local function is_device(stream, tvb, at)
-    local rate = number_at(stream, tvb(at + 4, 4))
-    return tvb(at, 1):uint() <= 3 and tvb(at + 1, 1):uint() == 1 and tvb(at + 2, 1):uint() <= 1 and tvb(at + 3, 1):uint() == 0
+    local channels, rate = tvb(at + 1, 1):uint(), number_at(stream, tvb(at + 4, 4))
+    return tvb(at, 1):uint() <= 3 and (channels == 1 or channels == 2) and tvb(at + 2, 1):uint() <= 1 and tvb(at + 3, 1):uint() == 0
         and RATES[rate] and number_at(stream, tvb(at + 8, 4)) == 4 * rate
 end
 

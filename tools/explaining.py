@@ -24,11 +24,11 @@ CLOSED = {
 
 @dataclass
 class Asked:
-    """A request, and what its context was: the device and the sample type."""
+    """A request, and what its context was: the device and the format of its sound."""
 
     item: object
     device: int | None
-    kind: str | None
+    form: object
 
 
 class Conversation:
@@ -63,8 +63,8 @@ class Conversation:
         for item in self.client.feed(octets):
             if item.kind == "request":
                 self.count += 1
-                device, kind, _ = self.contexts.of(item)
-                self.asked[self.count] = Asked(item, device, kind)
+                context = self.contexts.of(item)
+                self.asked[self.count] = Asked(item, context.device, context.form)
             yield self.count, words_of_request(item, self.contexts)
             if item.kind == "request" and self.count not in self.refused:
                 self.contexts.done(item)
@@ -82,7 +82,7 @@ class Conversation:
             asked = self.asked.get(self.answered)
         if asked and item.kind == "reply" and asked.item.name != item.name:
             return "bad: a reply to %s, but request %d is %s" % (item.name, item.number, asked.item.name)
-        return words_of_message(item, asked.kind if asked else None)
+        return words_of_message(item, asked.form if asked else None)
 
     def unfinished(self):
         """What is left of a request, and of a message, that never became whole."""
@@ -146,7 +146,7 @@ class Script:
         for number, played in enumerate(self.devices):
             device = played.device
             line = " with a telephone line" if device.has_line else ""
-            yield "device %d: %s at %d%s, time begins at %d" % (number, device.type, device.rate, line, device.start)
+            yield "device %d: %s at %d%s, time begins at %d" % (number, device.form, device.rate, line, device.start)
         for step in self.steps:
             yield from getattr(self, "step_" + step.name)(step)
             yield from self.turn(step)
@@ -234,10 +234,10 @@ class Script:
 
     def step_tick(self, step):
         played = self.devices[step.of]
-        since, kind = played.now, played.device.type
+        since, form = played.now, played.device.form
         frames = counted(step.value, "frame")
         if step.octets and not played.is_dead:
-            yield "device %d: %s captured from %d on, %s" % (step.of, frames, since, heard(kind, step.octets, since))
+            yield "device %d: %s captured from %d on, %s" % (step.of, frames, since, heard(form, step.octets, since))
         if self.transcript is None or played.is_dead:
             yield "device %d: %s go by from %d on%s" % (step.of, frames, since, ", unheard: it is dead" if played.is_dead else "")
         else:
@@ -259,7 +259,7 @@ class Script:
             what = "handed out" if line.name == "emit" else "captured"
             yield "device %d: %s from %d on could not be %s: it is dead" % (step.of, counted(step.value, "frame"), played.now, what)
         else:
-            loud = heard(played.device.type, line.said, played.now)
+            loud = heard(played.device.form, line.said, played.now)
             yield "device %d: %s handed out from %d on, %s" % (step.of, counted(step.value, "frame"), played.now, loud)
 
     @staticmethod

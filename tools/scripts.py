@@ -3,7 +3,7 @@
 import re
 from dataclasses import dataclass
 
-from wire import RATES, WIDTHS
+from wire import RATES, WIDTHS, Format
 
 WORD = 1 << 32
 CAUSES = "setup|malformed|ended|fault|overrun"
@@ -31,7 +31,7 @@ class TranscriptFault(Exception):
 class Device:
     """A device as its line states it."""
 
-    type: str
+    form: Format
     rate: int
     start: int
     has_line: bool
@@ -80,10 +80,13 @@ def one_of(word, words):
 
 def device(words):
     """The device that the words behind `device` state."""
-    kind, rate, start, *line = words
+    kind, rate, start, *rest = words
+    channels = 2 if rest[:1] == ["stereo"] else 1
+    line = rest[channels - 1:]
     if line not in ([], ["line"]):
         raise Unfit
-    return Device(one_of(kind, WIDTHS), int(one_of(rate.lstrip("0"), map(str, RATES))), number(start, 0, WORD - 1), bool(line))
+    form = Format(one_of(kind, WIDTHS), channels)
+    return Device(form, int(one_of(rate.lstrip("0"), map(str, RATES))), number(start, 0, WORD - 1), bool(line))
 
 
 def step(name, words, devices):
@@ -103,7 +106,7 @@ def step(name, words, devices):
         return Step(name, of, None if rest[0] == "all" else number(rest[0], 0, WORD - 1))
     if name == "tick" and len(rest) in (1, 2):
         frames = number(rest[0], 1, 4096)
-        size = frames * WIDTHS[devices[of].type]
+        size = frames * devices[of].form.frame()
         return Step(name, of, frames, octets_of(rest[1], size, size) if len(rest) == 2 else b"")
     if name in ("ring", "loop") and len(rest) == 1:
         return Step(name, of, one_of(rest[0], ("on", "off")) == "on")

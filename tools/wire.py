@@ -16,9 +16,11 @@ LONGEST_FRAME = 4096
 MOST_DATA = 16368
 MOST_RECORDED = 16000
 RATES = (8000, 11025, 16000, 22050, 32000, 44100, 48000)
-# sample types by their numbers on the wire, and how many bytes a frame has
+# sample types by their numbers on the wire, and how many bytes a sample has
 TYPES = ("mu255", "alaw", "lin16", "lin32")
 WIDTHS = {"mu255": 1, "alaw": 1, "lin16": 2, "lin32": 4}
+# how many channels a device may have: a frame has a sample for each of them, the left one first
+CHANNELS = (1, 2)
 EVENTS = {1: "Ring", 2: "Hook", 4: "Current", 8: "Digit"}
 ERRORS = {1: "BadSetup", 2: "BadValue", 3: "BadDevice", 4: "BadAC", 5: "BadIDChoice", 6: "BadMatch", 7: "TooManyACs", 8: "BadLine"}
 ERROR, REPLY, EVENT = 0, 1, 2
@@ -72,6 +74,21 @@ class Item:
     number: int = 0
     fields: dict = field(default_factory=dict)
     data: bytes = b""
+
+
+@dataclass(frozen=True)
+class Format:
+    """How sound stands in bytes: the name of its sample type, and how many channels it has."""
+
+    type: str
+    channels: int = 1
+
+    def frame(self):
+        """How many bytes a frame has."""
+        return WIDTHS[self.type] * self.channels
+
+    def __str__(self):
+        return ("stereo " if self.channels == 2 else "") + self.type
 
 
 class Bad(Exception):
@@ -240,7 +257,7 @@ class ServerSide(Side):
 
     def device(self, offset):
         kind, channels, has_line, zero, rate, horizon = self.unpack("BBBBII", offset)
-        if kind > 3 or channels != 1 or has_line > 1 or zero or rate not in RATES or horizon != 4 * rate:
+        if kind > 3 or channels not in CHANNELS or has_line > 1 or zero or rate not in RATES or horizon != 4 * rate:
             raise Bad("no device in the reply to a setup")
         return {"type": TYPES[kind], "channels": channels, "has_line": has_line, "rate": rate, "horizon": horizon}
 
@@ -274,7 +291,7 @@ A_LAW = [a_law_level(octet) for octet in range(256)]
 
 
 def levels(kind, octets):
-    """The 16-bit samples that bytes of a sample type mean. What is no whole frame at their end is passed over."""
+    """The 16-bit samples that bytes of a sample type mean. What is no whole sample at their end is passed over."""
     if kind == "mu255":
         return [MU_LAW[octet] for octet in octets]
     if kind == "alaw":

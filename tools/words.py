@@ -1,6 +1,8 @@
 """What stands on the wire, in words: one line for each thing that a client or a server sends."""
 
-from wire import EVENTS, REQUESTS, TYPES, WIDTHS, levels
+from dataclasses import dataclass, replace
+
+from wire import CHANNELS, EVENTS, REQUESTS, TYPES, Format, levels
 
 CONTROLS = ((1, "input_gain"), (2, "output_gain"), (4, "input_on"), (8, "output_on"))
 
@@ -13,19 +15,19 @@ def joined(*parts):
     return ", ".join(part for part in parts if part)
 
 
-def heard(kind, octets, first=None):
-    """How loud samples are: their peak, of 16 bits, and where nothing but silence stands, if the time of the first is given."""
+def heard(form, octets, first=None):
+    """How loud sound is: its peak, of 16 bits, and where nothing but silence stands, if the time of the first frame is given."""
     # A-law has no 0: what silence is encoded as means 8
-    rest = 8 if kind == "alaw" else 0
-    samples = levels(kind, octets)
-    sounding = [at for at, sample in enumerate(samples) if sample != rest]
+    rest = 8 if form.type == "alaw" else 0
+    samples = levels(form.type, octets)
+    sounding = [at // form.channels for at, sample in enumerate(samples) if sample != rest]
     if not sounding:
         return "silence"
     said = "peak %d" % max(abs(sample) for sample in samples)
     if first is None:
         return said
     before = "before %d" % time_after(first, sounding[0]) if sounding[0] else ""
-    behind = "from %d on" % time_after(first, sounding[-1] + 1) if sounding[-1] + 1 < len(samples) else ""
+    behind = "from %d on" % time_after(first, sounding[-1] + 1) if sounding[-1] + 1 < len(octets) // form.frame() else ""
     edges = " and ".join(edge for edge in (before, behind) if edge)
     return joined(said, edges and "silence " + edges)
 
@@ -34,17 +36,17 @@ def time_after(time, frames):
     return (time + frames) % (1 << 32)
 
 
-def frames_of(kind, count):
-    """So many bytes as frames of a type, where that is known."""
-    if kind is None:
+def frames_of(form, count):
+    """So many bytes as frames of a format, where that is known."""
+    if form is None:
         return counted(count, "byte")
-    if count % WIDTHS[kind]:
-        return "%s, which are no whole frames of %s" % (counted(count, "byte"), kind)
-    return "%s %s" % (counted(count // WIDTHS[kind], "frame"), kind)
+    if count % form.frame():
+        return "%s, which are no whole frames of %s" % (counted(count, "byte"), form)
+    return "%s %s" % (counted(count // form.frame(), "frame"), form)
 
 
-def sound(kind, octets):
-    return joined(frames_of(kind, len(octets)), heard(kind, octets) if kind and octets and len(octets) % WIDTHS[kind] == 0 else "")
+def sound(form, octets):
+    return joined(frames_of(form, len(octets)), heard(form, octets) if form and octets and len(octets) % form.frame() == 0 else "")
 
 
 def gain(name, decibels):
@@ -59,8 +61,17 @@ def named_in(mask):
     return ", ".join(name for bit, name in EVENTS.items() if mask & bit) or "no events"
 
 
+@dataclass(frozen=True)
+class Context:
+    """A context: its device, the format of its sound, and whether it preempts; or None for each that is not known."""
+
+    device: int | None = None
+    form: Format | None = None
+    preempt: int | None = None
+
+
 class Contexts:
-    """The contexts of a link: each with its device, the name of its sample type, and whether it preempts."""
+    """The contexts of a link."""
 
     def __init__(self):
         self.known = {}
@@ -69,17 +80,17 @@ class Contexts:
         """A request was accepted."""
         fields = item.fields
         if item.name == "CreateAC":
-            kind = TYPES[fields["type"]] if fields["type"] < len(TYPES) else None
-            self.known[fields["context"]] = (fields["device"], kind, fields["preempt"])
+            is_known = fields["type"] < len(TYPES) and fields["channels"] in CHANNELS
+            form = Format(TYPES[fields["type"]], fields["channels"]) if is_known else None
+            self.known[fields["context"]] = Context(fields["device"], form, fields["preempt"])
         elif item.name == "ChangeAC" and fields["mask"] & 4 and fields["context"] in self.known:
-            device, kind, _ = self.known[fields["context"]]
-            self.known[fields["context"]] = (device, kind, fields["preempt"])
+            self.known[fields["context"]] = replace(self.known[fields["context"]], preempt=fields["preempt"])
         elif item.name == "FreeAC":
             self.known.pop(fields["context"], None)
 
     def of(self, item):
-        """The device, the type and the preempting of the context that a request names; or None each."""
-        return self.known.get(item.fields.get("context"), (item.fields.get("device"), None, None))
+        """The context that a request names. Of one that is not known, or named by no request, only the device of the request is known."""
+        return self.known.get(item.fields.get("context"), Context(item.fields.get("device")))
 
 
 def words_of_request(item, contexts):
@@ -110,16 +121,16 @@ def change_words(item, _):
 
 def play_words(item, contexts):
     asked = item.fields
-    _, kind, preempt = contexts.of(item)
-    loud = sound(kind, item.data).partition(", ")
+    context = contexts.of(item)
+    loud = sound(context.form, item.data).partition(", ")
     return "Play context %d at %d, %s" % (asked["context"], asked["time"], joined(
-        loud[0], preempt and "preempt", loud[2], asked["quiet"] & 1 and "no reply wanted"))
+        loud[0], context.preempt and "preempt", loud[2], asked["quiet"] & 1 and "no reply wanted"))
 
 
 def record_words(item, contexts):
     asked = item.fields
     return "Record context %d at %d, %s" % (asked["context"], asked["time"], joined(
-        frames_of(contexts.of(item)[1], asked["count"]), asked["waits"] & 1 and "waits for all"))
+        frames_of(contexts.of(item).form, asked["count"]), asked["waits"] & 1 and "waits for all"))
 
 
 def controls_words(item, _):
@@ -158,8 +169,8 @@ ASKED = {
 }
 
 
-def words_of_message(item, kind=None):
-    """What a server sends. The type is that of the context which a Record named, where that is known."""
+def words_of_message(item, form=None):
+    """What a server sends. The format is that of the context which a Record named, where that is known."""
     fields = item.fields
     if item.kind == "bad":
         return "bad: %s, beginning with %s" % (item.name, item.octets.hex())
@@ -169,7 +180,7 @@ def words_of_message(item, kind=None):
         return "event %s of device %d at %d: %s" % (item.name, fields["device"], fields["time"], value_of_event(item))
     if item.kind == "error":
         return "error to %s: %s, value %d" % (numbered(opcode_name(fields["opcode"]), item.number), item.name, fields["value"])
-    return "reply to %s: %s" % (numbered(item.name, item.number), answer_words(item, kind))
+    return "reply to %s: %s" % (numbered(item.name, item.number), answer_words(item, form))
 
 
 def value_of_event(item):
@@ -189,7 +200,7 @@ def numbered(name, number):
     return name if name == "setup" and number == 0 else "%s %d" % (name, number)
 
 
-def answer_words(item, kind):
+def answer_words(item, form):
     """The body of a reply."""
     fields = item.fields
     if item.name == "setup":
@@ -198,7 +209,7 @@ def answer_words(item, kind):
     if item.name in ("GetTime", "Play"):
         return "device time %d" % fields["time"]
     if item.name == "Record":
-        return "device time %d, %s" % (fields["time"], sound(kind, item.data))
+        return "device time %d, %s" % (fields["time"], sound(form, item.data))
     if item.name == "QueryControls":
         return joined(*(controls_word(name, fields[name]) for _, name in CONTROLS))
     if item.name == "QueryPhone":
@@ -208,4 +219,5 @@ def answer_words(item, kind):
 
 
 def device_words(device):
-    return "%s at %d%s" % (device["type"], device["rate"], " with a telephone line" if device["has_line"] else "")
+    form = Format(device["type"], device["channels"])
+    return "%s at %d%s" % (form, device["rate"], " with a telephone line" if device["has_line"] else "")

@@ -21,7 +21,7 @@ start_time = 4294960000
 
 -- the one device: `lin16 8000 4294960000 line`
 abbrev pub exercised : List DeviceSpec
-exercised = record { ty = Lin16; rate = 8000; start = start_time; line = true } ∷ []
+exercised = record { ty = Lin16; rate = 8000; start = start_time; channels = 1; line = true } ∷ []
 
 -- the links
 abbrev pub links : List ℕ

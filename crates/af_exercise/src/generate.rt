@@ -1,5 +1,6 @@
 // The script of an exercise is made of the words that a generator draws.
 ghost use Rattle.std.specs.Prelude.{◌≡◌, ◌≤◌, ◌<◌, ◌*◌, ◌++◌, ℕ, length, All, IfOk, OnOk};
+ghost use Rattle.af_sample.specs.Channels.{IsChannelCount};
 ghost use Rattle.af_sample.specs.Rates.{IsListedRate};
 ghost use Rattle.af_request.specs.Asked.{request_meaning};
 ghost use Rattle.af_request.specs.Requests.{request_bytes, FitsFrame};
@@ -38,6 +39,7 @@ pub fn make_script(alloc: Global, seed: u64, turns: u32) -> Result<Script, OutOf
     ensures script { IfOk result (λ s. generated seed turns ≡ record { config = s.config.items; steps = s.steps }) }
     ensures devices { IfOk result (λ s. (1 ≤ length s.config.items) × (length s.config.items ≤ 8)) }
     ensures rates { IfOk result (λ s. All (λ device. IsListedRate device.rate) s.config.items) }
+    ensures channels { IfOk result (λ s. All (λ device. IsChannelCount device.channels) s.config.items) }
     ensures steps { IfOk result (λ s. All (IsStep s.config.items) s.steps) }
 {
     let mut room = vec![in alloc; 0u8; LONGEST_FRAME]?;
@@ -98,6 +100,7 @@ fn device() -> Config
         ty: SampleType::Lin16,
         rate: 8000,
         start: START_TIME,
+        channels: 1,
         line: true,
     });
     config

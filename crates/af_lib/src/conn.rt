@@ -72,8 +72,8 @@ impl<L: Link + Drop> Conn<L> {
         }
     }
 
-    /// The devices of the server, by rising number: 1 to 8, each of one channel, of a listed rate, and with a horizon of four
-    /// seconds.
+    /// The devices of the server, by rising number: 1 to 8, each of one or two channels, of a listed rate, and with a horizon of
+    /// four seconds.
     pub fn devices(&self) -> &[DeviceInfo]
         ensures value { result.now ≡ self.now.devices }
         ensures some { 1 ≤ length result.now }
@@ -124,7 +124,7 @@ impl<L: Link + Drop> Conn<L> {
         answer
     }
 
-    /// Creates a context with a number of the client's choice, on a device, of one channel.
+    /// Creates a context with a number of the client's choice, on a device, of one channel. A device of two channels refuses it.
     pub fn create_ac(
         &mut self,
         ac: u32,

@@ -1,5 +1,6 @@
 -- A configuration that is read line by line.
 use Rattle.std.specs.Prelude.{◌≡◌, ℕ, ◌≤◌, nat_lt, Bool, List, [], ◌∷◌, ◌++◌, length, All, Option, Some, None, option_map, if◌then◌else◌}
+use Rattle.af_sample.specs.Channels.{IsChannelCount}
 use Rattle.af_sample.specs.Rates.{IsListedRate}
 use Rattle.af_text.specs.Lines.{is_nil}
 use Rattle.af_live.specs.Stating.{Settings, Configured}
@@ -20,8 +21,9 @@ with_config_line s line =
 abbrev pub lacks_configured : Settings → Bool
 lacks_configured s = is_nil s.config
 
--- there are no more devices than there may be, of listed rates, and as many kinds
+-- there are no more devices than there may be, of listed rates and of one or two channels, and as many kinds
 pub record IsSound (s : Settings) : Type 0 where
   pub few : length s.config ≤ most_configured
   pub kinds : length s.kinds ≡ length s.config
   pub rates : All (λ device. IsListedRate device.rate) s.config
+  pub channels : All (λ device. IsChannelCount device.channels) s.config

@@ -51,9 +51,9 @@ ending_of (word ∷ rest) =
     if bytes_eq word (codes "line") then option_map (ending_with true) (backing_stated rest)
     else option_map (ending_with false) (backing_stated (word ∷ rest))
 
--- a device of this type and rate, whose time begins here
+-- a device of this type and rate, whose time begins here, of one channel
 abbrev pub configured_at : SampleType → ℕ → ℕ → DeviceSpec
-configured_at ty rate start = record { ty = ty; rate = rate; start = start; line = false }
+configured_at ty rate start = record { ty = ty; rate = rate; start = start; channels = 1; line = false }
 
 -- a device that ends so
 abbrev pub placed_at : DeviceSpec → EndingState → Configured

@@ -1,6 +1,7 @@
 // What a line of a configuration states: a device, and what stands behind it.
 ghost use Rattle.std.specs.Prelude.{◌≡◌, IfOk, IfSome, MatchOption, None, option_map, string_bytes};
 ghost use Rattle.std.specs.Str.{IsUtf8, is_utf8};
+ghost use Rattle.af_sample.specs.Channels.{IsChannelCount};
 ghost use Rattle.af_sample.specs.Rates.{IsListedRate};
 ghost use Rattle.af_text.specs.Lines.{words};
 ghost use Rattle.af_live.specs.Stating.{configured_of, configured_with, placed_at, ending_of, backing_stated, silent_of, files_of};
@@ -38,6 +39,7 @@ pub fn device_stated(alloc: Global, line: &[u8]) -> Result<Option<ConfiguredDevi
     requires { IsUtf8 line.now }
     ensures value { IfOk result (λ device. option_map placed device ≡ configured_of (words line.now)) }
     ensures listed { IfOk result (λ device. IfSome device (λ d. IsListedRate d.spec.rate)) }
+    ensures channels { IfOk result (λ device. IfSome device (λ d. IsChannelCount d.spec.channels)) }
 {
     let Some((name, arguments)) = next_word(line) else {
         return Ok(None);
@@ -57,11 +59,12 @@ pub fn device_stated(alloc: Global, line: &[u8]) -> Result<Option<ConfiguredDevi
     }))
 }
 
-/// The device of `TYPE RATE START`, with no telephone line, and what comes behind these words.
+/// The device of `TYPE RATE START`, of one channel and with no telephone line, and what comes behind these words.
 fn front_stated(arguments: &[u8]) -> Option<(DeviceSpec, &[u8])>
     ensures value { MatchOption result (configured_with (words arguments.now) ≡ None)
         (λ found. configured_with (words arguments.now) ≡ option_map (placed_at found.0) (ending_of (words found.1.now))) }
     ensures listed { IfSome result (λ found. IsListedRate found.0.rate) }
+    ensures channels { IfSome result (λ found. IsChannelCount found.0.channels) }
     ensures text { IsUtf8 arguments.now → IfSome result (λ found. IsUtf8 found.1.now) }
 {
     let (ty, rest) = next_word(arguments)?;
@@ -71,6 +74,7 @@ fn front_stated(arguments: &[u8]) -> Option<(DeviceSpec, &[u8])>
         ty: sample_type(ty)?,
         rate: listed_rate(rate)?,
         start: number_between(0, u32::MAX, start)?,
+        channels: 1,
         line: false,
     };
     Some((spec, rest))

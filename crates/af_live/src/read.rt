@@ -1,5 +1,6 @@
 // A text is read as a configuration, line by line.
 ghost use Rattle.std.specs.Prelude.{◌≡◌, ◌≤◌, ◌⊎◌, ℕ, length, All, IfOk, IfErr};
+ghost use Rattle.af_sample.specs.Channels.{IsChannelCount};
 ghost use Rattle.af_sample.specs.Rates.{IsListedRate};
 ghost use Rattle.af_live.specs.Configuration.{config_of, IsConfigFault};
 
@@ -23,6 +24,7 @@ pub fn read_config(alloc: Global, text: &[u8]) -> Result<Setting, ConfigFault>
     ensures devices { IfOk result (λ s. (1 ≤ length s.config) × (length s.config ≤ 8)) }
     ensures kinds { IfOk result (λ s. length s.kinds ≡ length s.config) }
     ensures rates { IfOk result (λ s. All (λ device. IsListedRate device.rate) s.config) }
+    ensures channels { IfOk result (λ s. All (λ device. IsChannelCount device.channels) s.config) }
 {
     let mut setting = Setting::new(alloc);
     match read_lines(alloc, text, &mut setting) {

@@ -350,9 +350,16 @@ fn is_device(config: &Config, device: u8, spec: &DeviceSpec) -> bool
     ensures { IsTrue result ↔ (slice_get config.now.items device ≡ Some spec.now) }
 {
     match config.get(device as usize) {
-        Some(stated) => stated == spec,
+        Some(stated) => is_same(stated, spec),
         None => false,
     }
+}
+
+// Whether two devices are stated alike.
+fn is_same(one: &DeviceSpec, other: &DeviceSpec) -> bool
+    ensures { IsTrue result ↔ (one.now ≡ other.now) }
+{
+    one == other
 }
 
 impl Live for Tape {

@@ -6,19 +6,20 @@ use Rattle.std.proofs.lemmas.Bool.Decides.{nat_tests}
 use Rattle.std.proofs.lemmas.List.Elements.{All-nil, All-cons}
 use Rattle.af_sample.specs.declared.sample_type.SampleType.{SampleType}
 use Rattle.af_sample.specs.Rates.{is_listed_rate, IsListedRate}
+use Rattle.af_sample.specs.Channels.{IsChannelCount}
 use Rattle.af_phone.specs.Lines.{is_digit}
 use Rattle.af_phone.specs.declared.line.LineChange.{LineChange}
 use Rattle.af_phone.specs.declared.line.LineChange.TheVariants as change
 use Rattle.af_world.specs.declared.script.DeviceSpec.{DeviceSpec}
 use Rattle.af_world.specs.declared.script.Step.{Step}
 use Rattle.af_world.specs.declared.script.Step.TheVariants as step
-use Rattle.af_world.specs.Outside.{IsStep, IsCapture, IsRoom, spec_has_line, width_at}
+use Rattle.af_world.specs.Outside.{IsStep, IsCapture, IsRoom, spec_has_line, frame_bytes_at}
 use Rattle.std.specs.Result.{result_ok}
 use Rattle.hex.specs.Hex.{decode_of}
 use Rattle.af_script.specs.declared.statement.LineKind.{LineKind}
 use Rattle.af_script.specs.declared.statement.LineKind.TheVariants as kind
 use Rattle.af_script.specs.Words.{number_of, number_within, only_if, then_some, bytes_within}
-use Rattle.af_script.specs.Statement.{line_kind_of, is_device_kind, type_of, rate_of, line_stated, device_at, device_with, device_of, link_of, device_number, line_number, switch_of, digit_of, with_link, send_of, room_stated, room_of, capture_of, tick_of, switched, dial_of, with_number, fail_hook_of, idle_of, step_of_kind, step_of, is_device_line}
+use Rattle.af_script.specs.Statement.{line_kind_of, is_device_kind, type_of, rate_of, channels_stated, behind_channels, line_stated, device_at, device_with, device_of, link_of, device_number, line_number, switch_of, digit_of, with_link, send_of, room_stated, room_of, capture_of, tick_of, switched, dial_of, with_number, fail_hook_of, idle_of, step_of_kind, step_of, is_device_line}
 use Rattle.af_script.specs.Script.{StatedScript, ScriptLine, most_devices, device_lines, with_first, each_says, first_number, with_steps, with_config, stated_by, script_of, entries}
 use Rattle.af_script.specs.Lines.{lines}
 use Rattle.af_world.specs.Sizes.{longest_send}
@@ -63,24 +64,36 @@ rate_from word rate e =
     let b = only_if_from is_listed_rate a.0 rate a.2 in
     subst (λ r. is_listed_rate r ≡ true) b.1 b.0
 
-device_is : (ty : SampleType) (rate start : ℕ) (line : Bool) (d : DeviceSpec) → device_at ty rate start line ≡ d → is_listed_rate rate ≡ true → IsListedRate d.rate
-device_is ty rate start line d e listed = subst (λ (s : DeviceSpec). IsListedRate s.rate) e listed
+-- a device that may be stated
+record IsDevice (d : DeviceSpec) : Type 0 where
+  rate : IsListedRate d.rate
+  channels : IsChannelCount d.channels
 
-device_with_from : (arguments : List (List ℕ)) (d : DeviceSpec) → device_with arguments ≡ Some d → IsListedRate d.rate
+stated_count : (ws : List (List ℕ)) → IsChannelCount (channels_stated ws)
+stated_count [] = refl
+stated_count (word ∷ ws) = elim (bytes_eq word (codes "stereo")) as (λ t. IsChannelCount (cond t 2 1)) [ true ↦ refl | false ↦ refl ]
+
+device_is : (ty : SampleType) (rate start channels : ℕ) (line : Bool) (d : DeviceSpec) → device_at ty rate start channels line ≡ d → is_listed_rate rate ≡ true → IsChannelCount channels → IsDevice d
+device_is ty rate start channels line d e listed count =
+    subst IsDevice e (let s : IsDevice (device_at ty rate start channels line) = record { rate = listed; channels = count } in s)
+
+device_with_from : (arguments : List (List ℕ)) (d : DeviceSpec) → device_with arguments ≡ Some d → IsDevice d
 device_with_from [] d e = cc e
 device_with_from (ty ∷ []) d e = cc e
 device_with_from (ty ∷ rate ∷ []) d e = cc e
-device_with_from (ty ∷ rate ∷ start ∷ line) d e =
-    let a = and_then_from (λ t. option_and_then (λ r. option_and_then (λ s. option_map (device_at t r s) (line_stated line)) (number_within 0 4294967295 start)) (rate_of rate)) (type_of ty) d e in
-    let b = and_then_from (λ r. option_and_then (λ s. option_map (device_at a.0 r s) (line_stated line)) (number_within 0 4294967295 start)) (rate_of rate) d a.2 in
-    let c = and_then_from (λ s. option_map (device_at a.0 b.0 s) (line_stated line)) (number_within 0 4294967295 start) d b.2 in
-    let f = map_from (device_at a.0 b.0 c.0) (line_stated line) d c.2 in
-    device_is a.0 b.0 c.0 f.0 d f.2 (rate_from rate b.0 b.1)
+device_with_from (ty ∷ rate ∷ start ∷ rest) d e =
+    let n = channels_stated rest in
+    let line = line_stated (behind_channels rest) in
+    let a = and_then_from (λ t. option_and_then (λ r. option_and_then (λ s. option_map (device_at t r s n) line) (number_within 0 4294967295 start)) (rate_of rate)) (type_of ty) d e in
+    let b = and_then_from (λ r. option_and_then (λ s. option_map (device_at a.0 r s n) line) (number_within 0 4294967295 start)) (rate_of rate) d a.2 in
+    let c = and_then_from (λ s. option_map (device_at a.0 b.0 s n) line) (number_within 0 4294967295 start) d b.2 in
+    let f = map_from (device_at a.0 b.0 c.0 n) line d c.2 in
+    device_is a.0 b.0 c.0 n f.0 d f.2 (rate_from rate b.0 b.1) (stated_count rest)
 
-device_from : (ws : List (List ℕ)) (d : DeviceSpec) → device_of ws ≡ Some d → IsListedRate d.rate
+device_from : (ws : List (List ℕ)) (d : DeviceSpec) → device_of ws ≡ Some d → IsDevice d
 device_from [] d e = cc e
 device_from (name ∷ arguments) d e =
-    (elim (is_device_kind (line_kind_of name)) as (λ t. cond t (device_with arguments) None ≡ Some d → IsListedRate d.rate) [
+    (elim (is_device_kind (line_kind_of name)) as (λ t. cond t (device_with arguments) None ≡ Some d → IsDevice d) [
       | true ↦ λ h. device_with_from arguments d h
       | false ↦ λ h. cc h
     ]) e
@@ -151,18 +164,18 @@ capture_from size (hex ∷ []) capture e =
     let n = bytes_from size size hex a.0 a.1 in
     subst (IsCapture size) a.2 (omega (arith, n.0, n.1))
 
-tick_is : (config : List DeviceSpec) (d n : ℕ) (captured : Option (List ℕ)) (s : Step) → step.Tick d n captured ≡ s → d < length config → 1 ≤ n → n ≤ 4096 → IsCapture (n * width_at config d) captured → IsStep config s
+tick_is : (config : List DeviceSpec) (d n : ℕ) (captured : Option (List ℕ)) (s : Step) → step.Tick d n captured ≡ s → d < length config → 1 ≤ n → n ≤ 4096 → IsCapture (n * frame_bytes_at config d) captured → IsStep config s
 tick_is config d n captured s e there some few capture = subst (IsStep config) e (there, some, few, capture)
 
 tick_from : (config : List DeviceSpec) (arguments : List (List ℕ)) (s : Step) → tick_of config arguments ≡ Some s → IsStep config s
 tick_from config [] s e = cc e
 tick_from config (device ∷ []) s e = cc e
 tick_from config (device ∷ frames ∷ capture) s e =
-    let a = and_then_from (λ d. option_and_then (λ n. option_map (step.Tick d n) (capture_of (n * width_at config d) capture)) (number_within 1 4096 frames)) (device_number config device) s e in
-    let b = and_then_from (λ n. option_map (step.Tick a.0 n) (capture_of (n * width_at config a.0) capture)) (number_within 1 4096 frames) s a.2 in
-    let c = map_from (step.Tick a.0 b.0) (capture_of (b.0 * width_at config a.0) capture) s b.2 in
+    let a = and_then_from (λ d. option_and_then (λ n. option_map (step.Tick d n) (capture_of (n * frame_bytes_at config d) capture)) (number_within 1 4096 frames)) (device_number config device) s e in
+    let b = and_then_from (λ n. option_map (step.Tick a.0 n) (capture_of (n * frame_bytes_at config a.0) capture)) (number_within 1 4096 frames) s a.2 in
+    let c = map_from (step.Tick a.0 b.0) (capture_of (b.0 * frame_bytes_at config a.0) capture) s b.2 in
     let n = number_from 1 4096 frames b.0 b.1 in
-    tick_is config a.0 b.0 c.0 s c.2 (device_number_from config device a.0 a.1) n.0 n.1 (capture_from (b.0 * width_at config a.0) capture c.0 c.1)
+    tick_is config a.0 b.0 c.0 s c.2 (device_number_from config device a.0 a.1) n.0 n.1 (capture_from (b.0 * frame_bytes_at config a.0) capture c.0 c.1)
 
 -- a step that names a device alone
 with_number_from : (config : List DeviceSpec) (make : ℕ → Step) (arguments : List (List ℕ)) (s : Step) → ((d : ℕ) → d < length config → IsStep config (make d)) → with_number make config arguments ≡ Some s → IsStep config s
@@ -262,11 +275,12 @@ each_from P says good (entry ∷ es) xs e =
           ]) refl h
     ]) refl e
 
--- a script has a device or more, of rates that are listed, and steps for them
+-- a script has a device or more, of rates that are listed and one or two channels, and steps for them
 pub record IsSound (s : StatedScript) : Type 0 where
   pub some : 1 ≤ length s.config
   pub few : length s.config ≤ most_devices
   pub rates : All (λ device. IsListedRate device.rate) s.config
+  pub channels : All (λ device. IsChannelCount device.channels) s.config
   pub steps : All (IsStep s.config) s.steps
 
 abbrev ok_or : StatedScript → Result StatedScript ℕ → StatedScript
@@ -295,7 +309,7 @@ sound (suc k) es behind s few there e =
     (elim (each_says device_of devices) as (λ r. each_says device_of devices ≡ r → with_config r rest ≡ Ok s → IsSound s) [
       | Err n ↦ λ was h. cc h
       | Ok config ↦ λ was h.
-          let ds = each_from (λ (device : DeviceSpec). IsListedRate device.rate) device_of device_from devices config was in
+          let ds = each_from IsDevice device_of device_from devices config was in
           let len = ds.count in
           let taken = length-take (suc k) es in
           (elim (each_says (step_of config) rest) as (λ r. each_says (step_of config) rest ≡ r → with_steps config r ≡ Ok s → IsSound s) [
@@ -303,7 +317,13 @@ sound (suc k) es behind s few there e =
             | Ok steps ↦ λ at g.
                 let is : record { config = config; steps = steps } ≡ s = ap (ok_or s) g in
                 let ss = each_from (IsStep config) (step_of config) (step_from config) rest steps at in
-                subst IsSound is (record { some = omega arith; few = omega arith; rates = ds.each; steps = ss.each })
+                subst IsSound is (record {
+                  some = omega arith;
+                  few = omega arith;
+                  rates = λ k d within. (ds.each k d within).rate;
+                  channels = λ k d within. (ds.each k d within).channels;
+                  steps = ss.each;
+                })
           ]) refl h
     ]) refl whole
 

@@ -7,7 +7,7 @@ use Rattle.af_phone.specs.declared.line.LineChange.TheVariants as change
 use Rattle.af_world.specs.declared.script.DeviceSpec.{DeviceSpec}
 use Rattle.af_world.specs.declared.script.Step.{Step}
 use Rattle.af_world.specs.declared.script.Step.TheVariants as step
-use Rattle.af_world.specs.Outside.{spec_has_line, width_at}
+use Rattle.af_world.specs.Outside.{spec_has_line, frame_bytes_at}
 use Rattle.af_script.specs.declared.statement.LineKind.{LineKind}
 use Rattle.af_script.specs.declared.statement.LineKind.TheVariants as kind
 pub use Rattle.af_text.specs.Sound.{type_of, rate_of}
@@ -64,20 +64,31 @@ is_device_line words = is_device_kind (kind_of_words words)
 
 -- Devices
 
--- whether the words behind `device TYPE RATE START` state a line: `line` does, and no word does not
+-- how many channels a device has by the words behind `device TYPE RATE START`: two if `stereo` is the first, and else one
+abbrev pub channels_stated : List (List ℕ) → ℕ
+channels_stated [] = 1
+channels_stated (word ∷ words) = if bytes_eq word (codes "stereo") then 2 else 1
+
+-- the words behind `stereo`, if that is the first of these, and else all of them
+abbrev pub behind_channels : List (List ℕ) → List (List ℕ)
+behind_channels [] = []
+behind_channels (word ∷ words) = if bytes_eq word (codes "stereo") then words else word ∷ words
+
+-- whether the words behind these state a line: `line` does, and no word does not
 abbrev pub line_stated : List (List ℕ) → Option Bool
 line_stated [] = Some false
 line_stated (word ∷ []) = if bytes_eq word (codes "line") then Some true else None
 line_stated _ = None
 
--- a device of this type and rate, whose time begins here, with a line or without
-abbrev pub device_at : SampleType → ℕ → ℕ → Bool → DeviceSpec
-device_at ty rate start line = record { ty = ty; rate = rate; start = start; line = line }
+-- a device of this type and rate, whose time begins here, of so many channels, with a line or without
+abbrev pub device_at : SampleType → ℕ → ℕ → ℕ → Bool → DeviceSpec
+device_at ty rate start channels line = record { ty = ty; rate = rate; start = start; channels = channels; line = line }
 
--- the device of `device TYPE RATE START`, or of the same with `line` as its last word, by the words that follow `device`
+-- the device of `device TYPE RATE START`, then `stereo` if it has two channels, then `line` if it has one, by the words that
+-- follow `device`
 abbrev pub device_with : List (List ℕ) → Option DeviceSpec
-device_with (ty ∷ rate ∷ start ∷ line) =
-    option_and_then (λ t. option_and_then (λ r. option_and_then (λ s. option_map (device_at t r s) (line_stated line)) (number_within 0 (2 ^ 32 - 1) start)) (rate_of rate)) (type_of ty)
+device_with (ty ∷ rate ∷ start ∷ rest) =
+    option_and_then (λ t. option_and_then (λ r. option_and_then (λ s. option_map (device_at t r s (channels_stated rest)) (line_stated (behind_channels rest))) (number_within 0 (2 ^ 32 - 1) start)) (rate_of rate)) (type_of ty)
 device_with _ = None
 
 -- the device that a line of this kind states, by the words that follow its name
@@ -143,7 +154,7 @@ capture_of size _ = None
 -- the step of `tick D N` or `tick D N HEX`
 abbrev pub tick_of : List DeviceSpec → List (List ℕ) → Option Step
 tick_of config (device ∷ frames ∷ capture) =
-    option_and_then (λ d. option_and_then (λ n. option_map (step.Tick d n) (capture_of (n * width_at config d) capture)) (number_within 1 4096 frames)) (device_number config device)
+    option_and_then (λ d. option_and_then (λ n. option_map (step.Tick d n) (capture_of (n * frame_bytes_at config d) capture)) (number_within 1 4096 frames)) (device_number config device)
 tick_of config _ = None
 
 -- `on` or `off`

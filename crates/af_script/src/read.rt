@@ -1,6 +1,7 @@
 // A text is read as a script, line by line.
 ghost use Rattle.std.specs.Prelude.{◌≡◌, ◌≤◌, ◌&&◌, ◌⊎◌, ℕ, [], Some, length, All, IfOk, IfErr, option_map, ◌++◌, ◌∷◌, ◌<◌};
 ghost use Rattle.af_sample.specs.Rates.{IsListedRate};
+ghost use Rattle.af_sample.specs.Channels.{IsChannelCount};
 ghost use Rattle.af_world.specs.Outside.{IsStep};
 ghost use Rattle.af_script.specs.Lines.{words};
 ghost use Rattle.af_script.specs.Script.{script_of, IsScriptFault};
@@ -37,6 +38,7 @@ pub fn read_script(alloc: Global, text: &[u8]) -> Result<Script, ScriptFault>
         (result ≡ Err (ScriptFault.Line n)) ⊎ (result ≡ Err ScriptFault.OutOfMemory) }
     ensures devices { IfOk result (λ s. (1 ≤ length s.config.items) × (length s.config.items ≤ 8)) }
     ensures rates { IfOk result (λ s. All (λ device. IsListedRate device.rate) s.config.items) }
+    ensures channels { IfOk result (λ s. All (λ device. IsChannelCount device.channels) s.config.items) }
     ensures steps { IfOk result (λ s. All (IsStep s.config.items) s.steps) }
 {
     let mut draft = Draft {

@@ -1,9 +1,9 @@
 // What a line states: a device, or a step.
 ghost use Rattle.std.specs.Prelude.{◌≡◌, ◌≤◌, IfOk, length};
-ghost use Rattle.af_world.specs.Outside.{spec_has_line, width_at};
+ghost use Rattle.af_world.specs.Outside.{frame_bytes_at, spec_has_line};
 ghost use Rattle.af_script.specs.Lines.{words};
 ghost use Rattle.af_script.specs.Words.{bytes_within};
-ghost use Rattle.af_script.specs.Statement.{line_kind_of, line_stated, device_with, device_number, line_number, link_of, switch_of, digit_of, open_of, send_of, end_of, room_stated, room_of, capture_of, tick_of, ring_of, loop_of, dial_of, fail_read_of, fail_write_of, fail_capture_of, fail_emit_of, fail_hook_of, idle_of, step_of_kind};
+ghost use Rattle.af_script.specs.Statement.{line_kind_of, behind_channels, channels_stated, line_stated, device_with, device_number, line_number, link_of, switch_of, digit_of, open_of, send_of, end_of, room_stated, room_of, capture_of, tick_of, ring_of, loop_of, dial_of, fail_read_of, fail_write_of, fail_capture_of, fail_emit_of, fail_hook_of, idle_of, step_of_kind};
 
 use af_io::Bytes;
 use af_phone::{LineChange, is_digit};
@@ -87,16 +87,30 @@ pub fn device_stated(arguments: &[u8]) -> Option<DeviceSpec>
     let ty = sample_type(ty)?;
     let rate = listed_rate(rate)?;
     let start = number_between(0, u32::MAX, start)?;
+    let (channels, rest) = channels_stated(rest);
     let line = line_stated(rest)?;
     Some(DeviceSpec {
         ty,
         rate,
         start,
+        channels,
         line,
     })
 }
 
-/// Whether the words behind `device TYPE RATE START` state a line: `line` does, and no word does not.
+/// How many channels a device has by the words behind `device TYPE RATE START`, and the words behind `stereo`, if that is the
+/// first of them.
+fn channels_stated(arguments: &[u8]) -> (u8, &[u8])
+    ensures channels { result.0 ≡ channels_stated (words arguments.now) }
+    ensures rest { words result.1.now ≡ behind_channels (words arguments.now) }
+{
+    match next_word(arguments) {
+        Some((word, rest)) if is_word(word, b"stereo") => (2, rest),
+        _ => (1, arguments),
+    }
+}
+
+/// Whether the words behind these state a line: `line` does, and no word does not.
 fn line_stated(arguments: &[u8]) -> Option<bool>
     ensures { result ≡ line_stated (words arguments.now) }
 {
@@ -155,12 +169,12 @@ fn has_line(config: &[DeviceSpec], device: u8) -> bool
 }
 
 /// How many bytes a frame of a device has.
-fn width(config: &[DeviceSpec], device: u8) -> usize
-    ensures value { result ≡ width_at config.now device }
-    ensures bound { result ≤ 4 }
+fn frame_bytes(config: &[DeviceSpec], device: u8) -> usize
+    ensures value { result ≡ frame_bytes_at config.now device }
+    ensures bound { result ≤ 1020 }
 {
     match config.get(device as usize) {
-        Some(device) => device.ty.width(),
+        Some(device) => device.ty.frame_bytes(device.channels),
         None => 0,
     }
 }
@@ -270,7 +284,7 @@ fn tick(alloc: Global, config: &[DeviceSpec], arguments: &[u8]) -> Result<Option
     let Some(frames) = number_between(1, 4096, second) else {
         return Ok(None);
     };
-    let size = frames as usize * width(config, device);
+    let size = frames as usize * frame_bytes(config, device);
     Ok(capture(alloc, size, rest)?.map(|captured| Step::Tick(device, frames, captured)))
 }
 

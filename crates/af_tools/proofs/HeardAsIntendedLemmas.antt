@@ -37,12 +37,12 @@ unfolding blocks
 found ty frames bytes i some low = find_block ty frames (length bytes) 0 bytes i some (omega arith) low
 
 -- the times that an entry covers
-covered : (e : AcceptedPlay) (t : ℕ) → covers e t ≡ true → (e.start ≤ t) × (t < e.start + length e.samples)
+covered : (e : AcceptedPlay) (t : ℕ) → covers 1 e t ≡ true → (e.start ≤ t) × (t < e.start + length e.samples)
 covered e t on =
-    let p = (and_parts (nat_le e.at t) (nat_le e.start t && nat_lt t (e.start + length e.samples)) on).1 in
-    let q = and_parts (nat_le e.start t) (nat_lt t (e.start + length e.samples)) p in
+    let p = (and_parts (nat_le e.at t) (nat_le e.start t && nat_lt t (e.start + length e.samples / 1)) on).1 in
+    let q = and_parts (nat_le e.start t) (nat_lt t (e.start + length e.samples / 1)) p in
     let from : nat_le e.start t ≡ true = q.0 in
-    let to : nat_lt t (e.start + length e.samples) ≡ true = q.1 in
+    let to : nat_lt t (e.start + length e.samples / 1) ≡ true = q.1 in
     (grind (arith, nat_tests), grind (arith, nat_tests))
 
 same_entry : (o : Option AcceptedPlay) (d e : AcceptedPlay) → o ≡ Some d → o ≡ Some e → d ≡ e
@@ -50,9 +50,9 @@ same_entry o d e is is' = cc
 
 module _ (ty : SampleType) (gain : ℤ) (start : ℕ) where
   -- an entry of a block covers the times of its frames alone
-  frame_of : (b : Block) (e d : AcceptedPlay) (i : ℕ) → IsEntryOf ty gain start b e → d ≡ e → covers d (start + i) ≡ true → (j : ℕ) × (j < length b.bytes / width_of ty) × (b.before + j ≡ i)
+  frame_of : (b : Block) (e d : AcceptedPlay) (i : ℕ) → IsEntryOf ty gain start b e → d ≡ e → covers 1 d (start + i) ≡ true → (j : ℕ) × (j < length b.bytes / width_of ty) × (b.before + j ≡ i)
   frame_of b e d i of same on =
-      let c = covered e (start + i) (subst (λ (x : AcceptedPlay). covers x (start + i) ≡ true) same on) in
+      let c = covered e (start + i) (subst (λ (x : AcceptedPlay). covers 1 x (start + i) ≡ true) same on) in
       let from = c.0 in
       let to = c.1 in
       let begin = of.at_its_time in
@@ -60,7 +60,7 @@ module _ (ty : SampleType) (gain : ℤ) (start : ℕ) where
       (i - b.before, omega arith, omega arith)
 
   module _ (frames : ℕ) (bytes : List ℕ) (accepted : List AcceptedPlay) (a : AreAccepted ty gain start (length bytes / width_of ty) (sent_blocks ty frames bytes) accepted) (i : ℕ) (low : i < length bytes / width_of ty) (f : IsAt ty bytes 0 i (sent_blocks ty frames bytes)) where
-    alone : (j : ℕ) (d : AcceptedPlay) → slice_get accepted j ≡ Some d → covers d (start + i) ≡ true → j ≡ a.place f.k
+    alone : (j : ℕ) (d : AcceptedPlay) → slice_get accepted j ≡ Some d → covers 1 d (start + i) ≡ true → j ≡ a.place f.k
     alone j d at on =
         let o = a.no_other j i d at low on in
         let b : Block = get_or (sent_blocks ty frames bytes) o.0 f.block in
@@ -73,27 +73,27 @@ module _ (ty : SampleType) (gain : ℤ) (start : ℕ) where
         let one : o.0 ≡ f.k = one_block ty 0 (blocks (frames * width_of ty) bytes) o.0 f.k b f.block g.0 f.j get f.get g.1 f.within (omega arith) in
         o.2 ∙ ap a.place one
 
-    its_sample : (e : AcceptedPlay) → IsEntryOf ty gain start f.block e → slice_index_or e.samples (start + i - e.start) (pos 0) ≡ gained (decoded ty (piece ty bytes i)) gain
+    its_sample : (e : AcceptedPlay) → IsEntryOf ty gain start f.block e → slice_index_or e.samples (1 * (start + i - e.start) + 0) (pos 0) ≡ gained (decoded ty (piece ty bytes i)) gain
     its_sample e of =
         let begin = of.at_its_time in
         let place = f.place in
-        let at : start + i - e.start ≡ f.j = omega arith in
+        let at : 1 * (start + i - e.start) + 0 ≡ f.j = omega arith in
         ap₂ (λ (xs : List ℤ) (k : ℕ). slice_index_or xs k (pos 0)) of.its_samples at
         ∙ gained_at ty gain f.block.bytes f.j f.within
         ∙ ap (λ p. gained (decoded ty p) gain) f.same
 
-    its_time : (e : AcceptedPlay) → IsEntryOf ty gain start f.block e → covers e (start + i) ≡ true
+    its_time : (e : AcceptedPlay) → IsEntryOf ty gain start f.block e → covers 1 e (start + i) ≡ true
     its_time e of =
         let begin = of.at_its_time in
         let place = f.place in
         let within = f.within in
         let size : length e.samples ≡ length f.block.bytes / width_of ty = ap length of.its_samples ∙ length-gained_samples ty gain f.block.bytes in
-        covers_its e (start + i) of.in_time (omega arith) (omega arith)
+        covers_its 1 e (start + i) of.in_time (omega arith) (omega arith)
 
-    heard_frame : heard accepted (start + i) ≡ slice_index_or (gained_samples ty gain bytes) i (pos 0)
+    heard_frame : heard 1 accepted (start + i) 0 ≡ slice_index_or (gained_samples ty gain bytes) i (pos 0)
     heard_frame =
         let e = a.each f.k f.block f.get in
-        heard_alone accepted (start + i) (a.place f.k) e.0 e.1 (its_time e.0 e.2) alone
+        heard_alone 1 accepted (start + i) 0 (a.place f.k) e.0 e.1 (its_time e.0 e.2) alone
         ∙ ap (blended e.0.preempt (pos 0)) (its_sample e.0 e.2)
         ∙ blended_with_silence e.0.preempt (decoded ty (piece ty bytes i)) gain
         ∙ sym (gained_at ty gain bytes i low)

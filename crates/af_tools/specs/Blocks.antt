@@ -34,14 +34,15 @@ pub record IsEntryOf (ty : SampleType) (gain : ℤ) (start : ℕ) (block : Block
   pub its_samples : entry.samples ≡ gained_samples ty gain block.bytes
   pub in_time : entry.at ≤ entry.start
 
--- Each block has an entry in an accepted list, at a place of its own, and no entry at another place covers a time of the frames.
+-- Each block has an entry in an accepted list of a device with one channel, at a place of its own, and no entry at another place
+-- covers a time of the frames.
 pub record AreAccepted (ty : SampleType) (gain : ℤ) (start frames : ℕ) (sent : List Block) (accepted : List AcceptedPlay) : Type 0 where
   pub place : ℕ → ℕ
   pub each : (k : ℕ) (block : Block) → slice_get sent k ≡ Some block → (entry : AcceptedPlay) × (slice_get accepted (place k) ≡ Some entry) × IsEntryOf ty gain start block entry
-  pub no_other : (j i : ℕ) (entry : AcceptedPlay) → slice_get accepted j ≡ Some entry → i < frames → covers entry (start + i) ≡ true → (k : ℕ) × (k < length sent) × (j ≡ place k)
+  pub no_other : (j i : ℕ) (entry : AcceptedPlay) → slice_get accepted j ≡ Some entry → i < frames → covers 1 entry (start + i) ≡ true → (k : ℕ) × (k < length sent) × (j ≡ place k)
 
 -- Where the blocks of a source's bytes are accepted, what is heard is the samples of its whole frames.
 abbrev pub HeardAsIntended : Type 0
 HeardAsIntended = (ty : SampleType) (gain : ℤ) (block : ℕ) (bytes : List ℕ) (start : ℕ) (accepted : List AcceptedPlay) → 0 < block →
     AreAccepted ty gain start (length bytes / width_of ty) (sent_blocks ty block bytes) accepted →
-    (i : ℕ) → i < length bytes / width_of ty → heard accepted (start + i) ≡ slice_index_or (gained_samples ty gain bytes) i (pos 0)
+    (i : ℕ) → i < length bytes / width_of ty → heard 1 accepted (start + i) 0 ≡ slice_index_or (gained_samples ty gain bytes) i (pos 0)

@@ -33,7 +33,7 @@ played_whole job device bytes start =
     ++ (flat_map (play_of start) (sent_blocks (type_on job device) job.block bytes) ++ request_bytes (free_ac 1)))
 
 -- A job is done on the device, from a start on, which is stated or follows the time that the device told, and which is written
--- behind the number of the source's whole frames. Where a device accepts the blocks from a whole time on that is this start modulo
+-- behind the number of the source's whole frames. Where a device, whose one channel the context names, accepts the blocks from a whole time on that is this start modulo
 -- 2^32, it plays the samples of the source.
 pub record IsPlayed (job : PlayJob) (devices : List DeviceInfo) (bytes : List ℕ) (w : ClientState) (sent sent' held held' : Option (List ℕ)) : Type 0 where
   pub device : DeviceInfo
@@ -46,4 +46,4 @@ pub record IsPlayed (job : PlayJob) (devices : List DeviceInfo) (bytes : List �
   pub sink : Appended held (played (length bytes / width_of (type_on job device)) start) held'
   pub hears : (whole : ℕ) (accepted : List AcceptedPlay) → whole % 2 ^ 32 ≡ start →
       AreAccepted (type_on job device) job.gain whole (length bytes / width_of (type_on job device)) (sent_blocks (type_on job device) job.block bytes) accepted →
-      (i : ℕ) → i < length bytes / width_of (type_on job device) → heard accepted (whole + i) ≡ slice_index_or (gained_samples (type_on job device) job.gain bytes) i (pos 0)
+      (i : ℕ) → i < length bytes / width_of (type_on job device) → heard 1 accepted (whole + i) 0 ≡ slice_index_or (gained_samples (type_on job device) job.gain bytes) i (pos 0)

@@ -4,6 +4,7 @@ ghost use Rattle.std.specs.Prelude.{◌≡◌, ◌≢◌, ◌↔◌, ◌⊎◌, 
 ghost use Rattle.std.specs.declared.option.Option.TheVariants.{None, Some};
 ghost use Rattle.af_io.specs.Observed.{CountsFault, NoFault};
 ghost use Rattle.af_io.specs.declared.flow.Put.TheVariants as put;
+ghost use Rattle.af_sample.specs.Channels.{IsChannelCount};
 ghost use Rattle.af_sample.specs.Rates.{IsListedRate};
 ghost use Rattle.af_world.specs.Outside.{IsStep};
 ghost use Rattle.af_script.specs.Run.{HasOneLog};
@@ -159,6 +160,7 @@ fn run_text(alloc: Global, text: &[u8]) -> Result<Tape, ScriptFault>
 // Runs a script. The tape tells its one log.
 fn run_script(alloc: Global, script: &Script) -> Result<Tape, OutOfMemory>
     requires rates { All (λ device. IsListedRate device.rate) script.now.config.items }
+    requires channels { All (λ device. IsChannelCount device.channels) script.now.config.items }
     requires steps { All (IsStep script.now.config.items) script.now.steps }
     ensures { IfOk result (λ tape. HasOneLog script.now.config.items script.now.steps tape.log) }
 {

@@ -1,6 +1,7 @@
 // The start of a server: its configuration is read, it is listened in, and its devices are attached.
 ghost use Rattle.std.specs.Prelude.{◌≡◌, ◌≤◌, length, All, IfOk, IfErr};
 ghost use Rattle.std.specs.declared.result.Result.TheVariants.{Err};
+ghost use Rattle.af_sample.specs.Channels.{IsChannelCount};
 ghost use Rattle.af_sample.specs.Rates.{IsListedRate};
 ghost use Rattle.af_io.specs.Observed.{CountsFault, Appended, Unchanged};
 ghost use Rattle.af_model.specs.State.{opening};
@@ -24,6 +25,7 @@ pub(crate) fn read_setting<S: Source>(alloc: Global, source: &mut S) -> Result<S
     ensures setting { IfOk result (λ s. IsReadFrom (S.left source.old) (S.left source.new) s) }
     ensures devices { IfOk result (λ s. length s.config ≤ 8) }
     ensures rates { IfOk result (λ s. All (λ device. IsListedRate device.rate) s.config) }
+    ensures channels { IfOk result (λ s. All (λ device. IsChannelCount device.channels) s.config) }
     ensures ends { IfErr result (λ end. IsReadEnd end) }
     ensures given { ConfigReadAs (λ end. result ≡ Err end) (S.left source.old) (S.left source.new) }
     ensures source { CountsFault (result ≡ Err LiveEnd.ReadFault) (S.faults source.old) (S.faults source.new) }
@@ -71,6 +73,7 @@ pub(crate) fn start<W: Live>(
 ) -> Result<Core, LiveEnd>
     requires few { length setting.now.config ≤ 8 }
     requires rates { All (λ device. IsListedRate device.rate) setting.now.config }
+    requires channels { All (λ device. IsChannelCount device.channels) setting.now.config }
     ensures core { IfOk result (λ core. Stands core (opening setting.now.config)) }
     ensures log { Unchanged (W.World.log world.old) (W.World.log world.new) }
     ensures whole { IfOk result (λ _. Appended (W.outer world.old) (started address.now setting.now) (W.outer world.new)) }

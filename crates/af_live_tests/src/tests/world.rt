@@ -72,6 +72,7 @@ fn attached<W: Live>(
         ty,
         rate: 8000,
         start: 0,
+        channels: 1,
         line: false,
     };
     world.attach(alloc, device, &spec, kind)

@@ -75,12 +75,14 @@ fn configurations_are_read(rt: HostRuntime) -> Result<(), Fail> {
         ty: SampleType::Mu255,
         rate: 8000,
         start: 4294967295,
+        channels: 1,
         line: false,
     };
     let second = DeviceSpec {
         ty: SampleType::Lin32,
         rate: 44100,
         start: 7,
+        channels: 1,
         line: true,
     };
     let devices = [(first, None), (second, Some(("grüße.raw", "/dev/null")))];
@@ -98,6 +100,7 @@ fn the_first_faulty_line_is_numbered(rt: HostRuntime) -> Result<(), Fail> {
             (b"device lin16 8001 0 silent", 1),
             (b"device lin16 8000 0 files a b c", 1),
             (b"device lin16 8000 0 line line silent\n", 1),
+            (b"device lin16 8000 0 stereo silent\n", 1),
             (b"device lin16 8000 0 silent\r\n", 1),
             (b"device lin16 8000 0 silent\ndevice lin16 8000 0", 2),
             (b"device lin16 8000 0 silent\nopen 0\n", 2),

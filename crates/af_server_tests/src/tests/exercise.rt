@@ -107,6 +107,7 @@ fn the_steps_of_an_exercise_are_drawn(rt: HostRuntime) -> Result<(), Fail> {
         ty: SampleType::Lin16,
         rate: 8000,
         start: 4294960000,
+        channels: 1,
         line: true,
     };
     has_device(&rt, script.config.as_slice(), device);

@@ -57,11 +57,12 @@ fn same_devices(rt: &impl Abort, found: &[DeviceSpec], wanted: &[DeviceSpec]) {
     assert_eq!(rt; found, wanted);
 }
 
-fn spec(ty: SampleType, rate: u32, start: u32, line: bool) -> DeviceSpec {
+fn spec(ty: SampleType, rate: u32, start: u32, channels: u8, line: bool) -> DeviceSpec {
     DeviceSpec {
         ty,
         rate,
         start,
+        channels,
         line,
     }
 }
@@ -73,9 +74,9 @@ const SCRIPT: &str = "# eight devices\n\
                       device lin16 16000 2\n\
                       device lin32 22050 3\n   \n\
                       device mu255 32000 4\n\
-                      device alaw 44100 5\n\
+                      device alaw 44100 5 stereo\n\
                       device lin16 48000 6\n\
-                      device lin32 8000 7  line \n\
+                      device lin32 8000 7  stereo line \n\
                       #send\n\
                       open 031\n\
                       send  31 00fFA5\n\
@@ -85,6 +86,7 @@ const SCRIPT: &str = "# eight devices\n\
                       room 7 all\n\
                       tick 00 0001\n\
                       tick 3 2 0001020304050607\n\
+                      tick 5 2 08090a0b\n\
                       ring 7 on\n\
                       ring 07 off\n\
                       loop 7 on\n\
@@ -106,6 +108,7 @@ const STATED: &str = "open 31\n\
                       room 7 None\n\
                       tick 0 1 silence\n\
                       tick 3 2 [0, 1, 2, 3, 4, 5, 6, 7]\n\
+                      tick 5 2 [8, 9, 10, 11]\n\
                       line 7 Ring(true)\n\
                       line 7 Ring(false)\n\
                       line 7 Current(true)\n\
@@ -138,14 +141,14 @@ fn reads(
 #[test]
 fn every_kind_of_line_is_read(rt: HostRuntime) -> Result<(), Fail> {
     let devices = [
-        spec(SampleType::Mu255, 8000, 4294967295, false),
-        spec(SampleType::Alaw, 11025, 1, false),
-        spec(SampleType::Lin16, 16000, 2, false),
-        spec(SampleType::Lin32, 22050, 3, false),
-        spec(SampleType::Mu255, 32000, 4, false),
-        spec(SampleType::Alaw, 44100, 5, false),
-        spec(SampleType::Lin16, 48000, 6, false),
-        spec(SampleType::Lin32, 8000, 7, true),
+        spec(SampleType::Mu255, 8000, 4294967295, 1, false),
+        spec(SampleType::Alaw, 11025, 1, 1, false),
+        spec(SampleType::Lin16, 16000, 2, 1, false),
+        spec(SampleType::Lin32, 22050, 3, 1, false),
+        spec(SampleType::Mu255, 32000, 4, 1, false),
+        spec(SampleType::Alaw, 44100, 5, 2, false),
+        spec(SampleType::Lin16, 48000, 6, 1, false),
+        spec(SampleType::Lin32, 8000, 7, 2, true),
     ];
     reads(&rt, rt.alloc(), SCRIPT.as_bytes(), &devices, STATED)
 }

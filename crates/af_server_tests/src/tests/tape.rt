@@ -81,6 +81,7 @@ fn device_from(start: u32) -> DeviceSpec {
         ty: SampleType::Lin16,
         rate: 8000,
         start,
+        channels: 1,
         line: false,
     }
 }

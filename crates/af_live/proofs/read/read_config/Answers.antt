@@ -25,6 +25,9 @@ returns-in-Ok-clause-kinds c = (c.in-Ok.ensures.kept (none_sound c.new-setting.r
 pub returns-in-Ok-clause-rates : goal.returns-in-Ok-clause-rates
 returns-in-Ok-clause-rates c = (c.in-Ok.ensures.kept (none_sound c.new-setting.result c.new-setting.ensures.config c.new-setting.ensures.kinds)).rates
 
+pub returns-in-Ok-clause-channels : goal.returns-in-Ok-clause-channels
+returns-in-Ok-clause-channels c = (c.in-Ok.ensures.kept (none_sound c.new-setting.result c.new-setting.ensures.config c.new-setting.ensures.kinds)).channels
+
 pub returns-in-Err-Line-clause-fault : goal.returns-in-Err-Line-clause-fault
 returns-in-Err-Line-clause-fault c =
     let start = read_start c.args.text.now c.new-setting.result c.new-setting.ensures.config c.new-setting.ensures.kinds in

@@ -28,6 +28,9 @@ returns-in-Ok-clause-devices c =
 pub returns-in-Ok-clause-rates : goal.returns-in-Ok-clause-rates
 returns-in-Ok-clause-rates c = (script_sound c.args.text.now (record { config = c.draft.inside.config.items; steps = c.of.result }) (returns-in-Ok-clause-script c)).rates
 
+pub returns-in-Ok-clause-channels : goal.returns-in-Ok-clause-channels
+returns-in-Ok-clause-channels c = (script_sound c.args.text.now (record { config = c.draft.inside.config.items; steps = c.of.result }) (returns-in-Ok-clause-script c)).channels
+
 pub returns-in-Ok-clause-steps : goal.returns-in-Ok-clause-steps
 returns-in-Ok-clause-steps c = (script_sound c.args.text.now (record { config = c.draft.inside.config.items; steps = c.of.result }) (returns-in-Ok-clause-script c)).steps
 

@@ -1,5 +1,7 @@
 -- The exit statuses of the tools.
 use Rattle.std.specs.Prelude.{ℕ}
+use Rattle.af_answer.specs.declared.end.AnswerEnd.{AnswerEnd}
+use Rattle.af_answer.specs.declared.end.AnswerEnd.TheVariants as ended
 use Rattle.af_tool.specs.declared.end.ToolEnd.{ToolEnd}
 use Rattle.af_tool.specs.declared.end.ToolEnd.TheVariants as end
 
@@ -18,3 +20,18 @@ tool_status (end.RateMismatch from to) = 16
 tool_status (end.Refused code value) = 17
 tool_status (end.BadReply header first) = 18
 tool_status end.EventFlood = 19
+
+-- the exit statuses of the answering machine
+abbrev pub answer_status : AnswerEnd → ℕ
+answer_status ended.Done = 0
+answer_status ended.Usage = 2
+answer_status ended.SinkFault = 6
+answer_status ended.OutOfMemory = 7
+answer_status ended.DialFault = 12
+answer_status ended.LinkFault = 13
+answer_status ended.LinkEnded = 14
+answer_status (ended.NoDevice devices) = 15
+answer_status (ended.Refused code value) = 17
+answer_status (ended.BadReply header first) = 18
+answer_status ended.EventFlood = 19
+answer_status (ended.NoLine device) = 23

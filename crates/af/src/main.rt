@@ -2,9 +2,11 @@
 #![tactic(auto)]
 
 ghost use Rattle.std.specs.Prelude.{◌≡◌};
-ghost use Rattle.af.specs.Statuses.{tool_status};
+ghost use Rattle.af.specs.Statuses.{answer_status, tool_status};
 
-use af_io::{StdSink, StdSource, TcpDial, WordsFault, program_words};
+use af_answer::{AnswerEnd, answer_run, names_answer};
+use af_child::StdSpawner;
+use af_io::{Args, StdSink, StdSource, TcpDial, WordsFault, program_words};
 use af_tools::{ToolEnd, af_run};
 use std::io;
 use std::process::ExitCode;
@@ -34,7 +36,55 @@ fn status_of(end: ToolEnd) -> u8
     }
 }
 
-// Says on standard error how it ended.
+// The exit status of an end of the answering machine.
+fn answer_status_of(end: AnswerEnd) -> u8
+    ensures { result ≡ answer_status end }
+{
+    match end {
+        AnswerEnd::Done => 0,
+        AnswerEnd::Usage => 2,
+        AnswerEnd::SinkFault => 6,
+        AnswerEnd::OutOfMemory => 7,
+        AnswerEnd::DialFault => 12,
+        AnswerEnd::LinkFault => 13,
+        AnswerEnd::LinkEnded => 14,
+        AnswerEnd::NoDevice { devices: _ } => 15,
+        AnswerEnd::Refused { code: _, value: _ } => 17,
+        AnswerEnd::BadReply {
+            header: _,
+            first: _,
+        } => 18,
+        AnswerEnd::EventFlood => 19,
+        AnswerEnd::NoLine { device: _ } => 23,
+    }
+}
+
+// Says on standard error that the reply with this head is a bad one.
+fn report_bad_reply(rt: &impl Eprint, header: [u8; 8]) -> io::Result<()> {
+    let [a, b, c, d, e, f, g, h] = header;
+    let head = u64::from_be_bytes([a, b, c, d, e, f, g, h]);
+    eprintln!(rt; "af: bad reply {head:016x}")
+}
+
+// Says on standard error how the answering machine ended.
+fn report_answer(rt: &impl Eprint, end: AnswerEnd) -> io::Result<()> {
+    match end {
+        AnswerEnd::Done => Ok(()),
+        AnswerEnd::Usage => eprintln!(rt; "af: usage"),
+        AnswerEnd::SinkFault => eprintln!(rt; "af: write failed"),
+        AnswerEnd::OutOfMemory => eprintln!(rt; "af: out of memory"),
+        AnswerEnd::DialFault => eprintln!(rt; "af: connect failed"),
+        AnswerEnd::LinkFault => eprintln!(rt; "af: link failed"),
+        AnswerEnd::LinkEnded => eprintln!(rt; "af: link ended"),
+        AnswerEnd::NoDevice { devices } => eprintln!(rt; "af: {devices} devices"),
+        AnswerEnd::Refused { code, value } => eprintln!(rt; "af: refused {code} value {value}"),
+        AnswerEnd::BadReply { header, first: _ } => report_bad_reply(rt, header),
+        AnswerEnd::EventFlood => eprintln!(rt; "af: too many events"),
+        AnswerEnd::NoLine { device: _ } => eprintln!(rt; "af: no line"),
+    }
+}
+
+// Says on standard error how a tool ended.
 fn report(rt: &impl Eprint, end: ToolEnd) -> io::Result<()> {
     match end {
         ToolEnd::Done => Ok(()),
@@ -49,34 +99,53 @@ fn report(rt: &impl Eprint, end: ToolEnd) -> io::Result<()> {
         ToolEnd::NoDevice { devices } => eprintln!(rt; "af: {devices} devices"),
         ToolEnd::RateMismatch { from, to } => eprintln!(rt; "af: rates {from} and {to}"),
         ToolEnd::Refused { code, value } => eprintln!(rt; "af: refused {code} value {value}"),
-        ToolEnd::BadReply { header, first: _ } => {
-            let [a, b, c, d, e, f, g, h] = header;
-            let head = u64::from_be_bytes([a, b, c, d, e, f, g, h]);
-            eprintln!(rt; "af: bad reply {head:016x}")
-        }
+        ToolEnd::BadReply { header, first: _ } => report_bad_reply(rt, header),
         ToolEnd::EventFlood => eprintln!(rt; "af: too many events"),
     }
 }
 
 fn main(rt: HostRuntime) -> ExitCode {
-    let end = run(&rt);
-    // Where standard error takes nothing, the status still says how it ended.
-    let _ = report(&rt, end);
+    let words = match program_words(rt.alloc(), &rt) {
+        Ok(words) => words,
+        Err(WordsFault::NotText) => return ended(&rt, ToolEnd::Usage),
+        Err(WordsFault::OutOfMemory) => return ended(&rt, ToolEnd::OutOfMemory),
+    };
+    if names_answer(&words) {
+        let end = attend(&rt, &words);
+        // Where standard error takes nothing, the status still says how it ended.
+        let _ = report_answer(&rt, end);
+        return ExitCode::from(answer_status_of(end));
+    }
+    ended(&rt, run(&rt, &words))
+}
+
+// Says how a tool ended.
+fn ended(rt: &impl Eprint, end: ToolEnd) -> ExitCode {
+    let _ = report(rt, end);
     ExitCode::from(status_of(end))
 }
 
 // Runs the tool that the words name, over standard input, standard output and TCP.
-fn run(rt: &HostRuntime) -> ToolEnd {
-    let words = match program_words(rt.alloc(), rt) {
-        Ok(words) => words,
-        Err(WordsFault::NotText) => return ToolEnd::Usage,
-        Err(WordsFault::OutOfMemory) => return ToolEnd::OutOfMemory,
-    };
+fn run(rt: &HostRuntime, words: &Args) -> ToolEnd {
     let Ok(net) = rt.clone() else {
         return ToolEnd::OutOfMemory;
     };
     let mut source = StdSource::new(rt.reader());
     let mut sink = StdSink::new(io::writer(rt));
     let mut dial = TcpDial::new(net);
-    af_run(rt.alloc(), &words, &mut source, &mut sink, &mut dial)
+    af_run(rt.alloc(), words, &mut source, &mut sink, &mut dial)
+}
+
+// Attends a line, over standard output, TCP, and the programs of the system.
+fn attend(rt: &HostRuntime, words: &Args) -> AnswerEnd {
+    let Ok(net) = rt.clone() else {
+        return AnswerEnd::OutOfMemory;
+    };
+    let Ok(programs) = rt.clone() else {
+        return AnswerEnd::OutOfMemory;
+    };
+    let mut sink = StdSink::new(io::writer(rt));
+    let mut dial = TcpDial::new(net);
+    let mut spawner = StdSpawner::new(programs);
+    answer_run(rt.alloc(), words, &mut sink, &mut dial, &mut spawner)
 }

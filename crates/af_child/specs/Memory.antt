@@ -1,4 +1,4 @@
--- Child programs in memory.
+-- Child programs in memory, and those of the system.
 use Rattle.std.specs.Prelude.{ℕ, ℤ, pos, ◌+◌, List, slice_get}
 use Rattle.std.specs.declared.option.Option.{Option}
 use Rattle.std.specs.declared.option.Option.TheVariants.{None, Some}
@@ -20,6 +20,11 @@ pub record MemSpawnerState : Type 0 where
   pub faults : ℕ
   pub started : ℕ
   pub ended : ℕ
+
+-- a spawner of the system's programs: how many children were started, and how many calls have failed
+pub record StdSpawnerState : Type 0 where
+  pub started : ℕ
+  pub faults : ℕ
 
 abbrev pub some_status : Option ℤ → ℤ
 some_status None = pos 0

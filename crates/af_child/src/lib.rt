@@ -1,11 +1,15 @@
-//! Child programs that are started, given bytes and waited for: what a caller sees of them, and some in memory.
+//! Child programs that are started, given bytes and waited for: what a caller sees of them,
+//! some in memory, and those of the system.
 #![tactic(auto)]
 
 mod act;
 mod mem_spawner;
 mod notes;
+mod running;
 mod spawner;
+mod std_spawner;
 
 pub use act::{Act, BeganGot, Words, copied_words};
 pub use mem_spawner::MemSpawner;
 pub use spawner::{Finished, Spawner, Started};
+pub use std_spawner::StdSpawner;

@@ -1,4 +1,5 @@
 // One file for each subject.
+mod answer;
 mod checks;
 mod connection;
 mod jobs;

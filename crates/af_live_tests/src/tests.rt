@@ -1,3 +1,4 @@
 // One file for each subject.
 mod adapters;
+mod children;
 mod world;

@@ -104,7 +104,8 @@ fn command_of<'a>(
     Ok(command)
 }
 
-fn matches_for<'a>(
+/// The matches of a command, by its name and a table of its arguments. The first of the words is its name.
+pub fn matches_for<'a>(
     alloc: Global,
     name: &'a str,
     words: &[Word<'a>],

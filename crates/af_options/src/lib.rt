@@ -9,4 +9,7 @@ mod tool;
 mod words;
 
 pub use call::{Call, OptionsFault, RelayCall, TaskCall, call_of};
+pub use command::{ArgumentKind, Word, matches_for, text_of};
 pub use job::{PassJob, PlayJob, RecordJob, SetJob, Task};
+pub use number::number_in;
+pub use words::{address_at, number_at};

@@ -23,8 +23,14 @@ pub struct Basics {
     pub time: Option<u32>,
 }
 
-// A number between these two, or its default.
-fn number_at(matches: &ArgMatches<'_>, name: &str, default: u32, low: u32, high: u32) -> Option<u32>
+/// A number between these two, or its default.
+pub fn number_at(
+    matches: &ArgMatches<'_>,
+    name: &str,
+    default: u32,
+    low: u32,
+    high: u32,
+) -> Option<u32>
     ensures { result ≡ number_at name.now default low high (rows_of (found_of matches.now)) }
 {
     match text_of(matches, name) {

@@ -1,0 +1,9 @@
+pub mod AnswerPartLemmas
+pub mod AnswerStepLemmas
+pub mod CallLemmas
+pub mod RingLemmas
+pub mod AttendLemmas
+pub mod KeptActLemmas
+pub mod MachineLemmas
+pub mod RunLemmas
+pub mod AnswerWordLemmas

@@ -1,0 +1,159 @@
+-- A machine on a link that is set up first.
+use Rattle.std.proofs.Common.{◌≡◌, ◌≢◌, ◌⊎◌, inl, inr, ℕ, true, false, List, [], ◌∷◌, ◌++◌, refl, sym, ap, ap₂, ◌∙◌, subst, append_assoc}
+use Rattle.std.specs.Prelude.{Result, Ok, Err}
+use Rattle.std.specs.declared.option.Option.{Option}
+use Rattle.std.specs.declared.option.Option.TheVariants.{Some}
+use Rattle.af_io.specs.Observed.{Appended}
+use Rattle.af_io.specs.Flow.{AppendedPrefix}
+use Rattle.af_io.specs.Dial.{AppendedBack, IsFirstOf, ToldLink}
+use Rattle.af_io.proofs.AppendedLemmas.{appended_none, appended_on}
+use Rattle.af_wire.specs.Front.{setup_bytes}
+use Rattle.af_child.specs.Acts.{Told}
+use Rattle.af_request.specs.declared.reply.DeviceInfo.{DeviceInfo}
+use Rattle.af_lib.specs.declared.fault.ConnFault.{ConnFault}
+use Rattle.af_lib.specs.declared.fault.ConnFault.TheVariants as fault
+use Rattle.af_lib.specs.Calls.{ConnState, IsFresh, IsSetUp, Sends}
+use Rattle.af_lib.specs.Ring.{RingState}
+use Rattle.af_lib.proofs.LinkByteLemmas.{told_both}
+use Rattle.af_tool.specs.Trace.{ClientState, set_up}
+use Rattle.af_tool.specs.Ends.{client_of}
+use Rattle.af_answer.specs.declared.end.AnswerEnd.{AnswerEnd}
+use Rattle.af_answer.specs.declared.end.AnswerEnd.TheVariants as end
+use Rattle.af_answer.specs.declared.job.AnswerJob.{AnswerJob}
+use Rattle.af_answer.specs.Children.{ChildRun}
+use Rattle.af_answer.specs.AnswerTrace.{AnswerTrace, answer_trace, having, connection_end, met_fault, requesting}
+use Rattle.af_answer.specs.Answered.{AnswerRan, RanAs}
+use Rattle.clap.specs.Words.{Text}
+use Rattle.af_answer.specs.AnswerWords.{AnswerWords, answer_words, words_of_job}
+use Rattle.af_answer.specs.AnswerRun.{AskedForServer, Attended, RanAsked, LinkRan, NotDialled, RanOver, RanServer, by_setup, setup_answer, whole_trace}
+use Rattle.af_answer.proofs.AnswerPartLemmas.{both_deeds, matches_at_once, matches_behind, matches_early}
+
+whole_is : (job : AnswerJob) (input : List ℕ) (runs : List ChildRun) → whole_trace job input runs ≡ having (requesting setup_bytes) (by_setup (setup_answer input) job (record { wire = set_up input; runs = runs }))
+unfolding whole_trace
+whole_is job input runs = refl
+
+-- what is known of a setup, if the link did not fail
+setup_told : {L : Type 0} (left sent : L → Option (List ℕ)) (faults : L → ℕ) (old new : L) (ring : RingState) (input : List ℕ) (result : Result (List DeviceInfo) ConnFault) →
+    IsSetUp left sent faults old new ring result → left old ≡ Some input → result ≢ Err fault.LinkFault →
+    (a : List ℕ) × (left new ≡ Some a) × (result ≡ setup_answer input) × ((let w : ClientState = record { sequence = 0; ring = ring; input = a } in w) ≡ set_up input)
+setup_told left sent faults old new ring input result is told sound =
+    let both = told_both (left old) (left new) input _ told is.tells (is.answers sound) in
+    let facts = both.2 in
+    (both.0, both.1, facts.0, ap₂ (λ (r : RingState) (i : List ℕ). (let w : ClientState = record { sequence = 0; ring = r; input = i } in w)) facts.1 facts.2)
+
+module _ (job : AnswerJob) (input : List ℕ) (sent sent' : Option (List ℕ)) (acts : Option (List Told)) (held : Option (List ℕ)) where
+  -- the link failed within the setup
+  setup_failed : AppendedPrefix sent setup_bytes sent' → LinkRan job input end.LinkFault sent sent' acts acts held held
+  setup_failed front =
+      let t = by_setup (setup_answer input) job (record { wire = set_up input; runs = [] }) in
+      let is = whole_is job input [] in
+      record {
+        runs = [];
+        done = requesting front.front;
+        output = [];
+        link = front.appended;
+        children = appended_none acts;
+        sink = appended_none held;
+        followed = matches_early (requesting front.front) (record { heard = t.heard; sends = front.rest ++ t.sends; told = t.told }) _ end.LinkFault refl
+            (ap (λ (x : AnswerTrace). x.heard) is)
+            (ap (λ (x : AnswerTrace). x.sends) is ∙ ap (λ l. l ++ t.sends) front.whole ∙ append_assoc front.front front.rest t.sends)
+            (ap (λ (x : AnswerTrace). x.told) is);
+        attended = λ devices set. inl (record { fault = refl; part = front });
+      }
+
+  -- the setup was answered with another fault
+  setup_refused : (f : ConnFault) → (connection_end f ≡ end.OutOfMemory → ⊥) → Appended sent setup_bytes sent' → (let r : Result (List DeviceInfo) ConnFault = Err f in r ≡ setup_answer input) →
+      LinkRan job input (connection_end f) sent sent' acts acts held held
+  setup_refused f other appended same = record {
+    runs = [];
+    done = requesting setup_bytes;
+    output = [];
+    link = appended;
+    children = appended_none acts;
+    sink = appended_none held;
+    followed = matches_at_once (requesting setup_bytes) _ (met_fault f) (connection_end f)
+        (whole_is job input [] ∙ ap (λ (r : Result (List DeviceInfo) ConnFault). having (requesting setup_bytes) (by_setup r job (record { wire = set_up input; runs = [] }))) (sym same)) refl (λ e. absurd (other e));
+    attended = λ devices set. absurd (let bad : (let r : Result (List DeviceInfo) ConnFault = Err f in r ≡ Ok devices) = same ∙ set in cc bad);
+  }
+
+  abbrev IsKnownSetup : ConnFault → Type 0
+  IsKnownSetup f = (let r : Result (List DeviceInfo) ConnFault = Err f in r ≢ Err fault.LinkFault) → (let r : Result (List DeviceInfo) ConnFault = Err f in r ≡ setup_answer input)
+
+  setup_ends : (f : ConnFault) → Sends {X = List DeviceInfo} (Err f) sent setup_bytes sent' → (let r : Result (List DeviceInfo) ConnFault = Err f in IsFresh r) → IsKnownSetup f →
+      LinkRan job input (connection_end f) sent sent' acts acts held held
+  setup_ends fault.LinkFault sends fresh known = setup_failed sends.part
+  setup_ends fault.LinkEnded sends fresh known = setup_refused fault.LinkEnded (λ e. cc e) (sends.whole (λ e. cc e)) (known (λ e. cc e))
+  setup_ends (fault.ServerError code value) sends fresh known = setup_refused (fault.ServerError code value) (λ e. cc e) (sends.whole (λ e. cc e)) (known (λ e. cc e))
+  setup_ends (fault.BadReply header first) sends fresh known = setup_refused (fault.BadReply header first) (λ e. cc e) (sends.whole (λ e. cc e)) (known (λ e. cc e))
+  setup_ends fault.OutOfMemory sends fresh known = absurd fresh
+  setup_ends fault.EventFlood sends fresh known = setup_refused fault.EventFlood (λ e. cc e) (sends.whole (λ e. cc e)) (known (λ e. cc e))
+  setup_ends (fault.Spent first) sends fresh known = absurd fresh
+
+-- a link that was not set up
+pub not_set_up_ran : {L : Type 0} (left sent : L → Option (List ℕ)) (faults : L → ℕ) (job : AnswerJob) (input : List ℕ) (old new : L) (ring : RingState) (f : ConnFault) (acts : Option (List Told)) (held : Option (List ℕ)) →
+    IsSetUp left sent faults old new ring (Err f) → left old ≡ Some input → LinkRan job input (connection_end f) (sent old) (sent new) acts acts held held
+not_set_up_ran left sent faults job input old new ring f acts held is told =
+    setup_ends job input (sent old) (sent new) acts held f is.sends is.fresh (λ sound. (setup_told left sent faults old new ring input (Err f) is told sound).2)
+
+-- one that was
+pub set_up_ran : {L : Type 0} (left sent : L → Option (List ℕ)) (faults : L → ℕ) (job : AnswerJob) (input : List ℕ) (far : L) (conn : ConnState L) (how : AnswerEnd) (s' : Option (List ℕ)) (a a' : Option (List Told)) (h h' : Option (List ℕ)) →
+    conn.sequence ≡ 0 → IsSetUp left sent faults far conn.link conn.ring (Ok conn.devices) → left far ≡ Some input →
+    ((i : List ℕ) → left conn.link ≡ Some i → AnswerRan job conn.devices (client_of conn i) how (sent conn.link) s' a a' h h') → LinkRan job input how (sent far) s' a a' h h'
+set_up_ran left sent faults job input far conn how s' a a' h h' first is told answered =
+    let k = setup_told left sent faults far conn.link conn.ring input (Ok conn.devices) is told (λ e. cc e) in
+    let r = answered k.0 k.1 in
+    let place : client_of conn k.0 ≡ set_up input = ap (λ (n : ℕ). (let w : ClientState = record { sequence = n; ring = conn.ring; input = k.0 } in w)) first ∙ k.3 in
+    let ran = subst (λ (v : ClientState). RanAs job conn.devices (answer_trace job conn.devices (record { wire = v; runs = r.runs })) r.runs how (sent conn.link) s' a a' h h') place r.ran in
+    let set : Appended (sent far) setup_bytes (sent conn.link) = is.sends.whole (λ e. cc e) in
+    let t = answer_trace job conn.devices (record { wire = set_up input; runs = r.runs }) in
+    record {
+      runs = r.runs;
+      done = both_deeds (requesting setup_bytes) ran.done;
+      output = ran.output;
+      link = appended_on _ _ _ setup_bytes ran.done.sends set ran.link;
+      children = ran.children;
+      sink = ran.sink;
+      followed = matches_behind (requesting setup_bytes) ran.done t _ how ran.output
+          (whole_is job input r.runs ∙ ap (λ (x : Result (List DeviceInfo) ConnFault). having (requesting setup_bytes) (by_setup x job (record { wire = set_up input; runs = r.runs }))) (sym k.2)) ran.followed;
+      attended = λ devices same.
+          let both : (let x : Result (List DeviceInfo) ConnFault = Ok conn.devices in x ≡ Ok devices) = k.2 ∙ same in
+          let devices_are : conn.devices ≡ devices = cc in
+          inr (subst (λ (ds : List DeviceInfo). Attended job ds input r.runs how (sent far) s' a a' h h') devices_are (record { between = sent conn.link; set = set; ran = ran }));
+    }
+
+-- the first link of a dial
+pub first_ran : {F : Type 0} (left sent : F → Option (List ℕ)) (job : AnswerJob) (how : AnswerEnd) (far : F) (after : Option (List ℕ)) (links : List ToldLink) (between links' : Option (List ToldLink)) (back back₁ back' : Option (List (List ℕ)))
+    (a a' : Option (List Told)) (h h' : Option (List ℕ)) → IsFirstOf left sent far (Some links) between → links' ≡ between → back₁ ≡ back → AppendedBack back₁ after back' →
+    ((input : List ℕ) → left far ≡ Some input → RanOver job input how (sent far) after a a' h h') → RanServer job how links links' back back' a a' h h'
+first_ran left sent job how far after [] between links' back back₁ back' a a' h h' first stay same added ran = absurd first
+first_ran left sent job how far after (link ∷ links) between links' back back₁ back' a a' h h' first stay same added ran = inr (record {
+  first = link;
+  rest = links;
+  links_are = refl;
+  links_stay = stay ∙ first.2;
+  after = after;
+  given_back = subst (λ (b : Option (List (List ℕ))). AppendedBack b after back') same added;
+  ran = subst (λ (s : Option (List ℕ)). RanOver job link.gives how s after a a' h h') first.1 (ran link.gives first.0);
+})
+
+-- a job of the words that were asked
+pub asked_ran : (a : AnswerWords) (server : Text) (job : AnswerJob) (how : AnswerEnd) (links : List ToldLink) (links' : Option (List ToldLink)) (back back' : Option (List (List ℕ))) (acts acts' : Option (List Told)) (h h' : Option (List ℕ)) →
+    words_of_job server job ≡ a → RanServer job how links links' back back' acts acts' h h' →
+    NotDialled how links links' back back' acts acts' h h' ⊎ RanAsked a how links links' back back' acts acts' h h'
+asked_ran a server job how links links' back back' acts acts' h h' same (inl none) = inl none
+asked_ran a server job how links links' back back' acts acts' h h' same (inr ran) =
+    inr (record { job = job; is = ap (λ (s : Text). words_of_job s job) (sym (ap (λ (w : AnswerWords). w.server) same)) ∙ same; ran = ran })
+
+pub asked_server : (a : AnswerWords) (server : Text) (job : AnswerJob) (how : AnswerEnd) (asked asked' : Option (List Text)) → words_of_job server job ≡ a → Appended asked (server ∷ []) asked' → AskedForServer a.server how asked asked'
+asked_server a server job how asked asked' same added = record {
+  named = true;
+  none = λ e. absurd (cc e);
+  one = λ e. subst (λ (s : Text). Appended asked (s ∷ []) asked') (ap (λ (w : AnswerWords). w.server) same) added;
+}
+
+pub asked_none : (server : Text) (how : AnswerEnd) (asked : Option (List Text)) → how ≡ end.OutOfMemory → AskedForServer server how asked asked
+asked_none server how asked memory = record { named = false; none = λ e. (memory, refl); one = λ e. absurd (cc e) }
+
+-- words ask one thing
+pub one_asked : (words : List Text) (a b : AnswerWords) → answer_words words ≡ Some a → answer_words words ≡ Some b → a ≡ b
+one_asked words a b is also = let both : Some a ≡ Some b = sym is ∙ also in cc both

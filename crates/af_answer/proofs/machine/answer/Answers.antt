@@ -1,0 +1,32 @@
+use Rattle.std.proofs.Common.{sym, [], ◌++◌}
+use Rattle.af_tool.specs.Ends.{client_of}
+use Rattle.af_answer.proofs.MachineLemmas.{lacking_ran, missing_only, missing_never, reported_ran, stopped_ran, calls_no_device, line_no_device}
+use Rattle.af_answer.proofs.machine.answer.Goals as goal
+
+pub returns-in-Err-clause-ran : goal.returns-in-Err-clause-ran
+returns-in-Err-clause-ran g c input told = record { runs = []; ran = lacking_ran _ _ _ _ _ _ _ (sym c.in-Err.ensures) }
+
+pub returns-in-Err-clause-no_device : goal.returns-in-Err-clause-no_device
+returns-in-Err-clause-no_device g c n = missing_only c.args.job.now c.args.conn.now.devices c.in-Err.end n (sym c.in-Err.ensures)
+
+pub returns-in-Ok-attend-clause-ran : goal.returns-in-Ok-attend-clause-ran
+returns-in-Ok-attend-clause-ran g c input told =
+    let went = c.in-Ok-attend.ensures.goes input told in
+    record {
+      runs = went.runs ++ [];
+      ran = reported_ran c.args.job.now c.args.conn.now.devices (client_of c.args.conn.now input) c.in-Ok-attend.tally _ _ _ _ _ _ _ _ _ c.requires.range.calls.0 (sym c.in-Ok.ensures) c.report.ensures.end c.report.ensures.wrote went;
+    }
+
+pub returns-in-Ok-attend-clause-no_device : goal.returns-in-Ok-attend-clause-no_device
+returns-in-Ok-attend-clause-no_device g c n = missing_never c.args.job.now c.args.conn.now.devices c.report.result n (sym c.in-Ok.ensures) (line_no_device _ c.report.ensures.end n)
+
+pub returns-in-Err-attend-clause-ran : goal.returns-in-Err-attend-clause-ran
+returns-in-Err-attend-clause-ran g c input told =
+    let went = c.in-Err-attend.ensures.goes input told in
+    record {
+      runs = went.runs ++ [];
+      ran = stopped_ran c.args.job.now c.args.conn.now.devices (client_of c.args.conn.now input) c.in-Err-attend.end _ _ _ _ _ _ _ c.requires.range.calls.0 (sym c.in-Ok.ensures) c.in-Err-attend.ensures.end went;
+    }
+
+pub returns-in-Err-attend-clause-no_device : goal.returns-in-Err-attend-clause-no_device
+returns-in-Err-attend-clause-no_device g c n = missing_never c.args.job.now c.args.conn.now.devices c.in-Err-attend.end n (sym c.in-Ok.ensures) (calls_no_device _ c.in-Err-attend.ensures.end n)

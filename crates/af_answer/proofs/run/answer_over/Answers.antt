@@ -1,0 +1,22 @@
+use Rattle.std.proofs.Common.{◌≡◌, ◌∙◌, ap, inl, inr, refl}
+use Rattle.af_answer.specs.declared.end.AnswerEnd.TheVariants as end
+use Rattle.af_answer.specs.AnswerTrace.{connection_end}
+use Rattle.af_answer.proofs.RunLemmas.{not_set_up_ran, set_up_ran}
+use Rattle.af_answer.proofs.run.answer_over.Goals as goal
+
+pub returns-in-Ok-clause-ran : goal.returns-in-Ok-clause-ran
+returns-in-Ok-clause-ran g c input told =
+    let e = c.in-Ok.ensures in
+    let same : c.into_link.result ≡ c.answer-end.new.conn.link = c.into_link.ensures in
+    rw same (inr (set_up_ran g.L.Link.left g.L.Link.sent g.L.Link.faults c.args.job.now input c.args.far c.in-Ok.conn c.answer-end.result _ _ _ _ _ e.0 e.2 told (λ i t. c.answer-end.ensures.ran i t)))
+
+pub returns-in-Err-clause-ran : goal.returns-in-Err-clause-ran
+returns-in-Err-clause-ran g c input told =
+    elim (c.in-Err.ensures) [
+      | inl none ↦
+          let way : c.from.result ≡ end.OutOfMemory = c.from.ensures ∙ ap connection_end none.0 in
+          inl (record { memory = way; sends = ap g.L.Link.sent none.1; children = refl; sink = refl })
+      | inr setup ↦
+          let way : c.from.result ≡ connection_end c.in-Err.fault = c.from.ensures in
+          rw way (inr (not_set_up_ran g.L.Link.left g.L.Link.sent g.L.Link.faults c.args.job.now input c.args.far c.in-Err.far setup.0 c.in-Err.fault _ _ setup.1 told))
+    ]

@@ -1,0 +1,139 @@
+-- What an answering machine has done at its end.
+use Rattle.std.specs.Prelude.{◌≡◌, ◌≢◌, ◌≤◌, ◌↔◌, ◌⊎◌, ℕ, Bool, true, false, List, [], ◌∷◌, ◌++◌, map, drop, length, slice_get, Result, Ok, Err}
+use Rattle.std.specs.declared.option.Option.{Option}
+use Rattle.std.specs.declared.option.Option.TheVariants.{None, Some}
+use Rattle.af_io.specs.Observed.{Appended}
+use Rattle.af_child.specs.Acts.{Told}
+use Rattle.af_lib.specs.declared.fault.ConnFault.{ConnFault}
+use Rattle.af_lib.specs.Calls.{ConnState}
+use Rattle.af_request.specs.Asked.{hook_switch, select_events}
+use Rattle.af_request.specs.Requests.{request_bytes}
+use Rattle.af_request.specs.declared.reply.DeviceInfo.{DeviceInfo}
+use Rattle.af_tool.specs.Trace.{ClientState}
+use Rattle.af_tool.specs.Ends.{client_of}
+use Rattle.af_answer.specs.declared.end.AnswerEnd.{AnswerEnd}
+use Rattle.af_answer.specs.declared.end.AnswerEnd.TheVariants as end
+use Rattle.af_answer.specs.declared.job.AnswerJob.{AnswerJob}
+use Rattle.af_answer.specs.Acts.{MachineAct, answer_acts, greet, leaves_off, off_hook, on_hook, record_message, write_tally}
+use Rattle.af_answer.specs.AnswerTrace.{AnswerTrace, Deeds, answer_trace, child_starved, first_run, met_fault, rang_too_little, tally_text}
+use Rattle.af_answer.specs.AnswerParts.{MatchesAnswer, is_from_outside}
+use Rattle.af_answer.specs.Children.{ChildRun, run_end, run_told, shell_words}
+
+-- the values of a job are in their ranges
+pub record IsAnswerJob (job : AnswerJob) : Type 0 where
+  pub device : job.device ≤ 7
+  pub rings : (1 ≤ job.rings) × (job.rings ≤ 20)
+  pub calls : (1 ≤ job.calls) × (job.calls ≤ 1000)
+  pub greeting : (1 ≤ length job.greeting.bytes) × (length job.greeting.bytes ≤ 200)
+  pub message : (1 ≤ length job.message.bytes) × (length job.message.bytes ≤ 200)
+
+-- the request of an act
+abbrev pub bytes_of_act : ℕ → MachineAct → List ℕ
+bytes_of_act device off_hook = request_bytes (hook_switch device 1)
+bytes_of_act device on_hook = request_bytes (hook_switch device 0)
+bytes_of_act device greet = []
+bytes_of_act device record_message = []
+bytes_of_act device (write_tally t) = []
+
+-- the requests of acts, in order
+abbrev pub requests_of : ℕ → List MachineAct → List ℕ
+requests_of device [] = []
+requests_of device (act ∷ acts) = bytes_of_act device act ++ requests_of device acts
+
+-- all that the machine is to send behind the setup: it asks for rings and hooks, and then come its acts
+abbrev pub sends_of_job : AnswerJob → List MachineAct → List ℕ
+sends_of_job job acts = request_bytes (select_events job.device 3) ++ requests_of job.device acts
+
+-- what is told of the children of acts, by how these run
+abbrev pub children_of : AnswerJob → List MachineAct → List ChildRun → List Told
+children_of job [] runs = []
+children_of job (off_hook ∷ acts) runs = children_of job acts runs
+children_of job (greet ∷ acts) runs = run_told (shell_words job.greeting.bytes) (first_run runs) ++ children_of job acts (drop 1 runs)
+children_of job (record_message ∷ acts) runs = run_told (shell_words job.message.bytes) (first_run runs) ++ children_of job acts (drop 1 runs)
+children_of job (on_hook ∷ acts) runs = children_of job acts runs
+children_of job (write_tally t ∷ acts) runs = children_of job acts runs
+
+-- the text of an act, and of acts
+abbrev pub text_of_act : MachineAct → List ℕ
+text_of_act (write_tally t) = tally_text t
+text_of_act off_hook = []
+text_of_act greet = []
+text_of_act record_message = []
+text_of_act on_hook = []
+
+abbrev pub text_of_acts : List MachineAct → List ℕ
+text_of_acts [] = []
+text_of_acts (act ∷ acts) = text_of_act act ++ text_of_acts acts
+
+-- What was sent, told of children and written are prefixes of what these acts have, in order, and all three are whole at Done.
+pub record KeepsToActs (job : AnswerJob) (acts : List MachineAct) (runs : List ChildRun) (how : AnswerEnd) (sends : List ℕ) (told : List Told) (output : List ℕ) : Type 0 where
+  pub unsent : List ℕ
+  pub untold : List Told
+  pub unwritten : List ℕ
+  pub sent : sends_of_job job acts ≡ sends ++ unsent
+  pub children : children_of job acts runs ≡ told ++ untold
+  pub text : text_of_acts acts ≡ output ++ unwritten
+  pub whole : how ≡ end.Done → (unsent ≡ []) × (untold ≡ []) × (unwritten ≡ [])
+
+-- all was sent and done that these acts have, and they leave the hook on
+pub record HangsUp (job : AnswerJob) (acts : List MachineAct) (runs : List ChildRun) (sends : List ℕ) (told : List Told) : Type 0 where
+  pub sent : sends ≡ sends_of_job job acts
+  pub children : told ≡ children_of job acts runs
+  pub on : leaves_off acts ≡ false
+
+-- the device of a job is there, and has a line
+abbrev pub HasLine : AnswerJob → List DeviceInfo → Type 0
+HasLine job devices = (device : DeviceInfo) × (slice_get devices job.device ≡ Some device) × (device.line ≡ true)
+
+-- each request gets the reply that it awaits, and each wait an event
+abbrev pub IsReplied : AnswerTrace → Type 0
+IsReplied trace = (f : ConnFault) → trace.finish ≢ met_fault f
+
+-- A machine did as in this trace, with its children running so.
+pub record RanAs (job : AnswerJob) (devices : List DeviceInfo) (trace : AnswerTrace) (runs : List ChildRun) (how : AnswerEnd) (sent sent' : Option (List ℕ)) (acts acts' : Option (List Told)) (held held' : Option (List ℕ)) : Type 0 where
+  -- what was done and written
+  pub done : Deeds
+  pub output : List ℕ
+  pub link : Appended sent done.sends sent'
+  pub children : Appended acts done.told acts'
+  pub sink : Appended held output held'
+  -- it is what the trace has, and the machine ended as the trace does, unless something from outside ended it
+  pub followed : MatchesAnswer trace how done output
+  -- it is what the events that were handed out and the ends of the children ask for
+  pub answered : HasLine job devices → KeepsToActs job (answer_acts job trace.heard (map run_end runs)) runs how done.sends done.told output
+  -- the hook is on at the end, unless a call on the connection answered a fault
+  pub hung_up : HasLine job devices → IsReplied trace → how ≢ end.LinkFault → HangsUp job (answer_acts job trace.heard (map run_end runs)) runs done.sends done.told
+  -- memory ran out exactly where it did for a child, and the hook was put on behind it
+  pub starved : how ≡ end.OutOfMemory → trace.finish ≡ child_starved
+  pub starves : trace.finish ≡ child_starved → (how ≡ end.OutOfMemory) ⊎ (is_from_outside how ≡ true)
+  -- with a line, an awaited reply for each request, and enough rings for each call it is done, unless memory ran out for a child or
+  -- something from outside ended it
+  pub complete : HasLine job devices → IsReplied trace → trace.finish ≢ rang_too_little → (how ≡ end.Done) ⊎ (trace.finish ≡ child_starved) ⊎ (is_from_outside how ≡ true)
+
+-- An answering machine ran, by what its link gives: its children ran somehow, and it did as its trace does then.
+pub record AnswerRan (job : AnswerJob) (devices : List DeviceInfo) (w : ClientState) (how : AnswerEnd) (sent sent' : Option (List ℕ)) (acts acts' : Option (List Told)) (held held' : Option (List ℕ)) : Type 0 where
+  pub runs : List ChildRun
+  pub ran : RanAs job devices (answer_trace job devices (record { wire = w; runs = runs })) runs how sent sent' acts acts' held held'
+
+-- the same over a connection whose link tells what it gives
+abbrev pub RunsAnswer : {L S K : Type 0} → (left sent : L → Option (List ℕ)) → (acts : S → Option (List Told)) → (held : K → Option (List ℕ)) →
+    AnswerJob → AnswerEnd → (conn conn' : ConnState L) → (spawner spawner' : S) → (sink sink' : K) → Type 0
+RunsAnswer left sent acts held job how conn conn' spawner spawner' sink sink' = (input : List ℕ) → left conn.link ≡ Some input →
+    AnswerRan job conn.devices (client_of conn input) how (sent conn.link) (sent conn'.link) (acts spawner) (acts spawner') (held sink) (held sink')
+
+-- the device is there and has a line, or the end for want of that
+abbrev pub line_if : AnswerJob → Bool → Result (Unit {0}) AnswerEnd
+line_if job true = Ok tt
+line_if job false = Err (end.NoLine job.device)
+
+abbrev pub line_or_end : AnswerJob → Option DeviceInfo → ℕ → Result (Unit {0}) AnswerEnd
+line_or_end job (Some device) devices = line_if job device.line
+line_or_end job None devices = Err (end.NoDevice devices)
+
+-- a machine ends for want of its device exactly where its number is not below the number of devices, which the end carries
+abbrev pub LacksItsDevice : AnswerJob → List DeviceInfo → AnswerEnd → Type 0
+LacksItsDevice job devices how = (n : ℕ) → (how ≡ end.NoDevice n) ↔ ((n ≡ length devices) × (length devices ≤ job.device))
+
+-- and for want of a line exactly where its device is there without one, whose number the end carries
+abbrev pub LacksItsLine : AnswerJob → List DeviceInfo → AnswerEnd → Type 0
+LacksItsLine job devices how = (n : ℕ) → (how ≡ end.NoLine n) ↔ ((n ≡ job.device) × (device : DeviceInfo) × (slice_get devices job.device ≡ Some device) × (device.line ≡ false))

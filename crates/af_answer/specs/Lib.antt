@@ -1,0 +1,9 @@
+pub mod Children
+pub mod Acts
+pub mod AnswerTrace
+pub mod AnswerParts
+pub mod Calls
+pub mod Ways
+pub mod Answered
+pub mod AnswerWords
+pub mod AnswerRun

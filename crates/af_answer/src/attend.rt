@@ -1,0 +1,69 @@
+// A line is attended until all calls were answered.
+ghost use Rattle.std.specs.Prelude.{◌≡◌, ◌≤◌, true, IfErr};
+ghost use Rattle.std.specs.declared.option.Option.TheVariants.{None};
+ghost use Rattle.af_request.specs.Asked.{select_events};
+ghost use Rattle.af_answer.specs.Acts.{no_calls};
+ghost use Rattle.af_answer.specs.AnswerTrace.{attends, requests};
+ghost use Rattle.af_answer.specs.AnswerParts.{GoesBy, HoldsConnection};
+ghost use Rattle.af_answer.specs.Ways.{is_of_calls};
+
+use crate::call::take_call;
+use crate::end::AnswerEnd;
+use crate::job::AnswerJob;
+use crate::rings::await_call;
+use crate::tally::Tally;
+use af_child::Spawner;
+use af_io::Link;
+use af_lib::Conn;
+use std::alloc::Global;
+
+// What rings and hooks of a line are in a mask of events.
+const RINGS_AND_HOOKS: u32 = 3;
+
+// Takes all calls. Where memory runs out for a child, the machine ends behind that call.
+fn take_calls<L: Link + Drop, S: Spawner>(
+    alloc: Global,
+    job: &AnswerJob,
+    conn: &mut Conn<L>,
+    spawner: &mut S,
+) -> Result<Tally, AnswerEnd>
+    requires usable { conn.old.cause ≡ None }
+    requires rings { (1 ≤ job.now.rings) × (job.now.rings ≤ 20) }
+    ensures goes { GoesBy L.left L.sent conn.old conn.new (S.acts spawner.old) (S.acts spawner.new)
+        (λ a. attends job.now.calls job.now no_calls a) result }
+    ensures holds { HoldsConnection L.left L.faults conn.old conn.new result }
+    ensures end { IfErr result (λ how. is_of_calls how ≡ true) }
+    ensures count { S.faults spawner.old ≤ S.faults spawner.new }
+{
+    let mut tally = Tally::new();
+    let mut left = job.calls;
+    while left > 0 {
+        await_call(job, conn)?;
+        let end = take_call(alloc, job, conn, spawner)?;
+        if end.is_starved() {
+            return Err(AnswerEnd::OutOfMemory);
+        }
+        tally.count(end);
+        left -= 1;
+    }
+    Ok(tally)
+}
+
+/// Asks for the rings and hooks of a line, and takes all calls.
+pub fn attend<L: Link + Drop, S: Spawner>(
+    alloc: Global,
+    job: &AnswerJob,
+    conn: &mut Conn<L>,
+    spawner: &mut S,
+) -> Result<Tally, AnswerEnd>
+    requires usable { conn.old.cause ≡ None }
+    requires rings { (1 ≤ job.now.rings) × (job.now.rings ≤ 20) }
+    ensures goes { GoesBy L.left L.sent conn.old conn.new (S.acts spawner.old) (S.acts spawner.new)
+        (λ a next. requests (select_events job.now.device 3) a (λ a. attends job.now.calls job.now no_calls a next)) result }
+    ensures holds { HoldsConnection L.left L.faults conn.old conn.new result }
+    ensures end { IfErr result (λ how. is_of_calls how ≡ true) }
+    ensures count { S.faults spawner.old ≤ S.faults spawner.new }
+{
+    conn.select_events(job.device, RINGS_AND_HOOKS)?;
+    take_calls(alloc, job, conn, spawner)
+}

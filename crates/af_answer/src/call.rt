@@ -1,0 +1,51 @@
+// One call, from the hook off to the hook on.
+ghost use Rattle.std.specs.Prelude.{◌≡◌, ◌≤◌, true, IfErr};
+ghost use Rattle.std.specs.declared.option.Option.TheVariants.{None};
+ghost use Rattle.af_answer.specs.AnswerTrace.{takes_call};
+ghost use Rattle.af_answer.specs.AnswerParts.{GoesBy, HoldsConnection};
+ghost use Rattle.af_answer.specs.Calls.{LeavesMessage};
+ghost use Rattle.af_answer.specs.Ways.{is_of_machine};
+
+use crate::child::{ChildEnd, run_child};
+use crate::end::AnswerEnd;
+use crate::job::AnswerJob;
+use af_child::Spawner;
+use af_io::Link;
+use af_lib::Conn;
+use std::alloc::Global;
+
+// Records the message behind a good greeting. A call ends as its last child does.
+fn leave_message<S: Spawner>(
+    alloc: Global,
+    job: &AnswerJob,
+    greeting: ChildEnd,
+    spawner: &mut S,
+) -> ChildEnd
+    ensures left { LeavesMessage job.now greeting result (S.acts spawner.old) (S.acts spawner.new) }
+    ensures count { S.faults spawner.old ≤ S.faults spawner.new }
+{
+    match greeting {
+        ChildEnd::Good => run_child(alloc, &job.message, spawner),
+        ChildEnd::Bad | ChildEnd::NoMemory => greeting,
+    }
+}
+
+/// Takes a call: the greeting is played, the message recorded, and the hook is put on again whatever came of the two.
+pub fn take_call<L: Link + Drop, S: Spawner>(
+    alloc: Global,
+    job: &AnswerJob,
+    conn: &mut Conn<L>,
+    spawner: &mut S,
+) -> Result<ChildEnd, AnswerEnd>
+    requires { conn.old.cause ≡ None }
+    ensures goes { GoesBy L.left L.sent conn.old conn.new (S.acts spawner.old) (S.acts spawner.new) (λ a. takes_call job.now a) result }
+    ensures holds { HoldsConnection L.left L.faults conn.old conn.new result }
+    ensures end { IfErr result (λ how. is_of_machine how ≡ true) }
+    ensures count { S.faults spawner.old ≤ S.faults spawner.new }
+{
+    conn.hook(job.device, true)?;
+    let greeting = run_child(alloc, &job.greeting, spawner);
+    let end = leave_message(alloc, job, greeting, spawner);
+    conn.hook(job.device, false)?;
+    Ok(end)
+}

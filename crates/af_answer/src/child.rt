@@ -1,0 +1,71 @@
+// The children of an answering machine, each a shell that runs one text.
+ghost use Rattle.std.specs.Prelude.{◌≡◌, ◌≤◌, length};
+ghost use Rattle.arrayvec.specs.ArrayVec.{array_vec_len};
+ghost use Rattle.af_child.specs.Acts.{words_of};
+ghost use Rattle.af_answer.specs.Children.{finished_end, is_starved, shell_words, RunsChild};
+
+use af_child::{Finished, Spawner, Started, Words};
+use arrayvec::ArrayString;
+use std::alloc::Global;
+
+/// How a child ended.
+#[derive(Clone, Copy, Debug, PartialEq, Eq)]
+pub enum ChildEnd {
+    /// With status 0.
+    Good,
+    /// It did not start, ended with another status, or could not be waited for.
+    Bad,
+    /// There was no memory to start it.
+    NoMemory,
+}
+
+impl ChildEnd {
+    /// Whether there was no memory to start it.
+    pub fn is_starved(self) -> bool
+        ensures { result ≡ is_starved self }
+    {
+        matches!(self, ChildEnd::NoMemory)
+    }
+}
+
+fn word(text: &str) -> ArrayString<200>
+    requires { length text.now ≤ 200 }
+    ensures { result.bytes ≡ text.now }
+{
+    let mut word = ArrayString::new();
+    word.push_str(text);
+    word
+}
+
+// The words of a shell that runs a text.
+fn shell_words(text: &ArrayString<200>) -> Words
+    ensures words { words_of result ≡ shell_words text.now.bytes }
+    ensures some { 1 ≤ array_vec_len result }
+{
+    let mut words = Words::new();
+    words.push(word("sh"));
+    words.push(word("-c"));
+    words.push(word(text.as_str()));
+    words
+}
+
+fn finished_end(finished: Finished) -> ChildEnd
+    ensures { result ≡ finished_end finished }
+{
+    match finished {
+        Finished::Ended(0) => ChildEnd::Good,
+        Finished::Ended(_) | Finished::Failed => ChildEnd::Bad,
+    }
+}
+
+/// Runs a text as a child, and waits for its end.
+pub fn run_child<S: Spawner>(alloc: Global, text: &ArrayString<200>, spawner: &mut S) -> ChildEnd
+    ensures ran { RunsChild (shell_words text.now.bytes) result (S.acts spawner.old) (S.acts spawner.new) }
+    ensures count { S.faults spawner.old ≤ S.faults spawner.new }
+{
+    match spawner.start(alloc, &shell_words(text)) {
+        Started::Child(child) => finished_end(spawner.finish(child)),
+        Started::Failed => ChildEnd::Bad,
+        Started::OutOfMemory => ChildEnd::NoMemory,
+    }
+}

@@ -1,0 +1,20 @@
+//! The answering machine: it takes calls, plays a greeting, records a message, and always hangs up.
+#![tactic(auto)]
+
+mod attend;
+mod call;
+mod child;
+mod end;
+mod job;
+mod machine;
+mod options;
+mod report;
+mod rings;
+mod run;
+mod tally;
+
+pub use end::AnswerEnd;
+pub use job::AnswerJob;
+pub use machine::answer;
+pub use options::names_answer;
+pub use run::answer_run;

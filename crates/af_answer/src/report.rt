@@ -1,0 +1,41 @@
+// The line that counts the calls.
+ghost use Rattle.std.specs.Prelude.{◌≡◌, ◌<◌, ◌≤◌, length, take, true};
+ghost use Rattle.af_io.specs.Observed.{CountsFault};
+ghost use Rattle.af_answer.specs.AnswerTrace.{tally_text};
+ghost use Rattle.af_answer.specs.AnswerParts.{WritesTo};
+ghost use Rattle.af_answer.specs.Ways.{is_of_line};
+
+use crate::end::AnswerEnd;
+use crate::tally::Tally;
+use af_io::{Put, Sink};
+use af_tool::{put, put_number};
+
+// Writes the line into a buffer: its length.
+fn write_line(out: &mut [u8], tally: Tally) -> usize
+    requires { 160 ≤ length out.old }
+    ensures within { result ≤ length out.new }
+    ensures some { 0 < result }
+    ensures bytes { take result out.new ≡ tally_text tally }
+{
+    let at = put(out, 0, b"answered ");
+    let at = put_number(out, at, u64::from(tally.answered));
+    let at = put(out, at, b" recorded ");
+    let at = put_number(out, at, u64::from(tally.recorded));
+    let at = put(out, at, b" failed ");
+    let at = put_number(out, at, u64::from(tally.failed));
+    put(out, at, b"\n")
+}
+
+/// Writes how many calls were answered, messages recorded, and calls failed: the last that a machine does.
+pub fn report<K: Sink>(sink: &mut K, tally: Tally) -> AnswerEnd
+    ensures wrote { WritesTo (tally_text tally) result (K.held sink.old) (K.held sink.new) }
+    ensures end { is_of_line result ≡ true }
+    ensures fault { CountsFault (result ≡ AnswerEnd.SinkFault) (K.faults sink.old) (K.faults sink.new) }
+{
+    let mut line = [0; 160];
+    let length = write_line(&mut line, tally);
+    match sink.write(&line[..length]) {
+        Put::Done => AnswerEnd::Done,
+        Put::Failed => AnswerEnd::SinkFault,
+    }
+}

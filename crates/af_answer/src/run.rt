@@ -1,0 +1,108 @@
+// The answering machine, by its words.
+ghost use Rattle.std.specs.Prelude.{◌≡◌, ◌≢◌, ◌≤◌, ◌⊎◌, ◌∷◌, [], true, ℕ, List};
+ghost use Rattle.std.specs.declared.option.Option.TheVariants.{None, Some};
+ghost use Rattle.af_io.specs.Observed.{Appended, CountsFault, FaultCounted};
+ghost use Rattle.af_options.specs.Ranges.{IsAddress};
+ghost use Rattle.af_answer.specs.Answered.{IsAnswerJob};
+ghost use Rattle.af_answer.specs.AnswerWords.{answer_words, is_answer_spelled, AnswerWords};
+ghost use Rattle.af_answer.specs.AnswerRun.{is_of_dial, is_of_run, AskedForServer, RanOver, RunsAsked, RunsJobOn};
+ghost use Rattle.af_answer.specs.Ways.{is_of_answer};
+
+use crate::end::AnswerEnd;
+use crate::job::AnswerJob;
+use crate::machine::answer;
+use crate::options::{AnswerCall, call_of};
+use af_child::Spawner;
+use af_io::{Args, Dial, Dialed, Link, Sink};
+use af_lib::Conn;
+use af_options::OptionsFault;
+use std::alloc::Global;
+
+// Sets a link up, and attends a line over it. The link comes back.
+fn answer_over<L: Link + Drop, S: Spawner, K: Sink>(
+    alloc: Global,
+    job: &AnswerJob,
+    far: L,
+    spawner: &mut S,
+    sink: &mut K,
+) -> (AnswerEnd, L)
+    requires { IsAnswerJob job.now }
+    ensures ran { (input : List ℕ) → L.left far ≡ Some input → RanOver job.now input result.0 (L.sent far) (L.sent result.1)
+        (S.acts spawner.old) (S.acts spawner.new) (K.held sink.old) (K.held sink.new) }
+    ensures end { is_of_answer result.0 ≡ true }
+    ensures link { result.0 ≡ AnswerEnd.LinkFault → FaultCounted (L.faults far) (L.faults result.1) }
+    ensures sink { CountsFault (result.0 ≡ AnswerEnd.SinkFault) (K.faults sink.old) (K.faults sink.new) }
+    ensures children { S.faults spawner.old ≤ S.faults spawner.new }
+{
+    match Conn::connect(alloc, far) {
+        Ok(mut conn) => {
+            let end = answer(alloc, job, &mut conn, spawner, sink);
+            (end, conn.into_link())
+        }
+        Err((fault, far)) => (AnswerEnd::from(fault), far),
+    }
+}
+
+// Dials a server, and attends a line of it. The link is given back.
+fn answer_on<K: Sink, D: Dial, S: Spawner>(
+    alloc: Global,
+    call: &AnswerCall<'_>,
+    sink: &mut K,
+    dial: &mut D,
+    spawner: &mut S,
+) -> AnswerEnd
+    requires range { IsAnswerJob call.now.job }
+    requires server { IsAddress call.now.server.now }
+    ensures ran { RunsJobOn D.links D.back S.acts K.held call.now.job result dial.old dial.new spawner.old spawner.new sink.old sink.new }
+    ensures asked { Appended (D.asked dial.old) (call.now.server.now ∷ []) (D.asked dial.new) }
+    ensures end { is_of_dial result ≡ true }
+    ensures dialled { CountsFault (result ≡ AnswerEnd.DialFault) (D.faults dial.old) (D.faults dial.new) }
+    ensures link { CountsFault (result ≡ AnswerEnd.LinkFault) (D.hurt dial.old) (D.hurt dial.new) }
+    ensures sink { CountsFault (result ≡ AnswerEnd.SinkFault) (K.faults sink.old) (K.faults sink.new) }
+    ensures children { S.faults spawner.old ≤ S.faults spawner.new }
+{
+    match dial.dial(call.server) {
+        Dialed::Far(far) => {
+            let (end, far) = answer_over(alloc, &call.job, far, spawner, sink);
+            dial.hang_up(far);
+            end
+        }
+        Dialed::Failed => AnswerEnd::DialFault,
+        Dialed::OutOfMemory => AnswerEnd::OutOfMemory,
+    }
+}
+
+/// The answering machine by its words, of which the first is its name: the server is dialled, the line of the device is attended,
+/// and the link is given back before any answer. All memory but that for children is taken before the first request.
+pub fn answer_run<K: Sink, D: Dial, S: Spawner>(
+    alloc: Global,
+    words: &Args,
+    sink: &mut K,
+    dial: &mut D,
+    spawner: &mut S,
+) -> AnswerEnd
+    // Usage never where the words are spelled; all others get it, but for those that the command takes all the same
+    ensures usage { is_answer_spelled words.now ≡ true → result ≢ AnswerEnd.Usage }
+    ensures other { answer_words words.now ≡ None → (result ≡ AnswerEnd.Usage) ⊎ (result ≡ AnswerEnd.OutOfMemory) }
+    ensures untouched { result ≡ AnswerEnd.Usage → (sink.new ≡ sink.old) × (dial.new ≡ dial.old) × (spawner.new ≡ spawner.old) }
+    ensures no_job { answer_words words.now ≡ None → (sink.new ≡ sink.old) × (dial.new ≡ dial.old) × (spawner.new ≡ spawner.old) }
+
+    // which server was dialled; what was sent, which children ran and what was written, that the hook is on, and when it is done
+    ensures asked { (a : AnswerWords) → answer_words words.now ≡ Some a → result ≢ AnswerEnd.Usage →
+        AskedForServer a.server result (D.asked dial.old) (D.asked dial.new) }
+    ensures ran { (a : AnswerWords) → answer_words words.now ≡ Some a → result ≢ AnswerEnd.Usage →
+        RunsAsked D.links D.back S.acts K.held a result dial.old dial.new spawner.old spawner.new sink.old sink.new }
+
+    // each end has its cause
+    ensures end { is_of_run result ≡ true }
+    ensures dialled { CountsFault (result ≡ AnswerEnd.DialFault) (D.faults dial.old) (D.faults dial.new) }
+    ensures link { CountsFault (result ≡ AnswerEnd.LinkFault) (D.hurt dial.old) (D.hurt dial.new) }
+    ensures sink { CountsFault (result ≡ AnswerEnd.SinkFault) (K.faults sink.old) (K.faults sink.new) }
+    ensures children { S.faults spawner.old ≤ S.faults spawner.new }
+{
+    match call_of(alloc, words) {
+        Ok(call) => answer_on(alloc, &call, sink, dial, spawner),
+        Err(OptionsFault::Usage) => AnswerEnd::Usage,
+        Err(OptionsFault::OutOfMemory) => AnswerEnd::OutOfMemory,
+    }
+}

@@ -1,0 +1,102 @@
+// Child programs of the system, of which no contract says what they got nor how they ended.
+ghost use Rattle.std.specs.Prelude.{◌≤◌};
+ghost use Rattle.arrayvec.specs.ArrayVec.{array_vec_len};
+
+use af_child::{Finished, Spawner, Started, StdSpawner, Words};
+use af_io::Put;
+use arrayvec::ArrayString;
+use std::alloc::Global;
+use std::process::{Abort, Processes};
+
+// A call of a spawner, and what it answers.
+#[derive(Drop)]
+enum Call {
+    // Of a program with no arguments.
+    Run(&'static str, Started),
+    // Of `sh`, `-c` and a script.
+    Start(&'static str, Started),
+    Give(u32, &'static [u8], Put),
+    Finish(u32, Finished),
+}
+
+fn word(text: &str) -> ArrayString<200> {
+    let mut word = ArrayString::new();
+    let _ = word.try_push_str(text);
+    word
+}
+
+fn program(name: &str) -> Words
+    ensures { 1 ≤ array_vec_len result }
+{
+    let mut words = Words::new();
+    words.push(word(name));
+    words
+}
+
+fn script(text: &str) -> Words
+    ensures { 1 ≤ array_vec_len result }
+{
+    let mut words = program("sh");
+    let _ = words.try_push(word("-c"));
+    let _ = words.try_push(word(text));
+    words
+}
+
+fn is_answered<R: Processes + Drop>(
+    alloc: Global,
+    spawner: &mut StdSpawner<R>,
+    call: &Call,
+) -> bool {
+    match call {
+        Call::Run(name, started) => spawner.start(alloc, &program(name)) == *started,
+        Call::Start(text, started) => spawner.start(alloc, &script(text)) == *started,
+        Call::Give(child, bytes, put) => spawner.give(*child, bytes) == *put,
+        Call::Finish(child, finished) => spawner.finish(*child) == *finished,
+    }
+}
+
+fn assert_calls<R: Processes + Drop>(
+    rt: &impl Abort,
+    alloc: Global,
+    spawner: &mut StdSpawner<R>,
+    calls: &[Call],
+) {
+    for (at, call) in calls.iter().enumerate() {
+        let is_wanted = is_answered(alloc, spawner, call);
+        assert!(rt; is_wanted, "at {at}");
+    }
+}
+
+#[test]
+fn a_child_takes_what_it_is_given_and_ends(rt: HostRuntime) {
+    let mut spawner = StdSpawner::new(&rt);
+    let calls = [
+        Call::Run("cat", Started::Child(0)),
+        Call::Give(0, b"abcd", Put::Done),
+        Call::Finish(0, Finished::Ended(0)),
+        Call::Give(0, b"abcd", Put::Failed),
+        Call::Finish(0, Finished::Failed),
+        Call::Run("no-such-program", Started::Failed),
+    ];
+    assert_calls(&rt, rt.alloc(), &mut spawner, &calls);
+}
+
+#[test]
+fn children_that_run_at_once_are_told_apart(rt: HostRuntime) {
+    let mut spawner = StdSpawner::new(&rt);
+    let calls = [
+        Call::Start("test \"$(cat)\" = abcdef", Started::Child(0)),
+        Call::Start("test \"$(cat)\" = ghij", Started::Child(1)),
+        Call::Start("cat > /dev/null; exit 3", Started::Child(2)),
+        Call::Start("kill -9 $$", Started::Child(3)),
+        Call::Give(1, b"gh", Put::Done),
+        Call::Give(0, b"abcdef", Put::Done),
+        Call::Give(1, b"ij", Put::Done),
+        Call::Give(2, b"abcdef", Put::Done),
+        Call::Finish(2, Finished::Ended(3)),
+        Call::Finish(1, Finished::Ended(0)),
+        Call::Finish(3, Finished::Ended(137)),
+        Call::Finish(0, Finished::Ended(0)),
+    ];
+    assert_calls(&rt, rt.alloc(), &mut spawner, &calls);
+}

@@ -20,6 +20,9 @@ tool_status (end.RateMismatch from to) = 16
 tool_status (end.Refused code value) = 17
 tool_status (end.BadReply header first) = 18
 tool_status end.EventFlood = 19
+tool_status (end.ChannelMismatch from to) = 20
+tool_status (end.BadSound fault) = 21
+tool_status end.SoundCut = 22
 
 -- the exit statuses of the answering machine
 abbrev pub answer_status : AnswerEnd → ℕ

@@ -33,6 +33,9 @@ fn status_of(end: ToolEnd) -> u8
             first: _,
         } => 18,
         ToolEnd::EventFlood => 19,
+        ToolEnd::ChannelMismatch { from: _, to: _ } => 20,
+        ToolEnd::BadSound { fault: _ } => 21,
+        ToolEnd::SoundCut => 22,
     }
 }
 
@@ -101,6 +104,9 @@ fn report(rt: &impl Eprint, end: ToolEnd) -> io::Result<()> {
         ToolEnd::Refused { code, value } => eprintln!(rt; "af: refused {code} value {value}"),
         ToolEnd::BadReply { header, first: _ } => report_bad_reply(rt, header),
         ToolEnd::EventFlood => eprintln!(rt; "af: too many events"),
+        ToolEnd::ChannelMismatch { from, to } => eprintln!(rt; "af: channels {from} and {to}"),
+        ToolEnd::BadSound { fault: _ } => eprintln!(rt; "af: bad sound file"),
+        ToolEnd::SoundCut => eprintln!(rt; "af: sound file cut"),
     }
 }
 

@@ -1,7 +1,9 @@
--- The values of words: numbers, gains and switches.
-use Rattle.std.specs.Prelude.{Bool, true, false, ℕ, ℤ, pos, neg_ℤ, nat_le, ◌==◌, ◌&&◌, List, [], ◌∷◌, length, Option, Some, None, option_map, if◌then◌else◌}
+-- The values of words: numbers, gains, switches and forms of files.
+use Rattle.std.specs.Prelude.{Bool, true, false, ℕ, ℤ, pos, neg_ℤ, nat_le, ◌==◌, ◌&&◌, List, [], ◌∷◌, length, Option, Some, None, codes, option_map, if◌then◌else◌}
 use Rattle.std.specs.Str.{all_ascii_digits, bytes_eq}
 use Rattle.std.specs.Str.Parse.{digits_value}
+use Rattle.af_sound.specs.declared.head.SoundForm.{SoundForm}
+use Rattle.af_sound.specs.declared.head.SoundForm.TheVariants.{Au, Wave}
 
 -- the number of some decimal digits, where it lies between these two
 abbrev pub number_in : ℕ → ℕ → List ℕ → Option ℕ
@@ -16,6 +18,14 @@ gain_in (c ∷ text) = if c == 45 then option_map (λ n. neg_ℤ (pos n)) (numbe
 -- a switch, by the word for it and the word against it
 abbrev pub switch_in : (when otherwise : List ℕ) → List ℕ → Option Bool
 switch_in when otherwise text = if bytes_eq text when then Some true else if bytes_eq text otherwise then Some false else None
+
+-- the form of a sound file by its name, or none where the name says that the bytes are samples
+abbrev pub form_in : List ℕ → Option (Option SoundForm)
+form_in text =
+    if bytes_eq text (codes "raw") then Some None
+    else if bytes_eq text (codes "au") then Some (Some Au)
+    else if bytes_eq text (codes "wave") then Some (Some Wave)
+    else None
 
 -- a value that need not be there
 abbrev pub if_there : {X : Type 0} → (List ℕ → Option X) → Option (List ℕ) → Option (Option X)

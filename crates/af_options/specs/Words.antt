@@ -16,8 +16,10 @@ use Rattle.af_options.specs.declared.job.Task.TheVariants as task
 use Rattle.af_options.specs.declared.tool.Tool.{Tool}
 use Rattle.af_options.specs.declared.tool.Tool.TheVariants as tool
 use Rattle.af_options.specs.declared.words.Basics.{Basics}
+use Rattle.af_sample.specs.declared.sample_type.SampleType.{SampleType}
+use Rattle.af_sound.specs.declared.head.SoundForm.{SoundForm}
 use Rattle.af_text.specs.Sound.{type_of}
-use Rattle.af_options.specs.Numbers.{gain_in, if_there, number_in, or_default, switch_in}
+use Rattle.af_options.specs.Numbers.{form_in, gain_in, if_there, number_in, or_default, switch_in}
 
 -- `--id VALUE` or `--id=VALUE`
 abbrev pub option_rule : Text → Rule
@@ -47,6 +49,7 @@ unfoldable pub aplay_app : App
 aplay_app = with_rules (new_app (codes "aplay")) (
     rule_at (codes "SERVER") Place ∷
     rule_at (codes "device") FreeOption ∷
+    rule_at (codes "file") FreeOption ∷
     rule_at (codes "type") FreeOption ∷
     rule_at (codes "gain") FreeOption ∷
     rule_at (codes "block") FreeOption ∷
@@ -117,6 +120,10 @@ basics_of rows =
     (if_there type_of (first_of (codes "type") rows)))
     (number_at (codes "device") 0 0 7 rows)
 
+-- the form of a source, which is no file where a type is stated: a file says itself of which type its samples are
+abbrev pub form_beside : Option SampleType → Option SoundForm → Option (Option SoundForm)
+form_beside ty form = if is_some form && is_some ty then None else Some form
+
 -- the flag was given
 abbrev pub is_set : Text → List Row → Bool
 is_set id rows = option_map_or (λ value. bytes_eq value (codes "true")) (first_of id rows) false
@@ -125,8 +132,10 @@ is_set id rows = option_map_or (λ value. bytes_eq value (codes "true")) (first_
 abbrev pub play_job : List Row → Option PlayJob
 play_job rows =
     option_and_then (λ (basics : Basics).
-    option_map (λ lead. record { device = basics.device; ty = basics.ty; gain = basics.gain; block = basics.block; lead = lead; time = basics.time; preempt = is_set (codes "preempt") rows })
+    option_and_then (λ form.
+    option_map (λ lead. record { device = basics.device; form = form; ty = basics.ty; gain = basics.gain; block = basics.block; lead = lead; time = basics.time; preempt = is_set (codes "preempt") rows })
     (number_at (codes "lead") 100 0 60000 rows))
+    (option_and_then (form_beside basics.ty) (or_default None form_in (first_of (codes "file") rows))))
     (basics_of rows)
 
 -- the job of arecord

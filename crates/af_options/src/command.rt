@@ -21,9 +21,10 @@ pub enum ArgumentKind {
 #[derive(Clone, Copy)]
 pub struct Word<'a>(pub &'a str, pub ArgumentKind);
 
-static APLAY: [Word<'static>; 8] = [
+static APLAY: [Word<'static>; 9] = [
     Word("SERVER", ArgumentKind::Place),
     Word("device", ArgumentKind::FreeOption),
+    Word("file", ArgumentKind::FreeOption),
     Word("type", ArgumentKind::FreeOption),
     Word("gain", ArgumentKind::FreeOption),
     Word("block", ArgumentKind::FreeOption),

@@ -1,11 +1,14 @@
 // What a tool is asked to do.
 use af_sample::{Gain, SampleType};
+use af_sound::SoundForm;
 
 /// To play what a source gives.
 #[derive(Clone, Copy, Debug, PartialEq, Eq)]
 pub struct PlayJob {
     /// The number of the device, 0..7.
     pub device: u8,
+    /// The form of the file that the source gives, or none where its bytes are samples. A file says itself of which type they are.
+    pub form: Option<SoundForm>,
     /// The type of the samples, or that of the device.
     pub ty: Option<SampleType>,
     pub gain: Gain,

@@ -1,8 +1,9 @@
-// The values of words: numbers, gains and switches.
+// The values of words: numbers, gains, switches and forms of files.
 ghost use Rattle.std.specs.Prelude.{◌≡◌, ◌<◌};
-ghost use Rattle.af_options.specs.Numbers.{gain_in, number_in, switch_in};
+ghost use Rattle.af_options.specs.Numbers.{form_in, gain_in, number_in, switch_in};
 
 use af_sample::Gain;
+use af_sound::SoundForm;
 
 /// The number of some decimal digits, of any number with zeros before them, where it lies between these two.
 pub fn number_in(low: u32, high: u32, text: &[u8]) -> Option<u32>
@@ -47,6 +48,21 @@ pub fn switch_in(when: &str, otherwise: &str, text: &str) -> Option<bool>
         Some(true)
     } else if text == otherwise {
         Some(false)
+    } else {
+        None
+    }
+}
+
+/// The form of a sound file by its name, or none where the name says that the bytes are samples.
+pub fn form_in(text: &str) -> Option<Option<SoundForm>>
+    ensures { result ≡ form_in text.now }
+{
+    if text == "raw" {
+        Some(None)
+    } else if text == "au" {
+        Some(Some(SoundForm::Au))
+    } else if text == "wave" {
+        Some(Some(SoundForm::Wave))
     } else {
         None
     }

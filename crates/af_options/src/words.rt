@@ -1,15 +1,16 @@
 // The jobs of the tools, by their words.
-ghost use Rattle.std.specs.Prelude.{◌≡◌, ◌≤◌, codes, length, option_map, pos, IfSome};
+ghost use Rattle.std.specs.Prelude.{◌≡◌, ◌≤◌, None, codes, length, option_map, pos, IfSome};
 ghost use Rattle.clap.specs.Words.{first_of, found_of, rows_of};
 ghost use Rattle.af_text.specs.Sound.{type_of};
-ghost use Rattle.af_options.specs.Numbers.{gain_in, if_there, number_in, or_default, switch_in};
+ghost use Rattle.af_options.specs.Numbers.{form_in, gain_in, if_there, number_in, or_default, switch_in};
 ghost use Rattle.af_options.specs.Words.{address_at, basics_of, is_set, number_at, pass_job, play_job, record_job, set_job};
 ghost use Rattle.af_options.specs.Ranges.{IsPaced};
 
 use crate::command::text_of;
 use crate::job::{PassJob, PlayJob, RecordJob, SetJob};
-use crate::number::{gain_in, number_in, switch_in};
+use crate::number::{form_in, gain_in, number_in, switch_in};
 use af_sample::{Gain, SampleType};
+use af_sound::SoundForm;
 use af_text::sample_type;
 use clap::ArgMatches;
 
@@ -88,6 +89,16 @@ fn type_at(matches: &ArgMatches<'_>) -> Option<Option<SampleType>>
     }
 }
 
+// The form of a file, or none where the bytes are samples.
+fn form_at(matches: &ArgMatches<'_>) -> Option<Option<SoundForm>>
+    ensures { result ≡ or_default None form_in (first_of (codes "file") (rows_of (found_of matches.now))) }
+{
+    match text_of(matches, "file") {
+        Some(text) => form_in(text),
+        None => Some(None),
+    }
+}
+
 // A gain, or none.
 fn gain_at(matches: &ArgMatches<'_>) -> Option<Gain>
     ensures { result ≡ or_default (pos 0) gain_in (first_of (codes "gain") (rows_of (found_of matches.now))) }
@@ -132,9 +143,14 @@ pub fn play_job(matches: &ArgMatches<'_>) -> Option<PlayJob>
     ensures range { IfSome result (λ job. (1 ≤ job.block) × (job.block ≤ 4000)) }
 {
     let basics = basics_of(matches)?;
+    let form = form_at(matches)?;
+    if form.is_some() && basics.ty.is_some() {
+        return None;
+    }
     let lead = number_at(matches, "lead", 100, 0, 60000)?;
     Some(PlayJob {
         device: basics.device,
+        form,
         ty: basics.ty,
         gain: basics.gain,
         block: basics.block,

@@ -7,3 +7,4 @@ pub mod FormatLemmas
 pub mod WaveLemmas
 pub mod WaveSaysLemmas
 pub mod TakenLemmas
+pub mod FrontLemmas

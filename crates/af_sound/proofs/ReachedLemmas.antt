@@ -21,7 +21,7 @@ Says form bytes (Field of part) = Unit {0}
 Says form bytes (Annotation left head) = Unit {0}
 Says form bytes (Chunk left format) = Unit {0}
 
-opened : (t : Bool) (x : Option Place) (place : Place) → (if t then x else None) ≡ Some place → t ≡ true
+pub opened : (t : Bool) (x : Option Place) (place : Place) → (if t then x else None) ≡ Some place → t ≡ true
 opened true x place e = refl
 opened false x place e = absurd cc
 

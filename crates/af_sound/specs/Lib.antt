@@ -5,3 +5,4 @@ pub mod Heads
 pub mod Written
 pub mod Served
 pub mod Reading
+pub mod Fronts

@@ -1,8 +1,10 @@
 //! Laws of heads, each the contract of a function that does nothing.
-ghost use Rattle.std.specs.Prelude.{◌≡◌, ◌++◌, ℕ, List, []};
+ghost use Rattle.std.specs.Prelude.{◌≡◌, ◌≤◌, ◌++◌, ℕ, List, [], length, take};
 ghost use Rattle.af_sound.specs.declared.head.SoundForm.{SoundForm};
 ghost use Rattle.af_sound.specs.declared.head.SoundHead.{SoundHead};
 ghost use Rattle.af_sound.specs.declared.head.SoundFault.{SoundFault};
+ghost use Rattle.af_sound.specs.declared.head.HeadStep.TheVariants as step;
+ghost use Rattle.af_sound.specs.Fronts.{front_of, Front};
 ghost use Rattle.af_sound.specs.Heads.{HasFault, IsHead};
 
 /// Bytes that end with a fault are the beginning of no head, and of no bytes that end with another fault.
@@ -19,4 +21,19 @@ pub fn a_head_is_final()
         IsHead form bytes head → IsHead form (bytes ++ rest) other → (rest ≡ []) × (other ≡ head) }
     ensures no_fault { (form : SoundForm) (bytes rest : List ℕ) (head : SoundHead) (fault : SoundFault) →
         IsHead form bytes head → HasFault form (bytes ++ rest) fault → ⊥ }
+{}
+
+/// What the front of some bytes says is what it is: where they begin with a head or with a fault, that one is said behind it; what
+/// is said is so; and where nothing is, they end inside of a head.
+pub fn a_front_is_decided()
+    ensures head { (form : SoundForm) (bytes rest : List ℕ) (head : SoundHead) → IsHead form bytes head →
+        front_of form (bytes ++ rest) ≡ record { says = step.Head head; size = length bytes } }
+    ensures fault { (form : SoundForm) (bytes rest : List ℕ) (fault : SoundFault) → HasFault form bytes fault →
+        front_of form (bytes ++ rest) ≡ record { says = step.Bad fault; size = length bytes } }
+    ensures is_head { (form : SoundForm) (bytes : List ℕ) (n : ℕ) (head : SoundHead) →
+        front_of form bytes ≡ record { says = step.Head head; size = n } → (n ≤ length bytes) × IsHead form (take n bytes) head }
+    ensures has_fault { (form : SoundForm) (bytes : List ℕ) (n : ℕ) (fault : SoundFault) →
+        front_of form bytes ≡ record { says = step.Bad fault; size = n } → (n ≤ length bytes) × HasFault form (take n bytes) fault }
+    ensures is_whole { (form : SoundForm) (bytes : List ℕ) (n : ℕ) →
+        front_of form bytes ≡ record { says = step.More; size = n } → n ≡ length bytes }
 {}

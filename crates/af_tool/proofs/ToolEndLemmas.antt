@@ -5,7 +5,7 @@ use Rattle.af_lib.specs.declared.fault.ConnFault.{ConnFault}
 use Rattle.af_lib.specs.declared.fault.ConnFault.TheVariants as fault
 use Rattle.af_tool.specs.declared.end.ToolEnd.{ToolEnd}
 use Rattle.af_tool.specs.declared.end.ToolEnd.TheVariants as end
-use Rattle.af_tool.specs.Trace.{Trace, Finish, done, tool_end, fault_end, mismatch, no_device, not_dialled, refused, too_long}
+use Rattle.af_tool.specs.Trace.{Trace, Finish, bad_sound, channel_mismatch, done, tool_end, fault_end, mismatch, no_device, not_dialled, refused, sound_cut, too_long}
 use Rattle.af_tool.specs.Ends.{MatchesTrace, EndsByReply, ObservedTrace, IsAnswered, is_of_reply, is_outer}
 
 -- the finish that an end of a reply tells of
@@ -21,6 +21,9 @@ finish_told done is = cc
 finish_told not_dialled is = cc
 finish_told (no_device devices) is = cc
 finish_told (mismatch from to) is = cc
+finish_told (channel_mismatch from to) is = cc
+finish_told (bad_sound fault) is = cc
+finish_told sound_cut is = cc
 finish_told too_long is = cc
 finish_told (refused fault.LinkFault) is = cc
 finish_told (refused fault.LinkEnded) is = refl
@@ -38,6 +41,9 @@ inner_reply end.LinkFault is = cc
 inner_reply end.LinkEnded is = refl
 inner_reply (end.NoDevice devices) is = cc
 inner_reply (end.RateMismatch from to) is = cc
+inner_reply (end.ChannelMismatch from to) is = cc
+inner_reply (end.BadSound fault) is = cc
+inner_reply end.SoundCut is = cc
 inner_reply (end.Refused code value) is = refl
 inner_reply (end.BadReply header first) is = refl
 inner_reply end.EventFlood is = refl
@@ -97,5 +103,8 @@ finish_done done is = refl
 finish_done not_dialled is = absurd (cc)
 finish_done (no_device devices) is = absurd (cc)
 finish_done (mismatch from to) is = absurd (cc)
+finish_done (channel_mismatch from to) is = absurd (cc)
+finish_done (bad_sound fault) is = absurd (cc)
+finish_done sound_cut is = absurd (cc)
 finish_done too_long is = absurd (cc)
 finish_done (refused f) is = absurd (fault_undone f is)

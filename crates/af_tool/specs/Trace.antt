@@ -15,6 +15,7 @@ use Rattle.af_lib.specs.Incoming.{Awaited, awaited}
 use Rattle.af_wire.specs.Front.{setup_bytes}
 use Rattle.af_lib.specs.Calls.{answered, as_devices, as_done, as_time, following, opcode_of}
 use Rattle.af_io.specs.Dial.{ToldLink}
+use Rattle.af_sound.specs.declared.head.SoundFault.{SoundFault}
 use Rattle.af_tool.specs.declared.end.ToolEnd.{ToolEnd}
 use Rattle.af_tool.specs.declared.end.ToolEnd.TheVariants as end
 
@@ -30,8 +31,13 @@ pub data Finish : Type 0 where
   done : Finish
   not_dialled : Finish
   no_device : (devices : ℕ) → Finish
-  -- two devices have these different rates
+  -- two devices, or a file and a device, have these different rates
   mismatch : (from to : ℕ) → Finish
+  -- a file and a device have these different numbers of channels
+  channel_mismatch : (from to : ℕ) → Finish
+  -- the source does not begin with the head of a sound file, or ends inside of one
+  bad_sound : (fault : SoundFault) → Finish
+  sound_cut : Finish
   too_long : Finish
   -- a request was answered with this fault
   refused : (fault : ConnFault) → Finish
@@ -120,5 +126,8 @@ tool_end done = end.Done
 tool_end not_dialled = end.DialFault
 tool_end (no_device devices) = end.NoDevice devices
 tool_end (mismatch from to) = end.RateMismatch from to
+tool_end (channel_mismatch from to) = end.ChannelMismatch from to
+tool_end (bad_sound fault) = end.BadSound fault
+tool_end sound_cut = end.SoundCut
 tool_end too_long = end.TooLong
 tool_end (refused fault) = fault_end fault

@@ -3,6 +3,7 @@ ghost use Rattle.std.specs.Prelude.{◌≡◌};
 ghost use Rattle.af_tool.specs.Trace.{fault_end};
 
 use af_lib::ConnFault;
+use af_sound::SoundFault;
 
 /// How a tool ended.
 #[derive(Clone, Copy, Debug, PartialEq, Eq)]
@@ -18,8 +19,14 @@ pub enum ToolEnd {
     LinkEnded,
     /// The server has n devices, and not the one that was named.
     NoDevice { devices: u8 },
-    /// Two devices have these different rates.
+    /// Two devices, or a file and a device, have these different rates.
     RateMismatch { from: u32, to: u32 },
+    /// A file and a device have one rate, and these different numbers of channels.
+    ChannelMismatch { from: u8, to: u8 },
+    /// The source does not begin with the head of a sound file.
+    BadSound { fault: SoundFault },
+    /// The source ended inside of the head of a sound file.
+    SoundCut,
     /// The server refused a request, for this value.
     Refused { code: u8, value: u32 },
     /// What came is no message, or not the awaited one: its head, and the first bytes of its body, filled with zeros.

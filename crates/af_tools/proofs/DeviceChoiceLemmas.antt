@@ -12,6 +12,8 @@ use Rattle.af_tool.specs.Trace.{Trace, ClientState, done, ends, no_device, on_de
 use Rattle.af_tool.specs.Device.{device_or_end}
 use Rattle.af_tools.specs.Play.{aplay_trace, played, played_on}
 use Rattle.af_tool.specs.Ends.{ObservedTrace, is_of_link, is_of_report}
+use Rattle.af_tools.specs.Sounds.{reads_sound}
+use Rattle.af_tools.specs.SoundReads.{is_of_sound}
 use Rattle.af_tools.specs.Ways.{is_of_blocks, is_of_records}
 use Rattle.af_io.proofs.AppendedLemmas.{appended_none}
 use Rattle.af_tool.proofs.TracePartLemmas.{ended_at_once}
@@ -55,13 +57,13 @@ is_missing devices number how is =
 
 module _ (devices : List DeviceInfo) (w : ClientState) where
   pub aplay_there : (job : PlayJob) (bytes : List ℕ) (device : DeviceInfo) → slice_get devices job.device ≡ Some device →
-      aplay_trace job devices bytes w ≡ played_on job device bytes w (λ frames start _. writing (played frames start) (ends done))
+      aplay_trace job devices bytes w ≡ reads_sound job.form job device bytes (λ sound rest. played_on job sound device rest w (λ frames start _. writing (played frames start) (ends done)))
   unfolding aplay_trace
-  aplay_there job bytes device get = ap (λ (o : Option DeviceInfo). on_device o (length devices) (λ device. played_on job device bytes w (λ frames start _. writing (played frames start) (ends done)))) get
+  aplay_there job bytes device get = ap (λ (o : Option DeviceInfo). on_device o (length devices) (λ device. reads_sound job.form job device bytes (λ sound rest. played_on job sound device rest w (λ frames start _. writing (played frames start) (ends done))))) get
 
   pub aplay_missing : (job : PlayJob) (bytes : List ℕ) → slice_get devices job.device ≡ None → aplay_trace job devices bytes w ≡ ends (no_device (length devices))
   unfolding aplay_trace
-  aplay_missing job bytes get = ap (λ (o : Option DeviceInfo). on_device o (length devices) (λ device. played_on job device bytes w (λ frames start _. writing (played frames start) (ends done)))) get
+  aplay_missing job bytes get = ap (λ (o : Option DeviceInfo). on_device o (length devices) (λ device. reads_sound job.form job device bytes (λ sound rest. played_on job sound device rest w (λ frames start _. writing (played frames start) (ends done))))) get
 
 pub followed_same : (c d : Trace) (how : ToolEnd) (s s' h h' : Option (List ℕ)) → d ≡ c → ObservedTrace c how s s' h h' → ObservedTrace d how s s' h h'
 followed_same c d how s s' h h' is f = subst (λ (x : Trace). ObservedTrace x how s s' h h') (sym is) f
@@ -94,6 +96,9 @@ never_report how is n e = let bad : false ≡ true = ap is_of_report (sym e) ∙
 
 pub never_blocks : (how : ToolEnd) → is_of_blocks how ≡ true → (n : ℕ) → how ≡ end.NoDevice n → ⊥
 never_blocks how is n e = let bad : false ≡ true = ap is_of_blocks (sym e) ∙ is in cc
+
+pub never_sound : (how : ToolEnd) → is_of_sound how ≡ true → (n : ℕ) → how ≡ end.NoDevice n → ⊥
+never_sound how is n e = let bad : false ≡ true = ap is_of_sound (sym e) ∙ is in cc
 
 pub never_records : (how : ToolEnd) → is_of_records how ≡ true → (n : ℕ) → how ≡ end.NoDevice n → ⊥
 never_records how is n e = let bad : false ≡ true = ap is_of_records (sym e) ∙ is in cc

@@ -21,7 +21,7 @@ use Rattle.af_relay.specs.RelayParts.{ObservedRelayTrace}
 use Rattle.af_tools.specs.Dialled.{RelayedOver, alone, connects_by, dials_to, relay_trace}
 use Rattle.af_tool.specs.Ends.{MatchesTrace, is_outer}
 use Rattle.af_relay.specs.Pass.{RelayTrace, apass_trace, at_one_rate, ends_both, on_from, on_one, on_to, passed_between, relayed_by, sending_from, sending_to}
-use Rattle.af_tools.specs.Play.{most_bytes}
+use Rattle.af_tools.specs.Most.{most_bytes}
 use Rattle.af_tools.specs.Run.{IsEarly, IsServed, JobRan, RanOne, RelayRanTo, one_trace, run_trace}
 use Rattle.af_options.specs.Words.{Job, one, relay}
 use Rattle.af_io.proofs.AppendedLemmas.{appended_none, appended_on}
@@ -282,7 +282,7 @@ run_short (relay from to job) links bytes few = relay_short job links
 pub run_done : (j : Job) (links : List ToldLink) (bytes sends output : List ℕ) (how : ToolEnd) → MatchesTrace (on_from (run_trace j links bytes)) how sends output →
     length bytes ≤ most_bytes → IsServed (on_from (run_trace j links bytes)) → (how ≡ end.Done) ⊎ (is_outer how ≡ true)
 run_done j links bytes sends output how e few served =
-    elim (served_done (run_trace j links bytes).finish served.there served.even served.answered (run_short j links bytes few)) [
+    elim (served_done (run_trace j links bytes).finish served.there served.even served.one_shape served.good served.whole served.answered (run_short j links bytes few)) [
       | inl is ↦ done_unless_outer (on_from (run_trace j links bytes)) how sends output e is
       | inr none ↦ inr (undialled_outer (on_from (run_trace j links bytes)) how sends output e none)
     ]

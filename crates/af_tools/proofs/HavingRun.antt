@@ -1,17 +1,27 @@
 -- What a tool on one connection has done, where it followed its trace.
-use Rattle.std.proofs.Common.{◌≡◌, ℕ, ◌<◌, ◌≤◌, List, length, slice_get, refl, sym, ap, ◌∙◌, subst, arith, inl, inr}
+use Rattle.std.proofs.Common.{◌≡◌, ◌==◌, ◌+◌, ◌-◌, ℕ, Bool, true, false, nat_lt, if◌then◌else◌, ◌<◌, ◌≤◌, List, drop, length-append, length-drop, length, slice_get, refl, sym, ap, ◌∙◌, subst, arith, inl, inr}
+use Rattle.std.proofs.lemmas.Bool.Decides.{nat_tests}
 use Rattle.std.proofs.lemmas.Option.{slice_get_cases}
 use Rattle.std.specs.declared.option.Option.{Option}
 use Rattle.std.specs.declared.option.Option.TheVariants.{None, Some}
 use Rattle.af_request.specs.declared.reply.DeviceInfo.{DeviceInfo}
 use Rattle.af_tool.specs.declared.end.ToolEnd.{ToolEnd}
-use Rattle.af_tool.specs.Trace.{Trace, ClientState, done, ends, on_device, with_job_device, writing}
+use Rattle.af_tool.specs.Trace.{Trace, ClientState, done, ends, on_device, too_long, with_job_device, writing}
 use Rattle.af_tool.specs.Ends.{ObservedTrace}
 use Rattle.af_tool.proofs.ToolEndLemmas.{IsDoneOrRefused, done_where_answered, ends_by_reply}
 use Rattle.af_options.specs.declared.job.PlayJob.{PlayJob}
 use Rattle.af_options.specs.declared.job.RecordJob.{RecordJob}
 use Rattle.af_options.specs.declared.job.SetJob.{SetJob}
-use Rattle.af_tools.specs.Play.{aplay_trace, most_bytes, played}
+use Rattle.af_sound.specs.declared.head.HeadStep.TheVariants as step
+use Rattle.af_sound.specs.declared.head.SoundForm.{SoundForm}
+use Rattle.af_sound.specs.Fronts.{front_of, Front}
+use Rattle.af_sound.proofs.FrontLemmas.{front, front_head}
+use Rattle.af_sample.specs.declared.sample_type.SampleType.{SampleType}
+use Rattle.af_tools.specs.declared.sound.SourceSound.{SourceSound}
+use Rattle.af_tools.specs.Most.{most_bytes}
+use Rattle.af_tools.specs.Sounds.{at_one_shape, file_sound, raw_sound, reads_front, reads_sound, GivesSamples, IsFileSound, IsPlayable}
+use Rattle.af_tools.specs.Play.{aplay_trace, played, played_on}
+use Rattle.af_tools.proofs.SoundEndLemmas.{ends_by_sound}
 use Rattle.af_tools.specs.Record.{arecord_trace, recorded_on}
 use Rattle.af_tools.specs.Set.{aset_trace, set_on, standing_text}
 use Rattle.af_tools.specs.Ran.{AplayRan, ToolRan}
@@ -26,10 +36,42 @@ device_at devices number there = elim ((slice_get_cases devices number).1) [
   | inr beyond ↦ absurd (let b = beyond.0 in omega arith)
 ]
 
-aplay_finish : (job : PlayJob) (devices : List DeviceInfo) (bytes : List ℕ) (w : ClientState) → job.device < length devices → length bytes ≤ most_bytes → IsDoneOrRefused (aplay_trace job devices bytes w).finish
-aplay_finish job devices bytes w there few =
-    let d = device_at devices job.device there in
-    rw (aplay_there devices w job bytes d.0 d.1) (played_finish job d.0 bytes w (λ frames start _. writing (played frames start) (ends done)) few (λ frames start v. inl refl))
+one_shape : (b c : Bool) (next other another : Trace) → b ≡ true → c ≡ true → (if b then (if c then next else other) else another) ≡ next
+one_shape b c next other another is is' = rw (is, is') refl
+
+equal_number : (m n : ℕ) → m ≡ n → (m == n) ≡ true
+equal_number m n is = grind (arith, nat_tests)
+
+fits_front : (b : Bool) (next : Trace) → b ≡ false → (if b then ends too_long else next) ≡ next
+fits_front b next is = rw is refl
+
+-- what follows the head of a sound that the device plays
+sound_read : (form : SoundForm) (job : PlayJob) (device : DeviceInfo) (bytes : List ℕ) (next : SourceSound → List ℕ → Trace) (ty : SampleType) (samples : List ℕ) → IsFileSound form device bytes ty samples → length bytes ≤ most_bytes →
+    (sound : SourceSound) × (rest : List ℕ) × (sound.head + length rest ≤ most_bytes) × (reads_sound (Some form) job device bytes next ≡ next sound rest)
+sound_read form job device bytes next ty samples s few =
+    let size = length s.front in
+    let said : front_of form bytes ≡ front (step.Head s.head) size = ap (front_of form) s.is ∙ front_head form s.front s.rest s.head s.is_head in
+    let len : length bytes ≡ length s.front + length s.rest = ap length s.is ∙ length-append s.front s.rest in
+    let left : length (drop size bytes) ≡ length bytes - size = length-drop size bytes in
+    let test : nat_lt most_bytes size ≡ false = grind (arith, nat_tests) in (
+      file_sound s.head size,
+      drop size bytes,
+      omega arith,
+      ap (λ (f : Front). reads_front f (λ head. at_one_shape head device (next (file_sound head f.size) (drop f.size bytes)))) said
+          ∙ fits_front (nat_lt most_bytes size) (at_one_shape s.head device (next (file_sound s.head size) (drop size bytes))) test
+          ∙ one_shape (s.head.rate == device.rate) (s.head.channels == device.channels) (next (file_sound s.head size) (drop size bytes)) _ _ (equal_number s.head.rate device.rate s.one_rate) (equal_number s.head.channels device.channels s.one_shape),
+    )
+
+playable_finish : (form : Option SoundForm) (job : PlayJob) (device : DeviceInfo) (bytes : List ℕ) (w : ClientState) (ty : SampleType) (samples : List ℕ) → GivesSamples form job device bytes ty samples → length bytes ≤ most_bytes →
+    IsDoneOrRefused (reads_sound form job device bytes (λ sound rest. played_on job sound device rest w (λ frames start _. writing (played frames start) (ends done)))).finish
+playable_finish None job device bytes w ty samples is few = played_finish job (raw_sound job device) device bytes w (λ frames start _. writing (played frames start) (ends done)) (omega arith) (λ frames start v. inl refl)
+playable_finish (Some form) job device bytes w ty samples is few =
+    let r = sound_read form job device bytes (λ sound rest. played_on job sound device rest w (λ frames start _. writing (played frames start) (ends done))) ty samples is few in
+    rw r.3 (played_finish job r.0 device r.1 w (λ frames start _. writing (played frames start) (ends done)) r.2 (λ frames start v. inl refl))
+
+aplay_finish : (job : PlayJob) (devices : List DeviceInfo) (bytes : List ℕ) (w : ClientState) (device : DeviceInfo) → slice_get devices job.device ≡ Some device → IsPlayable job device bytes → length bytes ≤ most_bytes → IsDoneOrRefused (aplay_trace job devices bytes w).finish
+aplay_finish job devices bytes w device there playable few =
+    rw (aplay_there devices w job bytes device there) (playable_finish job.form job device bytes w playable.0 playable.1 playable.2 few)
 
 -- a tool on the device with a number, which on each device is done or refused
 pub record IsOnDevice (trace : Trace) (number : ℕ) (devices : List DeviceInfo) (each : DeviceInfo → Trace) : Type 0 where
@@ -72,5 +114,6 @@ aplay_ran job devices bytes w how s s' h h' some f = record {
   followed = f;
   heard = λ way. is_played job devices bytes w how s s' h h' f way (omega arith);
   reply = ends_by_reply (aplay_trace job devices bytes w) how s s' h h' f;
-  complete = λ there few answered. done_where_answered (aplay_trace job devices bytes w) how f.sends f.output f.ended (aplay_finish job devices bytes w there few) answered;
+  sound = ends_by_sound (aplay_trace job devices bytes w) how f.sends f.output f.ended;
+  complete = λ device there playable few answered. done_where_answered (aplay_trace job devices bytes w) how f.sends f.output f.ended (aplay_finish job devices bytes w device there playable few) answered;
 }

@@ -15,3 +15,9 @@ pub mod HeardAsIntendedLemmas
 pub mod PlayedBlockLemmas
 pub mod OutcomeLemmas
 pub mod HavingRun
+pub mod ServedBlockLemmas
+pub mod HeadReadLemmas
+pub mod SoundEndLemmas
+pub mod SoundFitLemmas
+pub mod SourceCountLemmas
+pub mod SourceUseLemmas

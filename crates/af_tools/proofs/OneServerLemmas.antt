@@ -1,6 +1,7 @@
 -- A tool that dials its server.
-use Rattle.std.proofs.Common.{◌≡◌, ◌≢◌, ℕ, ◌≤◌, ◌⊎◌, inl, inr, true, false, List, [], ◌∷◌, ◌++◌, length, slice_get, sym, ap, ap₂, ◌∙◌, subst, refl, arith, length-append}
+use Rattle.std.proofs.Common.{◌≡◌, ◌≢◌, ◌==◌, ◌+◌, ◌-◌, ℕ, Bool, nat_lt, if◌then◌else◌, drop, length-drop, ◌≤◌, ◌⊎◌, inl, inr, true, false, List, [], ◌∷◌, ◌++◌, length, slice_get, sym, ap, ap₂, ◌∙◌, subst, refl, arith, length-append}
 use Rattle.std.specs.Prelude.{Result, Ok, Err}
+use Rattle.std.proofs.lemmas.Bool.Decides.{nat_tests}
 use Rattle.std.specs.declared.option.Option.{Option}
 use Rattle.std.specs.declared.option.Option.TheVariants.{None, Some}
 use Rattle.af_io.specs.Observed.{Appended}
@@ -13,8 +14,19 @@ use Rattle.af_tool.specs.declared.end.ToolEnd.{ToolEnd}
 use Rattle.af_tool.specs.declared.end.ToolEnd.TheVariants as end
 use Rattle.af_options.specs.declared.job.Task.{Task}
 use Rattle.af_options.specs.declared.job.Task.TheVariants as task
-use Rattle.af_tool.specs.Trace.{Trace, Finish, ClientState, answered_by, connects, dials, done, tool_end, ends, mismatch, no_device, not_dialled, on_device, next_message, refused, set_up, too_long, unused, writing}
-use Rattle.af_tools.specs.Play.{aplay_trace, most_bytes, played}
+use Rattle.af_tool.specs.Trace.{Trace, Finish, ClientState, answered_by, bad_sound, channel_mismatch, connects, dials, done, tool_end, ends, mismatch, no_device, not_dialled, on_device, next_message, refused, set_up, sound_cut, too_long, unused, writing}
+use Rattle.af_sound.specs.declared.head.HeadStep.{HeadStep}
+use Rattle.af_sound.specs.declared.head.HeadStep.TheVariants as step
+use Rattle.af_sound.specs.declared.head.SoundFault.{SoundFault}
+use Rattle.af_sound.specs.declared.head.SoundForm.{SoundForm}
+use Rattle.af_sound.specs.declared.head.SoundHead.{SoundHead}
+use Rattle.af_sound.specs.Fronts.{front_of}
+use Rattle.af_sound.proofs.FrontLemmas.{front, front_has_fault, front_is_head, front_is_whole}
+use Rattle.af_options.specs.declared.job.PlayJob.{PlayJob}
+use Rattle.af_tools.specs.declared.sound.SourceSound.{SourceSound}
+use Rattle.af_tools.specs.Most.{most_bytes}
+use Rattle.af_tools.specs.Sounds.{at_one_shape, behind_front, file_sound, raw_sound, reads_sound}
+use Rattle.af_tools.specs.Play.{aplay_trace, played}
 use Rattle.af_tools.specs.Record.{arecord_trace}
 use Rattle.af_tools.specs.Set.{aset_trace, standing_text}
 use Rattle.af_tools.specs.Run.{EndsByDevice, EndsByRates, RanOne, one_trace, task_trace}
@@ -82,18 +94,50 @@ pub short_of : (finish : Finish) → IsDoneOrRefused finish → IsShort finish
 short_of finish (inl is) e = let bad : done ≡ too_long = sym is ∙ e in cc
 short_of finish (inr r) e = let bad : refused r.0 ≡ too_long = sym r.1 ∙ e in cc
 
-device_short : (o : Option DeviceInfo) (n : ℕ) (next : DeviceInfo → Trace) → ((d : DeviceInfo) → IsDoneOrRefused (next d).finish) → IsShort (on_device o n next).finish
+device_short : (o : Option DeviceInfo) (n : ℕ) (next : DeviceInfo → Trace) → ((d : DeviceInfo) → IsShort (next d).finish) → IsShort (on_device o n next).finish
 device_short None n next more e = cc
-device_short (Some d) n next more e = short_of (next d).finish (more d) e
+device_short (Some d) n next more e = more d e
+
+shape_short : (b c : Bool) (next : Trace) (x y z u : ℕ) → IsShort next.finish → IsShort (if b then (if c then next else ends (channel_mismatch x y)) else ends (mismatch z u)).finish
+shape_short true true next x y z u more = more
+shape_short true false next x y z u more = λ e. cc
+shape_short false c next x y z u more = λ e. cc
+
+front_short : (says : HeadStep) (next : SoundHead → Trace) → ((head : SoundHead) → IsShort (next head).finish) → IsShort (behind_front says next).finish
+front_short (step.Head head) next more = more head
+front_short (step.Bad f) next more = λ e. cc
+front_short step.More next more = λ e. cc
+
+few_short : (b : Bool) (next : Trace) → b ≡ false → IsShort next.finish → IsShort (if b then ends too_long else next).finish
+few_short b next few more = rw few more
+
+front_within : (form : SoundForm) (bytes : List ℕ) → (front_of form bytes).size ≤ length bytes
+front_within form bytes = by (front_of form bytes).says (front_of form bytes).size refl where
+  by : (says : HeadStep) (size : ℕ) → front_of form bytes ≡ front says size → size ≤ length bytes
+  by (step.Head head) size is = (front_is_head form bytes size head is).0
+  by (step.Bad f) size is = (front_has_fault form bytes size f is).0
+  by step.More size is = let whole = front_is_whole form bytes size is in omega arith
+
+sound_short : (form : Option SoundForm) (job : PlayJob) (device : DeviceInfo) (bytes : List ℕ) (next : SourceSound → List ℕ → Trace) → length bytes ≤ most_bytes →
+    ((sound : SourceSound) (rest : List ℕ) → sound.head + length rest ≤ most_bytes → IsShort (next sound rest).finish) → IsShort (reads_sound form job device bytes next).finish
+sound_short None job device bytes next few more = more (raw_sound job device) bytes (omega arith)
+sound_short (Some form) job device bytes next few more =
+    let f = front_of form bytes in
+    let within = front_within form bytes in
+    let test : nat_lt most_bytes f.size ≡ false = grind (arith, nat_tests) in
+    let left : length (drop f.size bytes) ≡ length bytes - f.size = length-drop f.size bytes in
+    few_short (nat_lt most_bytes f.size) (behind_front f.says (λ head. at_one_shape head device (next (file_sound head f.size) (drop f.size bytes)))) test
+    (front_short f.says _ (λ head. shape_short (head.rate == device.rate) (head.channels == device.channels) (next (file_sound head f.size) (drop f.size bytes)) _ _ _ _ (more (file_sound head f.size) (drop f.size bytes) (omega arith))))
 
 task_short : (t : Task) (devices : List DeviceInfo) (bytes : List ℕ) (w : ClientState) → length bytes ≤ most_bytes → IsShort (task_trace t devices bytes w).finish
 unfolding aplay_trace arecord_trace aset_trace
 task_short (task.Play job) devices bytes w few =
-    device_short (slice_get devices job.device) (length devices) _ (λ d. played_finish job d bytes w (λ frames start _. writing (played frames start) (ends done)) few (λ frames start v. inl refl))
+    device_short (slice_get devices job.device) (length devices) _ (λ d. sound_short job.form job d bytes _ few (λ sound rest within.
+    short_of _ (played_finish job sound d rest w (λ frames start _. writing (played frames start) (ends done)) within (λ frames start v. inl refl))))
 task_short (task.Record job) devices bytes w few =
-    device_short (slice_get devices job.device) (length devices) _ (λ d. recorded_finish job d w (λ _. ends done) (λ v. inl refl))
+    device_short (slice_get devices job.device) (length devices) _ (λ d. short_of _ (recorded_finish job d w (λ _. ends done) (λ v. inl refl)))
 task_short (task.Set job) devices bytes w few =
-    device_short (slice_get devices job.device) (length devices) _ (λ d. set_finish job d w (λ standing _. writing (standing_text standing) (ends done)) (λ s v. inl refl))
+    device_short (slice_get devices job.device) (length devices) _ (λ d. short_of _ (set_finish job d w (λ standing _. writing (standing_text standing) (ends done)) (λ s v. inl refl)))
 
 setup_short : (r : Result (List DeviceInfo) ConnFault) (w : ClientState) (next : List DeviceInfo → ClientState → Trace) → ((devices : List DeviceInfo) (v : ClientState) → IsShort (next devices v).finish) → IsShort (answered_by r w next).finish
 setup_short (Ok devices) w next more = more devices w
@@ -104,13 +148,16 @@ unfolding connects
 one_short t [] bytes few = λ e. cc
 one_short t (link ∷ links) bytes few = setup_short (answered as_devices 0 0 (next_message (unused link.gives)).found) (set_up link.gives) _ (λ devices v. task_short t devices bytes v few)
 
-pub served_done : (finish : Finish) → ((n : ℕ) → finish ≢ no_device n) → ((a b : ℕ) → finish ≢ mismatch a b) → ((f : ConnFault) → finish ≢ refused f) → IsShort finish → (finish ≡ done) ⊎ (finish ≡ not_dialled)
-served_done done there even answered short = inl refl
-served_done not_dialled there even answered short = inr refl
-served_done (no_device n) there even answered short = absurd (there n refl)
-served_done (mismatch a b) there even answered short = absurd (even a b refl)
-served_done too_long there even answered short = absurd (short refl)
-served_done (refused f) there even answered short = absurd (answered f refl)
+pub served_done : (finish : Finish) → ((n : ℕ) → finish ≢ no_device n) → ((a b : ℕ) → finish ≢ mismatch a b) → ((a b : ℕ) → finish ≢ channel_mismatch a b) → ((f : SoundFault) → finish ≢ bad_sound f) → finish ≢ sound_cut → ((f : ConnFault) → finish ≢ refused f) → IsShort finish → (finish ≡ done) ⊎ (finish ≡ not_dialled)
+served_done done there even shape good whole answered short = inl refl
+served_done not_dialled there even shape good whole answered short = inr refl
+served_done (no_device n) there even shape good whole answered short = absurd (there n refl)
+served_done (mismatch a b) there even shape good whole answered short = absurd (even a b refl)
+served_done (channel_mismatch a b) there even shape good whole answered short = absurd (shape a b refl)
+served_done (bad_sound f) there even shape good whole answered short = absurd (good f refl)
+served_done sound_cut there even shape good whole answered short = absurd (whole refl)
+served_done too_long there even shape good whole answered short = absurd (short refl)
+served_done (refused f) there even shape good whole answered short = absurd (answered f refl)
 
 -- a tool that has no link ends for something from outside
 pub undialled_outer : (trace : Trace) (how : ToolEnd) (sends output : List ℕ) → MatchesTrace trace how sends output → trace.finish ≡ not_dialled → is_outer how ≡ true
@@ -124,6 +171,9 @@ device_told done n e = cc
 device_told not_dialled n e = cc
 device_told (no_device m) n e = let same : n ≡ m = cc in ap (λ (k : ℕ). no_device k) (sym same)
 device_told (mismatch from to) n e = cc
+device_told (channel_mismatch from to) n e = cc
+device_told (bad_sound f) n e = cc
+device_told sound_cut n e = cc
 device_told too_long n e = cc
 device_told (refused fault.LinkFault) n e = cc
 device_told (refused fault.LinkEnded) n e = cc
@@ -151,6 +201,9 @@ rates_told done a b e = cc
 rates_told not_dialled a b e = cc
 rates_told (no_device m) a b e = cc
 rates_told (mismatch x y) a b e = let one : a ≡ x = cc in let other : b ≡ y = cc in ap₂ (λ (k l : ℕ). mismatch k l) (sym one) (sym other)
+rates_told (channel_mismatch from to) a b e = cc
+rates_told (bad_sound f) a b e = cc
+rates_told sound_cut a b e = cc
 rates_told too_long a b e = cc
 rates_told (refused fault.LinkFault) a b e = cc
 rates_told (refused fault.LinkEnded) a b e = cc

@@ -35,6 +35,7 @@ use Rattle.af_relay.proofs.RelayedLemmas.{answered_from, answered_to, trace_rela
 use Rattle.af_tools.proofs.PlayedBlockLemmas.{answered_done, is_played}
 use Rattle.af_tools.proofs.DialLemmas.{run_done}
 use Rattle.af_tools.proofs.OneServerLemmas.{device_of, rates_of}
+use Rattle.af_tools.proofs.SoundEndLemmas.{ends_by_sound}
 
 -- what was sent, if nothing is unsent
 sent_all : (whole part rest known : List ℕ) → whole ≡ part ++ rest → rest ≡ [] → whole ≡ known → part ≡ known
@@ -213,6 +214,7 @@ did j bytes how links links' held held' back back' r ranged = record {
   reply = reply_of _ _ _ _ r.recorded;
   device = device_of _ _ _ _ r.recorded;
   rates = rates_of _ _ _ _ r.recorded;
+  sound = ends_by_sound _ _ _ _ r.recorded;
   heard = λ server play same way.
       let range = subst IsInRange same (ranged way) in
       let some : 1 ≤ play.block = range.0 in

@@ -10,7 +10,10 @@ use Rattle.af_io.specs.Observed.{Consumed}
 use Rattle.af_request.specs.Asked.{play_run}
 use Rattle.af_lib.specs.Calls.{as_time}
 use Rattle.af_tool.specs.Trace.{Trace, ClientState, asks, ends, too_long}
-use Rattle.af_tools.specs.Play.{block_time, blocks, cut, frames_in, most_bytes, plays, whole_frames}
+use Rattle.af_sound.specs.declared.head.Coding.{Coding}
+use Rattle.af_tools.specs.Most.{most_bytes}
+use Rattle.af_tools.specs.Sounds.{as_served, stated_part}
+use Rattle.af_tools.specs.Play.{block_time, blocks, cut, frames_in, plays, whole_frames}
 use Rattle.af_tools.proofs.PartProgressLemmas.{Reaches}
 
 -- a source gave exactly n bytes
@@ -19,13 +22,14 @@ pub record ConsumedAll (count : ℕ) (before after : Option (List ℕ)) : Type 0
   pub consumed : Consumed before bytes after
   pub all : length bytes ≡ count
 
--- So many frames of a source's bytes were played: the trace goes on with the blocks of those that are left.
-pub record IsPlaying (width start size frames given : ℕ) (bytes : List ℕ) (first : ClientState) (left told : Option (List ℕ)) (wire : List ℕ → ClientState) (sent sent' held : Option (List ℕ)) : Type 0 where
+-- So many frames of a sound were played: the trace goes on with the blocks of what is left of it. The source is to give so many bytes
+-- of the sound, if that is stated, and gave n before it.
+pub record IsPlaying (coding : Option Coding) (head width start size frames given : ℕ) (of : Option ℕ) (bytes : List ℕ) (first : ClientState) (left told : Option (List ℕ)) (wire : List ℕ → ClientState) (sent sent' held : Option (List ℕ)) : Type 0 where
   pub rest : List ℕ
   pub input : List ℕ
   pub is_left : left ≡ Some rest
   pub is_told : told ≡ Some input
-  pub reaches : Reaches (plays width start 0 0 (blocks size bytes) first) (plays width start frames given (blocks size rest) (wire input)) sent sent' held held
+  pub reaches : Reaches (plays coding width start 0 head (blocks size bytes) first) (plays coding width start frames given (blocks size (stated_part of rest)) (wire input)) sent sent' held held
 
 -- enough steps to cut a list are as good as more
 cut_enough : (n m size : ℕ) (bytes : List ℕ) → 0 < size → length bytes ≤ n → length bytes ≤ m → cut n size bytes ≡ cut m size bytes
@@ -62,7 +66,7 @@ front_read size block behind fits ended = elim (cases_lt (length block) size) [
 ]
 
 -- the block that was read, and those of the rest
-blocks_read : (size : ℕ) (rest block behind : List ℕ) → 0 < size → 0 < length block → length block ≤ size → rest ≡ block ++ behind → (length block < size → behind ≡ []) →
+pub blocks_read : (size : ℕ) (rest block behind : List ℕ) → 0 < size → 0 < length block → length block ≤ size → rest ≡ block ++ behind → (length block < size → behind ≡ []) →
     blocks size rest ≡ block ∷ blocks size behind
 blocks_read size rest block behind some more fits is ended =
     let len : length rest ≡ length block + length behind = ap length is ∙ length-append block behind in
@@ -74,55 +78,55 @@ some_of : (n width : ℕ) → 0 < n / width → 0 < n
 some_of zero width some = absurd (let none : 0 / width ≡ 0 = zero-div width in omega arith)
 some_of (suc n) width some = omega arith
 
-blocks_empty : (size : ℕ) (rest : List ℕ) → length rest ≡ 0 → blocks size rest ≡ []
+pub blocks_empty : (size : ℕ) (rest : List ℕ) → length rest ≡ 0 → blocks size rest ≡ []
 blocks_empty size [] none = blocks_none size
 blocks_empty size (x ∷ rest) none = absurd (omega arith)
 
-module _ (width start frames given : ℕ) (w : ClientState) (next : ℕ → ClientState → Trace) where
+module _ (coding : Option Coding) (width start frames given : ℕ) (w : ClientState) (next : ℕ → ClientState → Trace) where
   pub plays_block : (block : List ℕ) (more : List (List ℕ)) → given + length block ≤ most_bytes → 0 < length block / width →
-      plays width start frames given (block ∷ more) w next
-      ≡ asks (play_run false 1 (block_time start frames) (whole_frames width block)) as_time w (λ _ v. plays width start (frames + frames_in width block) (given + length block) more v next)
+      plays coding width start frames given (block ∷ more) w next
+      ≡ asks (play_run false 1 (block_time start frames) (as_served coding (whole_frames width block))) as_time w (λ _ v. plays coding width start (frames + frames_in width block) (given + length block) more v next)
   unfolding plays
   plays_block block more within some =
       let fits : nat_lt most_bytes (given + length block) ≡ false = grind (arith, nat_tests) in
       let whole : nat_lt 0 (length block / width) ≡ true = grind (arith, nat_tests) in
       rw (fits, whole) refl
 
-  pub plays_last : (block : List ℕ) (more : List (List ℕ)) → given + length block ≤ most_bytes → length block / width ≡ 0 → plays width start frames given (block ∷ more) w next ≡ next frames w
+  pub plays_last : (block : List ℕ) (more : List (List ℕ)) → given + length block ≤ most_bytes → length block / width ≡ 0 → plays coding width start frames given (block ∷ more) w next ≡ next frames w
   unfolding plays
   plays_last block more within none =
       let fits : nat_lt most_bytes (given + length block) ≡ false = grind (arith, nat_tests) in
       let whole : nat_lt 0 (length block / width) ≡ false = grind (arith, nat_tests) in
       rw (fits, whole) refl
 
-  pub plays_long : (block : List ℕ) (more : List (List ℕ)) → most_bytes < given + length block → plays width start frames given (block ∷ more) w next ≡ ends too_long
+  pub plays_long : (block : List ℕ) (more : List (List ℕ)) → most_bytes < given + length block → plays coding width start frames given (block ∷ more) w next ≡ ends too_long
   unfolding plays
   plays_long block more beyond =
       let long : nat_lt most_bytes (given + length block) ≡ true = grind (arith, nat_tests) in
       rw long refl
 
-  pub plays_none : plays width start frames given [] w next ≡ next frames w
+  pub plays_none : plays coding width start frames given [] w next ≡ next frames w
   unfolding plays
   plays_none = refl
 
   -- the block that was read is played
   pub plays_next : (size : ℕ) (rest block behind : List ℕ) → 0 < size → length block ≤ size → rest ≡ block ++ behind → (length block < size → behind ≡ []) → given + length block ≤ most_bytes → 0 < length block / width →
-      plays width start frames given (blocks size rest) w next
-      ≡ asks (play_run false 1 (block_time start frames) (whole_frames width block)) as_time w (λ _ v. plays width start (frames + frames_in width block) (given + length block) (blocks size behind) v next)
+      plays coding width start frames given (blocks size rest) w next
+      ≡ asks (play_run false 1 (block_time start frames) (as_served coding (whole_frames width block))) as_time w (λ _ v. plays coding width start (frames + frames_in width block) (given + length block) (blocks size behind) v next)
   plays_next size rest block behind some fits is ended within whole =
       let more : 0 < length block = some_of (length block) width whole in
-      ap (λ b. plays width start frames given b w next) (blocks_read size rest block behind some more fits is ended) ∙ plays_block block (blocks size behind) within whole
+      ap (λ b. plays coding width start frames given b w next) (blocks_read size rest block behind some more fits is ended) ∙ plays_block block (blocks size behind) within whole
 
   -- fewer bytes than a frame has are left
-  pub plays_over : (size : ℕ) (rest : List ℕ) → 0 < size → length rest ≤ size → given + length rest ≤ most_bytes → length rest / width ≡ 0 → plays width start frames given (blocks size rest) w next ≡ next frames w
+  pub plays_over : (size : ℕ) (rest : List ℕ) → 0 < size → length rest ≤ size → given + length rest ≤ most_bytes → length rest / width ≡ 0 → plays coding width start frames given (blocks size rest) w next ≡ next frames w
   plays_over size rest some fits within none = elim (cases_lt 0 (length rest)) [
-    | inl more ↦ ap (λ b. plays width start frames given b w next) (blocks_read size rest rest [] some more fits (sym (append-nil rest)) (λ _. refl)) ∙ plays_last rest (blocks size []) within none
-    | inr no_more ↦ ap (λ b. plays width start frames given b w next) (blocks_empty size rest (omega arith)) ∙ plays_none
+    | inl more ↦ ap (λ b. plays coding width start frames given b w next) (blocks_read size rest rest [] some more fits (sym (append-nil rest)) (λ _. refl)) ∙ plays_last rest (blocks size []) within none
+    | inr no_more ↦ ap (λ b. plays coding width start frames given b w next) (blocks_empty size rest (omega arith)) ∙ plays_none
   ]
 
   -- a block that goes beyond what is allowed
-  pub plays_beyond : (size : ℕ) (rest part behind : List ℕ) → 0 < size → rest ≡ part ++ behind → length part ≤ size → most_bytes < given + length part → given ≤ most_bytes → plays width start frames given (blocks size rest) w next ≡ ends too_long
+  pub plays_beyond : (size : ℕ) (rest part behind : List ℕ) → 0 < size → rest ≡ part ++ behind → length part ≤ size → most_bytes < given + length part → given ≤ most_bytes → plays coding width start frames given (blocks size rest) w next ≡ ends too_long
   plays_beyond size rest part behind some is fits beyond so_far =
       let len : length rest ≡ length part + length behind = ap length is ∙ length-append part behind in
       let first : length part ≤ length (take size rest) = omega (arith, length-take size rest) in
-      ap (λ b. plays width start frames given b w next) (blocks_some size rest some (omega arith)) ∙ plays_long (take size rest) (blocks size (drop size rest)) (omega arith)
+      ap (λ b. plays coding width start frames given b w next) (blocks_some size rest some (omega arith)) ∙ plays_long (take size rest) (blocks size (drop size rest)) (omega arith)

@@ -1,10 +1,12 @@
 -- Where aplay is done, each block was played.
-use Rattle.std.proofs.Common.{◌≡◌, ℕ, ◌+◌, ◌*◌, ◌/◌, ◌%◌, ◌^◌, ◌<◌, false, List, [], ◌∷◌, ◌++◌, length, slice_get, sym, ap, ◌∙◌, append_assoc, append-nil, subst, refl, arith, inl, inr}
+use Rattle.std.proofs.Common.{◌≡◌, ◌==◌, ℕ, Bool, true, nat_lt, if◌then◌else◌, ap₂, take, drop, ◌+◌, ◌*◌, ◌/◌, ◌%◌, ◌^◌, ◌<◌, false, List, [], ◌∷◌, ◌++◌, length, slice_get, sym, ap, ◌∙◌, append_assoc, append-nil, subst, refl, arith, inl, inr}
 use Rattle.std.specs.Prelude.{Result, Ok, Err}
 use Rattle.std.specs.List.{flat_map}
 use Rattle.std.specs.declared.option.Option.{Option}
 use Rattle.std.specs.declared.option.Option.TheVariants.{None, Some}
 use Rattle.std.proofs.lemmas.Bool.{cases_lt}
+use Rattle.std.proofs.lemmas.List.{take-append-drop}
+use Rattle.std.proofs.lemmas.Bool.Decides.{nat_tests}
 use Rattle.af_time.specs.DeviceTime.{frames_lasting}
 use Rattle.af_time.specs.declared.DevTime.{DevTime}
 use Rattle.af_sample.specs.SampleTypes.{width_of}
@@ -19,13 +21,24 @@ use Rattle.af_tool.specs.declared.end.ToolEnd.{ToolEnd}
 use Rattle.af_tool.specs.declared.end.ToolEnd.TheVariants as end
 use Rattle.af_options.specs.declared.job.PlayJob.{PlayJob}
 use Rattle.af_tool.proofs.ToolEndLemmas.{finish_done}
-use Rattle.af_tool.specs.Trace.{Trace, ClientState, answer_on, answered_by, asks, after_reply, done, ends, on_device, sending, too_long, writing}
-use Rattle.af_tools.specs.Play.{aplay_trace, blocks, frames_in, most_bytes, play_context, played, played_on, plays, start_at, whole_frames}
+use Rattle.af_tool.specs.Trace.{Trace, Finish, ClientState, answer_on, answered_by, asks, after_reply, channel_mismatch, done, ends, mismatch, on_device, sending, too_long, writing}
+use Rattle.af_sound.specs.declared.head.Coding.{Coding}
+use Rattle.af_sound.specs.declared.head.HeadStep.{HeadStep}
+use Rattle.af_sound.specs.declared.head.HeadStep.TheVariants as step
+use Rattle.af_sound.specs.declared.head.SoundForm.{SoundForm}
+use Rattle.af_sound.specs.declared.head.SoundHead.{SoundHead}
+use Rattle.af_sound.specs.Fronts.{front_of}
+use Rattle.af_sound.proofs.FrontLemmas.{front, front_is_head}
+use Rattle.af_tools.specs.declared.sound.SourceSound.{SourceSound}
+use Rattle.af_tools.specs.Most.{most_bytes}
+use Rattle.af_tools.specs.Sounds.{as_served, at_one_shape, behind_front, file_sound, raw_sound, reads_sound, source_width, stated_part, GivesSamples, IsServedAs}
+use Rattle.af_tools.specs.Play.{aplay_trace, blocks, frames_in, play_context, played, played_on, plays, start_at, whole_frames}
 use Rattle.af_tool.specs.Ends.{ObservedTrace, is_outer}
-use Rattle.af_tools.specs.Blocks.{sent_behind, sent_blocks, Block}
-use Rattle.af_tools.specs.Intent.{play_of, played_whole, type_on, IsPlayed}
+use Rattle.af_tools.specs.Blocks.{sent_blocks, Block}
+use Rattle.af_tools.specs.Intent.{play_of, played_whole, IsPlayed}
 use Rattle.af_tools.proofs.PlayBlockLemmas.{plays_block, plays_last, plays_long, plays_none}
-use Rattle.af_tools.proofs.SentBlockLemmas.{all_frames, frames_sent, sent_first, sent_last, sent_more, sent_no_more, sent_none}
+use Rattle.af_tools.proofs.SentBlockLemmas.{frames_sent, sent_more, sent_no_more, sent_none}
+use Rattle.af_tools.proofs.ServedBlockLemmas.{frames_converted, sent_converted, sent_served, served_first, served_last}
 use Rattle.af_tools.proofs.HeardAsIntendedLemmas.{heard_as_intended}
 
 -- a trace that is done went on behind an answer
@@ -43,22 +56,22 @@ asks_done asked value_of w next is =
 sending_twice : (a b : List ℕ) (c : Trace) → sending a (sending b c) ≡ sending (a ++ b) c
 sending_twice a b c = ap (λ (s : List ℕ). (let d : Trace = record { sends = s; output = c.output; finish = c.finish } in d)) (sym (append_assoc a b c.sends))
 
-ended_long : (c : Trace) → c ≡ ends too_long → c.finish ≡ done → ⊥
+pub ended_long : (c : Trace) → c ≡ ends too_long → c.finish ≡ done → ⊥
 ended_long c is way = let bad : too_long ≡ done = sym (ap (λ (x : Trace). x.finish) is) ∙ way in cc
 
-plays_done : (width start frames given : ℕ) (bs : List (List ℕ)) (w : ClientState) (next : ℕ → ClientState → Trace) → (plays width start frames given bs w next).finish ≡ done →
-    (n : ℕ) × (v : ClientState) × (n ≡ frames + frames_sent width bs) × (plays width start frames given bs w next ≡ sending (flat_map (play_of start) (sent_behind width frames bs)) (next n v)) × ((next n v).finish ≡ done)
-plays_done width start frames given [] w next way = (frames, w, (let none = sent_none width in omega arith), plays_none width start frames given w next, ap (λ (c : Trace). c.finish) (sym (plays_none width start frames given w next)) ∙ way)
-plays_done width start frames given (block ∷ more) w next way = elim (cases_lt most_bytes (given + length block)) [
-  | inl long ↦ absurd (ended_long _ (plays_long width start frames given w next block more long) way)
+plays_done : (coding : Option Coding) (width start frames given : ℕ) (bs : List (List ℕ)) (w : ClientState) (next : ℕ → ClientState → Trace) → (plays coding width start frames given bs w next).finish ≡ done →
+    (n : ℕ) × (v : ClientState) × (n ≡ frames + frames_sent width bs) × (plays coding width start frames given bs w next ≡ sending (flat_map (play_of start) (sent_served coding width frames bs)) (next n v)) × ((next n v).finish ≡ done)
+plays_done coding width start frames given [] w next way = (frames, w, (let none = sent_none width in omega arith), plays_none coding width start frames given w next, ap (λ (c : Trace). c.finish) (sym (plays_none coding width start frames given w next)) ∙ way)
+plays_done coding width start frames given (block ∷ more) w next way = elim (cases_lt most_bytes (given + length block)) [
+  | inl long ↦ absurd (ended_long _ (plays_long coding width start frames given w next block more long) way)
   | inr fits ↦ elim (cases_lt 0 (length block / width)) [
     | inl some ↦
-        let after = λ (v : ClientState). plays width start (frames + frames_in width block) (given + length block) more v next in
-        let first : List ℕ = request_bytes (play_run false 1 ((start + frames) % 2 ^ 32) (whole_frames width block)) in
-        let others : List Block = sent_behind width (frames + frames_in width block) more in
-        let e = plays_block width start frames given w next block more fits some in
-        let a = asks_done (play_run false 1 ((start + frames) % 2 ^ 32) (whole_frames width block)) as_time w (λ _ v. after v) (ap (λ (c : Trace). c.finish) (sym e) ∙ way) in
-        let r = plays_done width start (frames + frames_in width block) (given + length block) more (after_reply w) next a.3 in
+        let after = λ (v : ClientState). plays coding width start (frames + frames_in width block) (given + length block) more v next in
+        let first : List ℕ = request_bytes (play_run false 1 ((start + frames) % 2 ^ 32) (as_served coding (whole_frames width block))) in
+        let others : List Block = sent_served coding width (frames + frames_in width block) more in
+        let e = plays_block coding width start frames given w next block more fits some in
+        let a = asks_done (play_run false 1 ((start + frames) % 2 ^ 32) (as_served coding (whole_frames width block))) as_time w (λ _ v. after v) (ap (λ (c : Trace). c.finish) (sym e) ∙ way) in
+        let r = plays_done coding width start (frames + frames_in width block) (given + length block) more (after_reply w) next a.3 in
         let here = sent_more width block more some in
         let there = r.2 in (
           r.0,
@@ -66,16 +79,16 @@ plays_done width start frames given (block ∷ more) w next way = elim (cases_lt
           omega arith,
           e ∙ a.2 ∙ ap (sending first) r.3
               ∙ sending_twice first (flat_map (play_of start) others) (next r.0 r.1)
-              ∙ ap (λ (s : List Block). sending (flat_map (play_of start) s) (next r.0 r.1)) (sym (sent_first width frames block more some)),
+              ∙ ap (λ (s : List Block). sending (flat_map (play_of start) s) (next r.0 r.1)) (sym (served_first coding width frames block more some)),
           r.4,
         )
     | inr none ↦ (
       frames,
       w,
       (let here = sent_no_more width block more (omega arith) in omega arith),
-      plays_last width start frames given w next block more fits (omega arith)
-          ∙ ap (λ (s : List Block). sending (flat_map (play_of start) s) (next frames w)) (sym (sent_last width frames block more (omega arith))),
-      ap (λ (c : Trace). c.finish) (sym (plays_last width start frames given w next block more fits (omega arith))) ∙ way,
+      plays_last coding width start frames given w next block more fits (omega arith)
+          ∙ ap (λ (s : List Block). sending (flat_map (play_of start) s) (next frames w)) (sym (served_last coding width frames block more (omega arith))),
+      ap (λ (c : Trace). c.finish) (sym (plays_last coding width start frames given w next block more fits (omega arith))) ∙ way,
     )
   ]
 ]
@@ -87,30 +100,39 @@ from_none : (m n : ℕ) → m ≡ 0 + n → m ≡ n
 from_none m n is = omega arith
 
 -- a job that is done on a device
-done_on : (job : PlayJob) (device : DeviceInfo) (bytes : List ℕ) (w : ClientState) (next : ℕ → ℕ → ClientState → Trace) → (played_on job device bytes w next).finish ≡ done →
+done_on : (job : PlayJob) (sound : SourceSound) (device : DeviceInfo) (bytes : List ℕ) (w : ClientState) (next : ℕ → ℕ → ClientState → Trace) → IsServedAs sound.coding sound.ty → 0 < job.block →
+    (played_on job sound device bytes w next).finish ≡ done →
     (now : DevTime) × (v : ClientState) × (answer_on (get_time job.device) as_time (after_reply w) ≡ Ok now)
-    × (played_on job device bytes w next ≡ sending (played_whole job device bytes (start_at job.time now.0 (frames_lasting device.rate job.lead))) (next (frames_sent (width_of (type_on job device)) (blocks (job.block * width_of (type_on job device)) bytes)) (start_at job.time now.0 (frames_lasting device.rate job.lead)) v))
+    × (played_on job sound device bytes w next
+    ≡ sending (played_whole job sound.ty (as_served sound.coding (stated_part sound.length bytes)) (start_at job.time now.0 (frames_lasting device.rate job.lead)))
+    (next (length (as_served sound.coding (stated_part sound.length bytes)) / width_of sound.ty) (start_at job.time now.0 (frames_lasting device.rate job.lead)) v))
 unfolding played_on
-done_on job device bytes w next way =
-    let width = width_of (type_on job device) in
+done_on job sound device bytes w next served some way =
+    let coding = sound.coding in
+    let width = source_width coding sound.ty in
+    let part : List ℕ = stated_part sound.length bytes in
+    let samples : List ℕ = as_served coding part in
+    let cut : List (List ℕ) = blocks (job.block * width) part in
     let start_of = λ (now : ℕ). start_at job.time now (frames_lasting device.rate job.lead) in
     let freeing = λ (start frames : ℕ) (v : ClientState). asks (free_ac 1) as_done v (λ _ u. next frames start u) in
-    let playing = λ (now : DevTime) (v : ClientState). plays width (start_of now.0) 0 0 (blocks (job.block * width) bytes) v (λ frames u. freeing (start_of now.0) frames u) in
-    let a = asks_done (play_context job device) as_done w (λ _ v. asks (get_time job.device) as_time v playing) way in
+    let playing = λ (now : DevTime) (v : ClientState). plays coding width (start_of now.0) 0 sound.head cut v (λ frames u. freeing (start_of now.0) frames u) in
+    let a = asks_done (play_context job sound.ty) as_done w (λ _ v. asks (get_time job.device) as_time v playing) way in
     let b = asks_done (get_time job.device) as_time (after_reply w) playing a.3 in
     let now : ℕ = b.0.0 in
-    let p = plays_done width (start_of now) 0 0 (blocks (job.block * width) bytes) (after_reply (after_reply w)) (λ frames u. freeing (start_of now) frames u) b.3 in
+    let p = plays_done coding width (start_of now) 0 sound.head cut (after_reply (after_reply w)) (λ frames u. freeing (start_of now) frames u) b.3 in
     let f = asks_done (free_ac 1) as_done p.1 (λ _ u. next p.0 (start_of now) u) p.4 in
-    let count : p.0 ≡ frames_sent width (blocks (job.block * width) bytes) = from_none p.0 (frames_sent width (blocks (job.block * width) bytes)) p.2 in
-    let context : List ℕ = request_bytes (play_context job device) in
+    let count : p.0 ≡ length samples / width_of sound.ty = from_none p.0 (frames_sent width cut) p.2 ∙ frames_converted coding sound.ty job.block part served some in
+    let context : List ℕ = request_bytes (play_context job sound.ty) in
     let time : List ℕ = request_bytes (get_time job.device) in
-    let whole : List ℕ = flat_map (play_of (start_of now)) (sent_blocks (type_on job device) job.block bytes) in (
+    let whole : List ℕ = flat_map (play_of (start_of now)) (sent_served coding width 0 cut) in
+    let known : List ℕ = flat_map (play_of (start_of now)) (sent_blocks sound.ty job.block samples) in
+    let same : whole ≡ known = ap (flat_map (play_of (start_of now))) (sent_converted coding sound.ty job.block part served some) in (
       b.0,
       after_reply p.1,
       b.1,
       a.2 ∙ ap (sending context) (b.2 ∙ ap (sending time) (p.3 ∙ ap (sending whole) f.2))
           ∙ sending_all context time whole (request_bytes (free_ac 1)) (next p.0 (start_of now) (after_reply p.1))
-          ∙ ap (λ (n : ℕ). sending (played_whole job device bytes (start_of now)) (next n (start_of now) (after_reply p.1))) count,
+          ∙ ap₂ (λ (l : List ℕ) (n : ℕ). sending (context ++ (time ++ (l ++ request_bytes (free_ac 1)))) (next n (start_of now) (after_reply p.1))) same count,
     )
 
 on_device_done : (o : Option DeviceInfo) (n : ℕ) (next : DeviceInfo → Trace) → (on_device o n next).finish ≡ done → (device : DeviceInfo) × (o ≡ Some device) × (on_device o n next ≡ next device)
@@ -120,26 +142,73 @@ on_device_done None n next way = absurd (cc)
 whole_part : (all part rest : List ℕ) (known : List ℕ) → all ≡ part ++ rest → rest ≡ [] → all ≡ known ++ [] → part ≡ known
 whole_part all part rest known is none same = sym (append-nil part) ∙ ap (λ (r : List ℕ). part ++ r) (sym none) ∙ sym is ∙ same ∙ append-nil known
 
+-- a file that has the rate and the channels of its device
+shape_done : (b c : Bool) (next : Trace) (x y : Finish) → (if b then (if c then next else ends x) else ends y).finish ≡ done → (x ≡ done → ⊥) → (y ≡ done → ⊥) → (b ≡ true) × (c ≡ true) × ((if b then (if c then next else ends x) else ends y) ≡ next)
+shape_done true true next x y way one other = (refl, refl, refl)
+shape_done true false next x y way one other = absurd (one way)
+shape_done false c next x y way one other = absurd (other way)
+
+same_number : (m n : ℕ) → (m == n) ≡ true → m ≡ n
+same_number m n is = grind (arith, nat_tests)
+
+said_sound : (form : SoundForm) (job : PlayJob) (device : DeviceInfo) (bytes : List ℕ) (next : SourceSound → List ℕ → Trace) (says : HeadStep) (size : ℕ) → front_of form bytes ≡ front says size →
+    (behind_front says (λ head. at_one_shape head device (next (file_sound head size) (drop size bytes)))).finish ≡ done →
+    (head : SoundHead) × (says ≡ step.Head head) × (head.rate ≡ device.rate) × (head.channels ≡ device.channels)
+    × (behind_front says (λ head. at_one_shape head device (next (file_sound head size) (drop size bytes))) ≡ next (file_sound head size) (drop size bytes))
+said_sound form job device bytes next (step.Head head) size is way =
+    let s = shape_done (head.rate == device.rate) (head.channels == device.channels) (next (file_sound head size) (drop size bytes)) (channel_mismatch head.channels device.channels) (mismatch head.rate device.rate) way (λ e. cc) (λ e. cc) in
+    (head, refl, same_number head.rate device.rate s.0, same_number head.channels device.channels s.1, s.2)
+said_sound form job device bytes next (step.Bad fault) size is way = absurd cc
+said_sound form job device bytes next step.More size is way = absurd cc
+
+long_done : (b : Bool) (next : Trace) → (if b then ends too_long else next).finish ≡ done → (if b then ends too_long else next) ≡ next
+long_done true next way = absurd cc
+long_done false next way = refl
+
+sound_done : (form : Option SoundForm) (job : PlayJob) (device : DeviceInfo) (bytes : List ℕ) (next : SourceSound → List ℕ → Trace) → job.form ≡ form → (reads_sound form job device bytes next).finish ≡ done →
+    (sound : SourceSound) × (rest : List ℕ) × GivesSamples form job device bytes sound.ty (as_served sound.coding (stated_part sound.length rest)) × IsServedAs sound.coding sound.ty
+    × (reads_sound form job device bytes next ≡ next sound rest)
+sound_done None job device bytes next is way = (raw_sound job device, bytes, (refl, refl), tt, refl)
+sound_done (Some form) job device bytes next is way =
+    let f = front_of form bytes in
+    let l = long_done (nat_lt most_bytes f.size) (behind_front f.says (λ head. at_one_shape head device (next (file_sound head f.size) (drop f.size bytes)))) way in
+    let s = said_sound form job device bytes next f.says f.size refl (ap (λ (c : Trace). c.finish) (sym l) ∙ way) in
+    let head = s.0 in
+    let known : f ≡ front (step.Head head) f.size = ap (λ (said : HeadStep). front said f.size) s.1 in
+    let h = front_is_head form bytes f.size head known in (
+      file_sound head f.size,
+      drop f.size bytes,
+      (record { front = take f.size bytes; rest = drop f.size bytes; head = head; is = sym (take-append-drop f.size bytes); is_head = h.1; one_rate = s.2; one_shape = s.3; is_type = refl; is_samples = refl }),
+      refl,
+      l ∙ s.4,
+    )
+
 pub is_played : (job : PlayJob) (devices : List DeviceInfo) (bytes : List ℕ) (w : ClientState) (how : ToolEnd) (s s' h h' : Option (List ℕ)) →
     ObservedTrace (aplay_trace job devices bytes w) how s s' h h' → how ≡ end.Done → 0 < job.block → IsPlayed job devices bytes w s s' h h'
 unfolding aplay_trace
 is_played job devices bytes w how s s' h h' followed way some =
     let whole = followed.ended.whole (ap is_outer way) in
     let finish = finish_done (aplay_trace job devices bytes w).finish (sym whole.0 ∙ way) in
-    let d = on_device_done (slice_get devices job.device) (length devices) (λ device. played_on job device bytes w (λ frames start _. writing (played frames start) (ends done))) finish in
+    let reporting = λ (frames start : ℕ) (v : ClientState). writing (played frames start) (ends done) in
+    let d = on_device_done (slice_get devices job.device) (length devices) (λ device. reads_sound job.form job device bytes (λ sound rest. played_on job sound device rest w reporting)) finish in
     let device = d.0 in
-    let ty = type_on job device in
-    let p = done_on job device bytes w (λ frames start _. writing (played frames start) (ends done)) (ap (λ (c : Trace). c.finish) (sym d.2) ∙ finish) in
+    let g = sound_done job.form job device bytes (λ sound rest. played_on job sound device rest w reporting) refl (ap (λ (c : Trace). c.finish) (sym d.2) ∙ finish) in
+    let sound = g.0 in
+    let samples : List ℕ = as_served sound.coding (stated_part sound.length g.1) in
+    let p = done_on job sound device g.1 w reporting g.3 some (ap (λ (c : Trace). c.finish) (sym (d.2 ∙ g.4)) ∙ finish) in
     let start = start_at job.time p.0.0 (frames_lasting device.rate job.lead) in
-    let is = d.2 ∙ p.3 ∙ ap (λ (n : ℕ). sending (played_whole job device bytes start) (writing (played n start) (ends done))) (all_frames ty job.block bytes some) in
+    let is = d.2 ∙ g.4 ∙ p.3 in
     record {
       device = device;
       is_there = d.1;
+      ty = sound.ty;
+      samples = samples;
+      gives = g.2;
       now = p.0;
       told = p.2;
       start = start;
       starts = refl;
-      link = subst (λ (b : List ℕ). Appended s b s') (whole_part (aplay_trace job devices bytes w).sends followed.sends followed.ended.unsent (played_whole job device bytes start) followed.ended.sent whole.1 (ap (λ (c : Trace). c.sends) is)) followed.link;
-      sink = subst (λ (b : List ℕ). Appended h b h') (whole_part (aplay_trace job devices bytes w).output followed.output followed.ended.unwritten (played (length bytes / width_of ty) start) followed.ended.wrote whole.2 (ap (λ (c : Trace). c.output) is)) followed.sink;
-      hears = λ first accepted same a i low. heard_as_intended ty job.gain job.block bytes first accepted some a i low;
+      link = subst (λ (b : List ℕ). Appended s b s') (whole_part (aplay_trace job devices bytes w).sends followed.sends followed.ended.unsent (played_whole job sound.ty samples start) followed.ended.sent whole.1 (ap (λ (c : Trace). c.sends) is)) followed.link;
+      sink = subst (λ (b : List ℕ). Appended h b h') (whole_part (aplay_trace job devices bytes w).output followed.output followed.ended.unwritten (played (length samples / width_of sound.ty) start) followed.ended.wrote whole.2 (ap (λ (c : Trace). c.output) is)) followed.sink;
+      hears = λ first accepted same a i low. heard_as_intended sound.ty job.gain job.block samples first accepted some a i low;
     }

@@ -17,7 +17,11 @@ use Rattle.af_options.specs.declared.job.SetJob.{SetJob}
 use Rattle.af_tool.specs.Trace.{Trace, ClientState, answer_on, answered_by, asks, after_reply}
 use Rattle.af_tool.proofs.ToolEndLemmas.{IsDoneOrRefused}
 use Rattle.af_tools.specs.declared.standing.Standing.{Standing}
-use Rattle.af_tools.specs.Play.{block_time, blocks, cut, most_bytes, play_context, played_on, plays}
+use Rattle.af_sound.specs.declared.head.Coding.{Coding}
+use Rattle.af_tools.specs.declared.sound.SourceSound.{SourceSound}
+use Rattle.af_tools.specs.Most.{most_bytes}
+use Rattle.af_tools.specs.Sounds.{as_served, stated_part}
+use Rattle.af_tools.specs.Play.{block_time, blocks, cut, play_context, played_on, plays}
 use Rattle.af_tools.specs.Record.{block_lengths, ends_row, peak, record_context, recorded_on, records}
 use Rattle.af_tools.specs.Set.{asks_line, asks_where, control_request, hooks, set_on, states_controls}
 
@@ -33,28 +37,32 @@ if_finish : (b : Bool) (c d : Trace) → IsDoneOrRefused c.finish → IsDoneOrRe
 if_finish true c d p q = p
 if_finish false c d p q = q
 
-plays_finish : (width start : ℕ) (n size sent given : ℕ) (bytes : List ℕ) (w : ClientState) (next : ℕ → ClientState → Trace) → given + length bytes ≤ most_bytes → ((frames : ℕ) (v : ClientState) → IsDoneOrRefused (next frames v).finish) →
-    IsDoneOrRefused (plays width start sent given (cut n size bytes) w next).finish
+plays_finish : (coding : Option Coding) (width start : ℕ) (n size sent given : ℕ) (bytes : List ℕ) (w : ClientState) (next : ℕ → ClientState → Trace) → given + length bytes ≤ most_bytes → ((frames : ℕ) (v : ClientState) → IsDoneOrRefused (next frames v).finish) →
+    IsDoneOrRefused (plays coding width start sent given (cut n size bytes) w next).finish
 unfolding plays
-plays_finish width start zero size sent given bytes w next within more = more sent w
-plays_finish width start (suc n) size sent given [] w next within more = more sent w
-plays_finish width start (suc n) size sent given (b ∷ bytes) w next within more =
+plays_finish coding width start zero size sent given bytes w next within more = more sent w
+plays_finish coding width start (suc n) size sent given [] w next within more = more sent w
+plays_finish coding width start (suc n) size sent given (b ∷ bytes) w next within more =
     let block = take size (b ∷ bytes) in
     let rest = drop size (b ∷ bytes) in
     let len = length-take size (b ∷ bytes) in
     let left = length-drop size (b ∷ bytes) in
     let fits : nat_lt most_bytes (given + length block) ≡ false = grind (arith, nat_tests) in
     rw fits (if_finish (nat_lt 0 (length block / width)) _ (next sent w)
-    (asked_finish (play_run false 1 (block_time start sent) (take (length block / width * width) block)) as_time w (λ _ v. plays width start (sent + length block / width) (given + length block) (cut n size rest) v next)
-    (λ _ v. plays_finish width start n size (sent + length block / width) (given + length block) rest v next (omega arith) more)) (more sent w))
+    (asked_finish (play_run false 1 (block_time start sent) (as_served coding (take (length block / width * width) block))) as_time w (λ _ v. plays coding width start (sent + length block / width) (given + length block) (cut n size rest) v next)
+    (λ _ v. plays_finish coding width start n size (sent + length block / width) (given + length block) rest v next (omega arith) more)) (more sent w))
 
-pub played_finish : (job : PlayJob) (device : DeviceInfo) (bytes : List ℕ) (w : ClientState) (next : ℕ → ℕ → ClientState → Trace) → length bytes ≤ most_bytes → ((frames start : ℕ) (v : ClientState) → IsDoneOrRefused (next frames start v).finish) →
-    IsDoneOrRefused (played_on job device bytes w next).finish
+part_few : (of : Option ℕ) (bytes : List ℕ) → length (stated_part of bytes) ≤ length bytes
+part_few None bytes = omega arith
+part_few (Some n) bytes = omega (arith, length-take n bytes)
+
+pub played_finish : (job : PlayJob) (sound : SourceSound) (device : DeviceInfo) (bytes : List ℕ) (w : ClientState) (next : ℕ → ℕ → ClientState → Trace) → sound.head + length bytes ≤ most_bytes → ((frames start : ℕ) (v : ClientState) → IsDoneOrRefused (next frames start v).finish) →
+    IsDoneOrRefused (played_on job sound device bytes w next).finish
 unfolding played_on blocks
-played_finish job device bytes w next within more =
-    asked_finish (play_context job device) as_done w _ (λ _ v.
+played_finish job sound device bytes w next within more =
+    asked_finish (play_context job sound.ty) as_done w _ (λ _ v.
     asked_finish (get_time job.device) as_time v _ (λ now v.
-    plays_finish _ _ (length bytes) _ 0 0 bytes v _ (omega arith) (λ frames v.
+    plays_finish _ _ _ (length (stated_part sound.length bytes)) _ 0 sound.head (stated_part sound.length bytes) v _ (let few = part_few sound.length bytes in omega arith) (λ frames v.
     asked_finish (free_ac 1) as_done v _ (λ _ v. more frames _ v))))
 
 records_finish : (job : RecordJob) (ty : SampleType) (at : ℕ) (peaks lengths : List ℕ) (w : ClientState) (next : ClientState → Trace) → ((v : ClientState) → IsDoneOrRefused (next v).finish) → IsDoneOrRefused (records job ty at peaks lengths w next).finish

@@ -1,12 +1,18 @@
 -- Reading a source in blocks.
-use Rattle.std.specs.Prelude.{◌<◌, ◌≤◌, ℕ, List, length}
+use Rattle.std.specs.Prelude.{◌≡◌, ◌<◌, ◌≤◌, ℕ, List, [], ◌++◌, length}
 use Rattle.std.specs.declared.option.Option.{Option}
+use Rattle.std.specs.declared.option.Option.TheVariants.{None, Some}
 use Rattle.af_io.specs.Observed.{Consumed}
+use Rattle.af_io.specs.Flow.{IsSpent}
+use Rattle.af_sound.specs.declared.head.SoundFault.{SoundFault}
+use Rattle.af_sound.specs.declared.head.SoundForm.{SoundForm}
+use Rattle.af_sound.specs.declared.head.SoundHead.{SoundHead}
+use Rattle.af_sound.specs.Heads.{HasFault, IsHead}
 use Rattle.af_tool.specs.declared.end.ToolEnd.{ToolEnd}
 use Rattle.af_tool.specs.declared.end.ToolEnd.TheVariants as end
 use Rattle.af_tools.specs.declared.fill.FillFault.{FillFault}
 use Rattle.af_tools.specs.declared.fill.FillFault.TheVariants as fill
-use Rattle.af_tools.specs.Play.{most_bytes}
+use Rattle.af_tools.specs.Most.{most_bytes}
 
 -- how aplay ends where its source gave no block
 abbrev pub fill_end : FillFault → ToolEnd
@@ -30,8 +36,55 @@ pub record ConsumedAbove (most room : ℕ) (before after : Option (List ℕ)) : 
 abbrev pub ConsumedWithinMost : Option (List ℕ) → Option (List ℕ) → Type 0
 ConsumedWithinMost before after = ConsumedUpTo most_bytes before after
 
--- the source gave more than aplay takes
-pub record ConsumedBeyondMost (before after : Option (List ℕ)) : Type 0 where
+-- the source gave more than n bytes, and more than aplay takes
+pub record ConsumedBeyond (most : ℕ) (before after : Option (List ℕ)) : Type 0 where
   pub bytes : List ℕ
   pub consumed : Consumed before bytes after
-  pub beyond : most_bytes < length bytes
+  pub beyond : most < length bytes
+
+abbrev pub ConsumedBeyondMost : Option (List ℕ) → Option (List ℕ) → Type 0
+ConsumedBeyondMost before after = ConsumedBeyond most_bytes before after
+
+-- bytes that are read before a sound: none, or a head that states this length
+abbrev pub HeadIs : Option SoundForm → List ℕ → Option ℕ → Type 0
+HeadIs None bytes len = (bytes ≡ []) × (len ≡ None)
+HeadIs (Some form) bytes len = (head : SoundHead) × IsHead form bytes head × (head.length ≡ len)
+
+-- the source gave these n bytes before its sound
+pub record ConsumedHead (form : Option SoundForm) (count : ℕ) (len : Option ℕ) (before after : Option (List ℕ)) : Type 0 where
+  pub bytes : List ℕ
+  pub consumed : Consumed before bytes after
+  pub all : length bytes ≡ count
+  pub within : count ≤ most_bytes
+  pub is_head : HeadIs form bytes len
+
+-- the source gave as many bytes as were stated
+pub record ConsumedStated (len : Option ℕ) (before after : Option (List ℕ)) : Type 0 where
+  pub bytes : List ℕ
+  pub consumed : Consumed before bytes after
+  pub all : len ≡ Some (length bytes)
+
+-- the source gave a head, and the sound of which it states the length
+pub record ConsumedSound (form : Option SoundForm) (before after : Option (List ℕ)) : Type 0 where
+  pub front : List ℕ
+  pub sound : List ℕ
+  pub consumed : Consumed before (front ++ sound) after
+  pub is_head : HeadIs form front (Some (length sound))
+
+-- the source gave bytes that end where the fault of a head shows
+pub record ConsumedFault (form : Option SoundForm) (fault : SoundFault) (before after : Option (List ℕ)) : Type 0 where
+  pub bytes : List ℕ
+  pub consumed : Consumed before bytes after
+  pub of : SoundForm
+  pub is_form : form ≡ Some of
+  pub has : HasFault of bytes fault
+
+-- the source ended inside of a head: all that it gave is no head and has no fault, and neither has what it begins with
+pub record ConsumedCut (form : Option SoundForm) (before after : Option (List ℕ)) : Type 0 where
+  pub bytes : List ℕ
+  pub consumed : Consumed before bytes after
+  pub spent : IsSpent after
+  pub of : SoundForm
+  pub is_form : form ≡ Some of
+  pub no_head : (front rest : List ℕ) (head : SoundHead) → bytes ≡ front ++ rest → IsHead of front head → ⊥
+  pub no_fault : (front rest : List ℕ) (fault : SoundFault) → bytes ≡ front ++ rest → HasFault of front fault → ⊥

@@ -1,5 +1,5 @@
 -- What aplay has sent and written where it is done, and what is heard of it.
-use Rattle.std.specs.Prelude.{◌≡◌, ℕ, ◌+◌, ◌/◌, ◌%◌, ◌^◌, ◌<◌, false, pos, List, ◌++◌, length, slice_get, slice_index_or, unwrap_or, Ok}
+use Rattle.std.specs.Prelude.{◌≡◌, ℕ, ◌+◌, ◌/◌, ◌%◌, ◌^◌, ◌<◌, false, pos, List, ◌++◌, length, slice_get, slice_index_or, Ok}
 use Rattle.std.specs.List.{flat_map}
 use Rattle.std.specs.declared.option.Option.{Option}
 use Rattle.std.specs.declared.option.Option.TheVariants.{Some}
@@ -16,34 +16,34 @@ use Rattle.af_lib.specs.Calls.{as_time}
 use Rattle.af_options.specs.declared.job.PlayJob.{PlayJob}
 use Rattle.af_tool.specs.Trace.{ClientState, answer_on, after_reply}
 use Rattle.af_tools.specs.Play.{play_context, played, start_at}
+use Rattle.af_tools.specs.Sounds.{GivesSamples}
 use Rattle.af_tools.specs.Blocks.{gained_samples, sent_blocks, AreAccepted, Block}
 
 -- a block is played at the start plus the frames before it
 abbrev pub play_of : ℕ → Block → List ℕ
 play_of start block = request_bytes (play_run false 1 ((start + block.before) % 2 ^ 32) block.bytes)
 
--- the type of a job's samples on a device
-abbrev pub type_on : PlayJob → DeviceInfo → SampleType
-type_on job device = unwrap_or job.ty device.ty
+-- what is sent of samples of a type: a context is made and the time asked, each block is played, and the context is freed
+abbrev pub played_whole : PlayJob → SampleType → List ℕ → ℕ → List ℕ
+played_whole job ty samples start =
+    request_bytes (play_context job ty) ++ (request_bytes (get_time job.device)
+    ++ (flat_map (play_of start) (sent_blocks ty job.block samples) ++ request_bytes (free_ac 1)))
 
--- what is sent of a source's bytes: a context is made and the time asked, each block is played, and the context is freed
-abbrev pub played_whole : PlayJob → DeviceInfo → List ℕ → ℕ → List ℕ
-played_whole job device bytes start =
-    request_bytes (play_context job device) ++ (request_bytes (get_time job.device)
-    ++ (flat_map (play_of start) (sent_blocks (type_on job device) job.block bytes) ++ request_bytes (free_ac 1)))
-
--- A job is done on the device, from a start on, which is stated or follows the time that the device told, and which is written
--- behind the number of the source's whole frames. Where a device, whose one channel the context names, accepts the blocks from a whole time on that is this start modulo
--- 2^32, it plays the samples of the source.
+-- A job is done on the device with the samples that the source gives, raw or in a sound file, from a start on, which is stated or
+-- follows the time that the device told, and which is written behind the number of whole frames. Where a device, whose one channel
+-- the context names, accepts the blocks from a whole time on that is this start modulo 2^32, it plays the samples of the source.
 pub record IsPlayed (job : PlayJob) (devices : List DeviceInfo) (bytes : List ℕ) (w : ClientState) (sent sent' held held' : Option (List ℕ)) : Type 0 where
   pub device : DeviceInfo
   pub is_there : slice_get devices job.device ≡ Some device
+  pub ty : SampleType
+  pub samples : List ℕ
+  pub gives : GivesSamples job.form job device bytes ty samples
   pub now : DevTime
   pub told : answer_on (get_time job.device) as_time (after_reply w) ≡ Ok now
   pub start : ℕ
   pub starts : start ≡ start_at job.time now.0 (frames_lasting device.rate job.lead)
-  pub link : Appended sent (played_whole job device bytes start) sent'
-  pub sink : Appended held (played (length bytes / width_of (type_on job device)) start) held'
+  pub link : Appended sent (played_whole job ty samples start) sent'
+  pub sink : Appended held (played (length samples / width_of ty) start) held'
   pub hears : (whole : ℕ) (accepted : List AcceptedPlay) → whole % 2 ^ 32 ≡ start →
-      AreAccepted (type_on job device) job.gain whole (length bytes / width_of (type_on job device)) (sent_blocks (type_on job device) job.block bytes) accepted →
-      (i : ℕ) → i < length bytes / width_of (type_on job device) → heard 1 accepted (whole + i) 0 ≡ slice_index_or (gained_samples (type_on job device) job.gain bytes) i (pos 0)
+      AreAccepted ty job.gain whole (length samples / width_of ty) (sent_blocks ty job.block samples) accepted →
+      (i : ℕ) → i < length samples / width_of ty → heard 1 accepted (whole + i) 0 ≡ slice_index_or (gained_samples ty job.gain samples) i (pos 0)

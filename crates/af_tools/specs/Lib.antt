@@ -1,3 +1,5 @@
+pub mod Most
+pub mod Sounds
 pub mod Play
 pub mod Blocks
 pub mod Intent
@@ -5,6 +7,7 @@ pub mod Record
 pub mod Set
 pub mod Ways
 pub mod Fill
+pub mod SoundReads
 pub mod Reading
 pub mod Ran
 pub mod Dialled

@@ -1,19 +1,20 @@
 -- What aplay does: the bytes of its source are cut into blocks, and each block is played at its time.
-use Rattle.std.specs.Prelude.{ℕ, zero, suc, ◌+◌, ◌*◌, ◌/◌, ◌%◌, ◌^◌, nat_lt, if◌then◌else◌, pos, false, List, [], ◌∷◌, ◌++◌, length, take, drop, codes, decimal, unwrap_or}
+use Rattle.std.specs.Prelude.{ℕ, zero, suc, ◌+◌, ◌*◌, ◌/◌, ◌%◌, ◌^◌, nat_lt, if◌then◌else◌, pos, false, List, [], ◌∷◌, ◌++◌, length, take, drop, codes, decimal}
 use Rattle.std.specs.declared.option.Option.{Option}
 use Rattle.std.specs.declared.option.Option.TheVariants.{None, Some}
 use Rattle.af_time.specs.DeviceTime.{frames_lasting}
-use Rattle.af_sample.specs.SampleTypes.{code_of, width_of}
+use Rattle.af_sample.specs.declared.sample_type.SampleType.{SampleType}
+use Rattle.af_sample.specs.SampleTypes.{code_of}
+use Rattle.af_sound.specs.declared.head.Coding.{Coding}
 use Rattle.af_request.specs.declared.reply.DeviceInfo.{DeviceInfo}
 use Rattle.af_request.specs.Asked.{Asked, create_ac, free_ac, play_run}
 use Rattle.af_request.specs.Fields.{flag_byte}
 use Rattle.af_lib.specs.Calls.{as_done, as_time}
 use Rattle.af_options.specs.declared.job.PlayJob.{PlayJob}
 use Rattle.af_tool.specs.Trace.{Trace, ClientState, asks, begins, done, ends, too_long, with_job_device, writing}
-
--- how many bytes a source may give
-abbrev pub most_bytes : ℕ
-most_bytes = 2 ^ 40
+use Rattle.af_tools.specs.declared.sound.SourceSound.{SourceSound}
+use Rattle.af_tools.specs.Most.{most_bytes}
+use Rattle.af_tools.specs.Sounds.{as_served, reads_sound, source_width, stated_part}
 
 -- a list cut into blocks of n bytes, the last of what is left
 abbrev pub cut : ℕ → ℕ → List ℕ → List (List ℕ)
@@ -35,14 +36,14 @@ whole_frames width block = take (frames_in width block * width) block
 abbrev pub block_time : (start sent : ℕ) → ℕ
 block_time start sent = (start + sent) % 2 ^ 32
 
--- Each block is played behind those before it. What follows is told how many frames there were in all. A block without a whole
+-- Each block is played behind those before it, as a server takes it. What follows is told how many frames there were in all. A block without a whole
 -- frame is not sent, and if the source has given too much the tool ends.
-unfoldable pub plays : (width start sent given : ℕ) → List (List ℕ) → ClientState → (ℕ → ClientState → Trace) → Trace
-plays width start sent given [] w next = next sent w
-plays width start sent given (block ∷ more) w next =
+unfoldable pub plays : Option Coding → (width start sent given : ℕ) → List (List ℕ) → ClientState → (ℕ → ClientState → Trace) → Trace
+plays coding width start sent given [] w next = next sent w
+plays coding width start sent given (block ∷ more) w next =
     if nat_lt most_bytes (given + length block) then ends too_long
-    else if nat_lt 0 (frames_in width block) then asks (play_run false 1 (block_time start sent) (whole_frames width block)) as_time w
-    (λ _ v. plays width start (sent + frames_in width block) (given + length block) more v next)
+    else if nat_lt 0 (frames_in width block) then asks (play_run false 1 (block_time start sent) (as_served coding (whole_frames width block))) as_time w
+    (λ _ v. plays coding width start (sent + frames_in width block) (given + length block) more v next)
     else next sent w
 
 -- the start, if it is stated, or else n frames after the device's time
@@ -54,25 +55,26 @@ start_at None now lead = (now + lead) % 2 ^ 32
 unfoldable pub played : ℕ → ℕ → List ℕ
 played sent start = codes "played " ++ decimal sent ++ codes " at " ++ decimal start ++ codes "\n"
 
--- the context of a job on a device
-abbrev pub play_context : PlayJob → DeviceInfo → Asked
-play_context job device = create_ac job.device 1 (code_of (unwrap_or job.ty device.ty)) 1 (flag_byte job.preempt) job.gain (pos 0)
+-- the context of a job for samples of a type
+abbrev pub play_context : PlayJob → SampleType → Asked
+play_context job ty = create_ac job.device 1 (code_of ty) 1 (flag_byte job.preempt) job.gain (pos 0)
 
 -- a context is made and the device's time asked, the blocks are played, and the context is freed; what follows is told how
 -- many frames these were, and from when on
-unfoldable pub played_on : PlayJob → DeviceInfo → List ℕ → ClientState → (ℕ → ℕ → ClientState → Trace) → Trace
-played_on job device bytes w next =
-    let width = width_of (unwrap_or job.ty device.ty) in
-    begins (play_context job device) job.device w (λ now w.
+unfoldable pub played_on : PlayJob → SourceSound → DeviceInfo → List ℕ → ClientState → (ℕ → ℕ → ClientState → Trace) → Trace
+played_on job sound device bytes w next =
+    let width = source_width sound.coding sound.ty in
+    begins (play_context job sound.ty) job.device w (λ now w.
     let start = start_at job.time now.0 (frames_lasting device.rate job.lead) in
-    plays width start 0 0 (blocks (job.block * width) bytes) w (λ frames w.
+    plays sound.coding width start 0 sound.head (blocks (job.block * width) (stated_part sound.length bytes)) w (λ frames w.
     asks (free_ac 1) as_done w (λ _ w. next frames start w)))
 
--- the trace of aplay, by the devices of the server, the bytes of the source, and what the link gives: it plays all, and then
--- writes how much from when on
+-- the trace of aplay, by the devices of the server, the bytes of the source, and what the link gives: it reads a head, if the source
+-- has one, plays all, and then writes how much from when on
 unfoldable pub aplay_trace : PlayJob → List DeviceInfo → List ℕ → ClientState → Trace
 aplay_trace job devices bytes w = with_job_device job.device devices (λ device.
-    played_on job device bytes w (λ frames start _. writing (played frames start) (ends done)))
+    reads_sound job.form job device bytes (λ sound rest.
+    played_on job sound device rest w (λ frames start _. writing (played frames start) (ends done))))
 
 -- what aplay sends, what it writes, and how it ends
 abbrev pub aplay_sends : PlayJob → List DeviceInfo → List ℕ → ClientState → List ℕ

@@ -1,5 +1,5 @@
 -- What a tool on one connection has done.
-use Rattle.std.specs.Prelude.{◌≡◌, ◌<◌, ◌≤◌, ◌↔◌, ◌⊎◌, ℕ, true, List, length, IsSome}
+use Rattle.std.specs.Prelude.{◌≡◌, ◌<◌, ◌≤◌, ◌↔◌, ◌⊎◌, ℕ, Bool, true, false, List, length, slice_get, IsSome}
 use Rattle.std.specs.declared.option.Option.{Option}
 use Rattle.std.specs.declared.option.Option.TheVariants.{Some}
 use Rattle.af_request.specs.declared.reply.DeviceInfo.{DeviceInfo}
@@ -7,9 +7,11 @@ use Rattle.af_lib.specs.Calls.{ConnState}
 use Rattle.af_options.specs.declared.job.PlayJob.{PlayJob}
 use Rattle.af_tool.specs.declared.end.ToolEnd.{ToolEnd}
 use Rattle.af_tool.specs.declared.end.ToolEnd.TheVariants as end
-use Rattle.af_tool.specs.Trace.{Trace, ClientState}
+use Rattle.af_tool.specs.Trace.{Trace, ClientState, Finish, bad_sound, channel_mismatch, mismatch, sound_cut, tool_end}
 use Rattle.af_tool.specs.Ends.{is_outer, client_of, EndsByReply, ObservedTrace, IsAnswered}
-use Rattle.af_tools.specs.Play.{aplay_trace, most_bytes}
+use Rattle.af_tools.specs.Most.{most_bytes}
+use Rattle.af_tools.specs.Play.{aplay_trace}
+use Rattle.af_tools.specs.Sounds.{IsPlayable}
 use Rattle.af_tools.specs.Intent.{IsPlayed}
 
 -- A tool ran that is about the device with this number, by what its link gives. What the link was sent and the sink gained are those of
@@ -26,13 +28,29 @@ abbrev pub RunsTool : {L K : Type 0} → (left sent : L → Option (List ℕ)) �
 RunsTool left sent held trace device how conn conn' sink sink' = (input : List ℕ) → left conn.link ≡ Some input →
     ToolRan (trace (client_of conn input)) device conn.devices how (sent conn.link) (sent conn'.link) (held sink) (held sink')
 
--- aplay ran, by what its link and its source give: as above, if the source gives no more than it takes. Done, each block was played
+-- a source that is no sound file, or of another rate or other channels than the device
+abbrev pub is_of_sound_finish : Finish → Bool
+is_of_sound_finish (mismatch from to) = true
+is_of_sound_finish (channel_mismatch from to) = true
+is_of_sound_finish (bad_sound fault) = true
+is_of_sound_finish sound_cut = true
+is_of_sound_finish _ = false
+
+-- Where a source is no sound that its device plays, the tool ends with that, unless something from outside has ended it; and it ends so
+-- only there.
+pub record EndsBySound (trace : Trace) (how : ToolEnd) : Type 0 where
+  pub only : (finish : Finish) → is_of_sound_finish finish ≡ true → how ≡ tool_end finish → trace.finish ≡ finish
+  pub always : (finish : Finish) → is_of_sound_finish finish ≡ true → trace.finish ≡ finish → (how ≡ tool_end finish) ⊎ (is_outer how ≡ true)
+
+-- aplay ran, by what its link and its source give: as above, if the source gives what the device plays, and no more than it takes. Done, each block was played
 -- at its time, and is heard there by whom accepts it in time.
 pub record AplayRan (job : PlayJob) (devices : List DeviceInfo) (bytes : List ℕ) (w : ClientState) (how : ToolEnd) (sent sent' held held' : Option (List ℕ)) : Type 0 where
   pub followed : ObservedTrace (aplay_trace job devices bytes w) how sent sent' held held'
   pub heard : how ≡ end.Done → IsPlayed job devices bytes w sent sent' held held'
   pub reply : EndsByReply (aplay_trace job devices bytes w) how
-  pub complete : job.device < length devices → length bytes ≤ most_bytes → IsAnswered (aplay_trace job devices bytes w) → (how ≡ end.Done) ⊎ (is_outer how ≡ true)
+  pub sound : EndsBySound (aplay_trace job devices bytes w) how
+  pub complete : (device : DeviceInfo) → slice_get devices job.device ≡ Some device → IsPlayable job device bytes → length bytes ≤ most_bytes →
+      IsAnswered (aplay_trace job devices bytes w) → (how ≡ end.Done) ⊎ (is_outer how ≡ true)
 
 -- the same over a connection whose link and a source that tell what they give; the source still tells it afterwards
 abbrev pub RunsAplay : {L S K : Type 0} → (left sent : L → Option (List ℕ)) → (gives : S → Option (List ℕ)) → (held : K → Option (List ℕ)) →

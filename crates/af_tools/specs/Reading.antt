@@ -1,24 +1,29 @@
 -- What a tool makes of its source.
-use Rattle.std.specs.Prelude.{◌≡◌, ◌≢◌, ℕ, Bool, true, false, List, Result, IsSome}
+use Rattle.std.specs.Prelude.{◌≡◌, ◌≢◌, ◌⊎◌, ℕ, Bool, true, false, List, Result, IsSome}
 use Rattle.std.specs.declared.option.Option.{Option}
 use Rattle.std.specs.declared.option.Option.TheVariants.{Some}
 use Rattle.af_io.specs.Observed.{CountsFault}
 use Rattle.af_io.specs.Flow.{IsSpent}
+use Rattle.af_sound.specs.declared.head.SoundFault.{SoundFault}
+use Rattle.af_sound.specs.declared.head.SoundForm.{SoundForm}
 use Rattle.af_lib.specs.Calls.{ConnState}
 use Rattle.af_tool.specs.declared.end.ToolEnd.{ToolEnd}
 use Rattle.af_tool.specs.declared.end.ToolEnd.TheVariants as end
 use Rattle.af_tool.specs.Trace.{Trace, ClientState}
 use Rattle.af_tool.specs.Ends.{client_of, ObservedTrace, ObservedPart, TracePart}
-use Rattle.af_tools.specs.Fill.{ConsumedBeyondMost, ConsumedWithinMost}
+use Rattle.af_tools.specs.Fill.{ConsumedBeyondMost, ConsumedCut, ConsumedFault, ConsumedSound, ConsumedWithinMost}
 
--- Only a tool that reads its source touches it, and not where memory ran out; if it is done it has read it to its end. The source gave
--- more than a tool takes exactly where that ends as too long, and a read failed only where the count of its faults rose.
-pub record UsesSource {S : Type 0} (left : S → Option (List ℕ)) (faults : S → ℕ) (reads : Bool) (how : ToolEnd) (source source' : S) : Type 0 where
+-- Only a tool that reads its source touches it, and not where memory ran out; if it is done it has read it to its end, or a sound file
+-- to that of the stated length. The source gave more than a tool takes exactly where that ends as too long, a read failed only where
+-- the count of its faults rose, and for a sound file that is bad or cut the tool ends only behind bytes that show it.
+pub record UsesSource {S : Type 0} (left : S → Option (List ℕ)) (faults : S → ℕ) (reads : Bool) (form : Option SoundForm) (how : ToolEnd) (source source' : S) : Type 0 where
   pub untouched : reads ≡ false → source' ≡ source
   pub memory : how ≡ end.OutOfMemory → source' ≡ source
-  pub spent : how ≡ end.Done → reads ≡ true → IsSpent (left source')
+  pub spent : how ≡ end.Done → reads ≡ true → IsSpent (left source') ⊎ ConsumedSound form (left source) (left source')
   pub long : how ≡ end.TooLong → ConsumedBeyondMost (left source) (left source')
   pub within : how ≢ end.TooLong → ConsumedWithinMost (left source) (left source')
+  pub bad : (fault : SoundFault) → how ≡ end.BadSound fault → ConsumedFault form fault (left source) (left source')
+  pub cut : how ≡ end.SoundCut → ConsumedCut form (left source) (left source')
   pub failed : CountsFault (how ≡ end.ReadFault) (faults source) (faults source')
 
 -- a source that is read tells these bytes, and still tells what is left of them afterwards

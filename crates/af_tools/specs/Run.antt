@@ -10,8 +10,9 @@ use Rattle.af_tool.specs.declared.end.ToolEnd.{ToolEnd}
 use Rattle.af_tool.specs.declared.end.ToolEnd.TheVariants as end
 use Rattle.af_options.specs.declared.job.Task.{Task}
 use Rattle.af_options.specs.declared.job.Task.TheVariants as task
-use Rattle.af_tool.specs.Trace.{Trace, ClientState, dials, mismatch, next_message, no_device, set_up, unused}
-use Rattle.af_tools.specs.Play.{aplay_trace, most_bytes}
+use Rattle.af_tool.specs.Trace.{Trace, ClientState, bad_sound, channel_mismatch, dials, mismatch, next_message, no_device, set_up, sound_cut, unused}
+use Rattle.af_tools.specs.Most.{most_bytes}
+use Rattle.af_tools.specs.Play.{aplay_trace}
 use Rattle.af_tools.specs.Record.{arecord_trace}
 use Rattle.af_tools.specs.Set.{aset_trace}
 use Rattle.af_options.specs.declared.job.PassJob.{PassJob}
@@ -26,6 +27,9 @@ use Rattle.af_options.specs.Words.{Job, one, relay}
 use Rattle.af_relay.specs.Pair.{is_of_pass}
 use Rattle.af_tool.specs.Ends.{MatchesTrace, EndsByReply, IsAnswered, is_outer, client_of}
 use Rattle.af_tools.specs.Ways.{is_of_tool}
+use Rattle.af_sound.specs.declared.head.SoundFault.{SoundFault}
+use Rattle.af_sound.specs.declared.head.SoundForm.{SoundForm}
+use Rattle.af_tools.specs.Ran.{EndsBySound}
 use Rattle.af_tools.specs.Reading.{TellsIfRead}
 
 -- the trace of a task on a server that was set up
@@ -53,6 +57,20 @@ abbrev pub job_reads : Job → Bool
 job_reads (one server task) = reads_source task
 job_reads (relay from to job) = false
 
+-- the form of the sound file that a tool reads, if it reads one
+abbrev pub source_form : Task → Option SoundForm
+source_form (task.Play job) = job.form
+source_form (task.Record job) = None
+source_form (task.Set job) = None
+
+abbrev pub job_form : Job → Option SoundForm
+job_form (one server task) = source_form task
+job_form (relay from to job) = None
+
+abbrev pub form_of : Option Job → Option SoundForm
+form_of (Some j) = job_form j
+form_of None = None
+
 abbrev pub reads_of : Option Job → Bool
 reads_of (Some j) = job_reads j
 reads_of None = false
@@ -66,7 +84,7 @@ abbrev pub is_of_one : (reads : Bool) → ToolEnd → Bool
 is_of_one reads end.DialFault = true
 is_of_one reads how = is_of_far reads how
 
--- the ends of a relay that has a second link, and of one that dials; only a relay ends for two rates
+-- the ends of a relay that has a second link, and of one that dials; only a relay, and a tool that reads its source, ends for two rates
 abbrev pub is_of_over : ToolEnd → Bool
 is_of_over end.OutOfMemory = true
 is_of_over how = is_of_pass how
@@ -213,10 +231,14 @@ pub record AskedFor (servers : List Text) (how : ToolEnd) (asked asked' : Option
   pub none : named ≡ [] → how ≡ end.OutOfMemory
   pub all : how ≡ end.Done → others ≡ []
 
--- the device is there, two devices have one rate, and each request gets the reply that it awaits
+-- the device is there, a source that is a sound file is one, two devices, or a file and a device, have one rate and the same
+-- channels, and each request gets the reply that it awaits
 pub record IsServed (trace : Trace) : Type 0 where
   pub there : (devices : ℕ) → trace.finish ≢ no_device devices
+  pub good : (fault : SoundFault) → trace.finish ≢ bad_sound fault
+  pub whole : trace.finish ≢ sound_cut
   pub even : (from to : ℕ) → trace.finish ≢ mismatch from to
+  pub one_shape : (from to : ℕ) → trace.finish ≢ channel_mismatch from to
   pub answered : IsAnswered trace
 
 -- What the tools did for a job: it ran, and each end that replies or devices cause is that of its trace. Done, what aplay played is
@@ -227,6 +249,7 @@ pub record JobDone (j : Job) (bytes : List ℕ) (how : ToolEnd) (links : List To
   pub reply : EndsByReply (on_from (run_trace j links bytes)) how
   pub device : EndsByDevice (on_from (run_trace j links bytes)) how
   pub rates : EndsByRates (on_from (run_trace j links bytes)) how
+  pub sound : EndsBySound (on_from (run_trace j links bytes)) how
   pub heard : (server : Text) (play : PlayJob) → j ≡ one server (task.Play play) → how ≡ end.Done → PlayRan play bytes links links' held held' back back'
   pub relayed : (from to : Text) (pass : PassJob) → j ≡ relay from to pass → how ≡ end.Done → RelayRan pass links links' held held' back back'
   pub complete : length bytes ≤ most_bytes → IsServed (on_from (run_trace j links bytes)) → (how ≡ end.Done) ⊎ (is_outer how ≡ true)

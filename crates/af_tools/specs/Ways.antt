@@ -21,6 +21,10 @@ is_of_tool reads end.Done = true
 is_of_tool reads (end.NoDevice devices) = true
 is_of_tool reads end.ReadFault = reads
 is_of_tool reads end.TooLong = reads
+is_of_tool reads (end.RateMismatch from to) = reads
+is_of_tool reads (end.ChannelMismatch from to) = reads
+is_of_tool reads (end.BadSound fault) = reads
+is_of_tool reads end.SoundCut = reads
 is_of_tool reads end.SinkFault = true
 is_of_tool reads how = is_of_link how
 

@@ -13,6 +13,7 @@ mod report;
 mod run;
 mod set;
 mod setter;
+mod sound;
 mod standing;
 
 pub use af_options::{PassJob, PlayJob, RecordJob, SetJob};

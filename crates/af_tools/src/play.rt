@@ -1,58 +1,142 @@
 // What a source gives is played, block by block.
-ghost use Rattle.std.specs.Prelude.{◌≡◌, ◌<◌, ◌≤◌, ◌*◌, ◌+◌, true, length, IfErr, IfOk, IsErrOf};
+ghost use Rattle.std.specs.Prelude.{◌≡◌, ◌<◌, ◌≤◌, ◌⊎◌, ◌*◌, ◌+◌, ◌-◌, true, false, length, IfErr, IfOk, IsErrOf};
 ghost use Rattle.std.specs.declared.option.Option.{Option};
 ghost use Rattle.std.specs.declared.option.Option.TheVariants.{None};
 ghost use Rattle.af_io.specs.Observed.{CountsFault};
 ghost use Rattle.af_io.specs.Flow.{IsSpent};
-ghost use Rattle.af_tool.specs.Ends.{KeepsConnection};
+ghost use Rattle.af_request.specs.Asked.{play_run};
+ghost use Rattle.af_lib.specs.Calls.{as_time};
+ghost use Rattle.af_tool.specs.Trace.{asks};
+ghost use Rattle.af_tool.specs.Ends.{is_of_link, KeepsConnection, ObservedPartOver};
+ghost use Rattle.af_sound.specs.Served.{served_length};
+ghost use Rattle.af_tools.specs.Most.{most_bytes};
 ghost use Rattle.af_tools.specs.Play.{blocks, plays};
+ghost use Rattle.af_tools.specs.Sounds.{as_served, served_room, source_width, stated_part, AreWhole, IsServedAs};
 ghost use Rattle.af_tools.specs.Ways.{is_of_blocks};
-ghost use Rattle.af_tools.specs.Fill.{ConsumedBeyondMost, ConsumedWithinMost};
+ghost use Rattle.af_tools.specs.Fill.{ConsumedBeyond, ConsumedStated, ConsumedUpTo};
 ghost use Rattle.af_tools.specs.Reading.{ObservedPartReading};
 ghost use Rattle.af_options.specs.Sizes.{greatest_block};
 
-use crate::fill::fill_block;
+use crate::fill::{fill_stated, left_behind};
+use crate::sound::SourceSound;
 use af_io::{Link, Source};
 use af_lib::Conn;
+use af_sound::{Coding, to_server};
 use af_time::DevTime;
 use af_tool::{CONTEXT, ToolEnd, time_behind};
 
-// How many bytes a source may give.
-const MOST_BYTES: u64 = 1 << 40;
+/// How many bytes a source may give, with the head of a file.
+pub const MOST_BYTES: u64 = 1 << 40;
 
-/// Plays what a source gives, in blocks of as many bytes as there is room for, from a start on: how many frames these were.
-/// A frame has `width` bytes; bytes at the end that make no whole frame are dropped.
+/// What is played: a sound, in blocks of so many frames, from a start on.
+#[derive(Clone, Copy)]
+pub struct Playback {
+    pub sound: SourceSound,
+    /// The frames of a block, 1..4000.
+    pub block: u32,
+    pub start: DevTime,
+}
+
+// How many bytes a server takes for some of a file.
+fn served_size(coding: Coding, count: usize) -> usize
+    requires { served_length coding count ≤ greatest_block }
+    ensures { result ≡ served_length coding count }
+{
+    match coding {
+        Coding::U8 => count * 2,
+        Coding::Mu255 | Coding::Alaw | Coding::Lin16Big | Coding::Lin16Little => count,
+    }
+}
+
+// Plays samples of the context.
+fn play_samples<L: Link + Drop>(
+    conn: &mut Conn<L>,
+    at: DevTime,
+    samples: &[u8],
+) -> Result<DevTime, ToolEnd>
+    requires usable { conn.old.cause ≡ None }
+    requires block { length samples.now ≤ greatest_block }
+    ensures goes { ObservedPartOver L.left L.sent conn.old conn.new
+        (λ w. asks (play_run false 1 at.0 samples.now) as_time w) result }
+    ensures holds { KeepsConnection L.left L.faults conn.old conn.new result }
+    ensures end { IfErr result (λ how. is_of_link how ≡ true) }
+{
+    Ok(conn.play_run(CONTEXT, at, samples)?)
+}
+
+// Plays a block as a server takes it. A file's samples are converted into the room that is handed in.
+fn play_block<L: Link + Drop>(
+    conn: &mut Conn<L>,
+    coding: Option<Coding>,
+    at: DevTime,
+    block: &[u8],
+    room: &mut [u8],
+) -> Result<DevTime, ToolEnd>
+    requires usable { conn.old.cause ≡ None }
+    requires block { (length block.now ≤ greatest_block) × AreWhole coding (length block.now) }
+    requires room { (served_room coding (length block.now) ≤ length room.old)
+        × (served_room coding (length block.now) ≤ greatest_block) }
+    ensures goes { ObservedPartOver L.left L.sent conn.old conn.new
+        (λ w. asks (play_run false 1 at.0 (as_served coding block.now)) as_time w) result }
+    ensures room { length room.new ≡ length room.old }
+    ensures holds { KeepsConnection L.left L.faults conn.old conn.new result }
+    ensures end { IfErr result (λ how. is_of_link how ≡ true) }
+{
+    match coding {
+        None => play_samples(conn, at, block),
+        Some(coding) => {
+            let size = served_size(coding, block.len());
+            to_server(coding, block, &mut room[..size]);
+            play_samples(conn, at, &room[..size])
+        }
+    }
+}
+
+/// Plays the sound that a source gives, in blocks, from a start on: how many frames these were. Bytes at the end that make no whole
+/// frame are dropped. In the room a block is read, and behind it converted.
 pub fn play_blocks<L: Link + Drop, S: Source>(
     conn: &mut Conn<L>,
     source: &mut S,
+    playback: Playback,
     room: &mut [u8],
-    width: usize,
-    start: DevTime,
 ) -> Result<u64, ToolEnd>
     requires usable { conn.old.cause ≡ None }
-    requires room { (1 ≤ width) × (width ≤ length room.old) × (length room.old ≤ greatest_block) }
+    requires block { (1 ≤ playback.block) × (playback.block ≤ 4000) }
+    requires sound { IsServedAs playback.sound.coding playback.sound.ty × (playback.sound.head ≤ most_bytes) }
+    requires room { greatest_block ≤ length room.old }
     ensures goes { ObservedPartReading L.left L.sent S.left conn.old conn.new source.old source.new
-        (λ bytes w. plays width start.0 0 0 (blocks (length room.old) bytes) w) result }
-    ensures spent { IfOk result (λ _. IsSpent (S.left source.new)) }
-    ensures long { IsErrOf result ToolEnd.TooLong → ConsumedBeyondMost (S.left source.old) (S.left source.new) }
-    ensures within { (result ≡ Err ToolEnd.TooLong → ⊥) → ConsumedWithinMost (S.left source.old) (S.left source.new) }
+        (λ bytes w. plays playback.sound.coding (source_width playback.sound.coding playback.sound.ty) playback.start.0 0 playback.sound.head
+        (blocks (playback.block * source_width playback.sound.coding playback.sound.ty) (stated_part playback.sound.length bytes)) w) result }
+    ensures spent { IfOk result (λ _. IsSpent (S.left source.new)
+        ⊎ ConsumedStated playback.sound.length (S.left source.old) (S.left source.new)) }
+    ensures long { IsErrOf result ToolEnd.TooLong →
+        ConsumedBeyond (most_bytes - playback.sound.head) (S.left source.old) (S.left source.new) }
+    ensures within { (IsErrOf result ToolEnd.TooLong → ⊥) →
+        ConsumedUpTo (most_bytes - playback.sound.head) (S.left source.old) (S.left source.new) }
     ensures holds { KeepsConnection L.left L.faults conn.old conn.new result }
     ensures end { IfErr result (λ how. is_of_blocks how ≡ true) }
     ensures fault { CountsFault (IsErrOf result ToolEnd.ReadFault) (S.faults source.old) (S.faults source.new) }
 {
+    let Playback { sound, start, .. } = playback;
+    let width = sound.width();
+    let size = playback.block as usize * width;
+    let (block, served) = room.split_at_mut(size);
+    let most = MOST_BYTES - sound.head;
+    let mut left = sound.length;
     let mut frames = 0u64;
     let mut given = 0u64;
     loop {
-        let filled = fill_block(source, room, MOST_BYTES - given)?;
+        let filled = fill_stated(source, block, left, most - given)?;
         let count = filled / width;
         if count == 0 {
             return Ok(frames);
         }
         let at = time_behind(start, frames);
-        conn.play_run(CONTEXT, at, &room[..count * width])?;
+        play_block(conn, sound.coding, at, &block[..count * width], served)?;
         frames += count as u64;
         given += filled as u64;
-        if filled < room.len() {
+        left = left_behind(left, filled);
+        if filled < size {
             return Ok(frames);
         }
     }

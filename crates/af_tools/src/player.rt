@@ -1,5 +1,5 @@
 // aplay: what a source gives is played, and what was played is written to the sink.
-ghost use Rattle.std.specs.Prelude.{◌≡◌, ◌≤◌, true, length, unwrap_or, Err, IfErr, IfOk, IsErrOf};
+ghost use Rattle.std.specs.Prelude.{◌≡◌, ◌≤◌, ◌⊎◌, ◌-◌, true, length, IfErr, IfOk, IsErrOf};
 ghost use Rattle.std.specs.declared.option.Option.TheVariants.{None};
 ghost use Rattle.af_time.specs.DeviceTime.{frames_lasting};
 ghost use Rattle.af_io.specs.Observed.{CountsFault};
@@ -8,18 +8,21 @@ ghost use Rattle.af_tool.specs.Talk.{creates};
 ghost use Rattle.af_tool.specs.Ends.{KeepsConnection};
 ghost use Rattle.af_tools.specs.Play.{play_context, played_on, start_at};
 ghost use Rattle.af_tools.specs.Ways.{is_of_blocks, is_of_play};
-ghost use Rattle.af_tools.specs.Fill.{ConsumedBeyondMost, ConsumedWithinMost};
+ghost use Rattle.af_tools.specs.Fill.{ConsumedBeyond, ConsumedStated, ConsumedUpTo};
+ghost use Rattle.af_tools.specs.Most.{most_bytes};
+ghost use Rattle.af_tools.specs.Sounds.{IsServedAs};
 ghost use Rattle.af_tools.specs.Reading.{ObservedPartReading, UsesSource};
 ghost use Rattle.af_tools.specs.Ran.{LacksDevice, RunsAplay};
 ghost use Rattle.af_options.specs.Sizes.{greatest_block};
 
-use crate::play::play_blocks;
+use crate::play::{Playback, play_blocks};
 use crate::report::report;
+use crate::sound::{SourceSound, sound_of};
 use af_io::{Link, Sink, Source};
 use af_lib::Conn;
 use af_options::PlayJob;
 use af_request::DeviceInfo;
-use af_sample::Gain;
+use af_sample::{Gain, SampleType};
 use af_time::DevTime;
 use af_tool::{ToolContext, ToolEnd, begin, device_with, finish, time_behind};
 
@@ -40,53 +43,66 @@ fn start_of(job: &PlayJob, now: DevTime, rate: u32) -> DevTime
     }
 }
 
-// The context of a job on a device.
-fn context_of(job: &PlayJob, device: DeviceInfo) -> ToolContext
-    ensures asked { creates result ≡ play_context job.now device }
+// The context of a job for samples of a type.
+fn context_of(job: &PlayJob, ty: SampleType) -> ToolContext
+    ensures asked { creates result ≡ play_context job.now ty }
     ensures device { result.device ≡ job.now.device }
-    ensures ty { result.ty ≡ unwrap_or job.now.ty device.ty }
 {
     ToolContext {
         device: job.device,
-        ty: job.ty.unwrap_or(device.ty),
+        ty,
         play: job.gain,
         record_by: Gain::default(),
         preempt: job.preempt,
     }
 }
 
-// Plays what a source gives on a device.
-fn play_on<L: Link + Drop, S: Source>(
-    job: &PlayJob,
+// A job, and what its source gives to be played on its device.
+#[derive(Clone, Copy)]
+struct Plan {
+    job: PlayJob,
     device: DeviceInfo,
+    sound: SourceSound,
+}
+
+// Plays a sound that a source gives on a device.
+fn play_on<L: Link + Drop, S: Source>(
+    plan: Plan,
     conn: &mut Conn<L>,
     source: &mut S,
     room: &mut [u8],
 ) -> Result<Played, ToolEnd>
     requires usable { conn.old.cause ≡ None }
-    requires block { (1 ≤ job.now.block) × (job.now.block ≤ 4000) }
+    requires block { (1 ≤ plan.job.block) × (plan.job.block ≤ 4000) }
+    requires sound { IsServedAs plan.sound.coding plan.sound.ty × (plan.sound.head ≤ most_bytes) }
     requires room { greatest_block ≤ length room.old }
-    ensures goes { ObservedPartReading L.left L.sent S.left conn.old conn.new source.old source.new (λ bytes w next. played_on
-        job.now device bytes w (λ frames start. next (record { frames = frames; start = record { 0 = start } }))) result }
-    ensures spent { IfOk result (λ _. IsSpent (S.left source.new)) }
-    ensures long { IsErrOf result ToolEnd.TooLong → ConsumedBeyondMost (S.left source.old) (S.left source.new) }
-    ensures within { (result ≡ Err ToolEnd.TooLong → ⊥) → ConsumedWithinMost (S.left source.old) (S.left source.new) }
+    ensures goes { ObservedPartReading L.left L.sent S.left conn.old conn.new source.old source.new (λ bytes w next. played_on plan.job
+        plan.sound plan.device bytes w (λ frames start. next (record { frames = frames; start = record { 0 = start } }))) result }
+    ensures spent { IfOk result (λ _. IsSpent (S.left source.new)
+        ⊎ ConsumedStated plan.sound.length (S.left source.old) (S.left source.new)) }
+    ensures long { IsErrOf result ToolEnd.TooLong →
+        ConsumedBeyond (most_bytes - plan.sound.head) (S.left source.old) (S.left source.new) }
+    ensures within { (IsErrOf result ToolEnd.TooLong → ⊥) →
+        ConsumedUpTo (most_bytes - plan.sound.head) (S.left source.old) (S.left source.new) }
     ensures holds { KeepsConnection L.left L.faults conn.old conn.new result }
     ensures end { IfErr result (λ how. is_of_blocks how ≡ true) }
     ensures fault { CountsFault (IsErrOf result ToolEnd.ReadFault) (S.faults source.old) (S.faults source.new) }
 {
-    let context = context_of(job, device);
-    let width = context.ty.width();
-    let now = begin(conn, context)?;
-    let start = start_of(job, now, device.rate);
-    let size = job.block as usize * width;
-    let frames = play_blocks(conn, source, &mut room[..size], width, start)?;
+    let Plan { job, device, sound } = plan;
+    let now = begin(conn, context_of(&job, sound.ty))?;
+    let start = start_of(&job, now, device.rate);
+    let playback = Playback {
+        sound,
+        block: job.block,
+        start,
+    };
+    let frames = play_blocks(conn, source, playback, room)?;
     finish(conn)?;
     Ok(Played { frames, start })
 }
 
-/// Plays what a source gives on a device, in blocks, and then writes how many frames were played and from when on. The
-/// connection is one that was just made; room for 16000 bytes is handed in.
+/// Plays what a source gives on a device, in blocks, and then writes how many frames were played and from when on. A sound file
+/// is to have the rate and the channels of the device. The connection is one that was just made; room for 16000 bytes is handed in.
 pub fn aplay<L: Link + Drop, S: Source, K: Sink>(
     job: &PlayJob,
     conn: &mut Conn<L>,
@@ -104,7 +120,7 @@ pub fn aplay<L: Link + Drop, S: Source, K: Sink>(
     // each end has its cause
     ensures end { is_of_play result ≡ true }
     ensures no_device { LacksDevice job.now.device conn.old.devices result }
-    ensures source { UsesSource S.left S.faults true result source.old source.new }
+    ensures source { UsesSource S.left S.faults true job.now.form result source.old source.new }
     ensures link { CountsFault (result ≡ ToolEnd.LinkFault) (L.faults conn.old.link) (L.faults conn.new.link) }
     ensures sink { CountsFault (result ≡ ToolEnd.SinkFault) (K.faults sink.old) (K.faults sink.new) }
 {
@@ -112,7 +128,16 @@ pub fn aplay<L: Link + Drop, S: Source, K: Sink>(
         Ok(device) => device,
         Err(end) => return end,
     };
-    match play_on(job, device, conn, source, room) {
+    let sound = match sound_of(job, device, source) {
+        Ok(sound) => sound,
+        Err(end) => return end,
+    };
+    let plan = Plan {
+        job: *job,
+        device,
+        sound,
+    };
+    match play_on(plan, conn, source, room) {
         Ok(played) => report(sink, played.frames, played.start),
         Err(end) => end,
     }

@@ -2,6 +2,7 @@
 use crate::tests::checks::{holds, words_of};
 use af_options::{Call, OptionsFault, PassJob, PlayJob, RelayCall, Task, TaskCall, call_of};
 use af_sample::{Gain, SampleType};
+use af_sound::SoundForm;
 use std::alloc::Global;
 use std::process::Abort;
 use std::test::Fail;
@@ -43,6 +44,7 @@ fn ask_nothing(rt: &impl Abort, alloc: Global, words: &[&str]) -> Result<(), Fai
 fn a_server_alone_has_the_defaults(rt: HostRuntime) -> Result<(), Fail> {
     let job = PlayJob {
         device: 0,
+        form: None,
         ty: None,
         gain: Gain::default(),
         block: 1000,
@@ -54,9 +56,30 @@ fn a_server_alone_has_the_defaults(rt: HostRuntime) -> Result<(), Fail> {
 }
 
 #[test]
+fn a_sound_file_is_named_by_its_form(rt: HostRuntime) -> Result<(), Fail> {
+    let job = PlayJob {
+        device: 0,
+        form: Some(SoundForm::Wave),
+        ty: None,
+        gain: Gain::default(),
+        block: 1000,
+        lead: 100,
+        time: None,
+        preempt: false,
+    };
+    ask_task(
+        &rt,
+        rt.alloc(),
+        &["aplay", "h:1", "--file=wave"],
+        Task::Play(job),
+    )
+}
+
+#[test]
 fn values_stand_behind_a_sign_or_a_blank(rt: HostRuntime) -> Result<(), Fail> {
     let job = PlayJob {
         device: 0,
+        form: None,
         ty: Some(SampleType::Lin16),
         gain: Gain::default(),
         block: 4000,

@@ -2,6 +2,7 @@ use Rattle.std.proofs.Common.{◌≡◌, ◌≤◌, ◌+◌, ◌-◌, ◌^◌, �
 use Rattle.std.specs.declared.option.Option.{Option}
 use Rattle.std.specs.declared.option.Option.TheVariants.{None, Some}
 use Rattle.af_tool.specs.Ends.{client_of}
+use Rattle.af_tools.specs.Sounds.{stated_behind, stated_part, FitsStated}
 use Rattle.af_tools.proofs.PlayBlockLemmas.{ConsumedAll, IsPlaying}
 use Rattle.af_tools.proofs.play.play_blocks.Given as goal
 
@@ -12,11 +13,15 @@ invariant-loop-filled g l = record {
   tells : IsSome (g.L.Link.left l.initial.conn.link) → IsSome (g.L.Link.left l.conn.link);
   link_count : g.L.Link.faults l.initial.conn.link ≤ g.L.Link.faults l.conn.link;
   count : g.S.Source.faults l.initial.source ≤ g.S.Source.faults l.source;
-  permitted : l.given ≤ 2 ^ 40;
+  block : length l.block ≡ l.size;
+  served : length l.served ≡ length l.initial.served;
+  permitted : l.given ≤ l.most;
   few : l.frames ≤ l.given;
+  fits : FitsStated l.sound.length l.given;
+  rest : l.left ≡ stated_behind l.sound.length l.given;
   given : ConsumedAll l.given (g.S.Source.left l.initial.source) (g.S.Source.left l.source);
   playing : (input bytes : List ℕ) (held : Option (List ℕ)) → g.L.Link.left l.initial.conn.link ≡ Some input → g.S.Source.left l.initial.source ≡ Some bytes → IsSome (g.S.Source.left l.source) →
-      IsPlaying l.width l.start.0 (length l.initial.room) l.frames l.given bytes (client_of l.initial.conn input) (g.S.Source.left l.source) (g.L.Link.left l.conn.link) (client_of l.conn) (g.L.Link.sent l.initial.conn.link) (g.L.Link.sent l.conn.link) held;
+      IsPlaying l.sound.coding l.sound.head l.width l.start.0 l.size l.frames (l.sound.head + l.given) l.left (stated_part l.sound.length bytes) (client_of l.initial.conn input) (g.S.Source.left l.source) (g.L.Link.left l.conn.link) (client_of l.conn) (g.L.Link.sent l.initial.conn.link) (g.L.Link.sent l.conn.link) held;
 }
 
 abbrev pub decreases-loop-filled : goal.decreases-loop-filled

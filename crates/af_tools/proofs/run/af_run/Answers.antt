@@ -4,7 +4,7 @@ use Rattle.af_tool.specs.declared.end.ToolEnd.TheVariants as end
 use Rattle.af_options.specs.Words.{Job}
 use Rattle.af_options.specs.Call.{job_of_call}
 use Rattle.af_tools.specs.Reading.{UsesSource}
-use Rattle.af_tools.specs.Run.{JobDone, job_reads, reads_of}
+use Rattle.af_tools.specs.Run.{JobDone, form_of, job_reads, reads_of}
 use Rattle.af_tools.proofs.OutcomeLemmas.{did, ranged_call}
 use Rattle.af_tools.proofs.DialLemmas.{ran_none, same_job}
 use Rattle.af_tools.proofs.run.af_run.Goals as goal
@@ -22,4 +22,4 @@ returns-in-Ok-clause-told g c j called used links bytes told tells =
 
 pub returns-in-Ok-clause-source : goal.returns-in-Ok-clause-source
 returns-in-Ok-clause-source g c =
-    subst (λ (o : Option Job). UsesSource g.S.Source.left g.S.Source.faults (reads_of o) c.run_call.result c.args.source.now c.run_call.new.source) (sym c.in-Ok.ensures.ok) c.run_call.ensures.source
+    subst (λ (o : Option Job). UsesSource g.S.Source.left g.S.Source.faults (reads_of o) (form_of o) c.run_call.result c.args.source.now c.run_call.new.source) (sym c.in-Ok.ensures.ok) c.run_call.ensures.source

@@ -1,0 +1,164 @@
+-- The front of a file is read byte by byte.
+use Rattle.std.proofs.Common.{◌≡◌, ◌<◌, ◌≤◌, ℕ, zero, suc, ◌+◌, nat_lt, true, false, Bool, List, [], ◌∷◌, ◌++◌, length, take, drop, slice_index, refl, sym, ap, ◌∙◌, subst, arith, inr, append-nil, append_assoc, length-append, if◌then◌else◌, IsSome}
+use Rattle.std.proofs.lemmas.Bool.Decides.{nat_tests}
+use Rattle.std.proofs.lemmas.List.{drop_at}
+use Rattle.std.specs.Prelude.{Ok, Err}
+use Rattle.std.specs.declared.option.Option.{Option}
+use Rattle.std.specs.declared.option.Option.TheVariants.{None, Some}
+use Rattle.af_io.specs.Observed.{Consumed}
+use Rattle.af_io.specs.Flow.{IsSpent}
+use Rattle.af_io.proofs.ConsumedLemmas.{consumed_known, consumed_none, consumed_on}
+use Rattle.af_sound.specs.declared.head.HeadStep.{HeadStep}
+use Rattle.af_sound.specs.declared.head.HeadStep.TheVariants as step
+use Rattle.af_sound.specs.declared.head.SoundForm.{SoundForm}
+use Rattle.af_sound.specs.declared.head.SoundHead.{SoundHead}
+use Rattle.af_sound.specs.declared.head.SoundFault.{SoundFault}
+use Rattle.af_sound.specs.declared.head_reader.HeadReader.{HeadReader}
+use Rattle.af_sound.specs.Fronts.{front_of, Front}
+use Rattle.af_sound.specs.Heads.{HasFault, IsHead}
+use Rattle.af_sound.specs.Reading.{HasTaken, IsOpen}
+use Rattle.af_sound.proofs.FrontLemmas.{front, front_beyond, front_fault, front_head, front_open}
+use Rattle.af_tool.specs.declared.end.ToolEnd.TheVariants as end
+use Rattle.af_tool.specs.Trace.{Trace, bad_sound, ends, sound_cut, too_long}
+use Rattle.af_tools.specs.declared.sound.FileHead.{FileHead}
+use Rattle.af_tools.specs.Most.{most_bytes}
+use Rattle.af_tools.specs.Fill.{ConsumedBeyondMost, ConsumedCut, ConsumedFault, ConsumedHead, ConsumedWithinMost}
+use Rattle.af_tools.specs.Sounds.{behind_front, reads_front}
+use Rattle.af_tools.specs.SoundReads.{HeadCame}
+
+-- a reader has taken what a source gave
+pub record HasRead (form : SoundForm) (reader : HeadReader) (size : ℕ) (before after : Option (List ℕ)) : Type 0 where
+  pub bytes : List ℕ
+  pub consumed : Consumed before bytes after
+  pub all : length bytes ≡ size
+  pub taken : HasTaken reader form bytes
+
+pub read_begin : (form : SoundForm) (reader : HeadReader) (before : Option (List ℕ)) → HasTaken reader form [] → HasRead form reader 0 before before
+read_begin form reader before taken = record { bytes = []; consumed = consumed_none before; all = refl; taken = taken }
+
+-- the one byte that was read
+pub one_byte : (n : ℕ) (into : List ℕ) → length into ≡ 1 → 1 ≤ n → take n into ≡ slice_index into 0 ∷ []
+one_byte n [] one some = absurd (omega arith)
+one_byte (suc n) (b ∷ []) one some = ap (λ (l : List ℕ). b ∷ l) (nothing n) where
+  nothing : (n : ℕ) → take n [] ≡ (let l : List ℕ = [] in l)
+  nothing zero = refl
+  nothing (suc n) = refl
+one_byte zero (b ∷ []) one some = absurd (omega arith)
+one_byte n (a ∷ b ∷ into) one some = absurd (omega arith)
+
+-- a byte more
+pub read_more : (form : SoundForm) (reader reader' : HeadReader) (size byte : ℕ) (a b c : Option (List ℕ)) (h : HasRead form reader size a b) → Consumed b (byte ∷ []) c →
+    HasTaken reader' form (h.bytes ++ (byte ∷ [])) → HasRead form reader' (size + 1) a c
+read_more form reader reader' size byte a b c h more taken = record {
+  bytes = h.bytes ++ (byte ∷ []);
+  consumed = consumed_on a b c h.bytes (byte ∷ []) h.consumed more;
+  all = (let all = h.all in omega (arith, length-append h.bytes (byte ∷ [])));
+  taken = taken;
+}
+
+module _ (form : SoundForm) (reader : HeadReader) (size : ℕ) (a b : Option (List ℕ)) (h : HasRead form reader size a b) where
+  pub read_within : size ≤ most_bytes → ConsumedWithinMost a b
+  read_within few = record { bytes = h.bytes; consumed = h.consumed; within = (let all = h.all in omega arith) }
+
+  -- the source ended
+  pub read_spent : IsOpen reader → size ≤ most_bytes → IsSpent b → (bytes : List ℕ) → a ≡ Some bytes → IsSome b → HeadCame form bytes (Err end.SoundCut) b
+  read_spent opens few spent bytes told tells =
+      let k = consumed_known a b bytes h.bytes told h.consumed tells in
+      let none : k.0 ≡ [] = spent_is b k.0 k.1 spent in
+      let whole : bytes ≡ h.bytes = k.2 ∙ ap (λ (l : List ℕ). h.bytes ++ l) none ∙ append-nil h.bytes in
+      let said : front_of form bytes ≡ front step.More (length h.bytes) = ap (front_of form) whole ∙ front_open form reader h.bytes h.taken opens in
+      let all = h.all in
+      inr (sound_cut, refl, λ next. ap (λ (f : Front). reads_front f next) said ∙ fits (length h.bytes) step.More next (omega arith)) where
+        spent_is : (b : Option (List ℕ)) (rest : List ℕ) → b ≡ Some rest → IsSpent b → rest ≡ []
+        spent_is None rest is spent = cc is
+        spent_is (Some x) rest is spent = let same : x ≡ rest = cc in sym same ∙ spent
+
+        fits : (n : ℕ) (says : HeadStep) (next : SoundHead → Trace) → n ≤ most_bytes → reads_front (front says n) next ≡ behind_front says next
+        fits n says next few =
+            let test : nat_lt most_bytes n ≡ false = grind (arith, nat_tests) in
+            ap (λ (t : Bool). if t then ends too_long else behind_front says next) test
+
+  pub read_cut : IsOpen reader → IsSpent b → ConsumedCut (Some form) a b
+  read_cut opens spent = record {
+    bytes = h.bytes;
+    consumed = h.consumed;
+    spent = spent;
+    of = form;
+    is_form = refl;
+    no_head = λ start rest head is has.
+        let bad : front step.More (length h.bytes) ≡ front (step.Head head) (length start) = sym (front_open form reader h.bytes h.taken opens) ∙ ap (front_of form) is ∙ front_head form start rest head has in
+        let other : step.More ≡ step.Head head = ap (λ (f : Front). f.says) bad in
+        cc;
+    no_fault = λ start rest fault is has.
+        let bad : front step.More (length h.bytes) ≡ front (step.Bad fault) (length start) = sym (front_open form reader h.bytes h.taken opens) ∙ ap (front_of form) is ∙ front_fault form start rest fault has in
+        let other : step.More ≡ step.Bad fault = ap (λ (f : Front). f.says) bad in
+        cc;
+  }
+
+  module _ (byte : ℕ) (c : Option (List ℕ)) (more : Consumed b (byte ∷ []) c) where
+    all_read : Consumed a (h.bytes ++ (byte ∷ [])) c
+    all_read = consumed_on a b c h.bytes (byte ∷ []) h.consumed more
+
+    read_long : length (h.bytes ++ (byte ∷ [])) ≡ size + 1
+    read_long = let all = h.all in omega (arith, length-append h.bytes (byte ∷ []))
+
+    -- a byte too many
+    pub read_too_long : IsOpen reader → most_bytes ≤ size → (bytes : List ℕ) → a ≡ Some bytes → IsSome c → HeadCame form bytes (Err end.TooLong) c
+    read_too_long opens many bytes told tells =
+        let k = consumed_known a c bytes (h.bytes ++ (byte ∷ [])) told all_read tells in
+        let parts : bytes ≡ h.bytes ++ (byte ∷ k.0) = k.2 ∙ append_assoc h.bytes (byte ∷ []) k.0 in
+        let beyond = front_beyond form reader h.bytes byte k.0 h.taken opens in
+        let all = h.all in
+        let test : nat_lt most_bytes (front_of form (h.bytes ++ (byte ∷ k.0))).size ≡ true = grind (arith, nat_tests) in
+        inr (
+          too_long,
+          refl,
+          λ next.
+              ap (λ (l : List ℕ). reads_front (front_of form l) next) parts
+              ∙ ap (λ (t : Bool). if t then ends too_long else behind_front (front_of form (h.bytes ++ (byte ∷ k.0))).says next) test,
+        )
+
+    pub read_beyond : most_bytes ≤ size → ConsumedBeyondMost a c
+    read_beyond many = record { bytes = h.bytes ++ (byte ∷ []); consumed = all_read; beyond = (let long = read_long in omega arith) }
+
+    -- a head is whole
+    pub read_whole : (head : SoundHead) → IsHead form (h.bytes ++ (byte ∷ [])) head → (bytes : List ℕ) → a ≡ Some bytes → IsSome c →
+        HeadCame form bytes (let file : FileHead = record { head = head; size = size + 1 } in Ok file) c
+    read_whole head is bytes told tells =
+        let k = consumed_known a c bytes (h.bytes ++ (byte ∷ [])) told all_read tells in (
+          ap (front_of form) k.2 ∙ front_head form (h.bytes ++ (byte ∷ [])) k.0 head is ∙ ap (front (step.Head head)) read_long,
+          k.1 ∙ ap (λ (l : List ℕ). Some l) (sym (ap (drop (size + 1)) k.2 ∙ drop_at (h.bytes ++ (byte ∷ [])) k.0 (size + 1) read_long)),
+        )
+
+    pub read_head : (head : SoundHead) → size < most_bytes → IsHead form (h.bytes ++ (byte ∷ [])) head → ConsumedHead (Some form) (size + 1) head.length a c
+    read_head head few is = record { bytes = h.bytes ++ (byte ∷ []); consumed = all_read; all = read_long; within = omega arith; is_head = (head, is, refl) }
+
+    -- a fault shows
+    pub read_bad : (fault : SoundFault) → size < most_bytes → HasFault form (h.bytes ++ (byte ∷ [])) fault → (bytes : List ℕ) → a ≡ Some bytes → IsSome c → HeadCame form bytes (Err (end.BadSound fault)) c
+    read_bad fault few has bytes told tells =
+        let k = consumed_known a c bytes (h.bytes ++ (byte ∷ [])) told all_read tells in
+        let said : front_of form bytes ≡ front (step.Bad fault) (size + 1) = ap (front_of form) k.2 ∙ front_fault form (h.bytes ++ (byte ∷ [])) k.0 fault has ∙ ap (front (step.Bad fault)) read_long in
+        let test : nat_lt most_bytes (size + 1) ≡ false = grind (arith, nat_tests) in
+        inr (bad_sound fault, refl, λ next. ap (λ (f : Front). reads_front f next) said ∙ ap (λ (t : Bool). if t then ends too_long else ends (bad_sound fault)) test)
+
+    pub read_fault : (fault : SoundFault) → HasFault form (h.bytes ++ (byte ∷ [])) fault → ConsumedFault (Some form) fault a c
+    read_fault fault has = record { bytes = h.bytes ++ (byte ∷ []); consumed = all_read; of = form; is_form = refl; has = has }
+
+    pub read_more_within : size < most_bytes → ConsumedWithinMost a c
+    read_more_within few = record { bytes = h.bytes ++ (byte ∷ []); consumed = all_read; within = (let long = read_long in omega arith) }
+
+-- the end of the source, which gives no byte
+read_none : (form : SoundForm) (reader : HeadReader) (size : ℕ) (a b c : Option (List ℕ)) → HasRead form reader size a b → Consumed b [] c → HasRead form reader size a c
+read_none form reader size a b c h none = record {
+  bytes = h.bytes;
+  consumed = subst (λ (l : List ℕ). Consumed a l c) (append-nil h.bytes) (consumed_on a b c h.bytes [] h.consumed none);
+  all = h.all;
+  taken = h.taken;
+}
+
+pub ended_read : (form : SoundForm) (reader : HeadReader) (size : ℕ) (a b c : Option (List ℕ)) → HasRead form reader size a b → Consumed b [] c → IsOpen reader → size ≤ most_bytes → IsSpent c →
+    (bytes : List ℕ) → a ≡ Some bytes → IsSome c → HeadCame form bytes (Err end.SoundCut) c
+ended_read form reader size a b c h none opens few spent = read_spent form reader size a c (read_none form reader size a b c h none) opens few spent
+
+pub ended_cut : (form : SoundForm) (reader : HeadReader) (size : ℕ) (a b c : Option (List ℕ)) → HasRead form reader size a b → Consumed b [] c → IsOpen reader → IsSpent c → ConsumedCut (Some form) a c
+ended_cut form reader size a b c h none opens spent = read_cut form reader size a c (read_none form reader size a b c h none) opens spent

@@ -1,0 +1,126 @@
+-- What a source gives to be played: samples, or a sound file.
+use Rattle.std.specs.Prelude.{◌≡◌, ℕ, ◌-◌, ◌==◌, ◌≤◌, nat_lt, min, ⊤, if◌then◌else◌, List, ◌++◌, take, drop, unwrap_or}
+use Rattle.std.specs.declared.option.Option.{Option}
+use Rattle.std.specs.declared.option.Option.TheVariants.{None, Some}
+use Rattle.af_sample.specs.declared.sample_type.SampleType.{SampleType}
+use Rattle.af_sample.specs.declared.sample_type.SampleType.TheVariants as ty
+use Rattle.af_sample.specs.SampleTypes.{width_of}
+use Rattle.af_sound.specs.declared.head.Coding.{Coding}
+use Rattle.af_sound.specs.declared.head.Coding.TheVariants as coding
+use Rattle.af_sound.specs.declared.head.HeadStep.{HeadStep}
+use Rattle.af_sound.specs.declared.head.HeadStep.TheVariants as step
+use Rattle.af_sound.specs.declared.head.SoundForm.{SoundForm}
+use Rattle.af_sound.specs.declared.head.SoundHead.{SoundHead}
+use Rattle.af_sound.specs.Fronts.{front_of, Front}
+use Rattle.af_sound.specs.Heads.{IsHead}
+use Rattle.af_sound.specs.Served.{served, served_length, HasWholePairs}
+use Rattle.af_sound.specs.Written.{sample_size}
+use Rattle.af_request.specs.declared.reply.DeviceInfo.{DeviceInfo}
+use Rattle.af_options.specs.declared.job.PlayJob.{PlayJob}
+use Rattle.af_tool.specs.Trace.{Trace, bad_sound, channel_mismatch, ends, mismatch, sound_cut, too_long}
+use Rattle.af_tools.specs.declared.sound.SourceSound.{SourceSound}
+use Rattle.af_tools.specs.Most.{most_bytes}
+
+-- the type that a server takes the samples of a file as
+abbrev pub served_type : Coding → SampleType
+served_type coding.Mu255 = ty.Mu255
+served_type coding.Alaw = ty.Alaw
+served_type _ = ty.Lin16
+
+-- the bytes of a sound, of those behind its head: as many as are stated, or all
+abbrev pub stated_part : Option ℕ → List ℕ → List ℕ
+stated_part (Some n) bytes = take n bytes
+stated_part None bytes = bytes
+
+-- the sound as a server takes it: a file's samples are converted, others are as they are
+abbrev pub as_served : Option Coding → List ℕ → List ℕ
+as_served (Some coding) bytes = served coding bytes
+as_served None bytes = bytes
+
+-- the bytes of a sample in the source
+abbrev pub source_width : Option Coding → SampleType → ℕ
+source_width (Some coding) ty = sample_size coding
+source_width None ty = width_of ty
+
+-- A source's bytes are a file of this form whose head tells the device's rate and channels, and these are the samples of the sound
+-- behind it, as a server takes them as this type.
+pub record IsFileSound (form : SoundForm) (device : DeviceInfo) (bytes : List ℕ) (ty : SampleType) (samples : List ℕ) : Type 0 where
+  pub front : List ℕ
+  pub rest : List ℕ
+  pub head : SoundHead
+  pub is : bytes ≡ front ++ rest
+  pub is_head : IsHead form front head
+  pub one_rate : head.rate ≡ device.rate
+  pub one_shape : head.channels ≡ device.channels
+  pub is_type : ty ≡ served_type head.coding
+  pub is_samples : samples ≡ served head.coding (stated_part head.length rest)
+
+-- What a source gives to be heard: samples of a type. They are its bytes, of the type that is stated or else the device's, or what a
+-- sound file means.
+abbrev pub GivesSamples : Option SoundForm → PlayJob → DeviceInfo → List ℕ → SampleType → List ℕ → Type 0
+GivesSamples None job device bytes ty samples = (ty ≡ unwrap_or job.ty device.ty) × (samples ≡ bytes)
+GivesSamples (Some form) job device bytes ty samples = IsFileSound form device bytes ty samples
+
+-- a source that a device can play: any, or a sound file that is whole up to its sound, with the device's rate and channels
+abbrev pub IsPlayable : PlayJob → DeviceInfo → List ℕ → Type 0
+IsPlayable job device bytes = (ty : SampleType) × (samples : List ℕ) × GivesSamples job.form job device bytes ty samples
+
+-- the samples of a source without a head
+abbrev pub raw_sound : PlayJob → DeviceInfo → SourceSound
+raw_sound job device = record { ty = unwrap_or job.ty device.ty; coding = None; head = 0; length = None }
+
+-- the samples of a file behind a head of n bytes
+abbrev pub file_sound : SoundHead → ℕ → SourceSound
+file_sound head size = record { ty = served_type head.coding; coding = Some head.coding; head = size; length = head.length }
+
+-- a file is to have the rate and the channels of its device
+abbrev pub at_one_shape : SoundHead → DeviceInfo → Trace → Trace
+at_one_shape head device next =
+    if head.rate == device.rate
+    then (if head.channels == device.channels then next else ends (channel_mismatch head.channels device.channels))
+    else ends (mismatch head.rate device.rate)
+
+-- what follows the front of a file: a fault ends the tool, and so does the end of the source
+abbrev pub behind_front : HeadStep → (SoundHead → Trace) → Trace
+behind_front (step.Head head) next = next head
+behind_front (step.Bad fault) next = ends (bad_sound fault)
+behind_front step.More next = ends sound_cut
+
+-- the front of a file is read, of no more bytes than aplay takes
+abbrev pub reads_front : Front → (SoundHead → Trace) → Trace
+reads_front front next = if nat_lt most_bytes front.size then ends too_long else behind_front front.says next
+
+-- what follows is told the samples of the source, and the bytes behind a head
+abbrev pub reads_sound : Option SoundForm → PlayJob → DeviceInfo → List ℕ → (SourceSound → List ℕ → Trace) → Trace
+reads_sound None job device bytes next = next (raw_sound job device) bytes
+reads_sound (Some form) job device bytes next =
+    let front = front_of form bytes in
+    reads_front front (λ head. at_one_shape head device (next (file_sound head front.size) (drop front.size bytes)))
+
+-- a sound of which a source can give more bytes, and what is stated behind some of them
+abbrev pub FitsStated : Option ℕ → ℕ → Type 0
+FitsStated (Some left) count = count ≤ left
+FitsStated None count = ⊤
+
+abbrev pub stated_behind : Option ℕ → ℕ → Option ℕ
+stated_behind (Some left) count = Some (left - count)
+stated_behind None count = None
+
+-- how many bytes of a block there can be
+abbrev pub stated_room : Option ℕ → ℕ → ℕ
+stated_room (Some left) room = min room left
+stated_room None room = room
+
+-- a sound as it is read: the type is the one that its coding is served as
+abbrev pub IsServedAs : Option Coding → SampleType → Type 0
+IsServedAs (Some coding) ty = ty ≡ served_type coding
+IsServedAs None ty = ⊤
+
+-- room for a block as a server takes it, and whole samples in it
+abbrev pub served_room : Option Coding → ℕ → ℕ
+served_room (Some coding) count = served_length coding count
+served_room None count = 0
+
+abbrev pub AreWhole : Option Coding → ℕ → Type 0
+AreWhole (Some coding) count = HasWholePairs coding count
+AreWhole None count = ⊤

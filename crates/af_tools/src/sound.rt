@@ -1,0 +1,144 @@
+// What a source gives to be played: samples, or a sound file.
+ghost use Rattle.std.specs.Prelude.{◌≡◌, ◌≤◌, ◌*◌, ◌==◌, ◌&&◌, ℕ, List, [], length, take, true, IfErr, IfOk, IsErrOf, unwrap_or};
+ghost use Rattle.std.specs.declared.option.Option.TheVariants.{None, Some};
+ghost use Rattle.af_io.specs.Observed.{CountsFault};
+ghost use Rattle.af_sound.specs.declared.head.SoundFault.{SoundFault};
+ghost use Rattle.af_tools.specs.Sounds.{at_one_shape, file_sound, raw_sound, served_type, source_width, IsServedAs};
+ghost use Rattle.af_tools.specs.SoundReads.{ends_shape, is_of_front, is_of_sound, BringsHead, BringsSound};
+ghost use Rattle.af_tools.specs.Fill.{ConsumedBeyondMost, ConsumedCut, ConsumedFault, ConsumedHead, ConsumedWithinMost};
+
+use crate::play::MOST_BYTES;
+use af_io::{Got, Source};
+use af_options::PlayJob;
+use af_request::DeviceInfo;
+use af_sample::SampleType;
+use af_sound::{Coding, HeadReader, HeadStep, SoundForm, SoundHead};
+use af_tool::ToolEnd;
+
+/// The samples that a source gives, behind the bytes that were read of it.
+#[derive(Clone, Copy, Debug, PartialEq, Eq)]
+pub struct SourceSound {
+    /// The type that the device takes them as.
+    pub ty: SampleType,
+    /// How a file codes them, or none where the bytes of the source are the samples.
+    pub coding: Option<Coding>,
+    /// The bytes of the head, which were read.
+    pub head: u64,
+    /// The bytes of the sound, if the head states that.
+    pub length: Option<u32>,
+}
+
+impl SourceSound {
+    /// The bytes of a frame in the source.
+    pub fn width(self) -> usize
+        ensures { result ≡ source_width self.coding self.ty }
+    {
+        match self.coding {
+            Some(Coding::Lin16Big | Coding::Lin16Little) => 2,
+            Some(Coding::Mu255 | Coding::Alaw | Coding::U8) => 1,
+            None => self.ty.width(),
+        }
+    }
+}
+
+// The head of a file, and how many bytes it has.
+#[derive(Clone, Copy)]
+pub struct FileHead {
+    pub head: SoundHead,
+    pub size: u64,
+}
+
+// The type that the device takes the samples of a file as.
+fn type_of(coding: Coding) -> SampleType
+    ensures { result ≡ served_type coding }
+{
+    match coding {
+        Coding::Mu255 => SampleType::Mu255,
+        Coding::Alaw => SampleType::Alaw,
+        Coding::Lin16Big | Coding::Lin16Little | Coding::U8 => SampleType::Lin16,
+    }
+}
+
+// Reads the head of a file, byte by byte.
+fn read_head<S: Source>(form: SoundForm, source: &mut S) -> Result<FileHead, ToolEnd>
+    ensures brings { BringsHead S.left form result source.old source.new }
+    ensures read { IfOk result (λ file. ConsumedHead (Some form) file.size file.head.length (S.left source.old) (S.left source.new)) }
+    ensures end { IfErr result (λ how. is_of_front how ≡ true) }
+    ensures bad { (fault : SoundFault) → IsErrOf result (ToolEnd.BadSound fault) →
+        ConsumedFault (Some form) fault (S.left source.old) (S.left source.new) }
+    ensures cut { IsErrOf result ToolEnd.SoundCut → ConsumedCut (Some form) (S.left source.old) (S.left source.new) }
+    ensures long { IsErrOf result ToolEnd.TooLong → ConsumedBeyondMost (S.left source.old) (S.left source.new) }
+    ensures within { (IsErrOf result ToolEnd.TooLong → ⊥) → ConsumedWithinMost (S.left source.old) (S.left source.new) }
+    ensures fault { CountsFault (IsErrOf result ToolEnd.ReadFault) (S.faults source.old) (S.faults source.new) }
+{
+    let mut reader = HeadReader::new(form);
+    let mut byte = [0];
+    let mut size = 0u64;
+    loop {
+        match source.read(&mut byte) {
+            Got::Bytes(_) if size == MOST_BYTES => return Err(ToolEnd::TooLong),
+            Got::Bytes(_) => size += 1,
+            Got::Ended => return Err(ToolEnd::SoundCut),
+            Got::Failed => return Err(ToolEnd::ReadFault),
+        }
+        match reader.take(byte[0]) {
+            HeadStep::More => {}
+            HeadStep::Head(head) => return Ok(FileHead { head, size }),
+            HeadStep::Bad(fault) => return Err(ToolEnd::BadSound { fault }),
+        }
+    }
+}
+
+// A file is to have the rate and the channels of its device.
+fn fit(head: SoundHead, device: DeviceInfo) -> Result<(), ToolEnd>
+    ensures { result ≡ ends_shape head device }
+{
+    if head.rate != device.rate {
+        return Err(ToolEnd::RateMismatch {
+            from: head.rate,
+            to: device.rate,
+        });
+    }
+    if head.channels != device.channels {
+        return Err(ToolEnd::ChannelMismatch {
+            from: head.channels,
+            to: device.channels,
+        });
+    }
+    Ok(())
+}
+
+/// What a source gives to be played on a device. The head of a file is read, and the sound stands behind it.
+pub fn sound_of<S: Source>(
+    job: &PlayJob,
+    device: DeviceInfo,
+    source: &mut S,
+) -> Result<SourceSound, ToolEnd>
+    ensures brings { BringsSound S.left job.now device result source.old source.new }
+    ensures read { IfOk result (λ sound. ConsumedHead job.now.form sound.head sound.length (S.left source.old) (S.left source.new)) }
+    ensures served { IfOk result (λ sound. IsServedAs sound.coding sound.ty) }
+    ensures end { IfErr result (λ how. is_of_sound how ≡ true) }
+    ensures bad { (fault : SoundFault) → IsErrOf result (ToolEnd.BadSound fault) →
+        ConsumedFault job.now.form fault (S.left source.old) (S.left source.new) }
+    ensures cut { IsErrOf result ToolEnd.SoundCut → ConsumedCut job.now.form (S.left source.old) (S.left source.new) }
+    ensures long { IsErrOf result ToolEnd.TooLong → ConsumedBeyondMost (S.left source.old) (S.left source.new) }
+    ensures within { (IsErrOf result ToolEnd.TooLong → ⊥) → ConsumedWithinMost (S.left source.old) (S.left source.new) }
+    ensures fault { CountsFault (IsErrOf result ToolEnd.ReadFault) (S.faults source.old) (S.faults source.new) }
+{
+    let Some(form) = job.form else {
+        return Ok(SourceSound {
+            ty: job.ty.unwrap_or(device.ty),
+            coding: None,
+            head: 0,
+            length: None,
+        });
+    };
+    let FileHead { head, size } = read_head(form, source)?;
+    fit(head, device)?;
+    Ok(SourceSound {
+        ty: type_of(head.coding),
+        coding: Some(head.coding),
+        head: size,
+        length: head.length,
+    })
+}

@@ -3,6 +3,7 @@
 #![tactic(auto)]
 
 mod act;
+mod command_line;
 mod mem_spawner;
 mod notes;
 mod running;
@@ -10,6 +11,7 @@ mod spawner;
 mod std_spawner;
 
 pub use act::{Act, BeganGot, Words, copied_words};
+pub use command_line::CommandLine;
 pub use mem_spawner::MemSpawner;
 pub use spawner::{Finished, Spawner, Started};
 pub use std_spawner::StdSpawner;

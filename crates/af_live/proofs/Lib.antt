@@ -3,3 +3,5 @@ pub mod LineByLine
 pub mod Utf8Lemmas
 pub mod ListedRateLemmas
 pub mod HeldLinksLemmas
+pub mod CommandLineLemmas
+pub mod BehindLemmas

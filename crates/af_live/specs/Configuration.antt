@@ -1,11 +1,11 @@
 -- The configuration that a text is, or the line of its first fault.
-use Rattle.std.specs.Prelude.{◌≡◌, ℕ, ◌+◌, Bool, ◌&&◌, List, [], ◌∷◌, length, take, drop, map, Option, None, Result, Ok, Err, if◌then◌else◌}
+use Rattle.std.specs.Prelude.{◌≡◌, ℕ, zero, suc, ◌+◌, Bool, false, ◌&&◌, ◌||◌, List, [], ◌∷◌, length, map, Option, None, option_map, unwrap_or, Result, Ok, Err, if◌then◌else◌}
 use Rattle.std.specs.Str.{is_utf8}
-use Rattle.af_text.specs.Lines.{lines, words, is_passed_over}
-use Rattle.af_text.specs.Reading.{Entry, each_says, entries_of}
+use Rattle.af_text.specs.Lines.{lines, words, is_passed_over, with_first}
+use Rattle.af_text.specs.Reading.{Entry, entries_of}
 use Rattle.af_live.specs.declared.fault.ConfigFault.{ConfigFault}
 use Rattle.af_live.specs.declared.fault.ConfigFault.TheVariants as fault
-use Rattle.af_live.specs.Stating.{Settings, Configured, configured_of}
+use Rattle.af_live.specs.Stating.{Settings, Configured, configured_of, is_program}
 
 -- a line is passed over only where it is text
 abbrev pub is_idle : List ℕ → Bool
@@ -19,15 +19,19 @@ config_entries n ls = entries_of is_idle (λ line. line) n ls
 abbrev pub placed_of : List ℕ → Option Configured
 placed_of line = if is_utf8 line then configured_of (words line) else None
 
--- these devices, where no line comes behind them
-abbrev pub with_none_behind : Result (List Configured) ℕ → List (Entry (List ℕ)) → Result (List Configured) ℕ
-with_none_behind (Err n) es = Err n
-with_none_behind (Ok devices) [] = Ok devices
-with_none_behind (Ok devices) (e ∷ es) = Err e.number
+-- whether it has a child program behind it
+abbrev pub states_program : List ℕ → Bool
+states_program line = unwrap_or (option_map (λ device. is_program device.kind) (placed_of line)) false
 
--- the devices of these lines, of which there may be so many
-abbrev pub placed_within : ℕ → List (Entry (List ℕ)) → Result (List Configured) ℕ
-placed_within most es = with_none_behind (each_says placed_of (take most es)) (drop most es)
+-- the same, where a device before it may have one: no second one may
+abbrev pub placed_behind : Bool → List ℕ → Option Configured
+placed_behind has line = if has && states_program line then None else placed_of line
+
+-- the devices of these lines, of which there may be so many, and of which one may have a child program if none before them has
+abbrev pub placed_within : ℕ → Bool → List (Entry (List ℕ)) → Result (List Configured) ℕ
+placed_within most has [] = Ok []
+placed_within zero has (e ∷ es) = Err e.number
+placed_within (suc most) has (e ∷ es) = with_first e.number (placed_behind has e.said) (placed_within most (has || states_program e.said) es)
 
 -- how many devices a configuration may have
 abbrev pub most_configured : ℕ
@@ -41,7 +45,7 @@ settings_of (Err n) = Err n
 -- at least one device, or the number behind that of the last line
 abbrev pub settings_by : List (Entry (List ℕ)) → ℕ → Result Settings ℕ
 settings_by [] behind = Err behind
-settings_by (e ∷ es) behind = settings_of (placed_within most_configured (e ∷ es))
+settings_by (e ∷ es) behind = settings_of (placed_within most_configured false (e ∷ es))
 
 -- the configuration that a text is, or the number of the first line that may not stand where it stands
 unfoldable pub config_of : List ℕ → Result Settings ℕ

@@ -1,7 +1,7 @@
 -- What the parts of a line stand for, once they are read.
 use Rattle.std.specs.Prelude.{string_bytes}
 use Rattle.af_world.specs.declared.outer.Backing.{Backing}
-use Rattle.af_world.specs.Kinds.{silence, two_files}
+use Rattle.af_world.specs.Kinds.{silence, two_files, child_program}
 use Rattle.af_live.specs.declared.device.OwnedKind.{OwnedKind}
 use Rattle.af_live.specs.declared.device.OwnedKind.TheVariants as held
 use Rattle.af_live.specs.declared.device.ConfiguredDevice.{ConfiguredDevice}
@@ -12,6 +12,7 @@ use Rattle.af_live.specs.Stating.{Configured, EndingState}
 abbrev pub backing : OwnedKind → Backing
 backing held.Silent = silence
 backing (held.Files input output) = two_files (string_bytes input) (string_bytes output)
+backing (held.Codec restarts words) = child_program restarts words
 
 -- a device with it
 abbrev pub placed : ConfiguredDevice → Configured

@@ -5,7 +5,8 @@ pub mod Reading
 pub mod Pacing
 pub mod LinkTable
 pub mod Rounds
-pub mod Silence
-pub mod FileDevices
+pub mod FileBytes
+pub mod CodecUse
+pub mod Behind
 pub mod RealWorld
 pub mod Counting

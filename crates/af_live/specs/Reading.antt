@@ -3,8 +3,8 @@ use Rattle.std.specs.Prelude.{◌≡◌, ℕ, ◌≤◌, nat_lt, Bool, List, [],
 use Rattle.af_sample.specs.Channels.{IsChannelCount}
 use Rattle.af_sample.specs.Rates.{IsListedRate}
 use Rattle.af_text.specs.Lines.{is_nil}
-use Rattle.af_live.specs.Stating.{Settings, Configured}
-use Rattle.af_live.specs.Configuration.{is_idle, placed_of, most_configured}
+use Rattle.af_live.specs.Stating.{Settings, Configured, has_program}
+use Rattle.af_live.specs.Configuration.{is_idle, placed_behind, most_configured}
 
 -- the configuration so far with one more device
 abbrev pub with_configured : Settings → Configured → Settings
@@ -14,7 +14,7 @@ with_configured s device = record { config = s.config ++ device.spec ∷ []; kin
 abbrev pub with_config_line : Settings → List ℕ → Option Settings
 with_config_line s line =
     if is_idle line then Some s
-    else if nat_lt (length s.config) most_configured then option_map (with_configured s) (placed_of line)
+    else if nat_lt (length s.config) most_configured then option_map (with_configured s) (placed_behind (has_program s.kinds) line)
     else None
 
 -- a configuration has at least one device

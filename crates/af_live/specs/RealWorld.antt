@@ -4,7 +4,7 @@ use Rattle.std.proofs.Common.{refl, ◌∙◌}
 use Rattle.std.proofs.Math.Nat.{le_refl, le_trans}
 use Rattle.std.specs.declared.option.Option.{Option}
 use Rattle.std.specs.declared.option.Option.TheVariants.{None, Some}
-use Rattle.af_sample.specs.declared.sample_type.SampleType.{SampleType}
+use Rattle.af_child.specs.Acts.{Told}
 use Rattle.af_world.specs.declared.happening.Wake.{Wake}
 use Rattle.af_world.specs.declared.happening.Wake.TheVariants as wake
 use Rattle.af_world.specs.declared.live.Ready.{Ready}
@@ -14,31 +14,32 @@ use Rattle.af_world.specs.declared.live.Waited.TheVariants as answer
 use Rattle.af_live.specs.declared.link_table.LinkEntry.{LinkEntry}
 use Rattle.af_live.specs.declared.round.Round.{Round}
 use Rattle.af_live.specs.LinkTable.{free_entry, LinkWakeFits, GivesFirst}
-use Rattle.af_live.specs.Silence.{none_silent}
-use Rattle.af_live.specs.FileDevices.{FileState, no_files}
+use Rattle.af_live.specs.Behind.{BehindState, none_attached, all_without_bytes}
+use Rattle.af_live.specs.CodecUse.{CodecUse, begun_codec}
 use Rattle.af_live.specs.Rounds.{new_round, is_paced, round_begun, IsReadingBy, GoesOn}
 
--- Whether it listens; the links that it holds; which devices are silent, and which stand over files; its round over the devices; and
--- how often each kind of call has failed.
+-- Whether it listens; the links that it holds; what stands behind each device that is attached; its codec; its round over the
+-- devices; and how often each kind of call has failed.
 pub record RealState : Type 0 where
   pub listens : Bool
   pub links : List (Option LinkEntry)
-  pub silent : List (Option SampleType)
-  pub files : List (Option FileState)
+  pub behind : List (Option BehindState)
+  pub codec : CodecUse
   pub round : Round
   pub link_faults : ℕ
   pub device_faults : ℕ
   pub listen_faults : ℕ
   pub wait_faults : ℕ
 
--- it was just made
-abbrev pub begun_world : RealState
-begun_world = record { listens = false; links = replicate 32 free_entry; silent = none_silent; files = no_files; round = new_round; link_faults = 0; device_faults = 0; listen_faults = 0; wait_faults = 0 }
+-- it was just made, over a spawner with these acts
+abbrev pub begun_world : Option (List Told) → RealState
+begun_world acts = record { listens = false; links = replicate 32 free_entry; behind = none_attached; codec = begun_codec acts; round = new_round; link_faults = 0; device_faults = 0; listen_faults = 0; wait_faults = 0 }
 
 -- what the server's calls leave alone, and the counts that they may raise
 pub record RealLeadsTo (old new : RealState) : Type 0 where
   pub listens : new.listens ≡ old.listens
-  pub silent : new.silent ≡ old.silent
+  pub behind : all_without_bytes new.behind ≡ all_without_bytes old.behind
+  pub orders : new.codec.orders ≡ old.codec.orders
   pub round : new.round ≡ old.round
   pub link_faults : old.link_faults ≤ new.link_faults
   pub device_faults : old.device_faults ≤ new.device_faults
@@ -46,12 +47,13 @@ pub record RealLeadsTo (old new : RealState) : Type 0 where
   pub wait_faults : new.wait_faults ≡ old.wait_faults
 
 pub RealLeadsTo-refl : (a : RealState) → RealLeadsTo a a
-RealLeadsTo-refl a = record { listens = refl; silent = refl; round = refl; link_faults = le_refl a.link_faults; device_faults = le_refl a.device_faults; listen_faults = refl; wait_faults = refl }
+RealLeadsTo-refl a = record { listens = refl; behind = refl; orders = refl; round = refl; link_faults = le_refl a.link_faults; device_faults = le_refl a.device_faults; listen_faults = refl; wait_faults = refl }
 
 pub RealLeadsTo-trans : (a b c : RealState) → RealLeadsTo a b → RealLeadsTo b c → RealLeadsTo a c
 RealLeadsTo-trans a b c p q = record {
   listens = q.listens ∙ p.listens;
-  silent = q.silent ∙ p.silent;
+  behind = q.behind ∙ p.behind;
+  orders = q.orders ∙ p.orders;
   round = q.round ∙ p.round;
   link_faults = le_trans p.link_faults q.link_faults;
   device_faults = le_trans p.device_faults q.device_faults;

@@ -1,11 +1,12 @@
 -- What the words of a line of a configuration state: a device, and what stands behind it.
-use Rattle.std.specs.Prelude.{ℕ, ◌-◌, ◌^◌, Bool, true, false, List, [], ◌∷◌, codes, bytes_eq, Option, Some, None, option_map, option_and_then, if◌then◌else◌}
+use Rattle.std.specs.Prelude.{ℕ, ◌-◌, ◌^◌, Bool, true, false, nat_le, ◌&&◌, ◌||◌, List, [], ◌∷◌, length, fold, codes, bytes_eq, Option, Some, None, option_map, option_and_then, if◌then◌else◌}
 use Rattle.af_sample.specs.declared.sample_type.SampleType.{SampleType}
-use Rattle.af_text.specs.Words.{number_within}
+use Rattle.af_text.specs.Words.{number_within, only_if}
 use Rattle.af_text.specs.Sound.{type_of, rate_of}
 use Rattle.af_world.specs.declared.script.DeviceSpec.{DeviceSpec}
 use Rattle.af_world.specs.declared.outer.Backing.{Backing}
-use Rattle.af_world.specs.Kinds.{silence, two_files}
+use Rattle.af_world.specs.declared.outer.Backing.TheVariants as backed
+use Rattle.af_world.specs.Kinds.{silence, two_files, child_program}
 
 -- the devices of a server, and what stands behind each, in the same order
 pub record Settings : Type 0 where
@@ -22,6 +23,16 @@ pub record EndingState : Type 0 where
   pub line : Bool
   pub kind : Backing
 
+-- whether a child program stands behind a device
+abbrev pub is_program : Backing → Bool
+is_program backed.Silence = false
+is_program (backed.TwoFiles input output) = false
+is_program (backed.ChildProgram restarts words) = true
+
+-- whether one stands behind any of these
+abbrev pub has_program : List Backing → Bool
+has_program kinds = fold (λ has kind. has || is_program kind) false kinds
+
 -- no word comes behind `silent`
 abbrev pub silent_of : List (List ℕ) → Option Backing
 silent_of [] = Some silence
@@ -32,12 +43,27 @@ abbrev pub files_of : List (List ℕ) → Option Backing
 files_of (input ∷ output ∷ []) = Some (two_files input output)
 files_of _ = None
 
--- `silent`, or `files INPUT OUTPUT`
+-- these words have at most 64 bytes each
+abbrev pub are_short : List (List ℕ) → Bool
+are_short [] = true
+are_short (word ∷ words) = nat_le (length word) 64 && are_short words
+
+-- the words of a command line: 1 to 8 of them, of at most 64 bytes each
+abbrev pub is_command_line : List (List ℕ) → Bool
+is_command_line words = nat_le 1 (length words) && nat_le (length words) 8 && are_short words
+
+-- how often a child program is started anew, and its command line, come behind `codec`
+abbrev pub codec_of : List (List ℕ) → Option Backing
+codec_of [] = None
+codec_of (restarts ∷ words) = option_and_then (λ n. option_map (child_program n) (only_if is_command_line words)) (number_within 0 100 restarts)
+
+-- `silent`, `files INPUT OUTPUT`, or `codec RESTARTS WORD ..`
 abbrev pub backing_stated : List (List ℕ) → Option Backing
 backing_stated [] = None
 backing_stated (word ∷ names) =
     if bytes_eq word (codes "silent") then silent_of names
     else if bytes_eq word (codes "files") then files_of names
+    else if bytes_eq word (codes "codec") then codec_of names
     else None
 
 -- with a telephone line, or with none

@@ -4,9 +4,12 @@ ghost use Rattle.std.specs.Str.{IsUtf8, is_utf8};
 ghost use Rattle.af_sample.specs.Channels.{IsChannelCount};
 ghost use Rattle.af_sample.specs.Rates.{IsListedRate};
 ghost use Rattle.af_text.specs.Lines.{words};
-ghost use Rattle.af_live.specs.Stating.{configured_of, configured_with, placed_at, ending_of, backing_stated, silent_of, files_of};
+ghost use Rattle.af_live.specs.Stating.{configured_of, configured_with, placed_at, ending_of, backing_stated, silent_of, files_of, codec_of, is_program};
 ghost use Rattle.af_live.specs.Kept.{placed, backing, stated_ending};
 
+use crate::codec_device::MOST_RESTARTS;
+use crate::command_line::command_line_stated;
+use af_child::CommandLine;
 use af_text::{is_word, listed_rate, next_word, number_between, sample_type, two_words};
 use af_time::OutOfMemory;
 use af_world::DeviceSpec;
@@ -18,6 +21,16 @@ use std::str;
 pub enum OwnedKind {
     Silent,
     Files { input: String, output: String },
+    Codec { restarts: u32, words: CommandLine },
+}
+
+impl OwnedKind {
+    /// Whether a child program stands behind the device.
+    pub fn is_codec(&self) -> bool
+        ensures { result ≡ is_program (backing self.now) }
+    {
+        matches!(self, OwnedKind::Codec { .. })
+    }
 }
 
 /// A device of a configuration.
@@ -95,7 +108,7 @@ fn ending_stated(alloc: Global, arguments: &[u8]) -> Result<Option<Ending>, OutO
     }
 }
 
-/// `silent`, or `files INPUT OUTPUT`
+/// `silent`, `files INPUT OUTPUT`, or `codec RESTARTS WORD ..`
 fn kind_stated(alloc: Global, arguments: &[u8]) -> Result<Option<OwnedKind>, OutOfMemory>
     requires { IsUtf8 arguments.now }
     ensures { IfOk result (λ kind. option_map backing kind ≡ backing_stated (words arguments.now)) }
@@ -107,6 +120,8 @@ fn kind_stated(alloc: Global, arguments: &[u8]) -> Result<Option<OwnedKind>, Out
         Ok(silent_stated(names))
     } else if is_word(word, b"files") {
         files_stated(alloc, names)
+    } else if is_word(word, b"codec") {
+        Ok(codec_stated(names))
     } else {
         Ok(None)
     }
@@ -134,6 +149,17 @@ fn files_stated(alloc: Global, names: &[u8]) -> Result<Option<OwnedKind>, OutOfM
         })),
         None => Ok(None),
     }
+}
+
+/// `RESTARTS WORD ..`, behind `codec`.
+fn codec_stated(names: &[u8]) -> Option<OwnedKind>
+    requires { IsUtf8 names.now }
+    ensures { option_map backing result ≡ codec_of (words names.now) }
+{
+    let (restarts, rest) = next_word(names)?;
+    let restarts = number_between(0, MOST_RESTARTS, restarts)?;
+    let words = command_line_stated(rest)?;
+    Some(OwnedKind::Codec { restarts, words })
 }
 
 /// A copy of a name.

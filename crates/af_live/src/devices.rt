@@ -1,12 +1,16 @@
-// What stands behind the devices of a world, each at its number, and how one is attached.
-ghost use Rattle.std.specs.Prelude.{◌≡◌, ◌≢◌, ◌<◌, false};
-ghost use Rattle.af_live.specs.Silence.{none_silent, silent_behind};
-ghost use Rattle.af_live.specs.FileDevices.{open_files_of, no_files, AttachesFiles};
+// The devices of a world, each at its number, and how one is attached.
+ghost use Rattle.std.specs.Prelude.{◌≡◌, ◌≢◌, ◌<◌, [], length, false, true, not, ◌&&◌, nat_lt};
+ghost use Rattle.std.specs.declared.option.Option.TheVariants.{Some};
+ghost use Rattle.af_codec.specs.Codec.{TellsThese};
+ghost use Rattle.af_live.specs.Behind.{none_attached, CapturesBy, CapturesAt, EmitsBy, EmitsAt, AttachesAt};
+ghost use Rattle.af_live.specs.CodecUse.{begun_codec, codec_allows, codec_behind};
 ghost use Rattle.af_live.specs.Rounds.{new_round, is_paced, round_after};
 
-use crate::file_device::{FileDevices, NewFiles, open_files};
+use crate::attached_device::AttachedDevice;
+use crate::codec_device::CodecDevice;
 use crate::round::Round;
-use crate::silence::silence;
+use af_child::Spawner;
+use af_io::Put;
 use af_sample::SampleType;
 use af_world::{Kind, Ready};
 use std::alloc::Global;
@@ -22,60 +26,102 @@ pub(crate) struct NewDevice<'a> {
     pub kind: Kind<'a>,
 }
 
-/// The sample types of the devices that are silent, those that stand over files, and the round over all of them.
+/// The devices that are attached, the codec, which one of them may stand over, and the round over all of them.
 #[derive(Drop)]
-pub(crate) struct Devices<F: Read + Write + Drop> {
-    pub silent: [Option<SampleType>; 8],
-    pub files: Option<FileDevices<F>>,
+pub(crate) struct Devices<F: Read + Write + Drop, S: Spawner + Drop> {
+    pub attached: [Option<AttachedDevice<F>>; 8],
+    pub codec: CodecDevice<S>,
     pub round: Round,
 }
 
-impl<F: Read + Write + Drop> Devices<F> {
+impl<F: Read + Write + Drop, S: Spawner + Drop> Devices<F, S> {
     /// No devices. It takes no memory.
-    pub fn new() -> Devices<F>
-        ensures silent { result.silent ≡ none_silent }
-        ensures files { open_files_of result.files ≡ no_files }
+    pub fn new(alloc: Global, spawner: S) -> Devices<F, S>
+        requires { TellsThese [] (S.acts spawner) }
+        ensures attached { result.attached ≡ none_attached }
+        ensures codec { result.codec ≡ begun_codec (S.acts spawner) }
         ensures round { result.round ≡ new_round }
     {
         Devices {
-            silent: [None; 8],
-            files: None,
+            attached: [None, None, None, None, None, None, None, None],
+            codec: CodecDevice::new(alloc, spawner),
             round: Round::new(),
         }
     }
 
-    /// Attaches a device, if it is not yet.
-    pub fn attach<R: Files<File = F>>(
-        &mut self,
-        rt: &R,
-        alloc: Global,
-        asked: NewDevice<'_>,
-    ) -> Ready
+    /// Attaches a device, if it is not yet. One device alone may have the codec behind it.
+    pub fn attach<R: Files<File = F>>(&mut self, rt: &R, asked: NewDevice<'_>) -> Ready
         ensures attaches { result ≡ Ready.Done → (asked.entry.number < 8) × (is_paced self.old.round asked.entry.number ≡ false) }
+        ensures allowed { result ≡ Ready.Done → codec_allows self.old.codec asked.entry.kind ≡ true }
         ensures round { self.new.round ≡ round_after result self.old.round asked.entry.number asked.entry.rate }
-        ensures silent { self.new.silent ≡ silent_behind result asked.entry.kind self.old.silent asked.entry.number asked.entry.ty }
-        ensures files { AttachesFiles result asked.entry.kind asked.entry.number asked.entry.ty
-            (open_files_of self.old.files) (open_files_of self.new.files) }
+        ensures attached { AttachesAt result asked.entry.kind asked.entry.number asked.entry.ty self.old.attached self.new.attached }
+        ensures codec { self.new.codec ≡ codec_behind result asked.entry.kind self.old.codec }
     {
-        if asked.number >= 8 || self.round.is_paced(asked.number) {
+        let place = asked.number as usize;
+        if place >= self.attached.len() || self.round.is_paced(asked.number) {
             return Ready::Failed;
         }
-        match asked.kind {
-            Kind::Silent => silence(&mut self.silent, asked.number, asked.ty),
-            Kind::Files { input, output } => {
-                let files = NewFiles {
-                    number: asked.number,
-                    ty: asked.ty,
-                    input,
-                    output,
-                };
-                if let Err(e) = open_files(rt, alloc, files, &mut self.files) {
-                    return refusal(&e);
-                }
-            }
+        let device = match AttachedDevice::new(rt, asked.ty, asked.kind) {
+            Ok(device) => device,
+            Err(e) if e.kind() == ErrorKind::OutOfMemory => return Ready::OutOfMemory,
+            Err(_) => return Ready::Failed,
+        };
+        if !self.codec.prepare(asked.kind) {
+            return Ready::Failed;
         }
+        self.attached[place] = Some(device);
         self.round.add(asked.number, asked.rate);
         Ready::Done
+    }
+
+    /// Captures of a device as many bytes as there is room for, by what stands behind it.
+    pub fn capture(&mut self, device: u8, into: &mut [u8]) -> Put
+        ensures captures { CapturesAt device result into.new self.old.attached self.new.attached }
+        ensures rest { self.new ≡ record self.old { attached = self.new.attached } }
+    {
+        let place = device as usize;
+        if place >= self.attached.len() {
+            return Put::Failed;
+        }
+        capture_by(&mut self.attached[place], into)
+    }
+
+    /// Hands all of a device's sound out, by what stands behind it.
+    pub fn emit(&mut self, device: u8, sound: &[u8]) -> Put
+        requires { 0 < length sound.now }
+        ensures emits { EmitsAt device result sound.now self.old.attached self.new.attached self.old.codec self.new.codec }
+        ensures rest { self.new ≡ record self.old { attached = self.new.attached; codec = self.new.codec } }
+    {
+        let place = device as usize;
+        if place >= self.attached.len() {
+            return Put::Failed;
+        }
+        emit_by(&mut self.attached[place], &mut self.codec, sound)
+    }
+}
+
+/// Captures of the device at a place, if there is one.
+fn capture_by<F: Read + Write + Drop>(place: &mut Option<AttachedDevice<F>>, into: &mut [u8]) -> Put
+    ensures { CapturesBy place.old result into.new place.new }
+{
+    match place {
+        Some(device) => device.capture(into),
+        None => Put::Failed,
+    }
+}
+
+/// Hands sound out by the device at a place, if there is one.
+fn emit_by<F: Read + Write + Drop, S: Spawner + Drop>(
+    place: &mut Option<AttachedDevice<F>>,
+    codec: &mut CodecDevice<S>,
+    sound: &[u8],
+) -> Put
+    requires { 0 < length sound.now }
+    ensures { EmitsBy place.old result sound.now place.new codec.old codec.new }
+{
+    match place {
+        Some(device) => device.emit(codec, sound),
+        None => Put::Failed,
     }
 }
 

@@ -2,6 +2,10 @@
 //! and the real world, of sockets, files and the clock of the system.
 #![tactic(auto)]
 
+mod attached_device;
+mod codec_device;
+mod command_line;
+mod counting;
 mod device;
 mod devices;
 mod fault;
@@ -14,7 +18,6 @@ mod pace;
 mod read;
 mod round;
 mod setting;
-mod silence;
 mod sockets;
 
 pub use fault::ConfigFault;

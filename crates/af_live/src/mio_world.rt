@@ -1,28 +1,30 @@
-// The real outside of a server: sockets, the clock of the system, and devices that are silent or stand over files.
+// The real outside of a server: sockets, the clock of the system, and devices that are silent or stand over files or a codec.
 // How it lies: `links` has a place for each of 32 numbers: the key of the link's stream, and what is ready of it and was not
 // given yet. The streams lie under these keys in the slab of `sockets`, beside the poll and the listener. Of each of 8 devices
-// `devices` has the pace, and either its sample type, if it is silent, or its two files. Faults of links, devices, listens and waits
-// are counted apart. Contracts see these tables and counts; of the sockets only whether there are any.
-ghost use Rattle.std.specs.Prelude.{◌≡◌, ◌≤◌, ◌<◌, ◌^◌, ℕ, length, not, true, false, is_some, IfSome, MatchOption};
+// `devices` has the pace and what stands behind it, and beside them the codec, which may stand behind one. Faults of links, devices,
+// listens and waits are counted apart. Contracts see these tables and counts; of the sockets only whether there are any.
+ghost use Rattle.std.specs.Prelude.{◌≡◌, ◌≤◌, ◌<◌, ◌^◌, [], ℕ, length, not, true, false, is_some, IfSome, MatchOption};
 ghost use Rattle.std.specs.declared.option.Option.TheVariants.{None};
 ghost use Rattle.std.specs.Duration.{as_nanos};
 ghost use Rattle.af_io.specs.Observed.{FaultCounted};
 ghost use Rattle.af_world.specs.World.{LinkGotFits, TookFits};
 ghost use Rattle.af_live.specs.LinkTable.{is_free, link_at, something_ready, AfterRead, AfterWrite, KeepsOpen, ClosesOne, LinkWakeFits, Opens};
 ghost use Rattle.af_live.specs.Counting.{CountsOne, CountsStand};
-ghost use Rattle.af_live.specs.Silence.{silent_at, silent_behind, CapturesAs, EmitsAs};
-ghost use Rattle.af_live.specs.FileDevices.{open_files_of, CapturesFiles, EmitsFiles, AttachesFiles};
+ghost use Rattle.af_codec.specs.Codec.{TellsThese};
+ghost use Rattle.af_live.specs.Behind.{CapturesAt, EmitsAt, AttachesAt};
+ghost use Rattle.af_live.specs.CodecUse.{codec_allows, codec_behind};
 ghost use Rattle.af_live.specs.Rounds.{is_paced, round_begun, round_after, whole_millis, pause_of, IsReadingBy};
 ghost use Rattle.af_live.specs.RealWorld.{RealLeadsTo, begun_world, given, listens_behind, GivesKept, LeadsRound, WakeFits};
 ghost use Rattle.af_world.specs.Sizes.{longest_read};
 
+use crate::counting::{count_got, count_put, count_ready, count_took, count_waited};
 use crate::devices::{Devices, NewDevice, refusal};
-use crate::file_device::{capture_files, emit_files};
 use crate::held_links::HeldLinks;
 use crate::links::{close_link, read_link, write_link};
 use crate::round::Round;
-use crate::silence::{capture_silence, silent_at};
 use crate::sockets::Sockets;
+use af_child::Spawner;
+use af_codec::Codec;
 use af_io::Put;
 use af_world::{DeviceSpec, Kind, LinkGot, LinkTook, Live, Ready, Waited, Wake, Why, World};
 use std::alloc::Global;
@@ -39,25 +41,24 @@ const NANOS_A_MILLISECOND: u64 = 1_000_000;
 /// The real outside of a server. It listens at one address, whose links it numbers from 0, at most 32 at a time; a further one is
 /// accepted and closed at once. Up to 8 devices go on by the clock of the system, a Pace for each.
 ///
-/// A server's `main` makes one with `MioWorld::new(rt.clone()?)` and hands it, with the words of its command line and its
+/// A server's `main` makes one with `MioWorld::new(rt.clone()?, rt.alloc(), spawner)` and hands it, with the words of its command line and its
 /// configuration, to the server: `listen` comes first, then an `attach` of each device, then a `wait` before each turn.
 ///
 /// It tells nothing of what happened. The counts of its faults stand still at 2^64 - 1.
 #[derive(Drop)]
-pub struct MioWorld<R: Net + Clock + Files + Drop> {
+pub struct MioWorld<R: Net + Clock + Files + Drop, S: Spawner + Drop> {
     rt: R,
     sockets: Option<Sockets>,
     links: HeldLinks,
-    devices: Devices<R::File>,
+    devices: Devices<R::File, S>,
     link_faults: u64,
     device_faults: u64,
     listen_faults: u64,
     wait_faults: u64,
 }
 
-impl<R: Net + Clock + Files + Drop> Model for MioWorld<R> {
+impl<R: Net + Clock + Files + Drop, S: Spawner + Drop> Model for MioWorld<R, S> {
     ghost use Rattle.std.specs.Prelude.{is_some};
-    ghost use Rattle.af_live.specs.FileDevices.{open_files_of};
     ghost use Rattle.af_live.specs.RealWorld.{RealState};
 
     ghost Value = { RealState };
@@ -65,8 +66,8 @@ impl<R: Net + Clock + Files + Drop> Model for MioWorld<R> {
     ghost view = { λ w. record {
       listens = is_some w.sockets;
       links = w.links;
-      silent = w.devices.silent;
-      files = open_files_of w.devices.files;
+      behind = w.devices.attached;
+      codec = w.devices.codec;
       round = w.devices.round;
       link_faults = w.link_faults;
       device_faults = w.device_faults;
@@ -75,25 +76,36 @@ impl<R: Net + Clock + Files + Drop> Model for MioWorld<R> {
     } };
 }
 
-impl<R: Net + Clock + Files + Drop> MioWorld<R> {
-    /// A world over the sockets, the files and the clock of this runtime. It takes no memory and asks nothing of the system.
-    pub fn new(rt: R) -> MioWorld<R>
-        ensures { result ≡ begun_world }
+impl<R: Net + Clock + Files + Drop, S: Spawner + Drop> MioWorld<R, S> {
+    /// A world over the sockets, the files and the clock of this runtime, and over a spawner that tells of no act. It takes no
+    /// memory and asks nothing of the system.
+    pub fn new(rt: R, alloc: Global, spawner: S) -> MioWorld<R, S>
+        requires { TellsThese [] (S.acts spawner) }
+        ensures { result ≡ begun_world (S.acts spawner) }
     {
         MioWorld {
             rt,
             sockets: None,
             links: HeldLinks::new(),
-            devices: Devices::new(),
+            devices: Devices::new(alloc, spawner),
             link_faults: 0,
             device_faults: 0,
             listen_faults: 0,
             wait_faults: 0,
         }
     }
+
+    /// The codec, which takes the sound of the device that was attached with one.
+    pub fn codec(&self) -> &Codec<S>
+        ensures orders { result.now.orders ≡ self.now.codec.orders }
+        ensures feeding { result.now.feeding ≡ self.now.codec.feeding }
+        ensures acts { S.acts result.now.spawner ≡ self.now.codec.acts }
+    {
+        self.devices.codec.codec()
+    }
 }
 
-impl<R: Net + Clock + Files + Drop> World for MioWorld<R> {
+impl<R: Net + Clock + Files + Drop, S: Spawner + Drop> World for MioWorld<R, S> {
     ghost use Rattle.af_live.specs.RealWorld.{RealLeadsTo-refl, RealLeadsTo-trans};
 
     ghost log = { λ _. None };
@@ -125,9 +137,7 @@ impl<R: Net + Clock + Files + Drop> World for MioWorld<R> {
         ensures rest { self.new ≡ record self.old { links = self.new.links; link_faults = self.new.link_faults } }
     {
         let got = read_link(&mut self.sockets, &mut self.links, link, into);
-        if got == LinkGot::Failed {
-            self.link_faults = self.link_faults.saturating_add(1);
-        }
+        count_got(got, &mut self.link_faults);
         got
     }
 
@@ -143,9 +153,7 @@ impl<R: Net + Clock + Files + Drop> World for MioWorld<R> {
         ensures rest { self.new ≡ record self.old { links = self.new.links; link_faults = self.new.link_faults } }
     {
         let took = write_link(&mut self.sockets, &mut self.links, link, piece);
-        if took == LinkTook::Failed {
-            self.link_faults = self.link_faults.saturating_add(1);
-        }
+        count_took(took, &mut self.link_faults);
         took
     }
 
@@ -161,17 +169,11 @@ impl<R: Net + Clock + Files + Drop> World for MioWorld<R> {
         requires { 0 < length into.old }
         ensures faults { CountsOne (result ≡ Put.Failed) self.old.device_faults self.new.device_faults }
         ensures leads { RealLeadsTo self.old self.new }
-        ensures silence { CapturesAs (silent_at self.old.silent device) result into.new }
-        ensures files { CapturesFiles (silent_at self.old.silent device) device result into.new self.old.files self.new.files }
-        ensures rest { self.new ≡ record self.old { files = self.new.files; device_faults = self.new.device_faults } }
+        ensures behind { CapturesAt device result into.new self.old.behind self.new.behind }
+        ensures rest { self.new ≡ record self.old { behind = self.new.behind; device_faults = self.new.device_faults } }
     {
-        if capture_silence(&self.devices.silent, device, into) {
-            return Put::Done;
-        }
-        let put = capture_files(&mut self.devices.files, device, into);
-        if put == Put::Failed {
-            self.device_faults = self.device_faults.saturating_add(1);
-        }
+        let put = self.devices.capture(device, into);
+        count_put(put, &mut self.device_faults);
         put
     }
 
@@ -179,17 +181,12 @@ impl<R: Net + Clock + Files + Drop> World for MioWorld<R> {
         requires { 0 < length sound.now }
         ensures faults { CountsOne (result ≡ Put.Failed) self.old.device_faults self.new.device_faults }
         ensures leads { RealLeadsTo self.old self.new }
-        ensures silence { EmitsAs (silent_at self.old.silent device) result }
-        ensures files { EmitsFiles (silent_at self.old.silent device) device result sound.now self.old.files self.new.files }
-        ensures rest { self.new ≡ record self.old { files = self.new.files; device_faults = self.new.device_faults } }
+        ensures behind { EmitsAt device result sound.now self.old.behind self.new.behind self.old.codec self.new.codec }
+        ensures rest { self.new
+            ≡ record self.old { behind = self.new.behind; codec = self.new.codec; device_faults = self.new.device_faults } }
     {
-        if silent_at(&self.devices.silent, device).is_some() {
-            return Put::Done;
-        }
-        let put = emit_files(&mut self.devices.files, device, sound);
-        if put == Put::Failed {
-            self.device_faults = self.device_faults.saturating_add(1);
-        }
+        let put = self.devices.emit(device, sound);
+        count_put(put, &mut self.device_faults);
         put
     }
 
@@ -203,7 +200,7 @@ impl<R: Net + Clock + Files + Drop> World for MioWorld<R> {
     }
 }
 
-impl<R: Net + Clock + Files + Drop> Live for MioWorld<R> {
+impl<R: Net + Clock + Files + Drop, S: Spawner + Drop> Live for MioWorld<R, S> {
     ghost listen_faults = { λ world. world.listen_faults };
 
     ghost wait_faults = { λ world. world.wait_faults };
@@ -226,20 +223,19 @@ impl<R: Net + Clock + Files + Drop> Live for MioWorld<R> {
         ensures counts { CountsStand self.old self.new }
     {
         let listened = begin_to_listen(&self.rt, alloc, address, &mut self.sockets);
-        if listened == Ready::Failed {
-            self.listen_faults = self.listen_faults.saturating_add(1);
-        }
+        count_ready(listened, &mut self.listen_faults);
         listened
     }
 
-    fn attach(&mut self, alloc: Global, device: u8, spec: &DeviceSpec, kind: Kind<'_>) -> Ready
+    fn attach(&mut self, _alloc: Global, device: u8, spec: &DeviceSpec, kind: Kind<'_>) -> Ready
         ensures faults { CountsOne (result ≡ Ready.Failed) self.old.device_faults self.new.device_faults }
         ensures attaches { result ≡ Ready.Done → (device < 8) × (is_paced self.old.round device ≡ false) }
         ensures round { self.new.round ≡ round_after result self.old.round device spec.now.rate }
-        ensures silent { self.new.silent ≡ silent_behind result kind.entry self.old.silent device spec.now.ty }
-        ensures files { AttachesFiles result kind.entry device spec.now.ty self.old.files self.new.files }
+        ensures allowed { result ≡ Ready.Done → codec_allows self.old.codec kind.entry ≡ true }
+        ensures behind { AttachesAt result kind.entry device spec.now.ty self.old.behind self.new.behind }
+        ensures codec { self.new.codec ≡ codec_behind result kind.entry self.old.codec }
         ensures rest { self.new ≡ record self.old
-            { silent = self.new.silent; files = self.new.files; round = self.new.round; device_faults = self.new.device_faults } }
+            { behind = self.new.behind; codec = self.new.codec; round = self.new.round; device_faults = self.new.device_faults } }
         ensures counts { CountsStand self.old self.new }
     {
         let asked = NewDevice {
@@ -248,10 +244,8 @@ impl<R: Net + Clock + Files + Drop> Live for MioWorld<R> {
             rate: spec.rate,
             kind,
         };
-        let attached = self.devices.attach(&self.rt, alloc, asked);
-        if attached == Ready::Failed {
-            self.device_faults = self.device_faults.saturating_add(1);
-        }
+        let attached = self.devices.attach(&self.rt, asked);
+        count_ready(attached, &mut self.device_faults);
         attached
     }
 
@@ -275,13 +269,9 @@ impl<R: Net + Clock + Files + Drop> Live for MioWorld<R> {
             &mut self.links,
             &mut self.devices.round,
         );
-        match next {
-            Some(wake) => Waited::Woke(wake),
-            None => {
-                self.wait_faults = self.wait_faults.saturating_add(1);
-                Waited::Failed
-            }
-        }
+        let waited = answer(next);
+        count_waited(waited, &mut self.wait_faults);
+        waited
     }
 }
 
@@ -375,6 +365,17 @@ fn next_wake<R: Clock>(
         return Some(Wake::Ticked(device, frames));
     }
     poll_once(sockets, pause(more, round.has_ticked()), links, round)
+}
+
+/// What a wait answers that found this wake, or none.
+fn answer(next: Option<Wake>) -> Waited
+    ensures given { given result ≡ next }
+    ensures failed { next ≡ None → result ≡ Waited.Failed }
+{
+    match next {
+        Some(wake) => Waited::Woke(wake),
+        None => Waited::Failed,
+    }
 }
 
 /// How long a poll waits at most.

@@ -55,6 +55,9 @@ impl ByLine for Setting {
         }
         match device_stated(alloc, line)? {
             Some(device) => {
+                if self.has_codec() && device.kind.is_codec() {
+                    return Ok(false);
+                }
                 self.add(device)?;
                 Ok(true)
             }

@@ -1,6 +1,7 @@
 // What a server is started with: its devices, and what stands behind each.
 ghost use Rattle.std.specs.Prelude.{◌≡◌, ◌<◌, [], length, slice_get, Some, IsTrue, nat_eq, OnOk};
 ghost use Rattle.af_world.specs.Kinds.{backing_of};
+ghost use Rattle.af_live.specs.Stating.{has_program};
 ghost use Rattle.af_live.specs.Kept.{placed};
 ghost use Rattle.af_live.specs.Reading.{with_configured};
 
@@ -16,18 +17,19 @@ use std::marker::Model;
 pub struct Setting {
     config: Config,
     kinds: Vec<OwnedKind>,
+    has_codec: bool,
 }
 
 impl Model for Setting {
     ghost use Rattle.std.specs.Prelude.{◌≡◌, length, map};
-    ghost use Rattle.af_live.specs.Stating.{Settings};
+    ghost use Rattle.af_live.specs.Stating.{Settings, has_program};
     ghost use Rattle.af_live.specs.Kept.{backing};
 
     ghost Value = { Settings };
 
     ghost view = { λ s. record { config = s.config.items; kinds = map backing s.kinds.items } };
 
-    ghost invariant = { λ s. length s.kinds.items ≡ length s.config.items };
+    ghost invariant = { λ s. (length s.kinds.items ≡ length s.config.items) × (s.has_codec ≡ has_program (map backing s.kinds.items)) };
 }
 
 impl Setting {
@@ -39,6 +41,7 @@ impl Setting {
         Setting {
             config: ArrayVec::new(),
             kinds: Vec::new(alloc),
+            has_codec: false,
         }
     }
 
@@ -47,7 +50,9 @@ impl Setting {
         requires { length self.old.config < 8 }
         ensures { OnOk result (self.new ≡ with_configured self.old (placed device)) }
     {
+        let is_codec = device.kind.is_codec();
         self.kinds.push(device.kind)?;
+        self.has_codec = self.has_codec || is_codec;
         self.config.push(device.spec);
         Ok(())
     }
@@ -60,6 +65,13 @@ impl Setting {
         &self.config
     }
 
+    /// Whether a child program stands behind a device.
+    pub(crate) fn has_codec(&self) -> bool
+        ensures { result ≡ has_program self.now.kinds }
+    {
+        self.has_codec
+    }
+
     /// What stands behind a device, which is one of these.
     pub fn kind(&self, device: u8) -> Kind<'_>
         requires { device < length self.now.config }
@@ -70,6 +82,10 @@ impl Setting {
             OwnedKind::Files { input, output } => Kind::Files {
                 input: input.as_str(),
                 output: output.as_str(),
+            },
+            OwnedKind::Codec { restarts, words } => Kind::Codec {
+                restarts: *restarts,
+                words: words.words(),
             },
         }
     }

@@ -1,4 +1,5 @@
 // One file for each subject.
 mod adapters;
 mod children;
+mod codec_device;
 mod world;

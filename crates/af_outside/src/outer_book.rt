@@ -8,6 +8,7 @@ ghost use Rattle.af_outside.specs.OuterState.{EntryNoted, is_stated, outer_start
 
 use crate::logbook::Logbook;
 use crate::{Backing, Bytes, DeviceSpec, Kind, Outer, OuterFaults, Wake};
+use af_child::CommandLine;
 use af_io::faults_after;
 use af_time::OutOfMemory;
 use std::alloc::Global;
@@ -124,6 +125,10 @@ fn backing_kept(alloc: Global, kind: Kind<'_>) -> Result<Backing, OutOfMemory>
         Kind::Files { input, output } => Backing::TwoFiles {
             input: Bytes::copied(alloc, input.as_bytes())?,
             output: Bytes::copied(alloc, output.as_bytes())?,
+        },
+        Kind::Codec { restarts, words } => Backing::ChildProgram {
+            restarts,
+            words: CommandLine::of(words),
         },
     };
     Ok(backing)

@@ -7,6 +7,7 @@ ghost use Rattle.af_world.specs.Kinds.{backing_of};
 ghost use Rattle.af_world.specs.Outer.{listened, attached, waited};
 
 use crate::{DeviceSpec, Wake, World};
+use af_child::Words;
 use std::alloc::Global;
 
 /// What a device captures from and hands its sound out to.
@@ -16,6 +17,8 @@ pub enum Kind<'a> {
     Silent,
     /// It captures what the file `input` has, and adds what it hands out to the file `output`.
     Files { input: &'a str, output: &'a str },
+    /// It captures silence, and gives what it hands out to a child program: one of these words, which is started anew so often.
+    Codec { restarts: u32, words: &'a Words },
 }
 
 /// What a listen or an attach did.

@@ -1,11 +1,13 @@
 // What the outside of a server does before and between its turns.
 use crate::{Bytes, DeviceSpec, Wake};
+use af_child::CommandLine;
 
-/// What stands behind a device, with the names that it was stated by.
+/// What stands behind a device, with the names and words that it was stated by.
 #[derive(Drop)]
 pub enum Backing {
     Silence,
     TwoFiles { input: Bytes, output: Bytes },
+    ChildProgram { restarts: u32, words: CommandLine },
 }
 
 /// A listen, an attach or a wait that was done.

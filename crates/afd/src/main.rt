@@ -1,6 +1,7 @@
 //! The server's program: it makes the real objects, calls the one function that its first word names, and says how that ended.
 #![tactic(auto)]
 
+use af_child::StdSpawner;
 use af_io::{Args, StdSink, StdSource, WordsFault, program_words};
 use af_live::MioWorld;
 use afd_script::{ScriptEnd, afd_script};
@@ -44,13 +45,13 @@ fn run_script(rt: &HostRuntime, words: &Args) -> ScriptEnd {
     afd_script(rt.alloc(), words, &mut source, &mut sink)
 }
 
-// The server, over standard input, sockets, files and the clock.
+// The server, over standard input, sockets, files, child programs and the clock.
 fn run_server(rt: &HostRuntime, words: &Args) -> LiveEnd {
     let Ok(system) = rt.clone() else {
         return LiveEnd::OutOfMemory;
     };
     let mut source = StdSource::new(rt.reader());
-    let mut world = MioWorld::new(system);
+    let mut world = MioWorld::new(system, rt.alloc(), StdSpawner::new(rt));
     afd_live(rt.alloc(), words, &mut source, &mut world)
 }
 

@@ -1,4 +1,5 @@
 // Each call of the real world, on the loopback, with the system's clock and files.
+use af_child::StdSpawner;
 use af_io::Put;
 use af_live::MioWorld;
 use af_sample::SampleType;
@@ -288,7 +289,7 @@ fn assert_link<W: Live, R: Net + Abort>(rt: &R, alloc: Global, world: &mut W) ->
 
 #[test]
 fn a_link_is_opened_read_written_and_closed(rt: HostRuntime) -> Result<(), Fail> {
-    let mut world = MioWorld::new(rt.clone()?);
+    let mut world = MioWorld::new(rt.clone()?, rt.alloc(), StdSpawner::new(&rt));
     assert_link(&rt, rt.alloc(), &mut world)
 }
 
@@ -347,7 +348,7 @@ fn assert_output<R: Files + Alloc + Abort>(rt: &R, wanted: &str) -> io::Result<(
 #[test]
 fn devices_tick_capture_and_hand_out(rt: HostRuntime) -> Result<(), Fail> {
     make_files(&rt)?;
-    let mut world = MioWorld::new(rt.clone()?);
+    let mut world = MioWorld::new(rt.clone()?, rt.alloc(), StdSpawner::new(&rt));
     let talked = assert_acts(&rt, rt.alloc(), &mut world, "", &DEVICES);
     drop(world);
     talked?;

@@ -32,6 +32,7 @@ fn names(kind: Kind<'_>) -> Option<(&str, &str)> {
     match kind {
         Kind::Silent => None,
         Kind::Files { input, output } => Some((input, output)),
+        Kind::Codec { .. } => None,
     }
 }
 
@@ -89,6 +90,54 @@ fn configurations_are_read(rt: HostRuntime) -> Result<(), Fail> {
     assert_states(&rt, rt.alloc(), text.as_bytes(), &devices)
 }
 
+// A text states one device, over a codec of so many restarts and of these words.
+fn assert_codec(
+    rt: &impl Abort,
+    alloc: Global,
+    text: &[u8],
+    restarts: u32,
+    words: &[&str],
+) -> Result<(), Fail> {
+    if text.len() > 65536 {
+        return Err(Fail::from("the text is too long"));
+    }
+    let setting = read_config(alloc, text)?;
+    assert_eq!(rt; setting.config().len(), 1);
+    let Kind::Codec {
+        restarts: stated,
+        words: found,
+    } = setting.kind(0)
+    else {
+        return Err(Fail::from("the device has no codec"));
+    };
+    assert_eq!(rt; stated, restarts);
+    assert_eq!(rt; found.len(), words.len());
+    for (word, wanted) in found.iter().zip(words) {
+        assert!(rt; word.as_str() == *wanted, "{wanted}");
+    }
+    Ok(())
+}
+
+#[test]
+fn a_codec_has_restarts_and_words(rt: HostRuntime) -> Result<(), Fail> {
+    let longest = "1234567890123456789012345678901234567890123456789012345678901234";
+    let alloc = rt.alloc();
+    assert_codec(
+        &rt,
+        alloc,
+        b"device mu255 8000 0 codec 100  aplay -t raw -f MU_LAW -r 8000 -",
+        100,
+        &["aplay", "-t", "raw", "-f", "MU_LAW", "-r", "8000", "-"],
+    )?;
+    assert_codec(
+        &rt,
+        alloc,
+        b"device mu255 8000 0 line codec 000 1234567890123456789012345678901234567890123456789012345678901234",
+        0,
+        &[longest],
+    )
+}
+
 #[test]
 fn the_first_faulty_line_is_numbered(rt: HostRuntime) -> Result<(), Fail> {
     assert_faults(
@@ -105,6 +154,18 @@ fn the_first_faulty_line_is_numbered(rt: HostRuntime) -> Result<(), Fail> {
             (b"device lin16 8000 0 silent\ndevice lin16 8000 0", 2),
             (b"device lin16 8000 0 silent\nopen 0\n", 2),
             (b"device lin16 8000 0 silent\n# \xff\n", 2),
+            // a codec with no words, with a ninth, with too many restarts, with a word of 65 bytes; and a second codec
+            (b"device lin16 8000 0 codec 0", 1),
+            (b"device lin16 8000 0 codec 0 1 2 3 4 5 6 7 8 9", 1),
+            (b"device lin16 8000 0 codec 101 cat", 1),
+            (
+                b"device lin16 8000 0 codec 0 12345678901234567890123456789012345678901234567890123456789012345",
+                1,
+            ),
+            (
+                b"device lin16 8000 0 codec 1 cat\ndevice lin16 8000 0 silent\ndevice lin16 8000 0 line codec 1 cat",
+                3,
+            ),
             // a ninth device
             (
                 b"device alaw 8000 0 silent\ndevice alaw 8000 0 silent\ndevice alaw 8000 0 silent\ndevice alaw 8000 0 silent\ndevice alaw 8000 0 silent\ndevice alaw 8000 0 silent\ndevice alaw 8000 0 silent\ndevice alaw 8000 0 silent\n\ndevice alaw 8000 0 silent",

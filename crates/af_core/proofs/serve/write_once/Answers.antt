@@ -1,8 +1,6 @@
-use Rattle.std.proofs.Common.{◌≡◌, ◌<◌, ◌≤◌, ◌∙◌, ℕ, List, [], ◌∷◌, ap, rules, arith, inl, inr, length, refl, subst, take, ⊎_elim}
+use Rattle.std.proofs.Common.{◌≡◌, ◌<◌, ◌≤◌, ◌∙◌, ap, rules, arith, inl, inr, length, refl, subst, take, ⊎_elim}
 use Rattle.std.specs.declared.option.Option.TheVariants.{None, Some}
-use Rattle.af_world.specs.declared.happening.Happening.TheVariants.{Wrote}
 use Rattle.af_world.specs.declared.happening.Why.TheVariants as why
-use Rattle.af_io.specs.Observed.{Appended}
 use Rattle.af_model.specs.State.{LinkState, open_link}
 use Rattle.af_model.specs.Advance.{advance}
 use Rattle.af_model.specs.Events.{dropped}

@@ -1,0 +1,44 @@
+use Rattle.std.proofs.Common.{◌≡◌, ◌≤◌, ◌<◌, ℕ, true, false, sym, subst, IfSome, MatchOption}
+use Rattle.std.proofs.Math.Nat.{le_refl}
+use Rattle.std.specs.declared.option.Option.{Option}
+use Rattle.af_world.specs.declared.happening.Wake.{Wake}
+use Rattle.af_world.specs.declared.live.Waited.TheVariants.{Failed}
+use Rattle.af_live.specs.LinkTable.{link_at, something_ready, KeepsOpen, Opens}
+use Rattle.af_live.specs.Counting.{CountsOne}
+use Rattle.af_live.specs.RealWorld.{RealState, given, GivesKept, LeadsRound, WakeFits}
+use Rattle.af_live.proofs.mio_world.MioWorldLive.wait.Goals as goal
+
+pub returns-clause-faults : goal.returns-clause-faults
+returns-clause-faults g c = subst (λ (s : RealState). CountsOne (c.answer-waited.result ≡ Failed) s.wait_faults c.count_waited.new.faults) c.self.view_is c.count_waited.ensures
+
+pub returns-clause-unlistened : goal.returns-clause-unlistened
+returns-clause-unlistened g c = subst (λ (s : RealState). s.listens ≡ false → c.answer-waited.result ≡ Failed) c.self.view_is (λ h. c.answer-waited.ensures.failed (c.next_wake-next.ensures.unlistened h))
+
+pub returns-clause-kept : goal.returns-clause-kept
+returns-clause-kept g c =
+    let w = sym c.answer-waited.ensures.given in
+    subst (λ (s : RealState). (k : ℕ) → s.listens ≡ true → k < 32 → something_ready (link_at s.links k) ≡ true → GivesKept (given c.answer-waited.result) s.links s.round c.next_wake-next.new.links c.next_wake-next.new.round) c.self.view_is
+    (λ k l b r. subst (λ (o : Option Wake). GivesKept o c.self.inside.links c.self.inside.devices.round c.next_wake-next.new.links c.next_wake-next.new.round) w (c.next_wake-next.ensures.kept k l b r))
+
+pub returns-clause-fits : goal.returns-clause-fits
+returns-clause-fits g c =
+    subst (λ (s : RealState). IfSome (given c.answer-waited.result) (λ wake. WakeFits s.links s.round wake)) c.self.view_is
+    (subst (λ (o : Option Wake). IfSome o (λ wake. WakeFits c.self.inside.links c.self.inside.devices.round wake)) (sym c.answer-waited.ensures.given) c.next_wake-next.ensures.fits)
+
+pub returns-clause-opens : goal.returns-clause-opens
+returns-clause-opens g c =
+    subst (λ (s : RealState). MatchOption (given c.answer-waited.result) (KeepsOpen s.links c.next_wake-next.new.links) (λ wake. Opens wake s.links c.next_wake-next.new.links)) c.self.view_is
+    (subst (λ (o : Option Wake). MatchOption o (KeepsOpen c.self.inside.links c.next_wake-next.new.links) (λ wake. Opens wake c.self.inside.links c.next_wake-next.new.links)) (sym c.answer-waited.ensures.given) c.next_wake-next.ensures.opens)
+
+pub returns-clause-round : goal.returns-clause-round
+returns-clause-round g c =
+    subst (λ (s : RealState). IfSome (given c.answer-waited.result) (λ wake. LeadsRound wake s.round c.next_wake-next.new.round)) c.self.view_is
+    (subst (λ (o : Option Wake). IfSome o (λ wake. LeadsRound wake c.self.inside.devices.round c.next_wake-next.new.round)) (sym c.answer-waited.ensures.given) c.next_wake-next.ensures.round)
+
+pub returns-clause-counts : goal.returns-clause-counts
+returns-clause-counts g c = let v = c.self.view_is in record {
+  links = subst (λ (s : RealState). s.link_faults ≤ c.self.inside.link_faults) v (le_refl c.self.inside.link_faults);
+  devices = subst (λ (s : RealState). s.device_faults ≤ c.self.inside.device_faults) v (le_refl c.self.inside.device_faults);
+  listens = subst (λ (s : RealState). s.listen_faults ≤ c.self.inside.listen_faults) v (le_refl c.self.inside.listen_faults);
+  waits = subst (λ (s : RealState). s.wait_faults ≤ c.count_waited.new.faults) v c.count_waited.ensures.cause.0;
+}

@@ -1,0 +1,24 @@
+use Rattle.std.proofs.Common.{◌≡◌, ◌≤◌, ap, subst, ◌∙◌}
+use Rattle.std.proofs.Math.Nat.{le_refl}
+use Rattle.af_io.specs.declared.flow.Put.TheVariants.{Failed}
+use Rattle.af_live.specs.declared.devices.Devices.{Devices}
+use Rattle.af_live.specs.Behind.{all_without_bytes}
+use Rattle.af_live.specs.Counting.{CountsOne}
+use Rattle.af_live.specs.RealWorld.{RealState}
+use Rattle.af_live.proofs.BehindLemmas.{captures_same}
+use Rattle.af_live.proofs.mio_world.MioWorldWorld.capture.Goals as goal
+
+pub returns-clause-faults : goal.returns-clause-faults
+returns-clause-faults g c = subst (λ (s : RealState). CountsOne (c.capture-put.result ≡ Failed) s.device_faults c.count_put.new.faults) c.self.view_is c.count_put.ensures
+
+pub returns-clause-leads : goal.returns-clause-leads
+returns-clause-leads g c = let v = c.self.view_is in record {
+  listens = ap (λ (s : RealState). s.listens) v;
+  behind = captures_same _ _ _ _ _ c.capture-put.ensures.captures ∙ ap (λ (s : RealState). all_without_bytes s.behind) v;
+  orders = ap (λ (d : Devices _ _). d.codec.orders) c.capture-put.ensures.rest ∙ ap (λ (s : RealState). s.codec.orders) v;
+  round = ap (λ (d : Devices _ _). d.round) c.capture-put.ensures.rest ∙ ap (λ (s : RealState). s.round) v;
+  link_faults = subst (λ (s : RealState). s.link_faults ≤ c.self.inside.link_faults) v (le_refl c.self.inside.link_faults);
+  device_faults = subst (λ (s : RealState). s.device_faults ≤ c.count_put.new.faults) v c.count_put.ensures.cause.0;
+  listen_faults = ap (λ (s : RealState). s.listen_faults) v;
+  wait_faults = ap (λ (s : RealState). s.wait_faults) v;
+}

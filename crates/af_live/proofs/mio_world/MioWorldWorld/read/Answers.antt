@@ -1,0 +1,29 @@
+use Rattle.std.proofs.Common.{◌≡◌, ◌≤◌, true, ap, subst, ◌∙◌}
+use Rattle.std.proofs.Math.Nat.{le_refl}
+use Rattle.af_world.specs.declared.world.LinkGot.TheVariants.{Failed}
+use Rattle.af_live.specs.LinkTable.{is_free, link_at, KeepsOpen}
+use Rattle.af_live.specs.Behind.{all_without_bytes}
+use Rattle.af_live.specs.Counting.{CountsOne}
+use Rattle.af_live.specs.RealWorld.{RealState}
+use Rattle.af_live.proofs.mio_world.MioWorldWorld.read.Goals as goal
+
+pub returns-clause-faults : goal.returns-clause-faults
+returns-clause-faults g c = subst (λ (s : RealState). CountsOne (c.read_link-got.result ≡ Failed) s.link_faults c.count_got.new.faults) c.self.view_is c.count_got.ensures
+
+pub returns-clause-leads : goal.returns-clause-leads
+returns-clause-leads g c = let v = c.self.view_is in record {
+  listens = c.read_link-got.ensures.listens ∙ ap (λ (s : RealState). s.listens) v;
+  behind = ap (λ (s : RealState). all_without_bytes s.behind) v;
+  orders = ap (λ (s : RealState). s.codec.orders) v;
+  round = ap (λ (s : RealState). s.round) v;
+  link_faults = subst (λ (s : RealState). s.link_faults ≤ c.count_got.new.faults) v c.count_got.ensures.cause.0;
+  device_faults = subst (λ (s : RealState). s.device_faults ≤ c.self.inside.device_faults) v (le_refl c.self.inside.device_faults);
+  listen_faults = ap (λ (s : RealState). s.listen_faults) v;
+  wait_faults = ap (λ (s : RealState). s.wait_faults) v;
+}
+
+pub returns-clause-open : goal.returns-clause-open
+returns-clause-open g c = subst (λ (s : RealState). KeepsOpen s.links c.read_link-got.new.links) c.self.view_is c.read_link-got.ensures.open
+
+pub returns-clause-unheld : goal.returns-clause-unheld
+returns-clause-unheld g c = subst (λ (s : RealState). is_free (link_at s.links c.args.link) ≡ true → c.read_link-got.result ≡ Failed) c.self.view_is c.read_link-got.ensures.unheld

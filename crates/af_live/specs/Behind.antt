@@ -1,0 +1,97 @@
+-- What stands behind a device: silence, two files, whose bytes are known where std's readers and writers tell them, or the codec.
+use Rattle.std.specs.Prelude.{◌≡◌, ℕ, List, length, map, replicate, slice_index_or, slice_set, option_map}
+use Rattle.std.specs.declared.option.Option.{Option}
+use Rattle.std.specs.declared.option.Option.TheVariants.{None, Some}
+use Rattle.af_sample.specs.declared.sample_type.SampleType.{SampleType}
+use Rattle.af_io.specs.declared.flow.Put.{Put}
+use Rattle.af_io.specs.declared.flow.Put.TheVariants as put
+use Rattle.af_io.specs.Real.{WritesOn}
+use Rattle.af_world.specs.declared.live.Ready.{Ready}
+use Rattle.af_world.specs.declared.live.Ready.TheVariants as ready
+use Rattle.af_world.specs.declared.live.Kind.{Kind}
+use Rattle.af_world.specs.declared.live.Kind.TheVariants as kind
+use Rattle.af_world.specs.Outside.{silent_byte}
+use Rattle.af_live.specs.declared.attached_device.Behind.{Behind}
+use Rattle.af_live.specs.declared.attached_device.Behind.TheVariants as behind
+use Rattle.af_live.specs.FileBytes.{FileState, FillsRoom}
+use Rattle.af_live.specs.CodecUse.{CodecUse, CodecTakes}
+
+-- what stands behind a device that is attached: silence of a sample type, two files, or the codec, with silence of a sample type to
+-- be captured
+pub data BehindState : Type 0 where
+  always_silent : SampleType → BehindState
+  over_files : FileState → BehindState
+  over_codec : SampleType → BehindState
+
+abbrev pub behind_state : {F : Type 0} → Behind F → BehindState
+behind_state (behind.Silence ty) = always_silent ty
+behind_state (behind.Files files) = over_files files
+behind_state (behind.Codec ty) = over_codec ty
+
+-- no device is attached
+abbrev pub none_attached : List (Option BehindState)
+none_attached = replicate 8 None
+
+-- what stands behind the device with a number, if it is attached
+abbrev pub behind_at : List (Option BehindState) → ℕ → Option BehindState
+behind_at devices d = slice_index_or devices d None
+
+-- the same, whatever its files hold
+abbrev pub without_bytes : BehindState → BehindState
+without_bytes (always_silent ty) = always_silent ty
+without_bytes (over_files f) = over_files (record f { input = None; output = None })
+without_bytes (over_codec ty) = over_codec ty
+
+-- what stands behind each device, whatever files hold
+unfoldable pub all_without_bytes : List (Option BehindState) → List (Option BehindState)
+all_without_bytes devices = map (option_map without_bytes) devices
+
+-- Captures
+
+-- the capture is done, and gives silence
+abbrev pub IsSilence : SampleType → Put → List ℕ → Type 0
+IsSilence ty answer into = (answer ≡ put.Done) × (into ≡ replicate (length into) (silent_byte ty))
+
+-- Of silence, and of the codec, silence is captured; of files what the input gives, and nothing else of them changes. None captures
+-- nothing.
+abbrev pub CapturesBy : Option BehindState → Put → List ℕ → Option BehindState → Type 0
+CapturesBy None answer into after = (answer ≡ put.Failed) × (after ≡ None)
+CapturesBy (Some (always_silent ty)) answer into after = IsSilence ty answer into × (after ≡ Some (always_silent ty))
+CapturesBy (Some (over_codec ty)) answer into after = IsSilence ty answer into × (after ≡ Some (over_codec ty))
+CapturesBy (Some (over_files f)) answer into after =
+    (input : Option (List ℕ)) × FillsRoom f.silent answer f.input into input × (after ≡ Some (over_files (record f { input = input })))
+
+-- a device captures by what stands behind it, and no other device is changed
+abbrev pub CapturesAt : ℕ → Put → List ℕ → List (Option BehindState) → List (Option BehindState) → Type 0
+CapturesAt d answer into old new = (after : Option BehindState) × CapturesBy (behind_at old d) answer into after × (new ≡ slice_set old d after)
+
+-- Emits
+
+-- Silence takes all. Files have all of a piece added to their output, or a prefix of it if that failed. The codec takes it as it does,
+-- and nothing else is given to it. None takes nothing.
+abbrev pub EmitsBy : Option BehindState → Put → List ℕ → Option BehindState → CodecUse → CodecUse → Type 0
+EmitsBy None answer sound after codec codec' = (answer ≡ put.Failed) × (after ≡ None) × (codec' ≡ codec)
+EmitsBy (Some (always_silent ty)) answer sound after codec codec' =
+    (answer ≡ put.Done) × (after ≡ Some (always_silent ty)) × (codec' ≡ codec)
+EmitsBy (Some (over_files f)) answer sound after codec codec' =
+    (output : Option (List ℕ)) × WritesOn answer f.output sound output × (after ≡ Some (over_files (record f { output = output }))) × (codec' ≡ codec)
+EmitsBy (Some (over_codec ty)) answer sound after codec codec' =
+    (after ≡ Some (over_codec ty)) × CodecTakes answer sound codec codec'
+
+-- a device hands sound out by what stands behind it, and no other device is changed
+abbrev pub EmitsAt : ℕ → Put → List ℕ → List (Option BehindState) → List (Option BehindState) → CodecUse → CodecUse → Type 0
+EmitsAt d answer sound old new codec codec' =
+    (after : Option BehindState) × EmitsBy (behind_at old d) answer sound after codec codec' × (new ≡ slice_set old d after)
+
+-- Attaches
+
+-- what stands behind a device of this kind and sample type that was just attached
+abbrev pub IsBehind : Kind → SampleType → BehindState → Type 0
+IsBehind kind.Silent ty b = b ≡ always_silent ty
+IsBehind (kind.Files input output) ty b = (f : FileState) × (f.silent ≡ silent_byte ty) × (b ≡ over_files f)
+IsBehind (kind.Codec restarts words) ty b = b ≡ over_codec ty
+
+-- an attach that was done puts a device there; no other attach changes any
+abbrev pub AttachesAt : Ready → Kind → ℕ → SampleType → List (Option BehindState) → List (Option BehindState) → Type 0
+AttachesAt ready.Done k d ty old new = (b : BehindState) × IsBehind k ty b × (new ≡ slice_set old d (Some b))
+AttachesAt _ k d ty old new = new ≡ old

@@ -1,0 +1,90 @@
+// A device that is attached, and what stands behind it.
+ghost use Rattle.std.specs.Prelude.{◌≡◌, ◌<◌, length, IfOk};
+ghost use Rattle.std.specs.declared.option.Option.TheVariants.{Some};
+ghost use Rattle.af_live.specs.Behind.{CapturesBy, EmitsBy, IsBehind, IsSilence};
+
+use crate::codec_device::CodecDevice;
+use crate::file_device::FileDevice;
+use af_child::Spawner;
+use af_io::Put;
+use af_sample::SampleType;
+use af_world::{Kind, silent_byte};
+use std::io::{self, Read, Write};
+use std::marker::Model;
+use std::rt::Files;
+
+/// What stands behind a device.
+#[derive(Drop)]
+pub(crate) enum Behind<F: Read + Write + Drop> {
+    /// Nothing: it captures silence of its sample type, and what it hands out is gone.
+    Silence(SampleType),
+    Files(FileDevice<F>),
+    /// The codec of the world. It captures silence of its sample type.
+    Codec(SampleType),
+}
+
+/// A device that is attached.
+#[derive(Drop)]
+pub(crate) struct AttachedDevice<F: Read + Write + Drop> {
+    behind: Behind<F>,
+}
+
+impl<F: Read + Write + Drop> Model for AttachedDevice<F> {
+    ghost use Rattle.af_live.specs.Behind.{BehindState, behind_state};
+
+    ghost Value = { BehindState };
+
+    ghost view = { λ a. behind_state a.behind };
+}
+
+impl<F: Read + Write + Drop> AttachedDevice<F> {
+    /// A device of this sample type, with what its kind names behind it. Files are opened, and the output is made where it is not
+    /// there.
+    pub fn new<R: Files<File = F>>(
+        rt: &R,
+        ty: SampleType,
+        kind: Kind<'_>,
+    ) -> io::Result<AttachedDevice<F>>
+        ensures { IfOk result (λ device. IsBehind kind.entry ty device) }
+    {
+        let behind = match kind {
+            Kind::Silent => Behind::Silence(ty),
+            Kind::Files { input, output } => {
+                Behind::Files(FileDevice::open(rt, ty, input, output)?)
+            }
+            Kind::Codec { .. } => Behind::Codec(ty),
+        };
+        Ok(AttachedDevice { behind })
+    }
+
+    /// Captures as many bytes as there is room for.
+    pub fn capture(&mut self, into: &mut [u8]) -> Put
+        ensures { CapturesBy (Some self.old) result into.new (Some self.new) }
+    {
+        match &mut self.behind {
+            Behind::Silence(ty) => capture_silence(*ty, into),
+            Behind::Files(files) => files.capture(into),
+            Behind::Codec(ty) => capture_silence(*ty, into),
+        }
+    }
+
+    /// Hands all of its sound out.
+    pub fn emit<S: Spawner + Drop>(&mut self, codec: &mut CodecDevice<S>, sound: &[u8]) -> Put
+        requires { 0 < length sound.now }
+        ensures { EmitsBy (Some self.old) result sound.now (Some self.new) codec.old codec.new }
+    {
+        match &mut self.behind {
+            Behind::Silence(_) => Put::Done,
+            Behind::Files(files) => files.emit(sound),
+            Behind::Codec(_) => codec.emit(sound),
+        }
+    }
+}
+
+/// Captures silence of a sample type.
+fn capture_silence(ty: SampleType, into: &mut [u8]) -> Put
+    ensures { IsSilence ty result into.new }
+{
+    into.fill(silent_byte(ty));
+    Put::Done
+}

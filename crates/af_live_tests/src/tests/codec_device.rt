@@ -34,6 +34,7 @@ fn attached<W: Live>(
         ty: SampleType::Mu255,
         rate: 8000,
         start: 0,
+        channels: 1,
         line: false,
     };
     let words = words_of(texts);

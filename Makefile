@@ -15,7 +15,7 @@ script: ## runs a script (SCRIPT=examples/time.script) and says in words what ca
 	(cd crates/afd && rt try -- script < $(abspath $(SCRIPT)) > "$$room/transcript" 2> "$$room/said") || { cat "$$room/said"; exit 1; }; fi && \
 	if [ -x tools/explain ]; then tools/explain $(SCRIPT) "$$room/transcript"; else cat "$$room/transcript"; fi
 
-build: ## proves everything, and leaves the programs bin/afd and bin/af: an hour of processor time, once
+build: ## proves everything, and leaves the programs bin/afd and bin/af: an hour of processor time and more, once
 	rt all check && mkdir -p bin && cd crates/afd && rt run -- script < stdin > /dev/null && cp out/afd ../../bin/afd
 	cd crates/af && rm -f out/af && { rt run -- arecord 127.0.0.1:1 --frames=1 2> /dev/null; cp out/af ../../bin/af; }
 

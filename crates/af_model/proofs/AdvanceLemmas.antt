@@ -2,6 +2,7 @@
 use Rattle.std.proofs.Common.{◌≡◌, ℕ, zero, suc, ◌≤◌, ◌<◌, Bool, true, false, List, [], ◌∷◌, length, take, refl, ◌∙◌, ap, subst, arith, length-drop, cond}
 use Rattle.std.specs.declared.option.Option.{Option}
 use Rattle.std.specs.declared.option.Option.TheVariants.{None, Some}
+use Rattle.af_wire.specs.declared.order.Order.{Order}
 use Rattle.af_wire.specs.declared.front.Front.{Front}
 use Rattle.af_wire.specs.declared.front.Front.TheVariants.{NeedMore, Frame, Malformed}
 use Rattle.af_wire.specs.declared.front.SetupFront.{SetupFront}
@@ -16,12 +17,12 @@ use Rattle.af_model.proofs.DueLemmas.{most_asked}
 use Rattle.af_model.proofs.RequestLemmas.{done_both}
 use Rattle.af_model.specs.Advance.{advance, advance_by, advance_step, after_frame, after_setup, after_front, takes_more, requested, without_front, or_else}
 
-pub frame_within : (xs : List ℕ) → IsFrameWithin (frame_front xs) (length xs)
-frame_within [] = tt
-frame_within (a ∷ []) = tt
-frame_within (a ∷ b ∷ []) = tt
-frame_within (a ∷ b ∷ c ∷ []) = tt
-frame_within (a ∷ b ∷ c ∷ d ∷ xs) = grind arith
+pub frame_within : (order : Order) (xs : List ℕ) → IsFrameWithin (frame_front order xs) (length xs)
+frame_within order [] = tt
+frame_within order (a ∷ []) = tt
+frame_within order (a ∷ b ∷ []) = tt
+frame_within order (a ∷ b ∷ c ∷ []) = tt
+frame_within order (a ∷ b ∷ c ∷ d ∷ xs) = grind arith
 
 pub setup_within : (xs : List ℕ) → IsSetupWithin (setup_front xs) (length xs)
 setup_within xs = grind arith
@@ -47,16 +48,16 @@ frame_shorter : (k : ℕ) (front : Front) (p : OpenLink) → IsFrameWithin front
 frame_shorter k NeedMore p w = tt
 frame_shorter k Malformed p w = w
 frame_shorter k (Frame n) p w =
-    let less = requested_rest k (asked_in (take n p.link.rest)) (open_link p.environment (without_front n p.link)) in
+    let less = requested_rest k (asked_in p.link.order (take n p.link.rest)) (open_link p.environment (without_front n p.link)) in
     omega (arith, less, length-drop n p.link.rest, w)
 
 setup_shorter : (front : SetupFront) (p : OpenLink) → IsSetupWithin front (length p.link.rest) → IsShorter (length p.link.rest) (after_setup front p)
 setup_shorter front.NeedMore p w = tt
-setup_shorter front.Setup p w = omega (arith, w, length-drop 8 p.link.rest)
-setup_shorter (front.BadSetup value) p w = omega (arith, w)
+setup_shorter (front.Setup order) p w = omega (arith, w, length-drop 8 p.link.rest)
+setup_shorter (front.BadSetup order value) p w = omega (arith, w)
 
-front_shorter : (b : Bool) (k : ℕ) (p : OpenLink) → IsShorter (length p.link.rest) (cond b (after_frame k (frame_front p.link.rest) p) (after_setup (setup_front p.link.rest) p))
-front_shorter true k p = frame_shorter k (frame_front p.link.rest) p (frame_within p.link.rest)
+front_shorter : (b : Bool) (k : ℕ) (p : OpenLink) → IsShorter (length p.link.rest) (cond b (after_frame k (frame_front p.link.order p.link.rest) p) (after_setup (setup_front p.link.rest) p))
+front_shorter true k p = frame_shorter k (frame_front p.link.order p.link.rest) p (frame_within p.link.order p.link.rest)
 front_shorter false k p = setup_shorter (setup_front p.link.rest) p (setup_within p.link.rest)
 
 taken_shorter : (b : Bool) (k : ℕ) (p : OpenLink) → IsShorter (length p.link.rest) (cond b (after_front k p) None)

@@ -3,12 +3,14 @@ use Rattle.std.proofs.Common.{◌≡◌, ℕ, zero, suc, ◌+◌, ◌*◌, ◌�
 use Rattle.std.proofs.lemmas.List.{take-append-le, drop-append-le}
 use Rattle.std.specs.declared.option.Option.{Option}
 use Rattle.std.specs.declared.option.Option.TheVariants.{None, Some}
-use Rattle.std.specs.Int.{w16, w32, from_be_bytes}
+use Rattle.af_wire.specs.declared.order.Order.{Order}
+use Rattle.af_wire.specs.declared.order.Order.TheVariants.{Big}
 use Rattle.af_wire.specs.declared.front.Front.{Front}
 use Rattle.af_wire.specs.declared.front.Front.TheVariants.{NeedMore, Frame, Malformed}
 use Rattle.af_wire.specs.declared.front.SetupFront.{SetupFront}
 use Rattle.af_wire.specs.declared.front.SetupFront.TheVariants as front
 use Rattle.af_wire.specs.Front.{setup_front, setup_with, frame_front, frame_with, IsFrameWithin, IsSetupWithin}
+use Rattle.af_wire.specs.Order.{u16_of, u32_of}
 use Rattle.af_request.specs.Asked.{Asked}
 use Rattle.af_request.specs.Requests.{asked_in}
 use Rattle.af_request.specs.Answer.{setup}
@@ -37,25 +39,25 @@ front_stays words there more =
       | false ↦ grind arith
     ]
 
-pub frame_stays : (xs ys : List ℕ) → Unchanged (frame_front xs) (frame_front (xs ++ ys))
-frame_stays [] ys = tt
-frame_stays (a ∷ []) ys = tt
-frame_stays (a ∷ b ∷ []) ys = tt
-frame_stays (a ∷ b ∷ c ∷ []) ys = tt
-frame_stays (a ∷ b ∷ c ∷ d ∷ xs) ys =
-    let words = from_be_bytes w16 (c ∷ d ∷ []) in
+pub frame_stays : (order : Order) (xs ys : List ℕ) → Unchanged (frame_front order xs) (frame_front order (xs ++ ys))
+frame_stays order [] ys = tt
+frame_stays order (a ∷ []) ys = tt
+frame_stays order (a ∷ b ∷ []) ys = tt
+frame_stays order (a ∷ b ∷ c ∷ []) ys = tt
+frame_stays order (a ∷ b ∷ c ∷ d ∷ xs) ys =
+    let words = u16_of order (c ∷ d ∷ []) in
     let e : length (a ∷ b ∷ c ∷ d ∷ xs) + length ys ≡ length (a ∷ b ∷ c ∷ d ∷ (xs ++ ys)) = omega (arith, length-append xs ys) in
     subst (λ n. Unchanged (frame_with words (length (a ∷ b ∷ c ∷ d ∷ xs))) (frame_with words n)) e (front_stays words (length (a ∷ b ∷ c ∷ d ∷ xs)) (length ys))
 
 abbrev pub UnchangedSetup : SetupFront → SetupFront → Type 0
 UnchangedSetup front.NeedMore g = Unit {0}
-UnchangedSetup front.Setup g = g ≡ front.Setup
-UnchangedSetup (front.BadSetup value) g = g ≡ front.BadSetup value
+UnchangedSetup (front.Setup order) g = g ≡ front.Setup order
+UnchangedSetup (front.BadSetup order value) g = g ≡ front.BadSetup order value
 
 same_setup : (f : SetupFront) → UnchangedSetup f f
 same_setup front.NeedMore = tt
-same_setup front.Setup = refl
-same_setup (front.BadSetup value) = refl
+same_setup (front.Setup order) = refl
+same_setup (front.BadSetup order value) = refl
 
 pub setup_stays : (xs ys : List ℕ) → UnchangedSetup (setup_front xs) (setup_front (xs ++ ys))
 setup_stays [] ys = tt
@@ -66,7 +68,7 @@ setup_stays (a ∷ b ∷ c ∷ d ∷ []) ys = tt
 setup_stays (a ∷ b ∷ c ∷ d ∷ e ∷ []) ys = tt
 setup_stays (a ∷ b ∷ c ∷ d ∷ e ∷ f ∷ []) ys = tt
 setup_stays (a ∷ b ∷ c ∷ d ∷ e ∷ f ∷ g ∷ []) ys = tt
-setup_stays (a ∷ b ∷ c ∷ d ∷ e ∷ f ∷ g ∷ h ∷ xs) ys = same_setup (setup_with (from_be_bytes w32 (a ∷ b ∷ c ∷ d ∷ [])) (from_be_bytes w16 (e ∷ f ∷ [])))
+setup_stays (a ∷ b ∷ c ∷ d ∷ e ∷ f ∷ g ∷ h ∷ xs) ys = same_setup (setup_with (u32_of Big (a ∷ b ∷ c ∷ d ∷ [])) (e ∷ f ∷ []))
 
 -- A step and more bytes
 
@@ -105,20 +107,20 @@ frame_more k p b (Frame n) g e w s =
     let t : take n (p.link.rest ++ b) ≡ take n p.link.rest = take-append-le n p.link.rest b within in
     let d : drop n (p.link.rest ++ b) ≡ drop n p.link.rest ++ b = drop-append-le n p.link.rest b within in
     ap (λ x. after_frame k x (more_bytes p b)) s
-    ∙ ap (λ x. Some x) (ap (λ r. requested k (asked_in (take n (p.link.rest ++ b))) (with_rest r p)) d ∙ ap (λ x. requested k (asked_in x) (with_rest (drop n p.link.rest ++ b) p)) t
-    ∙ requested_more k (asked_in (take n p.link.rest)) (open_link p.environment (without_front n p.link)) b e)
+    ∙ ap (λ x. Some x) (ap (λ r. requested k (asked_in p.link.order (take n (p.link.rest ++ b))) (with_rest r p)) d ∙ ap (λ x. requested k (asked_in p.link.order x) (with_rest (drop n p.link.rest ++ b) p)) t
+    ∙ requested_more k (asked_in p.link.order (take n p.link.rest)) (open_link p.environment (without_front n p.link)) b e)
 
 setup_more : (p : OpenLink) (b : List ℕ) (f g : SetupFront) → is_none p.link.closing ≡ true → IsSetupWithin f (length p.link.rest) → UnchangedSetup f g → SameStep b (after_setup f p) (after_setup g (more_bytes p b))
 setup_more p b front.NeedMore g e w s = tt
-setup_more p b (front.BadSetup value) g e w s = ap (λ x. after_setup x (more_bytes p b)) s
-setup_more p b front.Setup g e w s =
+setup_more p b (front.BadSetup order value) g e w s = ap (λ x. after_setup x (more_bytes p b)) s
+setup_more p b (front.Setup order) g e w s =
     let d : drop 8 (p.link.rest ++ b) ≡ drop 8 p.link.rest ++ b = drop-append-le 8 p.link.rest b w in
-    let set_up : List ℕ → OpenLink = λ rest. say (open_link p.environment (record p.link { is_set_up = true; rest = rest })) (reply_message 0 (setup (infos_of p.environment.devices)) 0) in
+    let set_up : List ℕ → OpenLink = λ rest. say (open_link p.environment (record p.link { is_set_up = true; order = order; rest = rest })) (reply_message order 0 (setup (infos_of p.environment.devices)) 0) in
     ap (λ x. after_setup x (more_bytes p b)) s ∙ ap (λ x. Some x) (ap set_up d ∙ sym (open_bytes (set_up (drop 8 p.link.rest)) b e))
 
 front_more : (t : Bool) (k : ℕ) (p : OpenLink) (b : List ℕ) → is_none p.link.closing ≡ true →
-    SameStep b (cond t (after_frame k (frame_front p.link.rest) p) (after_setup (setup_front p.link.rest) p)) (cond t (after_frame k (frame_front (p.link.rest ++ b)) (more_bytes p b)) (after_setup (setup_front (p.link.rest ++ b)) (more_bytes p b)))
-front_more true k p b e = frame_more k p b (frame_front p.link.rest) (frame_front (p.link.rest ++ b)) e (frame_within p.link.rest) (frame_stays p.link.rest b)
+    SameStep b (cond t (after_frame k (frame_front p.link.order p.link.rest) p) (after_setup (setup_front p.link.rest) p)) (cond t (after_frame k (frame_front p.link.order (p.link.rest ++ b)) (more_bytes p b)) (after_setup (setup_front (p.link.rest ++ b)) (more_bytes p b)))
+front_more true k p b e = frame_more k p b (frame_front p.link.order p.link.rest) (frame_front p.link.order (p.link.rest ++ b)) e (frame_within p.link.order p.link.rest) (frame_stays p.link.order p.link.rest b)
 front_more false k p b e = setup_more p b (setup_front p.link.rest) (setup_front (p.link.rest ++ b)) e (setup_within p.link.rest) (setup_stays p.link.rest b)
 
 step_more : (k : ℕ) (p : OpenLink) (b : List ℕ) → is_none p.link.closing ≡ true → SameStep b (advance_step k p) (advance_step k (more_bytes p b))

@@ -3,6 +3,7 @@ use Rattle.std.proofs.Common.{◌≡◌, ℕ, ◌+◌, ◌-◌, ◌*◌, ◌≤�
 use Rattle.std.proofs.lemmas.List.{length-drop, length-take}
 use Rattle.std.specs.declared.option.Option.{Option}
 use Rattle.std.specs.declared.option.Option.TheVariants.{None, Some}
+use Rattle.af_wire.specs.declared.order.Order.{Order}
 use Rattle.af_wire.specs.declared.front.Front.{Front}
 use Rattle.af_wire.specs.declared.front.Front.TheVariants.{NeedMore, Frame, Malformed}
 use Rattle.af_wire.specs.Front.{frame_front}
@@ -18,12 +19,12 @@ AtMost NeedMore = Unit {0}
 AtMost (Frame n) = n ≤ longest_frame
 AtMost Malformed = Unit {0}
 
-frame_at_most : (xs : List ℕ) → AtMost (frame_front xs)
-frame_at_most [] = tt
-frame_at_most (a ∷ []) = tt
-frame_at_most (a ∷ b ∷ []) = tt
-frame_at_most (a ∷ b ∷ c ∷ []) = tt
-frame_at_most (a ∷ b ∷ c ∷ d ∷ xs) = grind arith
+frame_at_most : (order : Order) (xs : List ℕ) → AtMost (frame_front order xs)
+frame_at_most order [] = tt
+frame_at_most order (a ∷ []) = tt
+frame_at_most order (a ∷ b ∷ []) = tt
+frame_at_most order (a ∷ b ∷ c ∷ []) = tt
+frame_at_most order (a ∷ b ∷ c ∷ d ∷ xs) = grind arith
 
 -- what the row of an opcode asks
 abbrev AsksFew : Option Row → Type 0
@@ -37,21 +38,21 @@ either false x y h i = i
 slice_within : (xs : List ℕ) (a b : ℕ) → length (slice_range xs a b) ≤ length xs
 slice_within xs a b = omega (arith, length-take (b - a) (drop a xs), length-drop a xs)
 
-row_asks : (opcode : ℕ) (frame : List ℕ) → length frame ≤ longest_frame → AsksFew (row_of opcode frame)
-row_asks opcode frame short =
-    let within = slice_within frame 16 (16 + u32_at 12 frame) in
+row_asks : (order : Order) (opcode : ℕ) (frame : List ℕ) → length frame ≤ longest_frame → AsksFew (row_of order opcode frame)
+row_asks order opcode frame short =
+    let within = slice_within frame 16 (16 + u32_at order 12 frame) in
     let none : 0 ≤ longest_frame = omega arith in
     either (opcode == 1) _ _ none (either (opcode == 2) _ _ none (either (opcode == 3) _ _ none (either (opcode == 4) _ _ none (either (opcode == 5) _ _ none (either (opcode == 6) _ _ (omega (arith, within, short))
     (either (opcode == 7) _ _ (omega arith) (either (opcode == 8) _ _ none (either (opcode == 9) _ _ none (either (opcode == 10) _ _ none (either (opcode == 11) _ _ none (either (opcode == 12) _ _ none tt)))))))))))
 
 -- a request that is a frame at the front of some bytes has few frames
-pub frame_asks : (xs : List ℕ) (n : ℕ) (request : Asked) → frame_front xs ≡ Frame n → asked_in (take n xs) ≡ Some request → most_asked request ≤ longest_frame
-frame_asks xs n request e asked =
-    let few : n ≤ longest_frame = subst AtMost e (frame_at_most xs) in
+pub frame_asks : (order : Order) (xs : List ℕ) (n : ℕ) (request : Asked) → frame_front order xs ≡ Frame n → asked_in order (take n xs) ≡ Some request → most_asked request ≤ longest_frame
+frame_asks order xs n request e asked =
+    let few : n ≤ longest_frame = subst AtMost e (frame_at_most order xs) in
     let short : length (take n xs) ≤ longest_frame = omega (arith, few, length-take n xs) in
-    elim (row_of (u8_at 0 (take n xs)) (take n xs)) as (λ o. AsksFew o → option_and_then (asked_by (take n xs)) o ≡ Some request → most_asked request ≤ longest_frame) [
+    elim (row_of order (u8_at 0 (take n xs)) (take n xs)) as (λ o. AsksFew o → option_and_then (asked_by (take n xs)) o ≡ Some request → most_asked request ≤ longest_frame) [
       | None ↦ λ h e. absurd (none_some e)
       | Some r ↦ λ h e.
           let i = cond-some (length (take n xs) == 4 * r.words) (Some r.asked) request e in
           subst (λ a. most_asked a ≤ longest_frame) (some_is i.1) h
-    ] (row_asks (u8_at 0 (take n xs)) (take n xs) short) asked
+    ] (row_asks order (u8_at 0 (take n xs)) (take n xs) short) asked

@@ -6,6 +6,7 @@ use Rattle.af_world.specs.declared.happening.Why.{Why}
 use Rattle.af_world.specs.declared.happening.Why.TheVariants as why
 use Rattle.af_wire.specs.declared.front.Front.{Front}
 use Rattle.af_wire.specs.declared.front.Front.TheVariants.{NeedMore, Frame, Malformed}
+use Rattle.af_wire.specs.declared.order.Order.{Order}
 use Rattle.af_wire.specs.declared.front.SetupFront.{SetupFront}
 use Rattle.af_wire.specs.declared.front.SetupFront.TheVariants as front
 use Rattle.af_wire.specs.Front.{setup_front, frame_front}
@@ -36,9 +37,9 @@ use Rattle.af_model.specs.Sizes.{most_to_send}
 -- it, if it may be; a device becomes later; it begins to wait.
 pub record Keeps (k : ℕ) (May : Option Why → Type 0) (I : OpenLink → Type 0) : Type 0 where
   pub may : (closing : Option Why) → is_dropped closing ≡ false → May closing
-  pub link : (p : OpenLink) (l : LinkState) → p.link.closing ≡ None → l.closing ≡ None → l.pending ≡ p.link.pending → l.rest ≡ p.link.rest → l.is_set_up ≡ p.link.is_set_up → I p → I (open_link p.environment l)
-  pub takes : (p : OpenLink) (n : ℕ) → p.link.closing ≡ None → p.link.is_set_up ≡ true → frame_front p.link.rest ≡ Frame n → is_some (asked_in (take n p.link.rest)) ≡ true → I p → I (open_link p.environment (without_front n p.link))
-  pub sets_up : (p : OpenLink) → p.link.closing ≡ None → p.link.is_set_up ≡ false → setup_front p.link.rest ≡ front.Setup → I p → I (open_link p.environment (record (without_front 8 p.link) { is_set_up = true }))
+  pub link : (p : OpenLink) (l : LinkState) → p.link.closing ≡ None → l.closing ≡ None → l.pending ≡ p.link.pending → l.rest ≡ p.link.rest → l.is_set_up ≡ p.link.is_set_up → l.order ≡ p.link.order → I p → I (open_link p.environment l)
+  pub takes : (p : OpenLink) (n : ℕ) → p.link.closing ≡ None → p.link.is_set_up ≡ true → frame_front p.link.order p.link.rest ≡ Frame n → is_some (asked_in p.link.order (take n p.link.rest)) ≡ true → I p → I (open_link p.environment (without_front n p.link))
+  pub sets_up : (p : OpenLink) (order : Order) → p.link.closing ≡ None → p.link.is_set_up ≡ false → setup_front p.link.rest ≡ front.Setup order → I p → I (open_link p.environment (record (without_front 8 p.link) { is_set_up = true; order = order }))
   pub stops : (p : OpenLink) (cause : Why) → p.link.closing ≡ None → IsBadInput cause p.link → I p → I (open_link p.environment (stopped cause p.link))
   pub says : (p : OpenLink) (bytes : List ℕ) → May p.link.closing → I p → I (say p bytes)
   pub becomes : (p : OpenLink) (d : ℕ) (device : DeviceState) (f : DeviceState → DeviceState) → slice_get p.environment.devices d ≡ Some device → Requested k device (f device) → I p → I (in_devices d f p)
@@ -55,35 +56,35 @@ module _ (k : ℕ) (May : Option Why → Type 0) (I : OpenLink → Type 0) (kept
   request_keeps : (request : Asked) (p : OpenLink) → most_asked request ≤ longest_frame → p.link.closing ≡ None → I p → I (perform k request p)
   request_keeps request p short none h =
       let q = open_link p.environment (request_counted p.link) in
-      let i : I q = kept.link p (request_counted p.link) none none refl refl refl h in
+      let i : I q = kept.link p (request_counted p.link) none none refl refl refl refl h in
       let may = kept.may p.link.closing (open_undropped p.link.closing none) in
       done_both k q q.link.rest longest_frame (λ u v. I u) i
-      (λ contexts selections bytes. kept.says (chosen contexts selections q) bytes may (kept.link q (chosen contexts selections q).link none none refl refl refl i))
+      (λ contexts selections bytes. kept.says (chosen contexts selections q) bytes may (kept.link q (chosen contexts selections q).link none none refl refl refl refl i))
       (λ d device f there l. kept.becomes q d device f there l i)
       (λ d device f bytes there l. kept.says (in_devices d f q) bytes may (kept.becomes q d device f there l i))
       (λ d device deferred there w. kept.waits q d device deferred there w none i) request short
 
   -- a frame is a request, or closes the link
-  asked_keeps : (o : Option Asked) (n : ℕ) (p : OpenLink) → asked_in (take n p.link.rest) ≡ o → frame_front p.link.rest ≡ Frame n → p.link.is_set_up ≡ true → p.link.closing ≡ None → I p →
+  asked_keeps : (o : Option Asked) (n : ℕ) (p : OpenLink) → asked_in p.link.order (take n p.link.rest) ≡ o → frame_front p.link.order p.link.rest ≡ Frame n → p.link.is_set_up ≡ true → p.link.closing ≡ None → I p →
       I (requested k o (open_link p.environment (without_front n p.link)))
-  asked_keeps None n p asked e set none h = kept.stops p why.Malformed none (set, ap (λ f. is_malformed f p.link.rest) e ∙ ap is_none asked) h
-  asked_keeps (Some request) n p asked e set none h = request_keeps request (open_link p.environment (without_front n p.link)) (frame_asks p.link.rest n request e asked) none (kept.takes p n none set e (ap is_some asked) h)
+  asked_keeps None n p asked e set none h = kept.stops p why.Malformed none (set, ap (λ f. is_malformed p.link.order f p.link.rest) e ∙ ap is_none asked) h
+  asked_keeps (Some request) n p asked e set none h = request_keeps request (open_link p.environment (without_front n p.link)) (frame_asks p.link.order p.link.rest n request e asked) none (kept.takes p n none set e (ap is_some asked) h)
 
-  frame_keeps : (f : Front) (p : OpenLink) → frame_front p.link.rest ≡ f → p.link.is_set_up ≡ true → p.link.closing ≡ None → I p → IfSome (after_frame k f p) I
+  frame_keeps : (f : Front) (p : OpenLink) → frame_front p.link.order p.link.rest ≡ f → p.link.is_set_up ≡ true → p.link.closing ≡ None → I p → IfSome (after_frame k f p) I
   frame_keeps NeedMore p e set none h = tt
-  frame_keeps Malformed p e set none h = kept.stops p why.Malformed none (set, ap (λ f. is_malformed f p.link.rest) e) h
-  frame_keeps (Frame n) p e set none h = asked_keeps (asked_in (take n p.link.rest)) n p refl e set none h
+  frame_keeps Malformed p e set none h = kept.stops p why.Malformed none (set, ap (λ f. is_malformed p.link.order f p.link.rest) e) h
+  frame_keeps (Frame n) p e set none h = asked_keeps (asked_in p.link.order (take n p.link.rest)) n p refl e set none h
 
   setup_keeps : (f : SetupFront) (p : OpenLink) → setup_front p.link.rest ≡ f → p.link.is_set_up ≡ false → p.link.closing ≡ None → I p → IfSome (after_setup f p) I
   setup_keeps front.NeedMore p e unset none h = tt
-  setup_keeps front.Setup p e unset none h =
-      let q = open_link p.environment (record (without_front 8 p.link) { is_set_up = true }) in
-      kept.says q (reply_message 0 (setup (infos_of p.environment.devices)) 0) (kept.may p.link.closing (open_undropped p.link.closing none)) (kept.sets_up p none unset e h)
-  setup_keeps (front.BadSetup value) p e unset none h =
-      kept.says (open_link p.environment (stopped why.BadSetup p.link)) (error 1 value 0 0) (kept.may (Some why.BadSetup) refl) (kept.stops p why.BadSetup none (unset, value, e) h)
+  setup_keeps (front.Setup order) p e unset none h =
+      let q = open_link p.environment (record (without_front 8 p.link) { is_set_up = true; order = order }) in
+      kept.says q (reply_message order 0 (setup (infos_of p.environment.devices)) 0) (kept.may p.link.closing (open_undropped p.link.closing none)) (kept.sets_up p order none unset e h)
+  setup_keeps (front.BadSetup order value) p e unset none h =
+      kept.says (open_link p.environment (stopped why.BadSetup p.link)) (error order 1 value 0 0) (kept.may (Some why.BadSetup) refl) (kept.stops p why.BadSetup none (unset, order, value, e) h)
 
-  front_keeps : (t : Bool) (p : OpenLink) → p.link.is_set_up ≡ t → p.link.closing ≡ None → I p → IfSome (cond t (after_frame k (frame_front p.link.rest) p) (after_setup (setup_front p.link.rest) p)) I
-  front_keeps true p set none h = frame_keeps (frame_front p.link.rest) p refl set none h
+  front_keeps : (t : Bool) (p : OpenLink) → p.link.is_set_up ≡ t → p.link.closing ≡ None → I p → IfSome (cond t (after_frame k (frame_front p.link.order p.link.rest) p) (after_setup (setup_front p.link.rest) p)) I
+  front_keeps true p set none h = frame_keeps (frame_front p.link.order p.link.rest) p refl set none h
   front_keeps false p unset none h = setup_keeps (setup_front p.link.rest) p refl unset none h
 
   step_keeps : (p : OpenLink) → I p → IfSome (advance_step k p) I

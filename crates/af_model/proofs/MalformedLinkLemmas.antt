@@ -41,23 +41,23 @@ frame_alone : (k : ℕ) (f : Front) (p q : OpenLink) → p.link.closing ≡ None
 frame_alone k NeedMore p q none e = absurd (none_some e)
 frame_alone k Malformed p q none e = let same : open_link p.environment (stopped why.Malformed p.link) ≡ q = cc in subst (ClosesAlone p) same (λ c. (refl, refl, refl))
 frame_alone k (Frame n) p q none e =
-    let same : requested k (asked_in (take n p.link.rest)) (open_link p.environment (without_front n p.link)) ≡ q = cc in
-    subst (ClosesAlone p) same (request_alone k (asked_in (take n p.link.rest)) n p none)
+    let same : requested k (asked_in p.link.order (take n p.link.rest)) (open_link p.environment (without_front n p.link)) ≡ q = cc in
+    subst (ClosesAlone p) same (request_alone k (asked_in p.link.order (take n p.link.rest)) n p none)
 
 other_cause : Some why.BadSetup ≡ Some why.Malformed → ⊥
 other_cause e = cc
 
 setup_alone : (f : SetupFront) (p q : OpenLink) → p.link.closing ≡ None → after_setup f p ≡ Some q → ClosesAlone p q
 setup_alone front.NeedMore p q none e c = absurd (none_some e)
-setup_alone front.Setup p q none e c =
-    let same : say (open_link p.environment (record (without_front 8 p.link) { is_set_up = true })) (reply_message 0 (setup (infos_of p.environment.devices)) 0) ≡ q = cc in
+setup_alone (front.Setup order) p q none e c =
+    let same : say (open_link p.environment (record (without_front 8 p.link) { is_set_up = true; order = order })) (reply_message order 0 (setup (infos_of p.environment.devices)) 0) ≡ q = cc in
     absurd (none_some (sym none ∙ ap (λ (r : OpenLink). r.link.closing) same ∙ c))
-setup_alone (front.BadSetup value) p q none e c =
-    let same : say (open_link p.environment (stopped why.BadSetup p.link)) (error 1 value 0 0) ≡ q = cc in
+setup_alone (front.BadSetup order value) p q none e c =
+    let same : say (open_link p.environment (stopped why.BadSetup p.link)) (error order 1 value 0 0) ≡ q = cc in
     absurd (other_cause (ap (λ (r : OpenLink). r.link.closing) same ∙ c))
 
-front_alone : (b : Bool) (k : ℕ) (p q : OpenLink) → p.link.closing ≡ None → cond b (after_frame k (frame_front p.link.rest) p) (after_setup (setup_front p.link.rest) p) ≡ Some q → ClosesAlone p q
-front_alone true k p q none e = frame_alone k (frame_front p.link.rest) p q none e
+front_alone : (b : Bool) (k : ℕ) (p q : OpenLink) → p.link.closing ≡ None → cond b (after_frame k (frame_front p.link.order p.link.rest) p) (after_setup (setup_front p.link.rest) p) ≡ Some q → ClosesAlone p q
+front_alone true k p q none e = frame_alone k (frame_front p.link.order p.link.rest) p q none e
 front_alone false k p q none e = setup_alone (setup_front p.link.rest) p q none e
 
 pub closes_alone : (k : ℕ) (p q : OpenLink) → advance_step k p ≡ Some q → ClosesAlone p q

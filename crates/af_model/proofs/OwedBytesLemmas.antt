@@ -137,11 +137,11 @@ queueing_fewer k g said (Some l) ws vs less h = record {
 }
 
 -- nothing has ended a link that is not closing
-unended : (k : ℕ) (g : LinkHistory) (p : OpenLink) → p.link.closing ≡ None → (h : Owing k g p) → IsUnended g p.link.is_set_up p.link.rest
-unended k g p none h = subst (ShowsBy g h.rest p.link.is_set_up p.link.rest) none h.shows
+unended : (k : ℕ) (g : LinkHistory) (p : OpenLink) → p.link.closing ≡ None → (h : Owing k g p) → IsUnended g p.link.is_set_up p.link.order p.link.rest
+unended k g p none h = subst (ShowsBy g h.rest p.link.is_set_up p.link.order p.link.rest) none h.shows
 
 -- a link that is not closing becomes another that is not, and the same waits to be sent to it
-becomes_unended : (k : ℕ) (g : LinkHistory) (p : OpenLink) (l : LinkState) → p.link.closing ≡ None → l.closing ≡ None → l.pending ≡ p.link.pending → IsUnended g l.is_set_up l.rest → Owing k g p → Owing k g (open_link p.environment l)
+becomes_unended : (k : ℕ) (g : LinkHistory) (p : OpenLink) (l : LinkState) → p.link.closing ≡ None → l.closing ≡ None → l.pending ≡ p.link.pending → IsUnended g l.is_set_up l.order l.rest → Owing k g p → Owing k g (open_link p.environment l)
 becomes_unended k g p l none behind same input h =
     let undropped = open_undropped l.closing behind in
     record {
@@ -151,13 +151,13 @@ becomes_unended k g p l none behind same input h =
       sends = λ e. not_both (is_dropped l.closing) undropped e;
       waits = λ e. not_both (is_dropped l.closing) undropped e;
       wants = λ e. not_both (is_dropped l.closing) undropped e;
-      shows = subst (ShowsBy g h.rest l.is_set_up l.rest) (sym behind) input;
+      shows = subst (ShowsBy g h.rest l.is_set_up l.order l.rest) (sym behind) input;
       unclosed = h.unclosed;
     }
 
 -- a link that is not closing becomes one that is, and was not dropped
 becomes_closing : (k : ℕ) (g : LinkHistory) (p : OpenLink) (l : LinkState) (cause : Why) → p.link.closing ≡ None → l.closing ≡ Some cause → is_dropped (Some cause) ≡ false → l.pending ≡ p.link.pending →
-    ((owed : List ℕ) → ShowsBy g owed l.is_set_up l.rest (Some cause)) → Owing k g p → Owing k g (open_link p.environment l)
+    ((owed : List ℕ) → ShowsBy g owed l.is_set_up l.order l.rest (Some cause)) → Owing k g p → Owing k g (open_link p.environment l)
 becomes_closing k g p l cause none closes stays same shows h =
     let undropped : is_dropped l.closing ≡ false = ap is_dropped closes ∙ stays in
     record {
@@ -167,7 +167,7 @@ becomes_closing k g p l cause none closes stays same shows h =
       sends = λ e. not_both (is_dropped l.closing) undropped e;
       waits = λ e. not_both (is_dropped l.closing) undropped e;
       wants = λ e. not_both (is_dropped l.closing) undropped e;
-      shows = subst (ShowsBy g h.rest l.is_set_up l.rest) (sym closes) (shows h.rest);
+      shows = subst (ShowsBy g h.rest l.is_set_up l.order l.rest) (sym closes) (shows h.rest);
       unclosed = h.unclosed;
     }
 
@@ -181,17 +181,17 @@ bad_undropped why.Overrun l bad = absurd bad
 pub queueing_keeps : (k : ℕ) (g : LinkHistory) → Keeps k (λ closing. is_dropped closing ≡ false) (Owing k g)
 queueing_keeps k g = record {
   may = λ closing e. e;
-  link = λ p l none behind same rest set h.
-      becomes_unended k g p l none behind same (subst (λ b. IsUnended g b l.rest) (sym set) (subst (IsUnended g p.link.is_set_up) (sym rest) (unended k g p none h))) h;
+  link = λ p l none behind same rest set ordered h.
+      becomes_unended k g p l none behind same (subst (λ b. IsUnended g b l.order l.rest) (sym set) (subst (λ o. IsUnended g p.link.is_set_up o l.rest) (sym ordered) (subst (IsUnended g p.link.is_set_up p.link.order) (sym rest) (unended k g p none h)))) h;
   takes = λ p n none set e asked h.
       let u = unended k g p none h in
-      let served : IsServedTo g.gave p.link.rest = subst (λ b. IsInput b g.gave p.link.rest) set u.input in
+      let served : IsServedTo p.link.order g.gave p.link.rest = subst (λ b. IsInput b p.link.order g.gave p.link.rest) set u.input in
       becomes_unended k g p (without_front n p.link) none none refl
-      (record { failed = u.failed; ended = u.ended; input = subst (λ b. IsInput b g.gave (drop n p.link.rest)) (sym set) (input_taken g.gave p.link.rest n e asked served) }) h;
-  sets_up = λ p none unset e h.
+      (record { failed = u.failed; ended = u.ended; input = subst (λ b. IsInput b p.link.order g.gave (drop n p.link.rest)) (sym set) (input_taken p.link.order g.gave p.link.rest n e asked served) }) h;
+  sets_up = λ p order none unset e h.
       let u = unended k g p none h in
-      let same : p.link.rest ≡ g.gave = subst (λ b. IsInput b g.gave p.link.rest) unset u.input in
-      becomes_unended k g p (record (without_front 8 p.link) { is_set_up = true }) none none refl (record { failed = u.failed; ended = u.ended; input = input_set_up g.gave p.link.rest e same }) h;
+      let same : p.link.rest ≡ g.gave = subst (λ b. IsInput b p.link.order g.gave p.link.rest) unset u.input in
+      becomes_unended k g p (record (without_front 8 p.link) { is_set_up = true; order = order }) none none refl (record { failed = u.failed; ended = u.ended; input = input_set_up order g.gave p.link.rest e same }) h;
   stops = λ p cause none bad h.
       becomes_closing k g p (stopped cause p.link) cause none refl (bad_undropped cause p.link bad) refl (λ owed. shows_bad g owed cause p.link bad (unended k g p none h)) h;
   says = λ p bytes stays h. record {
@@ -201,7 +201,7 @@ queueing_keeps k g = record {
     sends = λ e. not_both (is_dropped p.link.closing) stays e;
     waits = λ e. not_both (is_dropped p.link.closing) stays e;
     wants = λ e. not_both (is_dropped p.link.closing) stays e;
-    shows = shows_owed g h.rest (h.rest ++ bytes) p.link.is_set_up p.link.rest p.link.closing stays h.shows;
+    shows = shows_owed g h.rest (h.rest ++ bytes) p.link.is_set_up p.link.order p.link.rest p.link.closing stays h.shows;
     unclosed = h.unclosed;
   };
   becomes = λ p d device f there l h. h;
@@ -230,8 +230,8 @@ queued_given k g bytes p none h =
       sends = h.sends;
       waits = h.waits;
       wants = h.wants;
-      shows = subst (ShowsBy (record g { gave = g.gave ++ bytes }) h.rest p.link.is_set_up (p.link.rest ++ bytes)) (sym none)
-          (record { failed = u.failed; ended = u.ended; input = input_more p.link.is_set_up g.gave p.link.rest bytes u.input });
+      shows = subst (ShowsBy (record g { gave = g.gave ++ bytes }) h.rest p.link.is_set_up p.link.order (p.link.rest ++ bytes)) (sym none)
+          (record { failed = u.failed; ended = u.ended; input = input_more p.link.is_set_up p.link.order g.gave p.link.rest bytes u.input });
       unclosed = h.unclosed;
     }
 
@@ -252,9 +252,9 @@ queued_ended k g p none h =
     }
 
 -- some of what waited is taken
-pub queued_taken : (k : ℕ) (g : LinkHistory) (bytes : List ℕ) (p : OpenLink) (l : LinkState) → is_dropped p.link.closing ≡ false → l.closing ≡ p.link.closing → l.rest ≡ p.link.rest → l.is_set_up ≡ p.link.is_set_up →
+pub queued_taken : (k : ℕ) (g : LinkHistory) (bytes : List ℕ) (p : OpenLink) (l : LinkState) → is_dropped p.link.closing ≡ false → l.closing ≡ p.link.closing → l.rest ≡ p.link.rest → l.is_set_up ≡ p.link.is_set_up → l.order ≡ p.link.order →
     p.link.pending ≡ bytes ++ l.pending → Owing k g p → Owing k (record g { took = g.took ++ bytes }) (open_link p.environment l)
-queued_taken k g bytes p l stays same input set front h =
+queued_taken k g bytes p l stays same input set ordered front h =
     let undropped : is_dropped l.closing ≡ false = ap is_dropped same ∙ stays in
     let f : LinkHistory = record g { took = g.took ++ bytes } in
     record {
@@ -264,8 +264,9 @@ queued_taken k g bytes p l stays same input set front h =
       sends = λ e. not_both (is_dropped l.closing) undropped e;
       waits = λ e. not_both (is_dropped l.closing) undropped e;
       wants = λ e. not_both (is_dropped l.closing) undropped e;
-      shows = subst (λ c. ShowsBy f l.pending l.is_set_up l.rest c) (sym same) (subst (λ b. ShowsBy f l.pending b l.rest p.link.closing) (sym set)
-          (subst (λ x. ShowsBy f l.pending p.link.is_set_up x p.link.closing) (sym input) (shows_taken g bytes h.rest l.pending p.link.is_set_up p.link.rest p.link.closing stays h.shows)));
+      shows = subst (λ c. ShowsBy f l.pending l.is_set_up l.order l.rest c) (sym same) (subst (λ b. ShowsBy f l.pending b l.order l.rest p.link.closing) (sym set)
+          (subst (λ o. ShowsBy f l.pending p.link.is_set_up o l.rest p.link.closing) (sym ordered)
+          (subst (λ x. ShowsBy f l.pending p.link.is_set_up p.link.order x p.link.closing) (sym input) (shows_taken g bytes h.rest l.pending p.link.is_set_up p.link.order p.link.rest p.link.closing stays h.shows))));
       unclosed = h.unclosed;
     }
 
@@ -290,7 +291,7 @@ queued_failed k g p h = queued_dropped k g (record g { has_failed = true }) why.
 pub queued_overrun : (k : ℕ) (g : LinkHistory) (p : OpenLink) → is_dropped p.link.closing ≡ false → nat_le (length p.link.pending + 20) event_limit ≡ false → Owing k g p → Owing k g (dropped k why.Overrun p)
 queued_overrun k g p stays full h =
     queued_dropped k g g why.Overrun p refl refl refl h
-    (shows_unfailed g h.rest p.link.is_set_up p.link.rest p.link.closing stays h.shows, subst (λ l. event_limit < length l + 20) (sym (h.queued stays)) (no_room (length p.link.pending) full))
+    (shows_unfailed g h.rest p.link.is_set_up p.link.order p.link.rest p.link.closing stays h.shows, subst (λ l. event_limit < length l + 20) (sym (h.queued stays)) (no_room (length p.link.pending) full))
 
 -- a link to which nothing waits to be sent is closed for its cause
 pub queued_closed : (k : ℕ) (g : LinkHistory) (p : OpenLink) (cause : Why) → close_due p.link ≡ Some cause → Owing k g p → OwingLink k (record g { closed = Some cause }) p.environment.said None p.environment.waiting
@@ -298,11 +299,11 @@ queued_closed k g p cause due h =
     let i = cond-some (length p.link.pending == 0) p.link.closing cause due in
     let none : p.link.pending ≡ [] = no_bytes p.link.pending i.0 in
     let closes : p.link.closing ≡ Some cause = i.1 in
-    let shows : ShowsBy g h.rest p.link.is_set_up p.link.rest (Some cause) = subst (ShowsBy g h.rest p.link.is_set_up p.link.rest) closes h.shows in (
+    let shows : ShowsBy g h.rest p.link.is_set_up p.link.order p.link.rest (Some cause) = subst (ShowsBy g h.rest p.link.is_set_up p.link.order p.link.rest) closes h.shows in (
       h.rest,
       h.whole,
       cause_alike cause g (record g { closed = Some cause }) (length h.rest) refl refl refl
-          (shows_at_close g h.rest p.link.is_set_up p.link.rest cause (λ stays. h.queued (ap is_dropped closes ∙ stays) ∙ none) shows),
+          (shows_at_close g h.rest p.link.is_set_up p.link.order p.link.rest cause (λ stays. h.queued (ap is_dropped closes ∙ stays) ∙ none) shows),
     )
   where
     no_bytes : (xs : List ℕ) → (length xs == 0) ≡ true → xs ≡ []
@@ -351,9 +352,9 @@ sending_undropped k g said l ws e h =
 pub grows_keeps : (k : ℕ) (ds : List DeviceState) → Keeps k (λ closing. Unit {0}) (λ p. AllLive ds p.environment.devices)
 grows_keeps k ds = record {
   may = λ closing e. tt;
-  link = λ p l open' behind same rest set h. h;
+  link = λ p l open' behind same rest set ordered h. h;
   takes = λ p n open' set e asked h. h;
-  sets_up = λ p open' unset e h. h;
+  sets_up = λ p order open' unset e h. h;
   stops = λ p cause open' bad h. h;
   says = λ p bytes stays h. h;
   becomes = λ p d device f there l h. all_live_trans ds p.environment.devices _ h (all_live_with d f p.environment.devices (λ x is. subst (λ y. Lives y (f y)) (some_same is there) l.lives));
@@ -370,9 +371,9 @@ SameOthers k ws vs = without_waiter k vs ≡ without_waiter k ws
 pub others_keep : (k : ℕ) (ws : List Deferral) → Keeps k (λ closing. Unit {0}) (λ p. SameOthers k ws p.environment.waiting)
 others_keep k ws = record {
   may = λ closing e. tt;
-  link = λ p l open' behind same rest set h. h;
+  link = λ p l open' behind same rest set ordered h. h;
   takes = λ p n open' set e asked h. h;
-  sets_up = λ p open' unset e h. h;
+  sets_up = λ p order open' unset e h. h;
   stops = λ p cause open' bad h. h;
   says = λ p bytes stays h. h;
   becomes = λ p d device f there l h. h;

@@ -110,9 +110,9 @@ loses_alike d e rate completed h = record {
 pub safe_keeps : (k slack d : ℕ) → Keeps k (λ closing. Unit {0}) (λ p. SafeIn slack d p.environment)
 safe_keeps k slack c = record {
   may = λ closing e. tt;
-  link = λ p l open' behind same rest set h. h;
+  link = λ p l open' behind same rest set ordered h. h;
   takes = λ p n open' set e asked h. h;
-  sets_up = λ p open' unset e h. h;
+  sets_up = λ p order open' unset e h. h;
   stops = λ p cause open' bad h. h;
   says = λ p bytes stays h. h;
   becomes = λ p d device f there l h. safe_becomes slack c d f p.environment.devices p.environment.waiting (λ x is. subst (λ y. SameClock y (f y)) (some_is (sym there ∙ is)) (l.lives.now, l.lives.rate, l.lives.channels))

@@ -106,7 +106,7 @@ has_read k p NotYet w =
     let none = read_open k p w in
     record {
       devices = all_live_refl p.environment.devices;
-      own = λ g h. (queueing_keeps k g).link p (after_read k NotYet p).link none none refl refl refl h;
+      own = λ g h. (queueing_keeps k g).link p (after_read k NotYet p).link none none refl refl refl refl h;
       waits = refl;
       safe = λ h. h;
     }
@@ -150,7 +150,7 @@ served_wrote k p offered bytes part r w front s =
       own = λ g h.
           let f = write_noted (Some bytes) g in
           let undropped = sending_undropped k g p.environment.said p.link p.environment.waiting some h in
-          subst (λ t. QueuedSlot k (fold (noted k) (cond t f g) part) r) (sym (same_number k)) (s.own f (m.own f (queued_taken k g bytes p left.link undropped refl refl refl (front_back bytes p.link.pending front) h)));
+          subst (λ t. QueuedSlot k (fold (noted k) (cond t f g) part) r) (sym (same_number k)) (s.own f (m.own f (queued_taken k g bytes p left.link undropped refl refl refl refl (front_back bytes p.link.pending front) h)));
       others = λ j other g. ap (λ t. fold (noted j) (cond t (write_noted (Some bytes) g) g) part) other ∙ s.others j other g;
       waits = s.waits ∙ m.others;
       safe = λ h. s.safe (m.safe h);

@@ -132,10 +132,10 @@ ticks d n captured is_dead s device there few =
 told : (k : ℕ) (e : Event) (p : OpenLink) → Moved k (enter p) (enter (tell_link k e p))
 told k e p =
     elim (selects (mask_of p.link e.device) e.kind) as (λ t. selects (mask_of p.link e.device) e.kind ≡ t → Moved k (enter p) (enter (cond t (tell_selected k e p) p))) [
-      | true ↦ λ t. elim (nat_le (length p.link.pending + 20) event_limit) as (λ u. nat_le (length p.link.pending + 20) event_limit ≡ u → Moved k (enter p) (enter (cond u (say p (event_bytes e p.link.sequence)) (dropped k why.Overrun p)))) [
+      | true ↦ λ t. elim (nat_le (length p.link.pending + 20) event_limit) as (λ u. nat_le (length p.link.pending + 20) event_limit ≡ u → Moved k (enter p) (enter (cond u (say p (event_bytes p.link.order e p.link.sequence)) (dropped k why.Overrun p)))) [
         | true ↦ λ u. record {
           devices = all_live_refl p.environment.devices;
-          own = λ g h. (queueing_keeps k g).says p (event_bytes e p.link.sequence) (selects_undropped k e.device e.kind g p t h) h;
+          own = λ g h. (queueing_keeps k g).says p (event_bytes p.link.order e p.link.sequence) (selects_undropped k e.device e.kind g p t h) h;
           others = refl;
           safe = λ h. h;
         }

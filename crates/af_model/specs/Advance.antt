@@ -31,15 +31,17 @@ requested k (Some request) p = perform k request p
 abbrev pub after_frame : ℕ → Front → OpenLink → Option OpenLink
 after_frame k NeedMore p = None
 after_frame k Malformed p = Some (open_link p.environment (stopped why.Malformed p.link))
-after_frame k (Frame n) p = Some (requested k (asked_in (take n p.link.rest)) (open_link p.environment (without_front n p.link)))
+after_frame k (Frame n) p = Some (requested k (asked_in p.link.order (take n p.link.rest)) (open_link p.environment (without_front n p.link)))
 
--- what becomes of a link with a setup at the front of its input; a bad one is refused and closes the link. Setups have the
--- opcode 0 and the number 0.
+-- What becomes of a link with a setup at the front of its input: its order becomes the link's. A bad one is refused and closes
+-- the link. Setups have the opcode 0 and the number 0.
 abbrev pub after_setup : SetupFront → OpenLink → Option OpenLink
 after_setup front.NeedMore p = None
-after_setup front.Setup p =
-    Some (say (open_link p.environment (record (without_front 8 p.link) { is_set_up = true })) (reply_message 0 (setup (infos_of p.environment.devices)) 0))
-after_setup (front.BadSetup value) p = Some (say (open_link p.environment (stopped why.BadSetup p.link)) (error 1 value 0 0))
+after_setup (front.Setup order) p =
+    Some (say (open_link p.environment (record (without_front 8 p.link) { is_set_up = true; order = order }))
+    (reply_message order 0 (setup (infos_of p.environment.devices)) 0))
+after_setup (front.BadSetup order value) p =
+    Some (say (open_link p.environment (stopped why.BadSetup p.link)) (error order 1 value 0 0))
 
 -- nothing is taken off while a link waits or is closing, or while more than 16384 bytes wait to be sent to it
 abbrev pub takes_more : Bool → LinkState → Bool
@@ -47,7 +49,7 @@ takes_more waits l = not waits && (is_none l.closing && nat_le (length l.pending
 
 abbrev pub after_front : ℕ → OpenLink → Option OpenLink
 after_front k p =
-    if p.link.is_set_up then after_frame k (frame_front p.link.rest) p else after_setup (setup_front p.link.rest) p
+    if p.link.is_set_up then after_frame k (frame_front p.link.order p.link.rest) p else after_setup (setup_front p.link.rest) p
 
 -- one setup or frame is taken off; None where there is none to take
 abbrev pub advance_step : ℕ → OpenLink → Option OpenLink

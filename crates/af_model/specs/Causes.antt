@@ -1,5 +1,6 @@
 -- That each link is closed for the cause that the log shows.
 use Rattle.std.specs.Prelude.{◌≡◌, ℕ, ◌+◌, ◌-◌, ◌<◌, Bool, true, false, List, [], ◌∷◌, ◌++◌, length, take, drop, is_none, is_some, IfSome}
+use Rattle.af_wire.specs.declared.order.Order.{Order}
 use Rattle.af_wire.specs.declared.front.Front.{Front}
 use Rattle.af_wire.specs.declared.front.Front.TheVariants.{NeedMore, Frame, Malformed}
 use Rattle.af_wire.specs.declared.front.SetupFront.TheVariants as front
@@ -15,21 +16,22 @@ use Rattle.af_model.specs.Run.{end_state}
 use Rattle.af_model.specs.Sizes.{event_limit}
 
 -- requests of so many bytes each are the first of these bytes, and then there is a rest
-abbrev pub AreRequests : List ℕ → List ℕ → List ℕ → Type 0
-AreRequests [] bytes rest = rest ≡ bytes
-AreRequests (n ∷ sizes) bytes rest = (frame_front bytes ≡ Frame n) × (is_some (asked_in (take n bytes)) ≡ true) × AreRequests sizes (drop n bytes) rest
+abbrev pub AreRequests : Order → List ℕ → List ℕ → List ℕ → Type 0
+AreRequests order [] bytes rest = rest ≡ bytes
+AreRequests order (n ∷ sizes) bytes rest =
+    (frame_front order bytes ≡ Frame n) × (is_some (asked_in order (take n bytes)) ≡ true) × AreRequests order sizes (drop n bytes) rest
 
--- a good setup and requests are the first of these bytes, and then there is a rest
-pub record IsServedTo (bytes rest : List ℕ) : Type 0 where
-  pub setup : setup_front bytes ≡ front.Setup
+-- a good setup of an order and requests in it are the first of these bytes, and then there is a rest
+pub record IsServedTo (order : Order) (bytes rest : List ℕ) : Type 0 where
+  pub setup : setup_front bytes ≡ front.Setup order
   pub sizes : List ℕ
-  pub requests : AreRequests sizes (drop 8 bytes) rest
+  pub requests : AreRequests order sizes (drop 8 bytes) rest
 
--- whether bytes begin with what is no frame, or with a frame that is no request
-abbrev pub is_malformed : Front → List ℕ → Bool
-is_malformed NeedMore bytes = false
-is_malformed Malformed bytes = true
-is_malformed (Frame n) bytes = is_none (asked_in (take n bytes))
+-- whether bytes begin with what is no frame in an order, or with a frame that is no request
+abbrev pub is_malformed : Order → Front → List ℕ → Bool
+is_malformed order NeedMore bytes = false
+is_malformed order Malformed bytes = true
+is_malformed order (Frame n) bytes = is_none (asked_in order (take n bytes))
 
 -- nothing failed, the link did not end, and all that was said to it was taken
 pub record ShowsNoOther (h : LinkHistory) (owed : ℕ) : Type 0 where
@@ -39,13 +41,14 @@ pub record ShowsNoOther (h : LinkHistory) (owed : ℕ) : Type 0 where
 
 -- What a link shows that is closed for a cause, of which so many bytes were said to it and not taken: a read or a write of it failed; an
 -- event of 20 bytes found no room beside what was to be sent; a read said that it ended; its first bytes are no good setup;
--- behind a good setup and requests its bytes are malformed.
+-- behind a good setup and requests in its order its bytes are malformed.
 abbrev pub IsCause : Why → LinkHistory → ℕ → Type 0
 IsCause why.LinkFault h owed = h.has_failed ≡ true
 IsCause why.Overrun h owed = (h.has_failed ≡ false) × (event_limit < owed + 20)
 IsCause why.Ended h owed = (h.has_failed ≡ false) × (h.has_ended ≡ true) × (owed ≡ 0)
-IsCause why.BadSetup h owed = ShowsNoOther h owed × (value : ℕ) × (setup_front h.gave ≡ front.BadSetup value)
-IsCause why.Malformed h owed = ShowsNoOther h owed × (rest : List ℕ) × IsServedTo h.gave rest × (is_malformed (frame_front rest) rest ≡ true)
+IsCause why.BadSetup h owed = ShowsNoOther h owed × (order : Order) × (value : ℕ) × (setup_front h.gave ≡ front.BadSetup order value)
+IsCause why.Malformed h owed =
+    ShowsNoOther h owed × (order : Order) × (rest : List ℕ) × IsServedTo order h.gave rest × (is_malformed order (frame_front order rest) rest ≡ true)
 
 -- the bytes that were said to a link and not taken
 abbrev pub owed_of : LinkHistory → List ℕ → ℕ

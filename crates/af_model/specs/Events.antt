@@ -36,7 +36,7 @@ mask_of l d = some_mask (slice_get l.selections d)
 -- link k is told an event that it selects; where more than 49152 bytes would wait to be sent to it then, it is dropped
 abbrev pub tell_selected : ℕ → Event → OpenLink → OpenLink
 tell_selected k e p =
-    if nat_le (length p.link.pending + 20) event_limit then say p (event_bytes e p.link.sequence) else dropped k why.Overrun p
+    if nat_le (length p.link.pending + 20) event_limit then say p (event_bytes p.link.order e p.link.sequence) else dropped k why.Overrun p
 
 abbrev pub tell_link : ℕ → Event → OpenLink → OpenLink
 tell_link k e p = if selects (mask_of p.link e.device) e.kind then tell_selected k e p else p

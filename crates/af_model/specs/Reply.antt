@@ -1,5 +1,6 @@
 -- What the server answers: replies, and errors.
 use Rattle.std.specs.Prelude.{ℕ, ◌*◌, List, map, is_some}
+use Rattle.af_wire.specs.declared.order.Order.{Order}
 use Rattle.af_wire.specs.Message.{error}
 use Rattle.af_request.specs.declared.reply.DeviceInfo.{DeviceInfo}
 use Rattle.af_request.specs.Answer.{Answer}
@@ -34,14 +35,14 @@ code_of_cause BadLine = 8
 abbrev pub refusal : RefusalCause → ℕ → Refusal
 refusal cause value = record { cause = cause; value = value }
 
--- the bytes of a reply to the request with this opcode and number
-unfoldable pub reply_message : ℕ → Answer → ℕ → List ℕ
-reply_message opcode answer sequence = reply_bytes opcode answer sequence
+-- the bytes of a reply, in an order, to the request with this opcode and number
+unfoldable pub reply_message : Order → ℕ → Answer → ℕ → List ℕ
+reply_message order opcode answer sequence = reply_bytes order opcode answer sequence
 
 -- the request with this opcode is replied to, with the number that it has
 abbrev pub replied : ℕ → Answer → OpenLink → OpenLink
-replied opcode answer p = say p (reply_message opcode answer p.link.sequence)
+replied opcode answer p = say p (reply_message p.link.order opcode answer p.link.sequence)
 
 -- it is refused: an error says why, and nothing else changes
 abbrev pub refused : ℕ → Refusal → OpenLink → OpenLink
-refused opcode r p = say p (error (code_of_cause r.cause) r.value opcode p.link.sequence)
+refused opcode r p = say p (error p.link.order (code_of_cause r.cause) r.value opcode p.link.sequence)

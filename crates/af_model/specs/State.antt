@@ -6,6 +6,8 @@ use Rattle.std.specs.declared.option.Option.TheVariants.{None, Some}
 use Rattle.af_sample.specs.declared.sample_type.SampleType.{SampleType}
 use Rattle.af_sample.specs.Heard.{AcceptedPlay}
 use Rattle.af_context.specs.declared.Context.{Context}
+use Rattle.af_wire.specs.declared.order.Order.{Order}
+use Rattle.af_wire.specs.declared.order.Order.TheVariants.{Big}
 use Rattle.af_request.specs.declared.reply.Controls.{Controls}
 use Rattle.af_request.specs.declared.reply.Phone.{Phone}
 use Rattle.af_phone.specs.Lines.{quiet_line}
@@ -55,11 +57,12 @@ pub record DeviceState : Type 0 where
 abbrev pub has_acted : ℕ → DeviceState → Bool
 has_acted k device = list_any (λ j. j == k) device.actors
 
--- An open link: its unread input, its unsent output, whether it may have something to read, whether it is stuck, as its last
+-- An open link: whether it is set up, the order of its bytes, which is Big before its setup, its unread input, its unsent output, whether it may have something to read, whether it is stuck, as its last
 -- write took less than was offered, why it is to be closed, how many requests it has made, modulo 2^16, its contexts in order
 -- of creation, and for each number of a device the mask of the events that it selects.
 pub record LinkState : Type 0 where
   pub is_set_up : Bool
+  pub order : Order
   pub rest : List ℕ
   pub pending : List ℕ
   pub is_ready : Bool
@@ -114,7 +117,7 @@ none_selected = replicate 8 0
 
 -- a link that was just opened
 abbrev pub opened : LinkState
-opened = record { is_set_up = false; rest = []; pending = []; is_ready = false; is_stuck = false; closing = None; sequence = 0; contexts = []; selections = none_selected }
+opened = record { is_set_up = false; order = Big; rest = []; pending = []; is_ready = false; is_stuck = false; closing = None; sequence = 0; contexts = []; selections = none_selected }
 
 -- a link that is to be closed, for its first cause; nothing more of its input is read, and no event is told it
 abbrev pub stopped : Why → LinkState → LinkState

@@ -1,13 +1,8 @@
 -- Fields that are written and read again.
-use Rattle.std.proofs.Common.{◌≡◌, ◌<◌, ◌+◌, ◌-◌, ◌*◌, ◌^◌, ◌∙◌, ℕ, ℤ, List, length, take, replicate, ap, arith}
-use Rattle.std.specs.Prelude.{FitsSigned}
-use Rattle.std.specs.Int.{w16, w32, cast_signed, cast_unsigned, from_be_bytes}
-use Rattle.std.proofs.Math.Facts.{Fits-of_z, Fits-lt-pow}
+use Rattle.std.proofs.Common.{◌≡◌, ◌+◌, ◌-◌, ◌*◌, ◌∙◌, ℕ, List, length, take, replicate, ap, arith}
 use Rattle.std.proofs.Math.Seq.{take-append_seam}
-use Rattle.std.proofs.lemmas.Int.{to_z-of_z}
-use Rattle.std.proofs.lemmas.Nat.{from_be_bytes-to_be_bytes_2, from_be_bytes-to_be_bytes_4}
 use Rattle.std.proofs.lemmas.List.{length-append, length-replicate}
-use Rattle.af_request.specs.Fields.{u32_bytes, i16_bytes, words_for, padded}
+use Rattle.af_request.specs.Fields.{words_for, padded}
 
 -- what a function gives at two equal values, and at three
 pub ap_2 : {A B D : Type 0} (f : A → B → D) {a c : A} {b d : B} → a ≡ c → b ≡ d → f a b ≡ f c d
@@ -15,12 +10,6 @@ ap_2 f {a} {c} {b} {d} first second = ap (λ x. f x b) first ∙ ap (f c) second
 
 pub ap_3 : {A B C D : Type 0} (f : A → B → C → D) {a d : A} {b e : B} {c g : C} → a ≡ d → b ≡ e → c ≡ g → f a b c ≡ f d e g
 ap_3 f {a} {d} {b} {e} {c} {g} first second third = ap_2 (λ x y. f x y c) first second ∙ ap (f d e) third
-
-pub u32_again : (n : ℕ) → n < 2 ^ 32 → from_be_bytes w32 (u32_bytes n) ≡ n
-u32_again n low = from_be_bytes-to_be_bytes_4 n low
-
-pub i16_again : (x : ℤ) → FitsSigned w16 x → cast_signed w16 (from_be_bytes w16 (i16_bytes x)) ≡ x
-i16_again x fits = ap (cast_signed w16) (from_be_bytes-to_be_bytes_2 (cast_unsigned w16 x) (Fits-lt-pow (Fits-of_z fits))) ∙ to_z-of_z w16 x fits
 
 pub length-padded : (bytes : List ℕ) → length (padded bytes) ≡ 4 * words_for (length bytes)
 length-padded bytes =

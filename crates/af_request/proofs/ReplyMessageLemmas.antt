@@ -4,12 +4,14 @@ use Rattle.std.proofs.Math.Seq.{take-append-add, take-length}
 use Rattle.std.proofs.lemmas.Bool.Decides.{nat_tests}
 use Rattle.std.proofs.lemmas.List.{append_assoc}
 use Rattle.std.specs.Prelude.{IsTrue}
+use Rattle.af_wire.specs.declared.order.Order.{Order}
 use Rattle.af_wire.specs.Message.{head}
+use Rattle.af_wire.specs.Order.{u32_bytes}
 use Rattle.af_wire.specs.declared.message_front.MessageFront.TheVariants.{Message}
 use Rattle.af_wire.specs.MessageFront.{is_head, message_front, IsOneMessage}
 use Rattle.af_wire.proofs.MessageRoundTrips.{head_framed, head_one}
 use Rattle.af_request.specs.Answer.{Answer, setup, plain, time, played, recorded, controls, phone}
-use Rattle.af_request.specs.Fields.{u32_bytes, words_for}
+use Rattle.af_request.specs.Fields.{words_for}
 use Rattle.af_request.specs.Replies.{body_bytes, body_words, is_plain, reply_bytes, IsReplyTo}
 use Rattle.af_request.proofs.ReplyRoundTrips.{length-body}
 use Rattle.af_sample.specs.Sizes.{longest_record}
@@ -45,29 +47,30 @@ few_words opcode (recorded now samples) is = let few : length samples ≤ longes
 few_words opcode (controls c) is = omega arith
 few_words opcode (phone p) is = omega arith
 
--- bytes that spell a reply are one message, whatever follows them
-pub reply_one : (opcode sequence : ℕ) (a : Answer) (bytes : List ℕ) → bytes ≡ reply_bytes opcode a sequence → sequence < 2 ^ 16 → IsReplyTo opcode a →
-    IsOneMessage 1 opcode sequence bytes
-reply_one opcode sequence a bytes e low is =
-    let few = few_words opcode a is in
-    subst (λ (b : List ℕ). IsOneMessage 1 opcode sequence b) (sym e)
-    (head_one 1 opcode sequence (body_words a) (head 1 opcode sequence (body_words a)) (body_bytes a) refl
-    (good_by opcode (body_words a) (opcode_within opcode a is) few) low (omega arith) (length-body a))
+module _ (order : Order) where
+  -- bytes that spell a reply are one message, whatever follows them
+  pub reply_one : (opcode sequence : ℕ) (a : Answer) (bytes : List ℕ) → bytes ≡ reply_bytes order opcode a sequence → sequence < 2 ^ 16 → IsReplyTo opcode a →
+      IsOneMessage order 1 opcode sequence bytes
+  reply_one opcode sequence a bytes e low is =
+      let few = few_words opcode a is in
+      subst (λ (b : List ℕ). IsOneMessage order 1 opcode sequence b) (sym e)
+      (head_one order 1 opcode sequence (body_words a) (head order 1 opcode sequence (body_words a)) (body_bytes order a) refl
+      (good_by opcode (body_words a) (opcode_within opcode a is) few) low (omega arith) (length-body order a))
 
--- its spelling with what follows it, as a client takes it
-pub reply_framed : (opcode : ℕ) (a : Answer) (sequence : ℕ) (rest : List ℕ) → IsReplyTo opcode a → sequence < 2 ^ 16 →
-    message_front (reply_bytes opcode a sequence ++ rest) ≡ Message 1 opcode sequence (8 + 4 * body_words a)
-reply_framed opcode a sequence rest is low =
-    let few = few_words opcode a is in
-    head_framed 1 opcode sequence (body_words a) (body_bytes a) rest (good_by opcode (body_words a) (opcode_within opcode a is) few) low (omega arith) (length-body a)
+  -- its spelling with what follows it, as a client takes it
+  pub reply_framed : (opcode : ℕ) (a : Answer) (sequence : ℕ) (rest : List ℕ) → IsReplyTo opcode a → sequence < 2 ^ 16 →
+      message_front order (reply_bytes order opcode a sequence ++ rest) ≡ Message 1 opcode sequence (8 + 4 * body_words a)
+  reply_framed opcode a sequence rest is low =
+      let few = few_words opcode a is in
+      head_framed order 1 opcode sequence (body_words a) (body_bytes order a) rest (good_by opcode (body_words a) (opcode_within opcode a is) few) low (omega arith) (length-body order a)
 
--- a head, a time and a count in front of samples that stand there already, and zeros behind these
-pub around_samples : (front back samples : List ℕ) (opcode sequence now n size : ℕ) → length front ≡ 16 → take 16 front ≡ (head 1 opcode sequence (2 + words_for n) ++ u32_bytes now) ++ u32_bytes n →
-    take size back ≡ samples ++ replicate (4 * words_for n - n) 0 → length samples ≡ n → take (16 + size) (front ++ back) ≡ reply_bytes opcode (recorded now samples) sequence
-unfolding head
-around_samples front back samples opcode sequence now n size len begins ends count =
-    subst (λ m. take (16 + size) (front ++ back) ≡ head 1 opcode sequence (2 + words_for m) ++ u32_bytes now ++ u32_bytes m ++ samples ++ replicate (4 * words_for m - m) 0) (sym count)
-    (ap (λ m. take (m + size) (front ++ back)) (sym len) ∙ take-append-add front back size ∙ ap (λ f. f ++ take size back) (sym (take-length front) ∙ ap (λ m. take m front) len ∙ begins)
-    ∙ ap (λ s. ((head 1 opcode sequence (2 + words_for n) ++ u32_bytes now) ++ u32_bytes n) ++ s) ends
-    ∙ append_assoc (head 1 opcode sequence (2 + words_for n) ++ u32_bytes now) (u32_bytes n) (samples ++ replicate (4 * words_for n - n) 0)
-    ∙ append_assoc (head 1 opcode sequence (2 + words_for n)) (u32_bytes now) (u32_bytes n ++ samples ++ replicate (4 * words_for n - n) 0))
+  -- a head order, a time and a count in front of samples that stand there already, and zeros behind these
+  pub around_samples : (front back samples : List ℕ) (opcode sequence now n size : ℕ) → length front ≡ 16 → take 16 front ≡ (head order 1 opcode sequence (2 + words_for n) ++ u32_bytes order now) ++ u32_bytes order n →
+      take size back ≡ samples ++ replicate (4 * words_for n - n) 0 → length samples ≡ n → take (16 + size) (front ++ back) ≡ reply_bytes order opcode (recorded now samples) sequence
+  unfolding head
+  around_samples front back samples opcode sequence now n size len begins ends count =
+      subst (λ m. take (16 + size) (front ++ back) ≡ head order 1 opcode sequence (2 + words_for m) ++ u32_bytes order now ++ u32_bytes order m ++ samples ++ replicate (4 * words_for m - m) 0) (sym count)
+      (ap (λ m. take (m + size) (front ++ back)) (sym len) ∙ take-append-add front back size ∙ ap (λ f. f ++ take size back) (sym (take-length front) ∙ ap (λ m. take m front) len ∙ begins)
+      ∙ ap (λ s. ((head order 1 opcode sequence (2 + words_for n) ++ u32_bytes order now) ++ u32_bytes order n) ++ s) ends
+      ∙ append_assoc (head order 1 opcode sequence (2 + words_for n) ++ u32_bytes order now) (u32_bytes order n) (samples ++ replicate (4 * words_for n - n) 0)
+      ∙ append_assoc (head order 1 opcode sequence (2 + words_for n)) (u32_bytes order now) (u32_bytes order n ++ samples ++ replicate (4 * words_for n - n) 0))

@@ -1,6 +1,7 @@
 -- Reading by the grammar: where it answers nothing.
 use Rattle.std.proofs.Common.{◌≡◌, ◌↔◌, ◌≢◌, ◌*◌, ℕ, List, length, sym, subst, arith}
 use Rattle.std.specs.Prelude.{Option, Some, None, IsNone, option_map, option_and_then, MatchOption, ⊤}
+use Rattle.af_wire.specs.declared.order.Order.{Order}
 use Rattle.af_request.specs.Asked.{Asked}
 use Rattle.af_request.specs.Fields.{u8_at}
 use Rattle.af_request.specs.Requests.{Row, asked_by, asked_in, row_of, IsNoRequest}
@@ -17,6 +18,6 @@ none_meant {A = A} f None meant Q e h = let P : Option A → Type 0 = λ q. IsNo
 none_meant {A = A} f (Some x) meant Q e h = let P : Option A → Type 0 = λ q. IsNone q ↔ Q in subst P (sym e) h
 
 -- a frame is read as nothing exactly where it is no request
-pub none_exactly : {R : Type 0} (f : R → Asked) (o : Option R) (frame : List ℕ) →
-    option_map f o ≡ asked_in frame → IsNone o ↔ IsNoRequest frame
-none_exactly f o frame e = none_meant f o (asked_in frame) (IsNoRequest frame) e (none_by frame (row_of (u8_at 0 frame) frame))
+pub none_exactly : {R : Type 0} (order : Order) (f : R → Asked) (o : Option R) (frame : List ℕ) →
+    option_map f o ≡ asked_in order frame → IsNone o ↔ IsNoRequest order frame
+none_exactly order f o frame e = none_meant f o (asked_in order frame) (IsNoRequest order frame) e (none_by frame (row_of order (u8_at 0 frame) frame))

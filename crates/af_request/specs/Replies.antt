@@ -1,7 +1,9 @@
 -- The grammar of replies: which bodies answer what, and how a reply is spelled.
 use Rattle.std.specs.Prelude.{◌≡◌, ◌≤◌, ◌<◌, ◌^◌, ℕ, zero, suc, ◌+◌, ◌*◌, ◌==◌, nat_le, ◌&&◌, if◌then◌else◌, Bool, true, false, ℤ, List, [], ◌∷◌, ◌++◌, All, Option, Some, None, IsTrue, length, take, drop, slice_range, option_map, ⊤}
 use Rattle.std.specs.List.{list_all, list_any, flat_map}
+use Rattle.af_wire.specs.declared.order.Order.{Order}
 use Rattle.af_wire.specs.Message.{head}
+use Rattle.af_wire.specs.Order.{i16_bytes, u16_bytes, u32_bytes, u32_of}
 use Rattle.af_sample.specs.declared.sample_type.SampleType.{SampleType}
 use Rattle.af_sample.specs.SampleTypes.{code_of, type_of_code}
 use Rattle.af_sample.specs.Channels.{is_channel_count, IsChannelCount}
@@ -10,7 +12,7 @@ use Rattle.af_sample.specs.Gains.{gain_of, IsGain}
 use Rattle.af_request.specs.declared.reply.DeviceInfo.{DeviceInfo}
 use Rattle.af_request.specs.declared.reply.Phone.{Phone}
 use Rattle.af_request.specs.Answer.{Answer, setup, plain, time, played, recorded, controls, phone}
-use Rattle.af_request.specs.Fields.{u8_at, u16_at, u32_at, i16_at, u32_bytes, i16_bytes, flag_byte, words_for, padded}
+use Rattle.af_request.specs.Fields.{u8_at, u16_at, u32_at, i16_at, flag_byte, words_for, padded}
 use Rattle.af_sample.specs.Sizes.{longest_record}
 
 -- whether all bytes are zero, as padding is
@@ -30,10 +32,10 @@ device_info_of (Some ty) channels (Some line) rate horizon =
 device_info_of _ _ _ _ _ = None
 
 -- what 12 bytes of the reply to a setup say of a device
-abbrev pub device_in : List ℕ → Option DeviceInfo
-device_in bytes =
+abbrev pub device_in : Order → List ℕ → Option DeviceInfo
+device_in order bytes =
     if u8_at 3 bytes == 0
-    then device_info_of (type_of_code (u8_at 0 bytes)) (u8_at 1 bytes) (flag_of (u8_at 2 bytes)) (u32_at 4 bytes) (u32_at 8 bytes)
+    then device_info_of (type_of_code (u8_at 0 bytes)) (u8_at 1 bytes) (flag_of (u8_at 2 bytes)) (u32_at order 4 bytes) (u32_at order 8 bytes)
     else None
 
 -- a device and those behind it
@@ -42,15 +44,15 @@ device_then (Some device) (Some devices) = Some (device ∷ devices)
 device_then _ _ = None
 
 -- n devices
-abbrev pub devices_in : ℕ → List ℕ → Option (List DeviceInfo)
-devices_in zero bytes = Some []
-devices_in (suc count) bytes = device_then (device_in (take 12 bytes)) (devices_in count (drop 12 bytes))
+abbrev pub devices_in : Order → ℕ → List ℕ → Option (List DeviceInfo)
+devices_in order zero bytes = Some []
+devices_in order (suc count) bytes = device_then (device_in order (take 12 bytes)) (devices_in order count (drop 12 bytes))
 
 -- the reply to a setup: version 1.0, and 1 to 8 devices
-abbrev pub setup_in : List ℕ → Option Answer
-setup_in body = let count = u32_at 4 body in
-    if u16_at 0 body == 1 && u16_at 2 body == 0 && nat_le 1 count && nat_le count 8 && length body == 8 + 12 * count
-    then option_map setup (devices_in count (drop 8 body))
+abbrev pub setup_in : Order → List ℕ → Option Answer
+setup_in order body = let count = u32_at order 4 body in
+    if u16_at order 0 body == 1 && u16_at order 2 body == 0 && nat_le 1 count && nat_le count 8 && length body == 8 + 12 * count
+    then option_map setup (devices_in order count (drop 8 body))
     else None
 
 -- the reply of a request that is not answered with a value
@@ -58,19 +60,22 @@ abbrev pub plain_in : List ℕ → Option Answer
 plain_in body = if length body == 0 then Some plain else None
 
 -- the reply to GetTime
-abbrev pub time_in : List ℕ → Option Answer
-time_in body = if length body == 4 then Some (time (u32_at 0 body)) else None
+abbrev pub time_in : Order → List ℕ → Option Answer
+time_in order body = if length body == 4 then Some (time (u32_at order 0 body)) else None
 
 -- the reply to a Play
-abbrev pub played_in : List ℕ → Option Answer
-played_in body = if length body == 4 then Some (played (u32_at 0 body)) else None
+abbrev pub played_in : Order → List ℕ → Option Answer
+played_in order body = if length body == 4 then Some (played (u32_at order 0 body)) else None
 
--- the reply to a Record: its samples are padded with zeros to a word
-abbrev pub recorded_body : List ℕ → Option Answer
-recorded_body body = let count = u32_at 4 body in
-    if length body == 8 + 4 * words_for count && is_zero (drop (8 + count) body)
-    then Some (recorded (u32_at 0 body) (slice_range body 8 (8 + count)))
-    else None
+-- whether bytes are so many, padded with zeros to a word
+abbrev pub is_padded : ℕ → List ℕ → Bool
+is_padded count bytes = length bytes == 4 * words_for count && is_zero (drop count bytes)
+
+-- the reply to a Record: the time, the count of the bytes of the samples, and these, padded
+abbrev pub recorded_body : Order → List ℕ → Option Answer
+recorded_body order (t0 ∷ t1 ∷ t2 ∷ t3 ∷ n0 ∷ n1 ∷ n2 ∷ n3 ∷ rest) = let count = u32_of order (n0 ∷ n1 ∷ n2 ∷ n3 ∷ []) in
+    if is_padded count rest then Some (recorded (u32_of order (t0 ∷ t1 ∷ t2 ∷ t3 ∷ [])) (take count rest)) else None
+recorded_body order _ = None
 
 abbrev pub controls_of : Option Bool → Option Bool → Option ℤ → Option ℤ → Option Answer
 controls_of (Some input_on) (Some output_on) (Some input_gain) (Some output_gain) =
@@ -78,10 +83,10 @@ controls_of (Some input_on) (Some output_on) (Some input_gain) (Some output_gain
 controls_of _ _ _ _ = None
 
 -- the reply to QueryControls
-abbrev pub controls_in : List ℕ → Option Answer
-controls_in body =
+abbrev pub controls_in : Order → List ℕ → Option Answer
+controls_in order body =
     if length body == 8 && is_zero (slice_range body 2 4)
-    then controls_of (flag_of (u8_at 0 body)) (flag_of (u8_at 1 body)) (gain_of (i16_at 4 body)) (gain_of (i16_at 6 body))
+    then controls_of (flag_of (u8_at 0 body)) (flag_of (u8_at 1 body)) (gain_of (i16_at order 4 body)) (gain_of (i16_at order 6 body))
     else None
 
 abbrev pub phone_of : Option Bool → Option Bool → Option Bool → Option Bool → Option Bool → Option Phone
@@ -101,32 +106,36 @@ abbrev pub is_plain : ℕ → Bool
 is_plain opcode = list_any (λ o. opcode == o) (3 ∷ 4 ∷ 5 ∷ 8 ∷ 9 ∷ 11 ∷ [])
 
 -- what a body answers to a request of an opcode, if it is a body of that opcode; 0 stands for a setup
-abbrev pub answer_in : ℕ → List ℕ → Option Answer
-answer_in opcode body =
+abbrev pub answer_in : Order → ℕ → List ℕ → Option Answer
+answer_in order opcode body =
     if is_plain opcode then plain_in body
-    else if opcode == 0 then setup_in body
-    else if opcode == 2 then time_in body
-    else if opcode == 6 then played_in body
-    else if opcode == 7 then recorded_body body
-    else if opcode == 10 then controls_in body
+    else if opcode == 0 then setup_in order body
+    else if opcode == 2 then time_in order body
+    else if opcode == 6 then played_in order body
+    else if opcode == 7 then recorded_body order body
+    else if opcode == 10 then controls_in order body
     else if opcode == 12 then phone_in body
     else None
 
 -- what the reply to a setup says of a device
-abbrev pub device_bytes : DeviceInfo → List ℕ
-device_bytes d = (code_of d.ty ∷ d.channels ∷ flag_byte d.line ∷ 0 ∷ []) ++ u32_bytes d.rate ++ u32_bytes d.horizon
+abbrev pub device_bytes : Order → DeviceInfo → List ℕ
+device_bytes order d = (code_of d.ty ∷ d.channels ∷ flag_byte d.line ∷ 0 ∷ []) ++ u32_bytes order d.rate ++ u32_bytes order d.horizon
+
+-- what the reply to QueryPhone says
+abbrev pub phone_bytes : Phone → List ℕ
+phone_bytes p =
+    flag_byte p.wanted_off ∷ flag_byte p.given_off ∷ flag_byte p.ringing ∷ flag_byte p.current ∷ flag_byte p.dead ∷ 0 ∷ 0 ∷ 0 ∷ []
 
 -- how the body of a reply is spelled
-abbrev pub body_bytes : Answer → List ℕ
-body_bytes (setup devices) = (0 ∷ 1 ∷ 0 ∷ 0 ∷ []) ++ u32_bytes (length devices) ++ flat_map device_bytes devices
-body_bytes plain = []
-body_bytes (time now) = u32_bytes now
-body_bytes (played now) = u32_bytes now
-body_bytes (recorded now samples) = u32_bytes now ++ u32_bytes (length samples) ++ padded samples
-body_bytes (controls c) =
-    (flag_byte c.input_on ∷ flag_byte c.output_on ∷ 0 ∷ 0 ∷ []) ++ i16_bytes c.input_gain ++ i16_bytes c.output_gain
-body_bytes (phone p) =
-    flag_byte p.wanted_off ∷ flag_byte p.given_off ∷ flag_byte p.ringing ∷ flag_byte p.current ∷ flag_byte p.dead ∷ 0 ∷ 0 ∷ 0 ∷ []
+abbrev pub body_bytes : Order → Answer → List ℕ
+body_bytes order (setup devices) = u16_bytes order 1 ++ u16_bytes order 0 ++ u32_bytes order (length devices) ++ flat_map (device_bytes order) devices
+body_bytes order plain = []
+body_bytes order (time now) = u32_bytes order now
+body_bytes order (played now) = u32_bytes order now
+body_bytes order (recorded now samples) = u32_bytes order now ++ u32_bytes order (length samples) ++ padded samples
+body_bytes order (controls c) =
+    (flag_byte c.input_on ∷ flag_byte c.output_on ∷ 0 ∷ 0 ∷ []) ++ i16_bytes order c.input_gain ++ i16_bytes order c.output_gain
+body_bytes order (phone p) = phone_bytes p
 
 -- how many words the body of a reply has
 abbrev pub body_words : Answer → ℕ
@@ -139,8 +148,8 @@ body_words (controls c) = 2
 body_words (phone p) = 2
 
 -- how a reply to a request of an opcode is spelled, with the number of that request
-abbrev pub reply_bytes : ℕ → Answer → ℕ → List ℕ
-reply_bytes opcode answer sequence = head 1 opcode sequence (body_words answer) ++ body_bytes answer
+abbrev pub reply_bytes : Order → ℕ → Answer → ℕ → List ℕ
+reply_bytes order opcode answer sequence = head order 1 opcode sequence (body_words answer) ++ body_bytes order answer
 
 -- a reply whose record has at most the samples that the longest reply has room for
 abbrev pub FitsMessage : Answer → Type 0

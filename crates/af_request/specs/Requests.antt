@@ -1,10 +1,12 @@
 -- The grammar of requests: which bytes ask what, and how a request is spelled.
 use Rattle.std.specs.Prelude.{◌≡◌, ◌≢◌, ◌≤◌, ◌<◌, ◌^◌, ℕ, ◌+◌, ◌*◌, ◌==◌, if◌then◌else◌, Bool, List, [], ◌∷◌, ◌++◌, Option, Some, None, length, slice_range, bit_and, option_and_then, MatchOption, FitsSigned, ⊤}
-use Rattle.std.specs.Int.{w16, to_be_bytes}
+use Rattle.std.specs.Int.{w16}
+use Rattle.af_wire.specs.declared.order.Order.{Order}
 use Rattle.af_wire.specs.declared.front.Front.TheVariants.{Frame}
 use Rattle.af_wire.specs.Front.{frame_front}
+use Rattle.af_wire.specs.Order.{i16_bytes, u16_bytes, u32_bytes}
 use Rattle.af_request.specs.Asked.{Asked, no_op, get_time, create_ac, change_ac, free_ac, play_run, record_run, select_events, set_controls, query_controls, hook_switch, query_phone}
-use Rattle.af_request.specs.Fields.{u8_at, u32_at, i16_at, u32_bytes, i16_bytes, flag_byte, words_for, padded}
+use Rattle.af_request.specs.Fields.{u8_at, u32_at, i16_at, flag_byte, words_for, padded}
 use Rattle.af_sample.specs.Sizes.{longest_play}
 
 -- a row of the grammar, at the bytes of a frame: how many words such a request has, and what it asks
@@ -26,64 +28,64 @@ abbrev pub get_time_row : List ℕ → Row
 get_time_row frame = row 1 (get_time (u8_at 1 frame))
 
 -- CreateAC, opcode 3; the detail is the device
-abbrev pub create_ac_row : List ℕ → Row
-create_ac_row frame = row 4 (create_ac (u8_at 1 frame) (u32_at 4 frame) (u8_at 8 frame) (u8_at 9 frame) (u8_at 10 frame) (i16_at 12 frame) (i16_at 14 frame))
+abbrev pub create_ac_row : Order → List ℕ → Row
+create_ac_row order frame = row 4 (create_ac (u8_at 1 frame) (u32_at order 4 frame) (u8_at 8 frame) (u8_at 9 frame) (u8_at 10 frame) (i16_at order 12 frame) (i16_at order 14 frame))
 
 -- ChangeAC, opcode 4; the detail is the mask of what changes
-abbrev pub change_ac_row : List ℕ → Row
-change_ac_row frame = row 4 (change_ac (u8_at 1 frame) (u32_at 4 frame) (u8_at 8 frame) (i16_at 12 frame) (i16_at 14 frame))
+abbrev pub change_ac_row : Order → List ℕ → Row
+change_ac_row order frame = row 4 (change_ac (u8_at 1 frame) (u32_at order 4 frame) (u8_at 8 frame) (i16_at order 12 frame) (i16_at order 14 frame))
 
 -- FreeAC, opcode 5
-abbrev pub free_ac_row : List ℕ → Row
-free_ac_row frame = row 2 (free_ac (u32_at 4 frame))
+abbrev pub free_ac_row : Order → List ℕ → Row
+free_ac_row order frame = row 2 (free_ac (u32_at order 4 frame))
 
 -- whether bit 0 of the detail is set
 abbrev pub low_bit : List ℕ → Bool
 low_bit frame = bit_and (u8_at 1 frame) 1 == 1
 
 -- Play, opcode 6; bit 0 of the detail asks for no reply, and the data are padded to a word
-abbrev pub play_run_row : List ℕ → Row
-play_run_row frame = let count = u32_at 12 frame in
-    row (4 + words_for count) (play_run (low_bit frame) (u32_at 4 frame) (u32_at 8 frame) (slice_range frame 16 (16 + count)))
+abbrev pub play_run_row : Order → List ℕ → Row
+play_run_row order frame = let count = u32_at order 12 frame in
+    row (4 + words_for count) (play_run (low_bit frame) (u32_at order 4 frame) (u32_at order 8 frame) (slice_range frame 16 (16 + count)))
 
 -- Record, opcode 7; bit 0 of the detail asks to wait for all samples
-abbrev pub record_run_row : List ℕ → Row
-record_run_row frame = row 4 (record_run (low_bit frame) (u32_at 4 frame) (u32_at 8 frame) (u32_at 12 frame))
+abbrev pub record_run_row : Order → List ℕ → Row
+record_run_row order frame = row 4 (record_run (low_bit frame) (u32_at order 4 frame) (u32_at order 8 frame) (u32_at order 12 frame))
 
 -- SelectEvents, opcode 8; the detail is the device
-abbrev pub select_events_row : List ℕ → Row
-select_events_row frame = row 2 (select_events (u8_at 1 frame) (u32_at 4 frame))
+abbrev pub select_events_row : Order → List ℕ → Row
+select_events_row order frame = row 2 (select_events (u8_at 1 frame) (u32_at order 4 frame))
 
 -- SetControls, opcode 9; the detail is the device
-abbrev pub set_controls_row : List ℕ → Row
-set_controls_row frame = row 3 (set_controls (u8_at 1 frame) (u8_at 4 frame) (u8_at 5 frame) (u8_at 6 frame) (i16_at 8 frame) (i16_at 10 frame))
+abbrev pub set_controls_row : Order → List ℕ → Row
+set_controls_row order frame = row 3 (set_controls (u8_at 1 frame) (u8_at 4 frame) (u8_at 5 frame) (u8_at 6 frame) (i16_at order 8 frame) (i16_at order 10 frame))
 
 -- QueryControls, opcode 10; the detail is the device
 abbrev pub query_controls_row : List ℕ → Row
 query_controls_row frame = row 1 (query_controls (u8_at 1 frame))
 
 -- HookSwitch, opcode 11; the detail is the device
-abbrev pub hook_switch_row : List ℕ → Row
-hook_switch_row frame = row 2 (hook_switch (u8_at 1 frame) (u32_at 4 frame))
+abbrev pub hook_switch_row : Order → List ℕ → Row
+hook_switch_row order frame = row 2 (hook_switch (u8_at 1 frame) (u32_at order 4 frame))
 
 -- QueryPhone, opcode 12; the detail is the device
 abbrev pub query_phone_row : List ℕ → Row
 query_phone_row frame = row 1 (query_phone (u8_at 1 frame))
 
 -- the row of an opcode, if there is one
-abbrev pub row_of : ℕ → List ℕ → Option Row
-row_of opcode frame =
+abbrev pub row_of : Order → ℕ → List ℕ → Option Row
+row_of order opcode frame =
     if opcode == 1 then Some (no_op_row frame)
     else if opcode == 2 then Some (get_time_row frame)
-    else if opcode == 3 then Some (create_ac_row frame)
-    else if opcode == 4 then Some (change_ac_row frame)
-    else if opcode == 5 then Some (free_ac_row frame)
-    else if opcode == 6 then Some (play_run_row frame)
-    else if opcode == 7 then Some (record_run_row frame)
-    else if opcode == 8 then Some (select_events_row frame)
-    else if opcode == 9 then Some (set_controls_row frame)
+    else if opcode == 3 then Some (create_ac_row order frame)
+    else if opcode == 4 then Some (change_ac_row order frame)
+    else if opcode == 5 then Some (free_ac_row order frame)
+    else if opcode == 6 then Some (play_run_row order frame)
+    else if opcode == 7 then Some (record_run_row order frame)
+    else if opcode == 8 then Some (select_events_row order frame)
+    else if opcode == 9 then Some (set_controls_row order frame)
     else if opcode == 10 then Some (query_controls_row frame)
-    else if opcode == 11 then Some (hook_switch_row frame)
+    else if opcode == 11 then Some (hook_switch_row order frame)
     else if opcode == 12 then Some (query_phone_row frame)
     else None
 
@@ -92,36 +94,36 @@ abbrev pub asked_by : List ℕ → Row → Option Asked
 asked_by frame r = if length frame == 4 * r.words then Some r.asked else None
 
 -- what a frame asks, if it is a request
-abbrev pub asked_in : List ℕ → Option Asked
-asked_in frame = option_and_then (asked_by frame) (row_of (u8_at 0 frame) frame)
+abbrev pub asked_in : Order → List ℕ → Option Asked
+asked_in order frame = option_and_then (asked_by frame) (row_of order (u8_at 0 frame) frame)
 
 -- a frame whose opcode is unknown, or whose length is not the opcode's
-abbrev pub IsNoRequest : List ℕ → Type 0
-IsNoRequest frame = MatchOption (row_of (u8_at 0 frame) frame) ⊤ (λ r. length frame ≢ 4 * r.words)
+abbrev pub IsNoRequest : Order → List ℕ → Type 0
+IsNoRequest order frame = MatchOption (row_of order (u8_at 0 frame) frame) ⊤ (λ r. length frame ≢ 4 * r.words)
 
 -- the first word of a request: its opcode, its detail, and its length in words
-abbrev pub front : ℕ → ℕ → ℕ → List ℕ
-front opcode detail words = opcode ∷ detail ∷ to_be_bytes w16 words
+abbrev pub front : Order → ℕ → ℕ → ℕ → List ℕ
+front order opcode detail words = opcode ∷ detail ∷ u16_bytes order words
 
 -- how a request is spelled: what no field needs is zero
-abbrev pub request_bytes : Asked → List ℕ
-request_bytes no_op = front 1 0 1
-request_bytes (get_time device) = front 2 device 1
-request_bytes (create_ac device ac ty channels preempt play_gain record_gain) =
-    front 3 device 4 ++ u32_bytes ac ++ (ty ∷ channels ∷ preempt ∷ 0 ∷ []) ++ i16_bytes play_gain ++ i16_bytes record_gain
-request_bytes (change_ac mask ac preempt play_gain record_gain) =
-    front 4 mask 4 ++ u32_bytes ac ++ (preempt ∷ 0 ∷ 0 ∷ 0 ∷ []) ++ i16_bytes play_gain ++ i16_bytes record_gain
-request_bytes (free_ac ac) = front 5 0 2 ++ u32_bytes ac
-request_bytes (play_run quiet ac time samples) =
-    front 6 (flag_byte quiet) (4 + words_for (length samples)) ++ u32_bytes ac ++ u32_bytes time ++ u32_bytes (length samples) ++ padded samples
-request_bytes (record_run blocking ac time nbytes) =
-    front 7 (flag_byte blocking) 4 ++ u32_bytes ac ++ u32_bytes time ++ u32_bytes nbytes
-request_bytes (select_events device mask) = front 8 device 2 ++ u32_bytes mask
-request_bytes (set_controls device mask input_on output_on input_gain output_gain) =
-    front 9 device 3 ++ (mask ∷ input_on ∷ output_on ∷ 0 ∷ []) ++ i16_bytes input_gain ++ i16_bytes output_gain
-request_bytes (query_controls device) = front 10 device 1
-request_bytes (hook_switch device off) = front 11 device 2 ++ u32_bytes off
-request_bytes (query_phone device) = front 12 device 1
+abbrev pub request_bytes : Order → Asked → List ℕ
+request_bytes order no_op = front order 1 0 1
+request_bytes order (get_time device) = front order 2 device 1
+request_bytes order (create_ac device ac ty channels preempt play_gain record_gain) =
+    front order 3 device 4 ++ u32_bytes order ac ++ (ty ∷ channels ∷ preempt ∷ 0 ∷ []) ++ i16_bytes order play_gain ++ i16_bytes order record_gain
+request_bytes order (change_ac mask ac preempt play_gain record_gain) =
+    front order 4 mask 4 ++ u32_bytes order ac ++ (preempt ∷ 0 ∷ 0 ∷ 0 ∷ []) ++ i16_bytes order play_gain ++ i16_bytes order record_gain
+request_bytes order (free_ac ac) = front order 5 0 2 ++ u32_bytes order ac
+request_bytes order (play_run quiet ac time samples) =
+    front order 6 (flag_byte quiet) (4 + words_for (length samples)) ++ u32_bytes order ac ++ u32_bytes order time ++ u32_bytes order (length samples) ++ padded samples
+request_bytes order (record_run blocking ac time nbytes) =
+    front order 7 (flag_byte blocking) 4 ++ u32_bytes order ac ++ u32_bytes order time ++ u32_bytes order nbytes
+request_bytes order (select_events device mask) = front order 8 device 2 ++ u32_bytes order mask
+request_bytes order (set_controls device mask input_on output_on input_gain output_gain) =
+    front order 9 device 3 ++ (mask ∷ input_on ∷ output_on ∷ 0 ∷ []) ++ i16_bytes order input_gain ++ i16_bytes order output_gain
+request_bytes order (query_controls device) = front order 10 device 1
+request_bytes order (hook_switch device off) = front order 11 device 2 ++ u32_bytes order off
+request_bytes order (query_phone device) = front order 12 device 1
 
 -- a request whose play has at most the samples that the longest frame has room for
 abbrev pub FitsFrame : Asked → Type 0
@@ -144,6 +146,6 @@ IsWritable (hook_switch device off) = off < 2 ^ 32
 IsWritable _ = ⊤
 
 -- bytes that are one frame, whatever follows them, and a frame that asks this
-pub record IsOneRequest (a : Asked) (bytes : List ℕ) : Type 0 where
-  pub one : (rest : List ℕ) → frame_front (bytes ++ rest) ≡ Frame (length bytes)
-  pub asks : asked_in bytes ≡ Some a
+pub record IsOneRequest (order : Order) (a : Asked) (bytes : List ℕ) : Type 0 where
+  pub one : (rest : List ℕ) → frame_front order (bytes ++ rest) ≡ Frame (length bytes)
+  pub asks : asked_in order bytes ≡ Some a

@@ -1,31 +1,41 @@
 // Reading the body of a reply: one function for each kind of body.
 ghost use Rattle.std.specs.Prelude.{◌≡◌, ◌≤◌, ◌*◌, length, option_map, slice_index, true};
-ghost use Rattle.std.specs.Int.{w16, cast_signed, from_be_bytes};
+ghost use Rattle.af_wire.specs.Order.{i16_of};
 ghost use Rattle.af_sample.specs.Channels.{is_channel_count};
 ghost use Rattle.af_sample.specs.Gains.{gain_of};
 ghost use Rattle.af_request.specs.Answer.{reply_meaning, items_of};
-ghost use Rattle.af_request.specs.Replies.{answer_in, controls_in, device_in, devices_in, flag_of, phone_in, phone_of, plain_in, played_in, recorded_body, setup_in, time_in, is_zero};
+ghost use Rattle.af_request.specs.Replies.{answer_in, controls_in, device_in, devices_in, flag_of, is_padded, is_plain, phone_in, phone_of, plain_in, played_in, recorded_body, setup_in, time_in, is_zero};
 
 use crate::reply::{Controls, DeviceInfo, Devices, Phone, Reply};
 use af_sample::{Gain, SampleType, is_listed_rate};
 use af_time::DevTime;
+use af_wire::Order;
 
-/// Reads the body of a reply to a request of this opcode, 0 standing for a setup. None exactly where it is no such body:
+/// Reads the body, in the order of its link, of a reply to a request of this opcode, 0 standing for a setup. None exactly where it is no such body:
 /// a length that does not fit, a flag above 1, a gain outside -30..30, a type above 3, channels other than 1 and 2, a rate
 /// that is not listed, a horizon that is not 4 seconds, fewer than 1 or more than 8 devices, or padding that is not zero.
-pub fn read_reply<'a>(opcode: u8, body: &'a [u8]) -> Option<Reply<'a>>
-    ensures { option_map reply_meaning result ≡ answer_in opcode body.entry.now }
+pub fn read_reply<'a>(order: Order, opcode: u8, body: &'a [u8]) -> Option<Reply<'a>>
+    ensures { option_map reply_meaning result ≡ answer_in order opcode body.entry.now }
 {
+    if is_plain(opcode) {
+        return plain(body);
+    }
     match opcode {
-        0 => setup(body),
-        2 => time(body),
-        3 | 4 | 5 | 8 | 9 | 11 => plain(body),
-        6 => played(body),
-        7 => recorded(body),
-        10 => controls(body),
+        0 => setup(order, body),
+        2 => time(order, body),
+        6 => played(order, body),
+        7 => recorded(order, body),
+        10 => controls(order, body),
         12 => phone(body),
         _ => None,
     }
+}
+
+// Whether a request of this opcode is not answered with a value.
+fn is_plain(opcode: u8) -> bool
+    ensures { result ≡ is_plain opcode }
+{
+    matches!(opcode, 3 | 4 | 5 | 8 | 9 | 11)
 }
 
 fn plain<'a>(body: &'a [u8]) -> Option<Reply<'a>>
@@ -38,54 +48,63 @@ fn plain<'a>(body: &'a [u8]) -> Option<Reply<'a>>
     }
 }
 
-fn time<'a>(body: &'a [u8]) -> Option<Reply<'a>>
-    ensures { option_map reply_meaning result ≡ time_in body.entry.now }
+fn time<'a>(order: Order, body: &'a [u8]) -> Option<Reply<'a>>
+    ensures { option_map reply_meaning result ≡ time_in order body.entry.now }
 {
     let [a, b, c, d] = body else {
         return None;
     };
     Some(Reply::Time {
-        time: DevTime(u32::from_be_bytes([*a, *b, *c, *d])),
+        time: DevTime(order.u32([*a, *b, *c, *d])),
     })
 }
 
-fn played<'a>(body: &'a [u8]) -> Option<Reply<'a>>
-    ensures { option_map reply_meaning result ≡ played_in body.entry.now }
+fn played<'a>(order: Order, body: &'a [u8]) -> Option<Reply<'a>>
+    ensures { option_map reply_meaning result ≡ played_in order body.entry.now }
 {
     let [a, b, c, d] = body else {
         return None;
     };
     Some(Reply::Played {
-        time: DevTime(u32::from_be_bytes([*a, *b, *c, *d])),
+        time: DevTime(order.u32([*a, *b, *c, *d])),
     })
 }
 
-fn recorded<'a>(body: &'a [u8]) -> Option<Reply<'a>>
-    ensures { option_map reply_meaning result ≡ recorded_body body.entry.now }
+fn recorded<'a>(order: Order, body: &'a [u8]) -> Option<Reply<'a>>
+    ensures { option_map reply_meaning result ≡ recorded_body order body.entry.now }
 {
     let [a, b, c, d, e, f, g, h, data @ ..] = body else {
         return None;
     };
-    let nbytes = u32::from_be_bytes([*e, *f, *g, *h]) as usize;
-    if data.len() != 4 * nbytes.div_ceil(4) || !is_padding(&data[nbytes..]) {
+    let nbytes = order.u32([*e, *f, *g, *h]);
+    if !is_padded(nbytes, data) {
         return None;
     }
     Some(Reply::Recorded {
-        time: DevTime(u32::from_be_bytes([*a, *b, *c, *d])),
-        samples: &data[..nbytes],
+        time: DevTime(order.u32([*a, *b, *c, *d])),
+        samples: &data[..nbytes as usize],
     })
 }
 
-fn controls<'a>(body: &'a [u8]) -> Option<Reply<'a>>
-    ensures { option_map reply_meaning result ≡ controls_in body.entry.now }
+// Whether bytes are so many, padded with zeros to a word.
+fn is_padded(count: u32, bytes: &[u8]) -> bool
+    ensures value { result ≡ is_padded count bytes.now }
+    ensures within { result ≡ true → count ≤ length bytes.now }
+{
+    let count = count as usize;
+    bytes.len() == 4 * count.div_ceil(4) && is_padding(&bytes[count..])
+}
+
+fn controls<'a>(order: Order, body: &'a [u8]) -> Option<Reply<'a>>
+    ensures { option_map reply_meaning result ≡ controls_in order body.entry.now }
 {
     let [input_on, output_on, 0, 0, a, b, c, d] = body else {
         return None;
     };
     let input_on = flag(*input_on)?;
     let output_on = flag(*output_on)?;
-    let input_gain = gain([*a, *b])?;
-    let output_gain = gain([*c, *d])?;
+    let input_gain = gain(order, [*a, *b])?;
+    let output_gain = gain(order, [*c, *d])?;
     Some(Reply::Controls {
         controls: Controls {
             input_on,
@@ -123,46 +142,46 @@ fn phone_of(flags: [u8; 5]) -> Option<Phone>
     })
 }
 
-fn setup<'a>(body: &'a [u8]) -> Option<Reply<'a>>
-    ensures { option_map reply_meaning result ≡ setup_in body.entry.now }
+fn setup<'a>(order: Order, body: &'a [u8]) -> Option<Reply<'a>>
+    ensures { option_map reply_meaning result ≡ setup_in order body.entry.now }
 {
     let [a, b, c, d, e, f, g, h, data @ ..] = body else {
         return None;
     };
-    let major = u16::from_be_bytes([*a, *b]);
-    let minor = u16::from_be_bytes([*c, *d]);
-    let count = u32::from_be_bytes([*e, *f, *g, *h]) as usize;
+    let major = order.u16([*a, *b]);
+    let minor = order.u16([*c, *d]);
+    let count = order.u32([*e, *f, *g, *h]) as usize;
     if major != 1 || minor != 0 || count == 0 || count > 8 || data.len() != 12 * count {
         return None;
     }
-    let devices = devices(count, data)?;
+    let devices = devices(order, count, data)?;
     Some(Reply::Setup { devices })
 }
 
 // What n times 12 bytes of the reply to a setup say of the devices.
-fn devices(count: usize, bytes: &[u8]) -> Option<Devices>
+fn devices(order: Order, count: usize, bytes: &[u8]) -> Option<Devices>
     requires most { count ≤ 8 }
     requires whole { length bytes.now ≡ 12 * count }
-    ensures { option_map items_of result ≡ devices_in count bytes.now }
+    ensures { option_map items_of result ≡ devices_in order count bytes.now }
 {
     let mut devices = Devices::new();
     for i in 0..count {
         let at = 12 * i;
-        devices.push(device(&bytes[at..at + 12])?);
+        devices.push(device(order, &bytes[at..at + 12])?);
     }
     Some(devices)
 }
 
 // What 12 bytes of the reply to a setup say of a device.
-fn device(bytes: &[u8]) -> Option<DeviceInfo>
+fn device(order: Order, bytes: &[u8]) -> Option<DeviceInfo>
     requires { length bytes.now ≡ 12 }
-    ensures { result ≡ device_in bytes.now }
+    ensures { result ≡ device_in order bytes.now }
 {
     let [ty, channels, line, 0, a, b, c, d, e, f, g, h] = bytes else {
         return None;
     };
-    let rate = u32::from_be_bytes([*a, *b, *c, *d]);
-    let horizon = u32::from_be_bytes([*e, *f, *g, *h]);
+    let rate = order.u32([*a, *b, *c, *d]);
+    let horizon = order.u32([*e, *f, *g, *h]);
     let ty = SampleType::of_code(*ty)?;
     let line = flag(*line)?;
     if is_channel_count(*channels) && is_listed_rate(rate) && horizon == rate * 4 {
@@ -196,10 +215,10 @@ fn flag(byte: u8) -> Option<bool>
 }
 
 // The gain whose decibels two bytes state.
-fn gain(bytes: [u8; 2]) -> Option<Gain>
-    ensures { result ≡ gain_of (cast_signed w16 (from_be_bytes w16 bytes)) }
+fn gain(order: Order, bytes: [u8; 2]) -> Option<Gain>
+    ensures { result ≡ gain_of (i16_of order bytes) }
 {
-    Gain::new(i32::from(i16::from_be_bytes(bytes)))
+    Gain::new(i32::from(order.i16(bytes)))
 }
 
 fn is_padding(bytes: &[u8]) -> bool

@@ -3,9 +3,10 @@ ghost use Rattle.std.specs.Prelude.{◌≡◌, ◌≤◌, ◌+◌, ◌*◌, ◌+
 ghost use Rattle.af_wire.specs.Message.{head};
 ghost use Rattle.af_wire.specs.MessageFront.{IsOneMessage};
 ghost use Rattle.af_request.specs.Answer.{reply_meaning, recorded, setup};
-ghost use Rattle.af_request.specs.Answer.{controls as controls_answer, phone as phone_answer};
-ghost use Rattle.af_request.specs.Fields.{i16_bytes, words_for};
-ghost use Rattle.af_request.specs.Replies.{answer_in, body_bytes, body_words, device_bytes, reply_bytes, FitsMessage, IsReplyTo};
+ghost use Rattle.af_request.specs.Answer.{controls as controls_answer};
+ghost use Rattle.af_request.specs.Fields.{words_for};
+ghost use Rattle.af_wire.specs.Order.{i16_bytes};
+ghost use Rattle.af_request.specs.Replies.{answer_in, body_bytes, body_words, device_bytes, phone_bytes, reply_bytes, FitsMessage, IsReplyTo};
 ghost use Rattle.af_sample.specs.Sizes.{longest_record};
 ghost use Rattle.af_wire.specs.Sizes.{longest_message};
 
@@ -13,57 +14,63 @@ use crate::put::{put, put_zeros};
 use crate::reply::{Controls, DeviceInfo, Phone, Reply};
 use af_sample::Gain;
 use af_time::DevTime;
-use af_wire::write_head;
+use af_wire::{Order, write_head};
 
-/// Writes the reply to a request of this opcode, 0 standing for a setup, and answers how many bytes that are. Recorded
+/// Writes the reply, in an order, to a request of this opcode, 0 standing for a setup, and answers how many bytes that are. Recorded
 /// samples have at most 16000 bytes.
-pub fn write_reply(opcode: u8, reply: &Reply<'_>, sequence: u16, out: &mut [u8]) -> usize
+pub fn write_reply(
+    order: Order,
+    opcode: u8,
+    reply: &Reply<'_>,
+    sequence: u16,
+    out: &mut [u8],
+) -> usize
     requires samples { FitsMessage (reply_meaning reply.now) }
     requires room { longest_message ≤ length out.old }
     ensures size { result ≡ 8 + 4 * body_words (reply_meaning reply.now) }
     ensures most { result ≤ longest_message }
-    ensures bytes { take result out.new ≡ reply_bytes opcode (reply_meaning reply.now) sequence }
-    ensures one { IsReplyTo opcode (reply_meaning reply.now) → IsOneMessage 1 opcode sequence (take result out.new) }
+    ensures bytes { take result out.new ≡ reply_bytes order opcode (reply_meaning reply.now) sequence }
+    ensures one { IsReplyTo opcode (reply_meaning reply.now) → IsOneMessage order 1 opcode sequence (take result out.new) }
     ensures again { IsReplyTo opcode (reply_meaning reply.now) →
-        answer_in opcode (drop 8 (take result out.new)) ≡ Some (reply_meaning reply.now) }
+        answer_in order opcode (drop 8 (take result out.new)) ≡ Some (reply_meaning reply.now) }
 {
-    let at = put_head(out, opcode, sequence, words_of(reply));
-    put_body(out, at, reply)
+    let at = put_head(order, out, opcode, sequence, words_of(reply));
+    put_body(order, out, at, reply)
 }
 
 /// Where the samples of a reply to a Record begin: behind the head, the time and the count of their bytes.
 pub const RECORDED_AT: usize = 16;
 
-/// Writes the reply to a Record around its samples, n bytes of them, at most 16000, which stand in the message already, from
+/// Writes the reply, in an order, to a Record around its samples, n bytes of them, at most 16000, which stand in the message already, from
 /// `RECORDED_AT` on. Answers how many bytes the message has.
-pub fn write_recorded(time: DevTime, n: usize, sequence: u16, out: &mut [u8]) -> usize
+pub fn write_recorded(order: Order, time: DevTime, n: usize, sequence: u16, out: &mut [u8]) -> usize
     requires samples { n ≤ longest_record }
     requires room { longest_message ≤ length out.old }
     ensures most { result ≤ longest_message }
-    ensures bytes { take result out.new ≡ reply_bytes 7 (recorded time.0 (take n (drop 16 out.old))) sequence }
+    ensures bytes { take result out.new ≡ reply_bytes order 7 (recorded time.0 (take n (drop 16 out.old))) sequence }
 {
     let words = 2 + n.div_ceil(4) as u32;
     let (front, samples) = out.split_at_mut(RECORDED_AT);
-    let at = put_head(front, 7, sequence, words);
-    let at = put(front, at, &time.0.to_be_bytes());
-    put(front, at, &(n as u32).to_be_bytes());
+    let at = put_head(order, front, 7, sequence, words);
+    let at = put(front, at, &order.u32_bytes(time.0));
+    put(front, at, &order.u32_bytes(n as u32));
     RECORDED_AT + put_zeros(samples, n, 4 * n.div_ceil(4) - n)
 }
 
-fn put_body(out: &mut [u8], at: usize, reply: &Reply<'_>) -> usize
+fn put_body(order: Order, out: &mut [u8], at: usize, reply: &Reply<'_>) -> usize
     requires samples { FitsMessage (reply_meaning reply.now) }
     requires room { at + 16008 ≤ length out.old }
     ensures end { result ≡ at + 4 * body_words (reply_meaning reply.now) }
     ensures most { result ≤ at + 16008 }
-    ensures bytes { take result out.new ≡ take at out.old ++ body_bytes (reply_meaning reply.now) }
+    ensures bytes { take result out.new ≡ take at out.old ++ body_bytes order (reply_meaning reply.now) }
 {
     match reply {
-        Reply::Setup { devices } => put_devices(out, at, devices.as_slice()),
+        Reply::Setup { devices } => put_devices(order, out, at, devices.as_slice()),
         Reply::Plain => at,
-        Reply::Time { time } => put(out, at, &time.0.to_be_bytes()),
-        Reply::Played { time } => put(out, at, &time.0.to_be_bytes()),
-        Reply::Recorded { time, samples } => put_recorded(out, at, time.0, samples),
-        Reply::Controls { controls } => put_controls(out, at, controls),
+        Reply::Time { time } => put(out, at, &order.u32_bytes(time.0)),
+        Reply::Played { time } => put(out, at, &order.u32_bytes(time.0)),
+        Reply::Recorded { time, samples } => put_recorded(order, out, at, time.0, samples),
+        Reply::Controls { controls } => put_controls(order, out, at, controls),
         Reply::Phone { phone } => put_phone(out, at, phone),
     }
 }
@@ -83,38 +90,39 @@ fn words_of(reply: &Reply<'_>) -> u32
 }
 
 // The head of a reply.
-fn put_head(out: &mut [u8], opcode: u8, sequence: u16, words: u32) -> usize
+fn put_head(order: Order, out: &mut [u8], opcode: u8, sequence: u16, words: u32) -> usize
     requires { 8 ≤ length out.old }
     ensures end { result ≡ 8 }
-    ensures bytes { take result out.new ≡ head 1 opcode sequence words }
+    ensures bytes { take result out.new ≡ head order 1 opcode sequence words }
 {
     let mut bytes = [0; 8];
-    write_head(1, opcode, sequence, words, &mut bytes);
+    write_head(order, 1, opcode, sequence, words, &mut bytes);
     put(out, 0, &bytes)
 }
 
 // The version, the count of the devices, and each of them.
-fn put_devices(out: &mut [u8], at: usize, devices: &[DeviceInfo]) -> usize
+fn put_devices(order: Order, out: &mut [u8], at: usize, devices: &[DeviceInfo]) -> usize
     requires most { length devices.now ≤ 8 }
     requires room { at + 104 ≤ length out.old }
     ensures end { result ≡ at + 8 + 12 * length devices.now }
-    ensures bytes { take result out.new ≡ take at out.old ++ body_bytes (setup devices.now) }
+    ensures bytes { take result out.new ≡ take at out.old ++ body_bytes order (setup devices.now) }
 {
-    let at = put(out, at, &[0, 1, 0, 0]);
-    let mut at = put(out, at, &(devices.len() as u32).to_be_bytes());
+    let at = put(out, at, &order.u16_bytes(1));
+    let at = put(out, at, &order.u16_bytes(0));
+    let mut at = put(out, at, &order.u32_bytes(devices.len() as u32));
     for device in devices {
-        at = put_device(out, at, *device);
+        at = put_device(order, out, at, *device);
     }
     at
 }
 
-fn put_device(out: &mut [u8], at: usize, device: DeviceInfo) -> usize
+fn put_device(order: Order, out: &mut [u8], at: usize, device: DeviceInfo) -> usize
     requires { at + 12 ≤ length out.old }
     ensures end { result ≡ at + 12 }
-    ensures bytes { take result out.new ≡ take at out.old ++ device_bytes device }
+    ensures bytes { take result out.new ≡ take at out.old ++ device_bytes order device }
 {
-    let [a, b, c, d] = device.rate.to_be_bytes();
-    let [e, f, g, h] = device.horizon.to_be_bytes();
+    let [a, b, c, d] = order.u32_bytes(device.rate);
+    let [e, f, g, h] = order.u32_bytes(device.horizon);
     let line = u8::from(device.line);
     put(
         out,
@@ -137,40 +145,40 @@ fn put_device(out: &mut [u8], at: usize, device: DeviceInfo) -> usize
 }
 
 // The time, the count of the bytes, and the bytes padded with zeros to a word.
-fn put_recorded(out: &mut [u8], at: usize, time: u32, samples: &[u8]) -> usize
+fn put_recorded(order: Order, out: &mut [u8], at: usize, time: u32, samples: &[u8]) -> usize
     requires samples { length samples.now ≤ longest_record }
     requires room { at + 16008 ≤ length out.old }
     ensures end { result ≡ at + 8 + 4 * words_for (length samples.now) }
-    ensures bytes { take result out.new ≡ take at out.old ++ body_bytes (recorded time samples.now) }
+    ensures bytes { take result out.new ≡ take at out.old ++ body_bytes order (recorded time samples.now) }
 {
-    let at = put(out, at, &time.to_be_bytes());
-    let at = put(out, at, &(samples.len() as u32).to_be_bytes());
+    let at = put(out, at, &order.u32_bytes(time));
+    let at = put(out, at, &order.u32_bytes(samples.len() as u32));
     let at = put(out, at, samples);
     put_zeros(out, at, 4 * samples.len().div_ceil(4) - samples.len())
 }
 
-fn put_controls(out: &mut [u8], at: usize, controls: &Controls) -> usize
+fn put_controls(order: Order, out: &mut [u8], at: usize, controls: &Controls) -> usize
     requires { at + 8 ≤ length out.old }
     ensures end { result ≡ at + 8 }
-    ensures bytes { take result out.new ≡ take at out.old ++ body_bytes (controls_answer controls.now) }
+    ensures bytes { take result out.new ≡ take at out.old ++ body_bytes order (controls_answer controls.now) }
 {
     let input_on = u8::from(controls.input_on);
     let output_on = u8::from(controls.output_on);
-    let [a, b] = gain_bytes(controls.input_gain);
-    let [c, d] = gain_bytes(controls.output_gain);
+    let [a, b] = gain_bytes(order, controls.input_gain);
+    let [c, d] = gain_bytes(order, controls.output_gain);
     put(out, at, &[input_on, output_on, 0, 0, a, b, c, d])
 }
 
-fn gain_bytes(gain: Gain) -> [u8; 2]
-    ensures { result ≡ i16_bytes gain }
+fn gain_bytes(order: Order, gain: Gain) -> [u8; 2]
+    ensures { result ≡ i16_bytes order gain }
 {
-    (gain.db() as i16).to_be_bytes()
+    order.i16_bytes(gain.db() as i16)
 }
 
 fn put_phone(out: &mut [u8], at: usize, phone: &Phone) -> usize
     requires { at + 8 ≤ length out.old }
     ensures end { result ≡ at + 8 }
-    ensures bytes { take result out.new ≡ take at out.old ++ body_bytes (phone_answer phone.now) }
+    ensures bytes { take result out.new ≡ take at out.old ++ phone_bytes phone.now }
 {
     let wanted_off = u8::from(phone.wanted_off);
     let given_off = u8::from(phone.given_off);

@@ -7,32 +7,33 @@ ghost use Rattle.af_request.specs.Requests.{record_run_row, select_events_row, s
 
 use crate::Request;
 use af_time::DevTime;
+use af_wire::Order;
 
-/// Reads one whole frame. None exactly where its opcode is unknown, or its length is not the opcode's. Padding, and bits
+/// Reads one whole frame in the order of its link. None exactly where its opcode is unknown, or its length is not the opcode's. Padding, and bits
 /// that have no meaning, are ignored.
-pub fn read_request<'a>(frame: &'a [u8]) -> Option<Request<'a>>
-    ensures value { option_map request_meaning result ≡ asked_in frame.entry.now }
-    ensures none { IsNone result ↔ IsNoRequest frame.entry.now }
+pub fn read_request<'a>(order: Order, frame: &'a [u8]) -> Option<Request<'a>>
+    ensures value { option_map request_meaning result ≡ asked_in order frame.entry.now }
+    ensures none { IsNone result ↔ IsNoRequest order frame.entry.now }
 {
     let opcode = frame.first()?;
-    request_of(*opcode, frame)
+    request_of(order, *opcode, frame)
 }
 
-fn request_of<'a>(opcode: u8, frame: &'a [u8]) -> Option<Request<'a>>
-    ensures { option_map request_meaning result ≡ option_and_then (asked_by frame.entry.now) (row_of opcode frame.entry.now) }
+fn request_of<'a>(order: Order, opcode: u8, frame: &'a [u8]) -> Option<Request<'a>>
+    ensures { option_map request_meaning result ≡ option_and_then (asked_by frame.entry.now) (row_of order opcode frame.entry.now) }
 {
     match opcode {
         1 => no_op(frame),
         2 => get_time(frame),
-        3 => create_ac(frame),
-        4 => change_ac(frame),
-        5 => free_ac(frame),
-        6 => play_run(frame),
-        7 => record_run(frame),
-        8 => select_events(frame),
-        9 => set_controls(frame),
+        3 => create_ac(order, frame),
+        4 => change_ac(order, frame),
+        5 => free_ac(order, frame),
+        6 => play_run(order, frame),
+        7 => record_run(order, frame),
+        8 => select_events(order, frame),
+        9 => set_controls(order, frame),
         10 => query_controls(frame),
-        11 => hook_switch(frame),
+        11 => hook_switch(order, frame),
         12 => query_phone(frame),
         _ => None,
     }
@@ -56,8 +57,8 @@ fn get_time<'a>(frame: &'a [u8]) -> Option<Request<'a>>
     Some(Request::GetTime { device: *device })
 }
 
-fn create_ac<'a>(frame: &'a [u8]) -> Option<Request<'a>>
-    ensures { option_map request_meaning result ≡ asked_by frame.entry.now (create_ac_row frame.entry.now) }
+fn create_ac<'a>(order: Order, frame: &'a [u8]) -> Option<Request<'a>>
+    ensures { option_map request_meaning result ≡ asked_by frame.entry.now (create_ac_row order frame.entry.now) }
 {
     let [
         _,
@@ -82,43 +83,43 @@ fn create_ac<'a>(frame: &'a [u8]) -> Option<Request<'a>>
     };
     Some(Request::CreateAc {
         device: *device,
-        ac: u32::from_be_bytes([*a, *b, *c, *d]),
+        ac: order.u32([*a, *b, *c, *d]),
         ty: *ty,
         channels: *channels,
         preempt: *preempt,
-        play_gain: i16::from_be_bytes([*p, *q]),
-        record_gain: i16::from_be_bytes([*r, *s]),
+        play_gain: order.i16([*p, *q]),
+        record_gain: order.i16([*r, *s]),
     })
 }
 
-fn change_ac<'a>(frame: &'a [u8]) -> Option<Request<'a>>
-    ensures { option_map request_meaning result ≡ asked_by frame.entry.now (change_ac_row frame.entry.now) }
+fn change_ac<'a>(order: Order, frame: &'a [u8]) -> Option<Request<'a>>
+    ensures { option_map request_meaning result ≡ asked_by frame.entry.now (change_ac_row order frame.entry.now) }
 {
     let [_, mask, _, _, a, b, c, d, preempt, _, _, _, p, q, r, s] = frame else {
         return None;
     };
     Some(Request::ChangeAc {
         mask: *mask,
-        ac: u32::from_be_bytes([*a, *b, *c, *d]),
+        ac: order.u32([*a, *b, *c, *d]),
         preempt: *preempt,
-        play_gain: i16::from_be_bytes([*p, *q]),
-        record_gain: i16::from_be_bytes([*r, *s]),
+        play_gain: order.i16([*p, *q]),
+        record_gain: order.i16([*r, *s]),
     })
 }
 
-fn free_ac<'a>(frame: &'a [u8]) -> Option<Request<'a>>
-    ensures { option_map request_meaning result ≡ asked_by frame.entry.now (free_ac_row frame.entry.now) }
+fn free_ac<'a>(order: Order, frame: &'a [u8]) -> Option<Request<'a>>
+    ensures { option_map request_meaning result ≡ asked_by frame.entry.now (free_ac_row order frame.entry.now) }
 {
     let [_, _, _, _, a, b, c, d] = frame else {
         return None;
     };
     Some(Request::FreeAc {
-        ac: u32::from_be_bytes([*a, *b, *c, *d]),
+        ac: order.u32([*a, *b, *c, *d]),
     })
 }
 
-fn play_run<'a>(frame: &'a [u8]) -> Option<Request<'a>>
-    ensures { option_map request_meaning result ≡ asked_by frame.entry.now (play_run_row frame.entry.now) }
+fn play_run<'a>(order: Order, frame: &'a [u8]) -> Option<Request<'a>>
+    ensures { option_map request_meaning result ≡ asked_by frame.entry.now (play_run_row order frame.entry.now) }
 {
     let [
         _,
@@ -142,46 +143,46 @@ fn play_run<'a>(frame: &'a [u8]) -> Option<Request<'a>>
     else {
         return None;
     };
-    let nbytes = u32::from_be_bytes([*i, *j, *k, *l]) as usize;
+    let nbytes = order.u32([*i, *j, *k, *l]) as usize;
     if data.len() != 4 * nbytes.div_ceil(4) {
         return None;
     }
     Some(Request::PlayRun {
         quiet: *detail & 1 == 1,
-        ac: u32::from_be_bytes([*a, *b, *c, *d]),
-        time: DevTime(u32::from_be_bytes([*e, *f, *g, *h])),
+        ac: order.u32([*a, *b, *c, *d]),
+        time: DevTime(order.u32([*e, *f, *g, *h])),
         samples: &data[..nbytes],
     })
 }
 
-fn record_run<'a>(frame: &'a [u8]) -> Option<Request<'a>>
-    ensures { option_map request_meaning result ≡ asked_by frame.entry.now (record_run_row frame.entry.now) }
+fn record_run<'a>(order: Order, frame: &'a [u8]) -> Option<Request<'a>>
+    ensures { option_map request_meaning result ≡ asked_by frame.entry.now (record_run_row order frame.entry.now) }
 {
     let [_, detail, _, _, a, b, c, d, e, f, g, h, i, j, k, l] = frame else {
         return None;
     };
     Some(Request::RecordRun {
         blocking: *detail & 1 == 1,
-        ac: u32::from_be_bytes([*a, *b, *c, *d]),
-        time: DevTime(u32::from_be_bytes([*e, *f, *g, *h])),
-        nbytes: u32::from_be_bytes([*i, *j, *k, *l]),
+        ac: order.u32([*a, *b, *c, *d]),
+        time: DevTime(order.u32([*e, *f, *g, *h])),
+        nbytes: order.u32([*i, *j, *k, *l]),
     })
 }
 
-fn select_events<'a>(frame: &'a [u8]) -> Option<Request<'a>>
-    ensures { option_map request_meaning result ≡ asked_by frame.entry.now (select_events_row frame.entry.now) }
+fn select_events<'a>(order: Order, frame: &'a [u8]) -> Option<Request<'a>>
+    ensures { option_map request_meaning result ≡ asked_by frame.entry.now (select_events_row order frame.entry.now) }
 {
     let [_, device, _, _, a, b, c, d] = frame else {
         return None;
     };
     Some(Request::SelectEvents {
         device: *device,
-        mask: u32::from_be_bytes([*a, *b, *c, *d]),
+        mask: order.u32([*a, *b, *c, *d]),
     })
 }
 
-fn set_controls<'a>(frame: &'a [u8]) -> Option<Request<'a>>
-    ensures { option_map request_meaning result ≡ asked_by frame.entry.now (set_controls_row frame.entry.now) }
+fn set_controls<'a>(order: Order, frame: &'a [u8]) -> Option<Request<'a>>
+    ensures { option_map request_meaning result ≡ asked_by frame.entry.now (set_controls_row order frame.entry.now) }
 {
     let [_, device, _, _, mask, input_on, output_on, _, p, q, r, s] = frame else {
         return None;
@@ -191,8 +192,8 @@ fn set_controls<'a>(frame: &'a [u8]) -> Option<Request<'a>>
         mask: *mask,
         input_on: *input_on,
         output_on: *output_on,
-        input_gain: i16::from_be_bytes([*p, *q]),
-        output_gain: i16::from_be_bytes([*r, *s]),
+        input_gain: order.i16([*p, *q]),
+        output_gain: order.i16([*r, *s]),
     })
 }
 
@@ -205,15 +206,15 @@ fn query_controls<'a>(frame: &'a [u8]) -> Option<Request<'a>>
     Some(Request::QueryControls { device: *device })
 }
 
-fn hook_switch<'a>(frame: &'a [u8]) -> Option<Request<'a>>
-    ensures { option_map request_meaning result ≡ asked_by frame.entry.now (hook_switch_row frame.entry.now) }
+fn hook_switch<'a>(order: Order, frame: &'a [u8]) -> Option<Request<'a>>
+    ensures { option_map request_meaning result ≡ asked_by frame.entry.now (hook_switch_row order frame.entry.now) }
 {
     let [_, device, _, _, a, b, c, d] = frame else {
         return None;
     };
     Some(Request::HookSwitch {
         device: *device,
-        off: u32::from_be_bytes([*a, *b, *c, *d]),
+        off: order.u32([*a, *b, *c, *d]),
     })
 }
 

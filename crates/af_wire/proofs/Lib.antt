@@ -1,3 +1,4 @@
+pub mod OrderLemmas
 pub mod MessageRoundTrips
 pub mod SetupFrontLemmas
 pub mod FrameFrontLemmas

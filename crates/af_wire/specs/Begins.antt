@@ -1,128 +1,134 @@
 -- What bytes begin with, said of whole lists: the pieces that they are put together from, and no place in them.
 use Rattle.std.specs.Prelude.{◌≡◌, ◌≢◌, ◌≤◌, ◌<◌, ◌⊎◌, ◌+◌, ◌*◌, ℕ, false, IsTrue, List, [], ◌∷◌, ◌++◌, length}
-use Rattle.std.specs.Int.{w16, w32, from_be_bytes}
+use Rattle.af_wire.specs.declared.order.Order.{Order}
+use Rattle.af_wire.specs.declared.order.Order.TheVariants.{Big, Little}
 use Rattle.af_wire.specs.declared.front.SetupFront.{SetupFront}
 use Rattle.af_wire.specs.declared.front.SetupFront.TheVariants as setup
 use Rattle.af_wire.specs.declared.front.Front.{Front}
 use Rattle.af_wire.specs.declared.front.Front.TheVariants as frame
 use Rattle.af_wire.specs.declared.message_front.MessageFront.{MessageFront}
 use Rattle.af_wire.specs.declared.message_front.MessageFront.TheVariants as message
-use Rattle.af_wire.specs.Front.{magic}
+use Rattle.af_wire.specs.Order.{magic, u16_of, u32_of}
 use Rattle.af_wire.specs.MessageFront.{is_head}
 
--- two bytes that spell a number
-pub record IsU16 (number : ℕ) (field : List ℕ) : Type 0 where
+-- two bytes that spell a number in an order
+pub record IsU16 (order : Order) (number : ℕ) (field : List ℕ) : Type 0 where
   pub size : length field ≡ 2
-  pub is : from_be_bytes w16 field ≡ number
+  pub is : u16_of order field ≡ number
 
--- four bytes that spell a number
-pub record IsU32 (number : ℕ) (field : List ℕ) : Type 0 where
+-- four bytes that spell a number in an order
+pub record IsU32 (order : Order) (number : ℕ) (field : List ℕ) : Type 0 where
   pub size : length field ≡ 4
-  pub is : from_be_bytes w32 field ≡ number
+  pub is : u32_of order field ≡ number
 
 -- bytes that begin with a piece
 pub record BeginsWith (piece bytes : List ℕ) : Type 0 where
   pub rest : List ℕ
   pub is : bytes ≡ piece ++ rest
 
--- bytes that begin with a setup: a name, a major version, and a minor version, which is free
-pub record StatesSetup (name major : ℕ) (bytes : List ℕ) : Type 0 where
+-- bytes that begin with a setup: a name, which is a number in Big, a major version in an order, and a minor version, which is free
+pub record StatesSetup (order : Order) (name major : ℕ) (bytes : List ℕ) : Type 0 where
   pub name_field : List ℕ
   pub major_field : List ℕ
   pub minor_field : List ℕ
   pub rest : List ℕ
   pub is : bytes ≡ name_field ++ (major_field ++ (minor_field ++ rest))
-  pub is_name : IsU32 name name_field
-  pub is_major : IsU16 major major_field
+  pub is_name : IsU32 Big name name_field
+  pub is_major : IsU16 order major major_field
   pub is_minor : length minor_field ≡ 2
 
--- a setup of another protocol is bad with its name, and one of this protocol and of another major version with that version
-abbrev pub HasBadSetup : ℕ → List ℕ → Type 0
-HasBadSetup value bytes =
-    ((major : ℕ) × (StatesSetup value major bytes) × (value ≢ magic)) ⊎ (StatesSetup magic value bytes × (value ≢ 1))
+-- a setup of an order and of another major version is bad with that version
+abbrev pub HasOtherVersion : Order → ℕ → List ℕ → Type 0
+HasOtherVersion order value bytes = StatesSetup order (magic order) value bytes × (value ≢ 1)
 
--- which bytes need more, have a good setup, or have a bad one: nothing is decided before 8 bytes are there
+-- a setup of another protocol, which is one of no order, is bad with its name, and is answered in Big
+abbrev pub HasOtherName : Order → ℕ → List ℕ → Type 0
+HasOtherName order value bytes =
+    (major : ℕ) × StatesSetup Big value major bytes × (order ≡ Big) × (value ≢ magic Big) × (value ≢ magic Little)
+
+-- which bytes need more, have a good setup of an order, or have a bad one, answered in an order: nothing is decided before 8
+-- bytes are there
 unfoldable pub HasSetupFront : List ℕ → SetupFront → Type 0
 HasSetupFront bytes setup.NeedMore = length bytes < 8
-HasSetupFront bytes setup.Setup = StatesSetup magic 1 bytes
-HasSetupFront bytes (setup.BadSetup value) = HasBadSetup value bytes
+HasSetupFront bytes (setup.Setup order) = StatesSetup order (magic order) 1 bytes
+HasSetupFront bytes (setup.BadSetup order value) = HasOtherName order value bytes ⊎ HasOtherVersion order value bytes
 
 -- bytes that begin with the first word of a frame: an opcode, a detail, and a length in words
-pub record StatesFrame (words : ℕ) (bytes : List ℕ) : Type 0 where
+pub record StatesFrame (order : Order) (words : ℕ) (bytes : List ℕ) : Type 0 where
   pub opcode : ℕ
   pub detail : ℕ
   pub words_field : List ℕ
   pub rest : List ℕ
   pub is : bytes ≡ opcode ∷ detail ∷ (words_field ++ rest)
-  pub is_words : IsU16 words words_field
+  pub is_words : IsU16 order words words_field
 
 -- a frame has from 1 to 4096 words
 abbrev pub IsFrameLength : ℕ → Type 0
 IsFrameLength words = (1 ≤ words) × (words ≤ 4096)
 
 -- a whole frame: as many words as it states
-pub record IsFrame (bytes : List ℕ) : Type 0 where
+pub record IsFrame (order : Order) (bytes : List ℕ) : Type 0 where
   pub words : ℕ
-  pub states : StatesFrame words bytes
+  pub states : StatesFrame order words bytes
   pub fits : IsFrameLength words
   pub size : length bytes ≡ 4 * words
 
 -- too little for a length, or for the frame of a length that fits
-abbrev pub NeedsMoreOfFrame : List ℕ → Type 0
-NeedsMoreOfFrame bytes =
-    (length bytes < 4) ⊎ ((words : ℕ) × StatesFrame words bytes × IsFrameLength words × (length bytes < 4 * words))
+abbrev pub NeedsMoreOfFrame : Order → List ℕ → Type 0
+NeedsMoreOfFrame order bytes =
+    (length bytes < 4) ⊎ ((words : ℕ) × StatesFrame order words bytes × IsFrameLength words × (length bytes < 4 * words))
 
 -- which bytes need more, have a frame of n bytes, or have a bad front: a length that no frame has
-unfoldable pub HasFront : List ℕ → Front → Type 0
-HasFront bytes frame.NeedMore = NeedsMoreOfFrame bytes
-HasFront bytes (frame.Frame n) = (piece : List ℕ) × BeginsWith piece bytes × IsFrame piece × (length piece ≡ n)
-HasFront bytes frame.Malformed = (words : ℕ) × StatesFrame words bytes × ((words ≡ 0) ⊎ (4096 < words))
+unfoldable pub HasFront : Order → List ℕ → Front → Type 0
+HasFront order bytes frame.NeedMore = NeedsMoreOfFrame order bytes
+HasFront order bytes (frame.Frame n) = (piece : List ℕ) × BeginsWith piece bytes × IsFrame order piece × (length piece ≡ n)
+HasFront order bytes frame.Malformed = (words : ℕ) × StatesFrame order words bytes × ((words ≡ 0) ⊎ (4096 < words))
 
 -- bytes that begin with the head of a message: a kind, a detail, a sequence number, and the length of the body in words
-pub record StatesHead (kind detail sequence words : ℕ) (bytes : List ℕ) : Type 0 where
+pub record StatesHead (order : Order) (kind detail sequence words : ℕ) (bytes : List ℕ) : Type 0 where
   pub sequence_field : List ℕ
   pub words_field : List ℕ
   pub rest : List ℕ
   pub is : bytes ≡ kind ∷ detail ∷ (sequence_field ++ (words_field ++ rest))
-  pub is_sequence : IsU16 sequence sequence_field
-  pub is_words : IsU32 words words_field
+  pub is_sequence : IsU16 order sequence sequence_field
+  pub is_words : IsU32 order words words_field
 
 -- a whole message: a head that a client takes, and as many words as it states
-pub record IsMessage (kind detail sequence : ℕ) (bytes : List ℕ) : Type 0 where
+pub record IsMessage (order : Order) (kind detail sequence : ℕ) (bytes : List ℕ) : Type 0 where
   pub words : ℕ
-  pub states : StatesHead kind detail sequence words bytes
+  pub states : StatesHead order kind detail sequence words bytes
   pub good : IsTrue (is_head kind detail words)
   pub size : length bytes ≡ 8 + 4 * words
 
 -- the body of an error: the value that was refused, the opcode of the request, and three zeros
-pub record StatesError (value opcode : ℕ) (body : List ℕ) : Type 0 where
+pub record StatesError (order : Order) (value opcode : ℕ) (body : List ℕ) : Type 0 where
   pub value_field : List ℕ
   pub is : body ≡ value_field ++ (opcode ∷ 0 ∷ 0 ∷ 0 ∷ [])
-  pub is_value : IsU32 value value_field
+  pub is_value : IsU32 order value value_field
 
 -- too little for a message of n bytes: for its head, or for the body of a head that a client takes
-pub record NeedsMoreOfMessage (n : ℕ) (bytes : List ℕ) : Type 0 where
+pub record NeedsMoreOfMessage (order : Order) (n : ℕ) (bytes : List ℕ) : Type 0 where
   pub kind : ℕ
   pub detail : ℕ
   pub sequence : ℕ
   pub words : ℕ
-  pub states : StatesHead kind detail sequence words bytes
+  pub states : StatesHead order kind detail sequence words bytes
   pub good : IsTrue (is_head kind detail words)
   pub size : n ≡ 8 + 4 * words
   pub short : length bytes < n
 
 -- bytes that begin with a head that no client takes
-pub record HasBadHead (bytes : List ℕ) : Type 0 where
+pub record HasBadHead (order : Order) (bytes : List ℕ) : Type 0 where
   pub kind : ℕ
   pub detail : ℕ
   pub sequence : ℕ
   pub words : ℕ
-  pub states : StatesHead kind detail sequence words bytes
+  pub states : StatesHead order kind detail sequence words bytes
   pub bad : is_head kind detail words ≡ false
 
 -- which bytes need more, have a message of n bytes, or have a bad head: nothing is decided before 8 bytes are there
-unfoldable pub HasMessageFront : List ℕ → MessageFront → Type 0
-HasMessageFront bytes (message.NeedMore n) = ((length bytes < 8) × (n ≡ 8)) ⊎ NeedsMoreOfMessage n bytes
-HasMessageFront bytes (message.Message kind detail sequence n) =
-    (piece : List ℕ) × BeginsWith piece bytes × IsMessage kind detail sequence piece × (length piece ≡ n)
-HasMessageFront bytes message.BadMessage = HasBadHead bytes
+unfoldable pub HasMessageFront : Order → List ℕ → MessageFront → Type 0
+HasMessageFront order bytes (message.NeedMore n) = ((length bytes < 8) × (n ≡ 8)) ⊎ NeedsMoreOfMessage order n bytes
+HasMessageFront order bytes (message.Message kind detail sequence n) =
+    (piece : List ℕ) × BeginsWith piece bytes × IsMessage order kind detail sequence piece × (length piece ≡ n)
+HasMessageFront order bytes message.BadMessage = HasBadHead order bytes

@@ -1,10 +1,11 @@
 -- Events of telephone lines: how they are spelled, and which messages are events.
 use Rattle.std.specs.Prelude.{ℕ, ◌≤◌, ◌<◌, ◌^◌, IsTrue, Bool, true, ◌==◌, ◌&&◌, nat_le, if◌then◌else◌, List, [], ◌∷◌, ◌++◌, Option, Some, None}
-use Rattle.std.specs.Int.{w32, from_be_bytes, to_be_bytes}
+use Rattle.af_wire.specs.declared.order.Order.{Order}
 use Rattle.af_wire.specs.declared.event.Event.{Event}
 use Rattle.af_wire.specs.declared.event.EventKind.{EventKind}
 use Rattle.af_wire.specs.declared.event.EventKind.TheVariants as kind
 use Rattle.af_wire.specs.Message.{head}
+use Rattle.af_wire.specs.Order.{u32_bytes, u32_of}
 
 -- the detail of an event's message, which is also its bit in the mask of the events that a client selects
 abbrev pub detail_of : EventKind → ℕ
@@ -28,9 +29,9 @@ is_value kind.Digit value = true
 is_value _ value = nat_le value 1
 
 -- how an event is spelled, with the number of the request that was performed or begun last
-unfoldable pub event_bytes : Event → ℕ → List ℕ
-event_bytes e sequence =
-    head 2 (detail_of e.kind) sequence 3 ++ (to_be_bytes w32 e.device ++ to_be_bytes w32 e.time.0 ++ to_be_bytes w32 e.value)
+unfoldable pub event_bytes : Order → Event → ℕ → List ℕ
+event_bytes order e sequence =
+    head order 2 (detail_of e.kind) sequence 3 ++ (u32_bytes order e.device ++ u32_bytes order e.time.0 ++ u32_bytes order e.value)
 
 -- an event of a kind, if its device is one of the eight that a server may have, and its value one of its kind
 abbrev pub event_from : Option EventKind → ℕ → ℕ → ℕ → Option Event
@@ -41,11 +42,11 @@ event_from (Some kind) device time value =
 event_from None device time value = None
 
 -- the event that a detail and a body state, if they state one
-abbrev pub event_in : ℕ → List ℕ → Option Event
-event_in detail (d0 ∷ d1 ∷ d2 ∷ d3 ∷ t0 ∷ t1 ∷ t2 ∷ t3 ∷ v0 ∷ v1 ∷ v2 ∷ v3 ∷ []) =
-    event_from (kind_of_code detail) (from_be_bytes w32 (d0 ∷ d1 ∷ d2 ∷ d3 ∷ [])) (from_be_bytes w32 (t0 ∷ t1 ∷ t2 ∷ t3 ∷ []))
-    (from_be_bytes w32 (v0 ∷ v1 ∷ v2 ∷ v3 ∷ []))
-event_in detail _ = None
+abbrev pub event_in : Order → ℕ → List ℕ → Option Event
+event_in order detail (d0 ∷ d1 ∷ d2 ∷ d3 ∷ t0 ∷ t1 ∷ t2 ∷ t3 ∷ v0 ∷ v1 ∷ v2 ∷ v3 ∷ []) =
+    event_from (kind_of_code detail) (u32_of order (d0 ∷ d1 ∷ d2 ∷ d3 ∷ [])) (u32_of order (t0 ∷ t1 ∷ t2 ∷ t3 ∷ []))
+    (u32_of order (v0 ∷ v1 ∷ v2 ∷ v3 ∷ []))
+event_in order detail _ = None
 
 -- an event as a message may state it
 pub record IsEvent (e : Event) : Type 0 where

@@ -1,28 +1,31 @@
 -- The fronts of the bytes that a client sends: what they begin with.
-use Rattle.std.specs.Prelude.{ℕ, ◌<◌, ◌≤◌, ◌*◌, List, [], ◌∷◌, length, if◌then◌else◌, ◌==◌, ◌||◌, nat_lt}
-use Rattle.std.specs.Int.{w16, w32, from_be_bytes}
+use Rattle.std.specs.Prelude.{ℕ, ◌<◌, ◌≤◌, ◌*◌, List, [], ◌∷◌, ◌++◌, length, if◌then◌else◌, ◌==◌, ◌||◌, nat_lt}
+use Rattle.af_wire.specs.declared.order.Order.{Order}
+use Rattle.af_wire.specs.declared.order.Order.TheVariants.{Big, Little}
 use Rattle.af_wire.specs.declared.front.SetupFront.{SetupFront}
 use Rattle.af_wire.specs.declared.front.SetupFront.TheVariants as setup
 use Rattle.af_wire.specs.declared.front.Front.{Front}
 use Rattle.af_wire.specs.declared.front.Front.TheVariants.{NeedMore, Frame, Malformed}
+use Rattle.af_wire.specs.Order.{by_order, magic, u16_bytes, u16_of, u32_of}
 
--- "AFB" and a zero, as one number
-abbrev pub magic : ℕ
-magic = 0x41464200
+-- a setup of an order names its major version, which is 1
+abbrev pub versioned : Order → ℕ → SetupFront
+versioned order major = if major == 1 then setup.Setup order else setup.BadSetup order major
 
--- a setup names the protocol and its major version, which is 1
-abbrev pub setup_with : ℕ → ℕ → SetupFront
-setup_with name major =
-    if name == magic then (if major == 1 then setup.Setup else setup.BadSetup major) else setup.BadSetup name
+-- a setup begins with the name of an order; one of no order is answered in Big
+abbrev pub setup_with : ℕ → List ℕ → SetupFront
+setup_with name version =
+    if name == magic Big then versioned Big (u16_of Big version)
+    else if name == magic Little then versioned Little (u16_of Little version)
+    else setup.BadSetup Big name
 
--- the setup that a client sends, of version 1.0
-abbrev pub setup_bytes : List ℕ
-setup_bytes = 0x41 ∷ 0x46 ∷ 0x42 ∷ 0 ∷ 0 ∷ 1 ∷ 0 ∷ 0 ∷ []
+-- the setup of an order that a client sends, of version 1.0
+abbrev pub setup_bytes : Order → List ℕ
+setup_bytes order = (0x41 ∷ 0x46 ∷ by_order order 0x42 0x6c ∷ 0 ∷ []) ++ u16_bytes order 1 ++ u16_bytes order 0
 
 -- what the bytes of a link that is not set up begin with; nothing is decided before 8 bytes are there
 abbrev pub setup_front : List ℕ → SetupFront
-setup_front (a ∷ b ∷ c ∷ d ∷ e ∷ f ∷ g ∷ h ∷ rest) =
-    setup_with (from_be_bytes w32 (a ∷ b ∷ c ∷ d ∷ [])) (from_be_bytes w16 (e ∷ f ∷ []))
+setup_front (a ∷ b ∷ c ∷ d ∷ e ∷ f ∷ g ∷ h ∷ rest) = setup_with (u32_of Big (a ∷ b ∷ c ∷ d ∷ [])) (e ∷ f ∷ [])
 setup_front _ = setup.NeedMore
 
 -- the front of n bytes that state a length in words of 4 bytes
@@ -33,10 +36,10 @@ frame_with words there =
     else Frame (4 * words)
 
 -- what the bytes of a link that is set up begin with; the length is decided on as soon as it is there
-abbrev pub frame_front : List ℕ → Front
-frame_front (opcode ∷ detail ∷ high ∷ low ∷ rest) =
-    frame_with (from_be_bytes w16 (high ∷ low ∷ [])) (length (opcode ∷ detail ∷ high ∷ low ∷ rest))
-frame_front _ = NeedMore
+abbrev pub frame_front : Order → List ℕ → Front
+frame_front order (opcode ∷ detail ∷ w0 ∷ w1 ∷ rest) =
+    frame_with (u16_of order (w0 ∷ w1 ∷ [])) (length (opcode ∷ detail ∷ w0 ∷ w1 ∷ rest))
+frame_front order _ = NeedMore
 
 -- a frame has some bytes, and they are there; a malformed front has some too
 abbrev pub IsFrameWithin : Front → ℕ → Type 0
@@ -47,5 +50,5 @@ IsFrameWithin Malformed there = 0 < there
 -- a setup, good or bad, has 8 bytes
 abbrev pub IsSetupWithin : SetupFront → ℕ → Type 0
 IsSetupWithin setup.NeedMore there = Unit {0}
-IsSetupWithin setup.Setup there = 8 ≤ there
-IsSetupWithin (setup.BadSetup value) there = 8 ≤ there
+IsSetupWithin (setup.Setup order) there = 8 ≤ there
+IsSetupWithin (setup.BadSetup order value) there = 8 ≤ there

@@ -1,4 +1,5 @@
 pub mod Sizes
+pub mod Order
 pub mod Front
 pub mod Message
 pub mod Event

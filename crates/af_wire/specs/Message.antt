@@ -1,11 +1,12 @@
--- The spelling of what the server sends. Numbers are big-endian.
+-- The spelling of what the server sends, in the order of a link.
 use Rattle.std.specs.Prelude.{ℕ, List, [], ◌∷◌, ◌++◌}
-use Rattle.std.specs.Int.{w16, w32, to_be_bytes}
+use Rattle.af_wire.specs.declared.order.Order.{Order}
+use Rattle.af_wire.specs.Order.{u16_bytes, u32_bytes}
 
 -- the head of a message: its kind, a detail, the number of the request that it answers, and how many words follow
-unfoldable pub head : ℕ → ℕ → ℕ → ℕ → List ℕ
-head kind detail sequence words = kind ∷ detail ∷ [] ++ to_be_bytes w16 sequence ++ to_be_bytes w32 words
+unfoldable pub head : Order → ℕ → ℕ → ℕ → ℕ → List ℕ
+head order kind detail sequence words = kind ∷ detail ∷ [] ++ u16_bytes order sequence ++ u32_bytes order words
 
 -- a refusal: its code, the value that was refused, and the opcode of the request, 0 for a setup
-unfoldable pub error : ℕ → ℕ → ℕ → ℕ → List ℕ
-error code value opcode sequence = head 0 code sequence 2 ++ to_be_bytes w32 value ++ (opcode ∷ 0 ∷ 0 ∷ 0 ∷ [])
+unfoldable pub error : Order → ℕ → ℕ → ℕ → ℕ → List ℕ
+error order code value opcode sequence = head order 0 code sequence 2 ++ u32_bytes order value ++ (opcode ∷ 0 ∷ 0 ∷ 0 ∷ [])

@@ -1,8 +1,9 @@
 -- The front of the bytes that a server sends: whether they begin with a message, with part of one, or with none.
 use Rattle.std.specs.Prelude.{◌≡◌, ℕ, ◌<◌, ◌≤◌, ◌+◌, ◌*◌, Bool, false, ◌==◌, ◌&&◌, ◌||◌, nat_le, nat_lt, if◌then◌else◌, List, [], ◌∷◌, ◌++◌, length}
-use Rattle.std.specs.Int.{w16, w32, from_be_bytes}
+use Rattle.af_wire.specs.declared.order.Order.{Order}
 use Rattle.af_wire.specs.declared.message_front.MessageFront.{MessageFront}
 use Rattle.af_wire.specs.declared.message_front.MessageFront.TheVariants.{NeedMore, Message, BadMessage}
+use Rattle.af_wire.specs.Order.{u16_of, u32_of}
 use Rattle.af_wire.specs.Sizes.{longest_message}
 
 -- whether a client takes this for the head of a message: an error of a known code, the reply to a setup or to a known
@@ -22,15 +23,15 @@ message_with kind detail sequence words there =
     else BadMessage
 
 -- what the bytes begin with; where more are needed, the length to which they must grow
-abbrev pub message_front : List ℕ → MessageFront
-message_front (kind ∷ detail ∷ s0 ∷ s1 ∷ w0 ∷ w1 ∷ w2 ∷ w3 ∷ rest) =
-    message_with kind detail (from_be_bytes w16 (s0 ∷ s1 ∷ [])) (from_be_bytes w32 (w0 ∷ w1 ∷ w2 ∷ w3 ∷ []))
+abbrev pub message_front : Order → List ℕ → MessageFront
+message_front order (kind ∷ detail ∷ s0 ∷ s1 ∷ w0 ∷ w1 ∷ w2 ∷ w3 ∷ rest) =
+    message_with kind detail (u16_of order (s0 ∷ s1 ∷ [])) (u32_of order (w0 ∷ w1 ∷ w2 ∷ w3 ∷ []))
     (length (kind ∷ detail ∷ s0 ∷ s1 ∷ w0 ∷ w1 ∷ w2 ∷ w3 ∷ rest))
-message_front _ = NeedMore 8
+message_front order _ = NeedMore 8
 
 -- bytes that are one message, whatever follows them
-unfoldable pub IsOneMessage : (kind detail sequence : ℕ) → List ℕ → Type 0
-IsOneMessage kind detail sequence bytes = (rest : List ℕ) → message_front (bytes ++ rest) ≡ Message kind detail sequence (length bytes)
+unfoldable pub IsOneMessage : Order → (kind detail sequence : ℕ) → List ℕ → Type 0
+IsOneMessage order kind detail sequence bytes = (rest : List ℕ) → message_front order (bytes ++ rest) ≡ Message kind detail sequence (length bytes)
 
 -- more is needed than is there, and at most what the longest message has; a message is there; a bad head is there
 abbrev pub IsMessageWithin : MessageFront → ℕ → Type 0

@@ -3,7 +3,7 @@ ghost use Rattle.std.specs.Prelude.{◌≡◌, drop, length};
 ghost use Rattle.af_wire.specs.Event.{detail_of, event_bytes, event_in, kind_of_code, IsEvent};
 ghost use Rattle.af_wire.specs.MessageFront.{IsOneMessage};
 
-use crate::write_head;
+use crate::{Order, write_head};
 use af_time::DevTime;
 
 /// What happened on a telephone line.
@@ -57,31 +57,31 @@ pub struct Event {
 
 /// Writes an event, with the number of the request that was performed or begun last.
 #[tactic(auto, using(crate::proofs::MessageRoundTrips::event_one), unfolding(crate::specs::Event::event_bytes))]
-pub fn write_event(event: Event, sequence: u16, out: &mut [u8])
+pub fn write_event(order: Order, event: Event, sequence: u16, out: &mut [u8])
     requires { length out.old ≡ 20 }
-    ensures bytes { out.new ≡ event_bytes event sequence }
-    ensures one { IsOneMessage 2 (detail_of event.kind) sequence out.new }
-    ensures again { IsEvent event → event_in (detail_of event.kind) (drop 8 out.new) ≡ Some event }
+    ensures bytes { out.new ≡ event_bytes order event sequence }
+    ensures one { IsOneMessage order 2 (detail_of event.kind) sequence out.new }
+    ensures again { IsEvent event → event_in order (detail_of event.kind) (drop 8 out.new) ≡ Some event }
 {
-    let [d0, d1, d2, d3] = u32::from(event.device).to_be_bytes();
-    let [t0, t1, t2, t3] = event.time.0.to_be_bytes();
-    let [v0, v1, v2, v3] = event.value.to_be_bytes();
+    let [d0, d1, d2, d3] = order.u32_bytes(u32::from(event.device));
+    let [t0, t1, t2, t3] = order.u32_bytes(event.time.0);
+    let [v0, v1, v2, v3] = order.u32_bytes(event.value);
     let (front, back) = out.split_at_mut(8);
-    write_head(2, event.kind.code(), sequence, 3, front);
+    write_head(order, 2, event.kind.code(), sequence, 3, front);
     back.copy_from_slice(&[d0, d1, d2, d3, t0, t1, t2, t3, v0, v1, v2, v3]);
 }
 
 /// Reads the event that a message of this detail and body states. None exactly where it states none: a detail that is no
 /// kind, a body of another length than 12, a device above 7, or a value above 1 of another event than a digit.
-pub fn read_event(detail: u8, body: &[u8]) -> Option<Event>
-    ensures { result ≡ event_in detail body.now }
+pub fn read_event(order: Order, detail: u8, body: &[u8]) -> Option<Event>
+    ensures { result ≡ event_in order detail body.now }
 {
     let [d0, d1, d2, d3, t0, t1, t2, t3, v0, v1, v2, v3] = body else {
         return None;
     };
-    let device = u32::from_be_bytes([*d0, *d1, *d2, *d3]);
-    let time = u32::from_be_bytes([*t0, *t1, *t2, *t3]);
-    let value = u32::from_be_bytes([*v0, *v1, *v2, *v3]);
+    let device = order.u32([*d0, *d1, *d2, *d3]);
+    let time = order.u32([*t0, *t1, *t2, *t3]);
+    let value = order.u32([*v0, *v1, *v2, *v3]);
     let kind = EventKind::of_code(detail)?;
     if device > 7 || value > 1 && kind != EventKind::Digit {
         return None;

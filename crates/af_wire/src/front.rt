@@ -6,19 +6,20 @@ ghost use Rattle.af_wire.specs.declared.front.SetupFront.{SetupFront};
 ghost use Rattle.af_wire.specs.declared.front.Front.{Front};
 ghost use Rattle.af_wire.specs.Begins.{HasSetupFront, HasFront};
 ghost use Rattle.af_wire.specs.Sizes.{longest_frame};
-ghost use Rattle.af_wire.specs.Front.{setup_front, frame_front, IsFrameWithin, IsSetupWithin};
+ghost use Rattle.af_wire.specs.Front.{setup_front, versioned, frame_front, IsFrameWithin, IsSetupWithin};
+ghost use Rattle.af_wire.specs.Order.{u16_of};
 
-/// The setup that a client sends, of version 1.0.
-pub const SETUP: [u8; 8] = [0x41, 0x46, 0x42, 0, 0, 1, 0, 0];
+use crate::Order;
 
 /// What the bytes of a link that is not set up begin with.
 #[derive(Clone, Copy, Debug, PartialEq, Eq)]
 pub enum SetupFront {
     NeedMore,
-    /// A good setup, of 8 bytes.
-    Setup,
-    /// A bad setup, with the value that is wrong: the first four bytes, or the major version.
-    BadSetup(u32),
+    /// A good setup of an order, of 8 bytes.
+    Setup(Order),
+    /// A bad setup, with the order of its answer and the value that is wrong: the first four bytes, or the major version of
+    /// an order.
+    BadSetup { order: Order, value: u32 },
 }
 
 /// What the bytes of a link that is set up begin with.
@@ -42,30 +43,43 @@ pub fn setup_of(input: &[u8]) -> SetupFront
     let [a, b, c, d, e, f, _, _, ..] = input else {
         return SetupFront::NeedMore;
     };
-    let name = u32::from_be_bytes([*a, *b, *c, *d]);
-    let major = u16::from_be_bytes([*e, *f]);
-    if name != 0x4146_4200 {
-        SetupFront::BadSetup(name)
-    } else if major != 1 {
-        SetupFront::BadSetup(u32::from(major))
-    } else {
-        SetupFront::Setup
+    let version = [*e, *f];
+    match Order::Big.u32([*a, *b, *c, *d]) {
+        0x4146_4200 => versioned(Order::Big, version),
+        0x4146_6c00 => versioned(Order::Little, version),
+        value => SetupFront::BadSetup {
+            order: Order::Big,
+            value,
+        },
+    }
+}
+
+// A setup of an order, by its major version.
+fn versioned(order: Order, version: [u8; 2]) -> SetupFront
+    ensures { result ≡ versioned order (u16_of order version) }
+{
+    match order.u16(version) {
+        1 => SetupFront::Setup(order),
+        major => SetupFront::BadSetup {
+            order,
+            value: u32::from(major),
+        },
     }
 }
 
 /// Reads the length of a frame. It needs more exactly where fewer than 4 bytes are there, or fewer than a good stated
 /// length.
 #[tactic(auto, using(crate::proofs::FrameFrontLemmas::frame_exactly))]
-pub fn frame_at(input: &[u8]) -> Front
-    ensures value { result ≡ frame_front input.now }
+pub fn frame_at(order: Order, input: &[u8]) -> Front
+    ensures value { result ≡ frame_front order input.now }
     ensures more { result ≡ frame.NeedMore → length input.now < longest_frame }
     ensures within { IsFrameWithin result (length input.now) }
-    ensures exactly { (front : Front) → (result ≡ front) ↔ HasFront input.now front }
+    ensures exactly { (front : Front) → (result ≡ front) ↔ HasFront order input.now front }
 {
-    let [_, _, high, low, ..] = input else {
+    let [_, _, w0, w1, ..] = input else {
         return Front::NeedMore;
     };
-    let words = usize::from(u16::from_be_bytes([*high, *low]));
+    let words = usize::from(order.u16([*w0, *w1]));
     if words == 0 || words > 4096 {
         Front::Malformed
     } else if input.len() < 4 * words {

@@ -1,5 +1,6 @@
 //! Laws of messages, each the contract of a function that does nothing.
 ghost use Rattle.std.specs.Prelude.{◌≡◌, ◌<◌, ◌+◌, ◌*◌, ◌^◌, ◌++◌, ℕ, List, IsTrue, drop, length};
+ghost use Rattle.af_wire.specs.declared.order.Order.{Order};
 ghost use Rattle.af_wire.specs.declared.event.Event.{Event};
 ghost use Rattle.af_wire.specs.declared.message_front.MessageFront.TheVariants.{Message};
 ghost use Rattle.af_wire.specs.Event.{detail_of, event_bytes, event_in, IsEvent};
@@ -11,15 +12,15 @@ ghost use Rattle.af_wire.specs.MessageFront.{is_head, message_front};
 /// A good head with the body that it states is one message, whatever follows it; so is an event, which is read again as
 /// the same event.
 pub fn messages_round_trip()
-    ensures heads { (kind detail sequence words : ℕ) (body rest : List ℕ) → IsTrue (is_head kind detail words)
+    ensures heads { (order : Order) (kind detail sequence words : ℕ) (body rest : List ℕ) → IsTrue (is_head kind detail words)
         → sequence < 2 ^ 16 → words < 2 ^ 32 → length body ≡ 4 * words
-        → message_front (head kind detail sequence words ++ body ++ rest) ≡ Message kind detail sequence (8 + 4 * words) }
-    ensures events { (e : Event) (sequence : ℕ) (rest : List ℕ) → sequence < 2 ^ 16
-        → message_front (event_bytes e sequence ++ rest) ≡ Message 2 (detail_of e.kind) sequence 20 }
-    ensures again { (e : Event) (sequence : ℕ) → IsEvent e → event_in (detail_of e.kind) (drop 8 (event_bytes e sequence)) ≡ Some e }
+        → message_front order (head order kind detail sequence words ++ body ++ rest) ≡ Message kind detail sequence (8 + 4 * words) }
+    ensures events { (order : Order) (e : Event) (sequence : ℕ) (rest : List ℕ) → sequence < 2 ^ 16
+        → message_front order (event_bytes order e sequence ++ rest) ≡ Message 2 (detail_of e.kind) sequence 20 }
+    ensures again { (order : Order) (e : Event) (sequence : ℕ) → IsEvent e → event_in order (detail_of e.kind) (drop 8 (event_bytes order e sequence)) ≡ Some e }
 {}
 
-/// The setup that a client sends is a good one to a server, whatever follows it.
+/// The setup of an order that a client sends is a good one to a server, whatever follows it.
 pub fn setup_is_good()
-    ensures { (rest : List ℕ) → setup_front (setup_bytes ++ rest) ≡ Setup }
+    ensures { (order : Order) (rest : List ℕ) → setup_front (setup_bytes order ++ rest) ≡ Setup order }
 {}

@@ -7,8 +7,10 @@ mod front;
 pub mod laws;
 mod message;
 mod message_front;
+mod order;
 
 pub use event::{Event, EventKind, read_event, write_event};
-pub use front::{Front, SETUP, SetupFront, frame_at, setup_of};
+pub use front::{Front, SetupFront, frame_at, setup_of};
 pub use message::{write_error, write_head};
 pub use message_front::{MessageFront, message_at};
+pub use order::Order;

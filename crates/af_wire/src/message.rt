@@ -1,34 +1,36 @@
-// Parts of the server's messages, written into a slice of their very length.
+// Parts of the server's messages in an order, written into a slice of their very length.
 ghost use Rattle.std.specs.Prelude.{◌≡◌, ◌≤◌, ◌*◌, ◌++◌, ℕ, List, IsTrue, drop, length};
 ghost use Rattle.af_wire.specs.Begins.{StatesError};
 ghost use Rattle.af_wire.specs.Message.{head, error};
 ghost use Rattle.af_wire.specs.MessageFront.{is_head, IsOneMessage};
 
+use crate::Order;
+
 /// Writes the head of a message: kind 0 (an error), 1 (a reply) or 2 (an event), its detail, the sequence number of the
 /// request that it answers, and how many words of 4 bytes follow.
 #[tactic(auto, using(crate::proofs::MessageRoundTrips::head_one), unfolding(crate::specs::Message::head))]
-pub fn write_head(kind: u8, detail: u8, sequence: u16, words: u32, out: &mut [u8])
+pub fn write_head(order: Order, kind: u8, detail: u8, sequence: u16, words: u32, out: &mut [u8])
     requires { length out.old ≡ 8 }
-    ensures bytes { out.new ≡ head kind detail sequence words }
+    ensures bytes { out.new ≡ head order kind detail sequence words }
     ensures one { (body : List ℕ) → IsTrue (is_head kind detail words) → length body ≡ 4 * words →
-        IsOneMessage kind detail sequence (out.new ++ body) }
+        IsOneMessage order kind detail sequence (out.new ++ body) }
 {
-    let [s0, s1] = sequence.to_be_bytes();
-    let [w0, w1, w2, w3] = words.to_be_bytes();
+    let [s0, s1] = order.u16_bytes(sequence);
+    let [w0, w1, w2, w3] = order.u32_bytes(words);
     out.copy_from_slice(&[kind, detail, s0, s1, w0, w1, w2, w3]);
 }
 
 /// Writes an error: its code, the value that was refused, the opcode of the request (0 for a setup) and its sequence
 /// number.
 #[tactic(auto, using(crate::proofs::MessageRoundTrips::error_one), unfolding(crate::specs::Message::error))]
-pub fn write_error(code: u8, value: u32, opcode: u8, sequence: u16, out: &mut [u8])
+pub fn write_error(order: Order, code: u8, value: u32, opcode: u8, sequence: u16, out: &mut [u8])
     requires { length out.old ≡ 16 }
-    ensures bytes { out.new ≡ error code value opcode sequence }
-    ensures one { 1 ≤ code → code ≤ 8 → IsOneMessage 0 code sequence out.new }
-    ensures again { StatesError value opcode (drop 8 out.new) }
+    ensures bytes { out.new ≡ error order code value opcode sequence }
+    ensures one { 1 ≤ code → code ≤ 8 → IsOneMessage order 0 code sequence out.new }
+    ensures again { StatesError order value opcode (drop 8 out.new) }
 {
-    let [v0, v1, v2, v3] = value.to_be_bytes();
+    let [v0, v1, v2, v3] = order.u32_bytes(value);
     let (front, back) = out.split_at_mut(8);
-    write_head(0, code, sequence, 2, front);
+    write_head(order, 0, code, sequence, 2, front);
     back.copy_from_slice(&[v0, v1, v2, v3, opcode, 0, 0, 0]);
 }

@@ -4,6 +4,8 @@ ghost use Rattle.af_wire.specs.declared.message_front.MessageFront.{MessageFront
 ghost use Rattle.af_wire.specs.Begins.{HasMessageFront};
 ghost use Rattle.af_wire.specs.MessageFront.{is_head, message_front, IsMessageWithin};
 
+use crate::Order;
+
 /// What the bytes that a server sends begin with.
 #[derive(Clone, Copy, Debug, PartialEq, Eq)]
 pub enum MessageFront {
@@ -22,16 +24,16 @@ pub enum MessageFront {
 
 /// Reads the front of a message. It needs more exactly where fewer than 8 bytes are there, or fewer than a good head states.
 #[tactic(auto, using(crate::proofs::MessageFrontLemmas::message_exactly))]
-pub fn message_at(input: &[u8]) -> MessageFront
-    ensures value { result ≡ message_front input.now }
+pub fn message_at(order: Order, input: &[u8]) -> MessageFront
+    ensures value { result ≡ message_front order input.now }
     ensures within { IsMessageWithin result (length input.now) }
-    ensures exactly { (front : MessageFront) → (result ≡ front) ↔ HasMessageFront input.now front }
+    ensures exactly { (front : MessageFront) → (result ≡ front) ↔ HasMessageFront order input.now front }
 {
     let [kind, detail, s0, s1, w0, w1, w2, w3, ..] = input else {
         return MessageFront::NeedMore(8);
     };
-    let sequence = u16::from_be_bytes([*s0, *s1]);
-    let words = u32::from_be_bytes([*w0, *w1, *w2, *w3]);
+    let sequence = order.u16([*s0, *s1]);
+    let words = order.u32([*w0, *w1, *w2, *w3]);
     if !is_head(*kind, *detail, words) {
         return MessageFront::BadMessage;
     }

@@ -8,11 +8,11 @@ use Rattle.af_request.proofs.reply_writer.write_reply.Goals as goal
 pub returns-clause-again : goal.returns-clause-again
 returns-clause-again c =
     let answer = reply_meaning c.args.reply.now in
-    let bytes : take c.put_body.result c.put_body.new.out ≡ reply_bytes c.args.opcode answer c.args.sequence = search rules in
-    spelled_again c.args.opcode c.args.sequence answer _ bytes
+    let bytes : take c.put_body.result c.put_body.new.out ≡ reply_bytes c.args.order c.args.opcode answer c.args.sequence = search rules in
+    spelled_again c.args.order c.args.opcode c.args.sequence answer _ bytes
 
 pub returns-clause-one : goal.returns-clause-one
 returns-clause-one c =
     let answer = reply_meaning c.args.reply.now in
-    let bytes : take c.put_body.result c.put_body.new.out ≡ reply_bytes c.args.opcode answer c.args.sequence = search rules in
-    reply_one c.args.opcode c.args.sequence answer _ bytes c.ranges.sequence.fits
+    let bytes : take c.put_body.result c.put_body.new.out ≡ reply_bytes c.args.order c.args.opcode answer c.args.sequence = search rules in
+    reply_one c.args.order c.args.opcode c.args.sequence answer _ bytes c.ranges.sequence.fits

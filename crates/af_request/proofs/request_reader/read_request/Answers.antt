@@ -7,5 +7,5 @@ use Rattle.af_request.proofs.request_reader.read_request.Goals as goal
 
 pub returns-clause-none : goal.returns-clause-none
 returns-clause-none c =
-    let value : option_map request_meaning c.request_of.result ≡ asked_in c.args.frame.now = search rules in
-    none_exactly request_meaning c.request_of.result c.args.frame.now value
+    let value : option_map request_meaning c.request_of.result ≡ asked_in c.args.order c.args.frame.now = search rules in
+    none_exactly c.args.order request_meaning c.request_of.result c.args.frame.now value

@@ -7,11 +7,11 @@ use Rattle.af_request.proofs.request_writer.put_play.Goals as goal
 pub returns-clause-again : goal.returns-clause-again
 returns-clause-again c =
     let play = play_run c.args.quiet c.args.ac c.args.time c.args.samples.now in
-    let bytes : take c.put_zeros.result c.put_zeros.new.out ≡ request_bytes play = search rules in
-    spelled_again play _ bytes (search rules, search rules, c.requires.samples)
+    let bytes : take c.put_zeros.result c.put_zeros.new.out ≡ request_bytes c.args.order play = search rules in
+    spelled_again c.args.order play _ bytes (search rules, search rules, c.requires.samples)
 
 pub returns-clause-one : goal.returns-clause-one
 returns-clause-one c =
     let play = play_run c.args.quiet c.args.ac c.args.time c.args.samples.now in
-    let bytes : take c.put_zeros.result c.put_zeros.new.out ≡ request_bytes play = search rules in
-    spelled_one play _ bytes (search rules, search rules, c.requires.samples)
+    let bytes : take c.put_zeros.result c.put_zeros.new.out ≡ request_bytes c.args.order play = search rules in
+    spelled_one c.args.order play _ bytes (search rules, search rules, c.requires.samples)

@@ -6,5 +6,5 @@ use Rattle.af_wire.proofs.event.write_event.Goals as goal
 pub returns-clause-again : goal.returns-clause-again
 unfolding event_bytes
 returns-clause-again c =
-    let bytes : c.write_head.new.out ++ c.copy_from_slice.new.self ≡ event_bytes c.args.event c.args.sequence = search rules in
-    event_spelled c.args.event c.args.sequence _ bytes
+    let bytes : c.write_head.new.out ++ c.copy_from_slice.new.self ≡ event_bytes c.args.order c.args.event c.args.sequence = search rules in
+    event_spelled c.args.order c.args.event c.args.sequence _ bytes

@@ -6,5 +6,5 @@ use Rattle.af_wire.proofs.message.write_error.Goals as goal
 pub returns-clause-again : goal.returns-clause-again
 unfolding error head
 returns-clause-again c =
-    let bytes : c.write_head.new.out ++ c.copy_from_slice.new.self ≡ error c.args.code c.args.value c.args.opcode c.args.sequence = search rules in
-    error_stated c.args.code c.args.value c.args.opcode c.args.sequence _ bytes c.ranges.value.fits
+    let bytes : c.write_head.new.out ++ c.copy_from_slice.new.self ≡ error c.args.order c.args.code c.args.value c.args.opcode c.args.sequence = search rules in
+    error_stated c.args.order c.args.code c.args.value c.args.opcode c.args.sequence _ bytes c.ranges.value.fits

@@ -2,6 +2,7 @@
 use Rattle.std.proofs.Common.{◌≡◌, ℕ, Bool, true, false, cond, subst, List, ◌++◌, map, refl, sym, ◌∙◌, ap}
 use Rattle.std.specs.declared.option.Option.{Option}
 use Rattle.std.specs.declared.option.Option.TheVariants.{None, Some}
+use Rattle.af_wire.specs.declared.order.Order.{Order}
 use Rattle.af_wire.specs.Front.{setup_front}
 use Rattle.af_wire.specs.declared.front.SetupFront.TheVariants as front
 use Rattle.af_request.specs.declared.reply.DeviceInfo.{DeviceInfo}
@@ -35,12 +36,13 @@ pub ends : (k : ℕ) (p : OpenLink) (env : KeptEnvironment) (l : LinkState) → 
 ends k p env l s = ends_at k p env l (advance_step k p) refl s
 
 -- a good setup is taken off and replied to
-pub setup_replied : (env : KeptEnvironment) (l l1 l2 : LinkState) → setup_front l.rest ≡ front.Setup → l1 ≡ record (without_front 8 l) { is_set_up = true } →
-    l2 ≡ record l1 { pending = l1.pending ++ reply_message 0 (setup (map {A = KeptDevice} {B = DeviceInfo} kept_info env.devices)) 0 } →
+pub setup_replied : (env : KeptEnvironment) (order : Order) (l l1 l2 : LinkState) → setup_front l.rest ≡ front.Setup order →
+    l1 ≡ record (without_front 8 l) { is_set_up = true; order = order } →
+    l2 ≡ record l1 { pending = l1.pending ++ reply_message l1.order 0 (setup (map {A = KeptDevice} {B = DeviceInfo} kept_info env.devices)) 0 } →
     (a : EnvironmentState) → StandsForEnvironment env a → AdvancesTo true (after_setup (setup_front l.rest) (open_link a l)) env l2
-setup_replied env l l1 l2 f e1 e2 a h =
-    let replied : List DeviceInfo → LinkState = λ infos. record (without_front 8 l) { is_set_up = true; pending = l.pending ++ reply_message 0 (setup infos) 0 } in
-    let pushed : LinkState → LinkState = λ m. record m { pending = m.pending ++ reply_message 0 (setup (map {A = KeptDevice} {B = DeviceInfo} kept_info env.devices)) 0 } in
+setup_replied env order l l1 l2 f e1 e2 a h =
+    let replied : List DeviceInfo → LinkState = λ infos. record (without_front 8 l) { is_set_up = true; order = order; pending = l.pending ++ reply_message order 0 (setup infos) 0 } in
+    let pushed : LinkState → LinkState = λ m. record m { pending = m.pending ++ reply_message m.order 0 (setup (map {A = KeptDevice} {B = DeviceInfo} kept_info env.devices)) 0 } in
     rw f (h, ap replied (sym (same_infos env.devices a.devices h.0)) ∙ sym (e2 ∙ ap pushed e1))
 
 -- whether a link takes more is what the state says

@@ -40,7 +40,7 @@ drops_at env ks' k cause a l l' waits is h =
 pub overruns_at : (env' : KeptEnvironment) (k : ℕ) (e : Event) (a : EnvironmentState) (l l' : LinkState) → nat_le (length l.pending + 20) event_limit ≡ false →
     StandsForLink env' l' (dropped k why.Overrun (open_link a l)) → StandsForLink env' l' (tell_selected k e (open_link a l))
 overruns_at env' k e a l l' full h =
-    subst (λ b. StandsForLink env' l' (cond b (say (open_link a l) (event_bytes e l.sequence)) (dropped k why.Overrun (open_link a l)))) (sym full) h
+    subst (λ b. StandsForLink env' l' (cond b (say (open_link a l) (event_bytes l.order e l.sequence)) (dropped k why.Overrun (open_link a l)))) (sym full) h
 
 -- who waits when one link may have ended to
 pub only_drops_others : (k j : ℕ) (env env' : KeptEnvironment) → OnlyDrops k env env' → j ≢ k → has_waiting env'.waits j ≡ has_waiting env.waits j

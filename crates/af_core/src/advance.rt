@@ -19,7 +19,7 @@ ghost use Rattle.af_model.specs.Sizes.{most_to_send, event_limit};
 use af_perform::perform;
 use af_request::{Devices, Reply, read_request, write_reply};
 use af_state::{Device, Environment, Scratch, ServedLink, Work};
-use af_wire::{Front, SetupFront, frame_at, setup_of, write_error};
+use af_wire::{Front, Order, SetupFront, frame_at, setup_of, write_error};
 use af_world::Why;
 
 const BAD_SETUP: u8 = 1;
@@ -36,27 +36,27 @@ fn infos_of(devices: &[Device]) -> Devices
     infos
 }
 
-// The reply to a setup.
+// The reply to a setup, in the order of the link.
 fn reply_setup(devices: &[Device], link: &mut ServedLink, message: &mut [u8])
     requires count { length devices.now ≤ 8 }
     requires room { length link.old.pending ≤ most_to_send }
     requires size { length message.old ≡ longest_message }
-    ensures { link.new ≡ record link.old { pending = link.old.pending ++ reply_message 0 (setup (map kept_info devices.now)) 0 } }
+    ensures { link.new ≡ record link.old { pending = link.old.pending ++ reply_message link.old.order 0 (setup (map kept_info devices.now)) 0 } }
 {
     let reply = Reply::Setup {
         devices: infos_of(devices),
     };
-    let n = write_reply(0, &reply, 0, message);
+    let n = write_reply(link.order(), 0, &reply, 0, message);
     link.push(&message[..n]);
 }
 
-// A bad setup is answered, and closes the link.
-fn refuse_setup(value: u32, link: &mut ServedLink)
+// A bad setup is answered in an order, and closes the link.
+fn refuse_setup(order: Order, value: u32, link: &mut ServedLink)
     requires room { length link.old.pending ≤ most_to_send }
-    ensures { link.new ≡ record (stopped why.BadSetup link.old) { pending = link.old.pending ++ error 1 value 0 0 } }
+    ensures { link.new ≡ record (stopped why.BadSetup link.old) { pending = link.old.pending ++ error order 1 value 0 0 } }
 {
     let mut message = [0; 16];
-    write_error(BAD_SETUP, value, 0, 0, &mut message);
+    write_error(order, BAD_SETUP, value, 0, 0, &mut message);
     link.push(&message);
     link.stop(Why::BadSetup);
 }
@@ -71,12 +71,12 @@ fn setup_once(environment: &Environment, link: &mut ServedLink, work: &mut Work)
 {
     match setup_of(link.rest()) {
         SetupFront::NeedMore => false,
-        SetupFront::BadSetup(value) => {
-            refuse_setup(value, link);
+        SetupFront::BadSetup { order, value } => {
+            refuse_setup(order, value, link);
             true
         }
-        SetupFront::Setup => {
-            link.set_up();
+        SetupFront::Setup(order) => {
+            link.set_up(order);
             reply_setup(&environment.devices, link, &mut work.message);
             true
         }
@@ -101,7 +101,7 @@ fn perform_front(
     ensures small_pending { IsTrue (has_waiting environment.new.waits number) → length link.new.pending ≤ most_to_send }
 {
     link.take_front(frame);
-    match read_request(frame) {
+    match read_request(link.order(), frame) {
         Some(request) => perform(number, &request, environment, link, work),
         None => link.stop(Why::Malformed),
     }
@@ -117,7 +117,7 @@ fn frame_once(
 ) -> bool
     requires asks { MayAsk number environment.old link.old }
     requires size { length input.old ≡ longest_capture }
-    ensures step { Advances result (after_frame number (frame_front link.old.rest))
+    ensures step { Advances result (after_frame number (frame_front link.old.order link.old.rest))
         environment.old link.old environment.new link.new }
     ensures same { IsFalse result → (environment.new ≡ environment.old) × (link.new ≡ link.old) }
     ensures shorter { IsTrue result → length link.new.rest < length link.old.rest }
@@ -125,7 +125,7 @@ fn frame_once(
     ensures only_queues { OnlyQueues number environment.old.waits environment.new.waits }
     ensures small_pending { IsTrue (has_waiting environment.new.waits number) → length link.new.pending ≤ most_to_send }
 {
-    match frame_at(link.rest()) {
+    match frame_at(link.order(), link.rest()) {
         Front::NeedMore => false,
         Front::Malformed => {
             link.stop(Why::Malformed);

@@ -247,19 +247,19 @@ module _ (k j : ℕ) (other : (j == k) ≡ false) where
   frame_other : (f : Front) (p : OpenLink) → after_frame j f (open_without k p) ≡ option_map (open_without k) (after_frame j f p)
   frame_other NeedMore p = refl
   frame_other Malformed p = refl
-  frame_other (Frame n) p = ap (λ q. Some q) (requested_other (asked_in (take n p.link.rest)) (open_link p.environment (without_front n p.link)))
+  frame_other (Frame n) p = ap (λ q. Some q) (requested_other (asked_in p.link.order (take n p.link.rest)) (open_link p.environment (without_front n p.link)))
 
   -- and before it is set up
   setup_other : (f : SetupFront) (p : OpenLink) → after_setup f (open_without k p) ≡ option_map (open_without k) (after_setup f p)
   setup_other front.NeedMore p = refl
-  setup_other front.Setup p =
-      ap (λ infos. Some (say (open_link (environment_without k p.environment) (record (without_front 8 p.link) { is_set_up = true })) (reply_message 0 (setup infos) 0))) (infos_without k p.environment.devices)
-  setup_other (front.BadSetup value) p = refl
+  setup_other (front.Setup order) p =
+      ap (λ infos. Some (say (open_link (environment_without k p.environment) (record (without_front 8 p.link) { is_set_up = true; order = order })) (reply_message order 0 (setup infos) 0))) (infos_without k p.environment.devices)
+  setup_other (front.BadSetup order value) p = refl
 
   -- either of them
-  front_other : (is_set_up : Bool) (p : OpenLink) → cond is_set_up (after_frame j (frame_front p.link.rest) (open_without k p)) (after_setup (setup_front p.link.rest) (open_without k p)) ≡
-      option_map (open_without k) (cond is_set_up (after_frame j (frame_front p.link.rest) p) (after_setup (setup_front p.link.rest) p))
-  front_other true p = frame_other (frame_front p.link.rest) p
+  front_other : (is_set_up : Bool) (p : OpenLink) → cond is_set_up (after_frame j (frame_front p.link.order p.link.rest) (open_without k p)) (after_setup (setup_front p.link.rest) (open_without k p)) ≡
+      option_map (open_without k) (cond is_set_up (after_frame j (frame_front p.link.order p.link.rest) p) (after_setup (setup_front p.link.rest) p))
+  front_other true p = frame_other (frame_front p.link.order p.link.rest) p
   front_other false p = setup_other (setup_front p.link.rest) p
 
   -- one is taken off, if another link may take more
@@ -311,7 +311,7 @@ module _ (k j : ℕ) (other : (j == k) ≡ false) where
 pub tell_link_other : (k j : ℕ) (e : Event) (p : OpenLink) → tell_link j e (open_without k p) ≡ open_without k (tell_link j e p)
 tell_link_other k j e p =
     elim (selects (mask_of p.link e.device) e.kind) as (λ t. cond t (tell_selected j e (open_without k p)) (open_without k p) ≡ open_without k (cond t (tell_selected j e p) p)) [
-      | true ↦ elim (nat_le (length p.link.pending + 20) event_limit) as (λ t. cond t (say (open_without k p) (event_bytes e p.link.sequence)) (dropped j why.Overrun (open_without k p)) ≡ open_without k (cond t (say p (event_bytes e p.link.sequence)) (dropped j why.Overrun p))) [
+      | true ↦ elim (nat_le (length p.link.pending + 20) event_limit) as (λ t. cond t (say (open_without k p) (event_bytes p.link.order e p.link.sequence)) (dropped j why.Overrun (open_without k p)) ≡ open_without k (cond t (say p (event_bytes p.link.order e p.link.sequence)) (dropped j why.Overrun p))) [
         | true ↦ refl
         | false ↦ dropped_other k j why.Overrun p
       ]

@@ -94,9 +94,9 @@ becomes_unmoved k d f a b device there l (inr acts) (inr same) = inl (acted_at k
 own_keeps : (k : ℕ) (a : EnvironmentState) → Keeps k (λ closing. Unit {0}) (λ p. Unmoved k a p.environment)
 own_keeps k a = record {
   may = λ closing e. tt;
-  link = λ p l open' behind same rest set h. h;
+  link = λ p l open' behind same rest set ordered h. h;
   takes = λ p n open' set e asked h. h;
-  sets_up = λ p open' unset e h. h;
+  sets_up = λ p order open' unset e h. h;
   stops = λ p cause open' bad h. h;
   says = λ p bytes stays h. pending p bytes h;
   becomes = λ p d device f there l h. becomes_unmoved k d f a p.environment device there l.lives.later (alike device (f device) l.acts) h;
@@ -160,7 +160,7 @@ tell_own k e a None = (refl, refl)
 tell_own k e a (Some l) =
     let p = open_link a l in
     elim (selects (mask_of l e.device) e.kind) as (λ t. Untouched k a (cond t (tell_selected k e p) p).environment) [
-      | true ↦ elim (nat_le (length l.pending + 20) event_limit) as (λ t. Untouched k a (cond t (say p (event_bytes e l.sequence)) (dropped k why.Overrun p)).environment) [
+      | true ↦ elim (nat_le (length l.pending + 20) event_limit) as (λ t. Untouched k a (cond t (say p (event_bytes l.order e l.sequence)) (dropped k why.Overrun p)).environment) [
         | true ↦ (refl, refl)
         | false ↦ (refl, without_twice k a.waiting)
       ]

@@ -14,6 +14,7 @@ use Rattle.af_world.specs.declared.happening.Why.TheVariants as why
 use Rattle.af_world.specs.declared.script.DeviceSpec.{DeviceSpec}
 use Rattle.af_world.specs.Log.{Log}
 use Rattle.af_model.specs.State.{OpenLink, State, opened, open_link, slot_at}
+use Rattle.af_wire.specs.declared.order.Order.TheVariants.{Big}
 use Rattle.af_model.specs.Reply.{reply_message}
 use Rattle.af_model.specs.DeviceRequests.{controls_refusal}
 use Rattle.af_model.specs.Advance.{absorb, advance}
@@ -114,7 +115,7 @@ unfolding end_state turn wake_phase serve_from serve_link read_phase close_phase
 malformed_other = refl
 
 malformed_cause : IsCause why.Malformed (history 0 (malformed why.Malformed)) 0
-malformed_cause = (record { failed = refl; ended = refl; all_taken = refl }, 9 ∷ 0 ∷ 0 ∷ 0 ∷ [], record { setup = refl; sizes = 12 ∷ []; requests = (refl, refl, refl) }, refl)
+malformed_cause = (record { failed = refl; ended = refl; all_taken = refl }, Big, 9 ∷ 0 ∷ 0 ∷ 0 ∷ [], record { setup = refl; sizes = 12 ∷ []; requests = (refl, refl, refl) }, refl)
 
 -- a device is dead behind an emit that failed, and makes no call in the next tick
 abbrev failing : Log

@@ -23,7 +23,7 @@ use Rattle.af_perform.proofs.LinkRequestLemmas.{device_changes, with_error}
 
 -- a device changes, but not its time, its rate and its channels, and the link is replied to
 pub changed_replied : (ds : List KeptDevice) (ks : List KeptDeferral) (i : ℕ) (x' : KeptDevice) (l l' : LinkState) (opcode d : ℕ) (answer : Answer) (f : DeviceState → DeviceState) (a : EnvironmentState) (s : DeviceState) → i ≡ d → StandsForEnvironment (kept ds ks) a →
-    slice_get a.devices d ≡ Some s → StandsForDevice x' (f s) → SameClock s (f s) → l' ≡ record l { pending = l.pending ++ reply_message opcode answer l.sequence } →
+    slice_get a.devices d ≡ Some s → StandsForDevice x' (f s) → SameClock s (f s) → l' ≡ record l { pending = l.pending ++ reply_message l.order opcode answer l.sequence } →
     StandsForLink (kept (slice_set ds i x') ks) l' (replied opcode answer (in_devices d f (open_link a l)))
 changed_replied ds ks i x' l l' opcode d answer f a s number h there stands same e =
     subst (λ i. StandsForLink (kept (slice_set ds i x') ks) l' (replied opcode answer (in_devices d f (open_link a l)))) (sym number) (device_changes ds ks d x' a s f h there stands same, sym e)
@@ -86,9 +86,9 @@ hook_wanted k off x x' line s h is e =
     whoever_acted x' (record s { line = option_map (wanting off) s.line }) (s.actors ++ k ∷ []) (relined (wanting off) x x' line s h is e)
 
 -- the controls that are kept are those that are told
-pub controls_told : (l l' : LinkState) (x : KeptDevice) (c : Controls) → c ≡ x.controls → l' ≡ record l { pending = l.pending ++ reply_message 10 (controls c) l.sequence } → (s : DeviceState) → StandsForDevice x s → ChangesLink (tell_controls s) l l'
+pub controls_told : (l l' : LinkState) (x : KeptDevice) (c : Controls) → c ≡ x.controls → l' ≡ record l { pending = l.pending ++ reply_message l.order 10 (controls c) l.sequence } → (s : DeviceState) → StandsForDevice x s → ChangesLink (tell_controls s) l l'
 controls_told l l' x c is e s h a =
-    let said : Controls → LinkState = λ c. record l { pending = l.pending ++ reply_message 10 (controls c) l.sequence } in
+    let said : Controls → LinkState = λ c. record l { pending = l.pending ++ reply_message l.order 10 (controls c) l.sequence } in
     (ap said (sym h.controls ∙ sym is) ∙ sym e, refl, refl)
 
 -- Requests that name the line of a device

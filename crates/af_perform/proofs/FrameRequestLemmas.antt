@@ -4,6 +4,7 @@ use Rattle.std.proofs.lemmas.List.{length-take}
 use Rattle.std.specs.declared.option.Option.{Option}
 use Rattle.std.specs.declared.option.Option.TheVariants.{None, Some}
 use Rattle.af_time.specs.declared.DevTime.{DevTime}
+use Rattle.af_wire.specs.declared.order.Order.{Order}
 use Rattle.af_request.specs.declared.request.Request.{Request}
 use Rattle.af_request.specs.declared.request.Request.TheVariants as code
 use Rattle.af_request.specs.Asked.{Asked, request_meaning}
@@ -49,20 +50,20 @@ play_room frame count few =
     let all = length-take (16 + count - 16) (drop 16 frame) in
     omega (arith, left, all, few)
 
-row_room : (opcode : ℕ) (frame : List ℕ) → length frame ≤ longest_frame → Fits frame (row_of opcode frame)
-row_room opcode frame few =
+row_room : (order : Order) (opcode : ℕ) (frame : List ℕ) → length frame ≤ longest_frame → Fits frame (row_of order opcode frame)
+row_room order opcode frame few =
     either frame (opcode == 1) _ _ (a_row frame (no_op_row frame) tt)
     (either frame (opcode == 2) _ _ (a_row frame (get_time_row frame) tt)
-    (either frame (opcode == 3) _ _ (a_row frame (create_ac_row frame) tt)
-    (either frame (opcode == 4) _ _ (a_row frame (change_ac_row frame) tt)
-    (either frame (opcode == 5) _ _ (a_row frame (free_ac_row frame) tt)
-    (either frame (opcode == 6) _ _ (a_row frame (play_run_row frame) (play_room frame (u32_at 12 frame) few))
-    (either frame (opcode == 7) _ _ (a_row frame (record_run_row frame) tt)
-    (either frame (opcode == 8) _ _ (a_row frame (select_events_row frame) tt)
-    (either frame (opcode == 9) _ _ (a_row frame (set_controls_row frame) tt)
+    (either frame (opcode == 3) _ _ (a_row frame (create_ac_row order frame) tt)
+    (either frame (opcode == 4) _ _ (a_row frame (change_ac_row order frame) tt)
+    (either frame (opcode == 5) _ _ (a_row frame (free_ac_row order frame) tt)
+    (either frame (opcode == 6) _ _ (a_row frame (play_run_row order frame) (play_room frame (u32_at order 12 frame) few))
+    (either frame (opcode == 7) _ _ (a_row frame (record_run_row order frame) tt)
+    (either frame (opcode == 8) _ _ (a_row frame (select_events_row order frame) tt)
+    (either frame (opcode == 9) _ _ (a_row frame (set_controls_row order frame) tt)
     (either frame (opcode == 10) _ _ (a_row frame (query_controls_row frame) tt)
-    (either frame (opcode == 11) _ _ (a_row frame (hook_switch_row frame) tt)
+    (either frame (opcode == 11) _ _ (a_row frame (hook_switch_row order frame) tt)
     (either frame (opcode == 12) _ _ (a_row frame (query_phone_row frame) tt) tt)))))))))))
 
-pub asked_room : (frame : List ℕ) (a : Asked) → length frame ≤ longest_frame → Some a ≡ asked_in frame → FitsFrame a
-asked_room frame a few e = subst (λ o. IfSome o FitsFrame) (sym e) (row_room (u8_at 0 frame) frame few)
+pub asked_room : (order : Order) (frame : List ℕ) (a : Asked) → length frame ≤ longest_frame → Some a ≡ asked_in order frame → FitsFrame a
+asked_room order frame a few e = subst (λ o. IfSome o FitsFrame) (sym e) (row_room order (u8_at 0 frame) frame few)

@@ -74,7 +74,7 @@ fn tell_played(quiet: bool, time: DevTime, link: &mut ServedLink, message: &mut 
     requires room { length link.old.pending ≤ event_limit }
     requires size { length message.old ≡ longest_message }
     ensures { link.new ≡ (if quiet then link.old else
-        record link.old { pending = link.old.pending ++ reply_message 6 (played time.0) link.old.sequence }) }
+        record link.old { pending = link.old.pending ++ reply_message link.old.order 6 (played time.0) link.old.sequence }) }
 {
     if !quiet {
         link.reply(opcode::PLAY, &Reply::Played { time }, message);

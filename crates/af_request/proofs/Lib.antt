@@ -5,3 +5,4 @@ pub mod RequestRoundTrips
 pub mod ReplyRoundTrips
 pub mod ReplyMessageLemmas
 pub mod SetupReplyLemmas
+pub mod BigLemmas

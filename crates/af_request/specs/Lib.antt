@@ -3,3 +3,4 @@ pub mod Asked
 pub mod Requests
 pub mod Answer
 pub mod Replies
+pub mod big

@@ -31,7 +31,7 @@ use af_request::{Reply, write_recorded, write_reply};
 use af_sample::Gain;
 use af_session::Session;
 use af_time::{DevTime, OutOfMemory};
-use af_wire::{Event, EventKind, write_error, write_event};
+use af_wire::{Event, EventKind, Order, write_error, write_event};
 use af_world::Why;
 use std::alloc::Global;
 use std::marker::Model;
@@ -52,6 +52,7 @@ const EVENT: usize = 20;
 #[derive(Drop)]
 pub struct ServedLink {
     is_set_up: bool,
+    order: Order,
     session: Session,
     is_ready: bool,
     is_stuck: bool,
@@ -70,7 +71,7 @@ impl Model for ServedLink {
 
     ghost invariant = { λ a. length a.session.pending ≤ 65168 };
 
-    ghost view = { λ a. record { is_set_up = a.is_set_up; rest = a.session.rest; pending = a.session.pending; is_ready = a.is_ready; is_stuck = a.is_stuck; closing = a.closing; sequence = a.sequence; contexts = a.contexts; selections = a.selections } };
+    ghost view = { λ a. record { is_set_up = a.is_set_up; order = a.order; rest = a.session.rest; pending = a.session.pending; is_ready = a.is_ready; is_stuck = a.is_stuck; closing = a.closing; sequence = a.sequence; contexts = a.contexts; selections = a.selections } };
 }
 
 impl ServedLink {
@@ -82,6 +83,7 @@ impl ServedLink {
         let session = Session::new(alloc)?;
         Ok(ServedLink {
             is_set_up: false,
+            order: Order::Big,
             session,
             is_ready: false,
             is_stuck: false,
@@ -162,13 +164,21 @@ impl ServedLink {
         self.selections = [0; DEVICES];
     }
 
-    /// The setup at the front of the input is taken off.
-    pub fn set_up(&mut self)
+    /// The order of the bytes of its numbers: Big before its setup.
+    pub fn order(&self) -> Order
+        ensures { result ≡ self.now.order }
+    {
+        self.order
+    }
+
+    /// The setup of an order at the front of the input is taken off.
+    pub fn set_up(&mut self, order: Order)
         requires { 8 ≤ length self.old.rest }
-        ensures { self.new ≡ record (without_front 8 self.old) { is_set_up = true } }
+        ensures { self.new ≡ record (without_front 8 self.old) { is_set_up = true; order = order } }
     {
         self.session.drop_front(8);
         self.is_set_up = true;
+        self.order = order;
     }
 
     /// The first bytes of the input are taken off, and come to stand in `front`.
@@ -211,9 +221,9 @@ impl ServedLink {
         requires samples { FitsMessage (reply_meaning reply.now) }
         requires size { length message.old ≡ longest_message }
         ensures { self.new ≡
-            record self.old { pending = self.old.pending ++ reply_message opcode (reply_meaning reply.now) self.old.sequence } }
+            record self.old { pending = self.old.pending ++ reply_message self.old.order opcode (reply_meaning reply.now) self.old.sequence } }
     {
-        let n = write_reply(opcode, reply, self.sequence, message);
+        let n = write_reply(self.order, opcode, reply, self.sequence, message);
         self.session.push_out(&message[..n]);
     }
 
@@ -225,10 +235,10 @@ impl ServedLink {
         requires size { length message.old ≡ longest_message }
         ensures { self.new ≡ record self.old {
           pending = self.old.pending
-              ++ reply_message 7 (recorded time.0 (take n (drop 16 message.old))) self.old.sequence;
+              ++ reply_message self.old.order 7 (recorded time.0 (take n (drop 16 message.old))) self.old.sequence;
         } }
     {
-        let size = write_recorded(time, n, self.sequence, message);
+        let size = write_recorded(self.order, time, n, self.sequence, message);
         self.session.push_out(&message[..size]);
     }
 
@@ -236,10 +246,11 @@ impl ServedLink {
     pub fn refuse(&mut self, opcode: u8, refusal: Refusal)
         requires { length self.old.pending ≤ event_limit }
         ensures { self.new ≡
-            record self.old { pending = self.old.pending ++ error (code_of_cause refusal.cause) refusal.value opcode self.old.sequence } }
+            record self.old { pending = self.old.pending ++ error self.old.order (code_of_cause refusal.cause) refusal.value opcode self.old.sequence } }
     {
         let mut message = [0; 16];
         write_error(
+            self.order,
             refusal.cause.code(),
             refusal.value,
             opcode,
@@ -333,11 +344,11 @@ impl ServedLink {
     /// An event is told.
     pub fn tell(&mut self, event: Event)
         requires { length self.old.pending ≤ event_limit }
-        ensures told { self.new ≡ record self.old { pending = self.old.pending ++ event_bytes event self.old.sequence } }
+        ensures told { self.new ≡ record self.old { pending = self.old.pending ++ event_bytes self.old.order event self.old.sequence } }
         ensures size { length self.new.pending ≡ length self.old.pending + 20 }
     {
         let mut message = [0; 20];
-        write_event(event, self.sequence, &mut message);
+        write_event(self.order, event, self.sequence, &mut message);
         self.session.push_out(&message);
     }
 
@@ -399,6 +410,7 @@ impl ServedLink {
         ensures { self.new ≡ opened }
     {
         self.is_set_up = false;
+        self.order = Order::Big;
         self.session.clear();
         self.is_ready = false;
         self.is_stuck = false;

@@ -3,3 +3,4 @@ pub mod MessageRoundTrips
 pub mod SetupFrontLemmas
 pub mod FrameFrontLemmas
 pub mod MessageFrontLemmas
+pub mod BigLemmas

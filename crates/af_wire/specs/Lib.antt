@@ -5,3 +5,4 @@ pub mod Message
 pub mod Event
 pub mod MessageFront
 pub mod Begins
+pub mod big

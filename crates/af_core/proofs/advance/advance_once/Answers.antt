@@ -19,13 +19,13 @@ pub returns-then-is_set_up-clause-step : goal.returns-then-is_set_up-clause-step
 returns-then-is_set_up-clause-step c = λ a h.
     let p = open_link a c.args.link.now in
     takes_front c.args.environment.now _ c.args.number a c.args.link.now _ _ _ (takes_is (goal.at.returns-then-is_set_up-clause-step c).After-takes_more ∙ c.if-not-takes_more.false)
-    (ap (λ b. cond b (after_frame c.args.number (frame_front c.args.link.now.rest) p) (after_setup (setup_front c.args.link.now.rest) p)) (sym c.is_set_up.ensures ∙ c.if-is_set_up.true)) h (c.frame_once.ensures.step a h)
+    (ap (λ b. cond b (after_frame c.args.number (frame_front c.args.link.now.order c.args.link.now.rest) p) (after_setup (setup_front c.args.link.now.rest) p)) (sym c.is_set_up.ensures ∙ c.if-is_set_up.true)) h (c.frame_once.ensures.step a h)
 
 pub returns-else-is_set_up-clause-step : goal.returns-else-is_set_up-clause-step
 returns-else-is_set_up-clause-step c = λ a h.
     let p = open_link a c.args.link.now in
     takes_front c.args.environment.now _ c.args.number a c.args.link.now _ _ _ (takes_is (goal.at.returns-else-is_set_up-clause-step c).After-takes_more ∙ c.if-not-takes_more.false)
-    (ap (λ b. cond b (after_frame c.args.number (frame_front c.args.link.now.rest) p) (after_setup (setup_front c.args.link.now.rest) p)) (sym c.is_set_up.ensures ∙ c.if-is_set_up.false)) h (c.setup_once.ensures.step a h)
+    (ap (λ b. cond b (after_frame c.args.number (frame_front c.args.link.now.order c.args.link.now.rest) p) (after_setup (setup_front c.args.link.now.rest) p)) (sym c.is_set_up.ensures ∙ c.if-is_set_up.false)) h (c.setup_once.ensures.step a h)
 
 pub frame_once-requires-clause-asks : goal.frame_once-requires-clause-asks
 frame_once-requires-clause-asks c = record { number = c.requires.number; free = search rules; room = search rules }

@@ -11,7 +11,7 @@ use Rattle.af_world.specs.declared.live.Ready.{Ready}
 use Rattle.af_world.specs.declared.live.Ready.TheVariants as ready
 use Rattle.af_world.specs.declared.live.Kind.{Kind}
 use Rattle.af_world.specs.declared.live.Kind.TheVariants as kind
-use Rattle.af_live.specs.Stating.{is_command_line}
+use Rattle.af_config.specs.Stating.{is_command_line}
 use Rattle.af_live.specs.declared.codec_device.CodecStage.{CodecStage}
 use Rattle.af_live.specs.declared.codec_device.CodecStage.TheVariants as stage
 

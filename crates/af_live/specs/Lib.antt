@@ -1,7 +1,3 @@
-pub mod Stating
-pub mod Configuration
-pub mod Kept
-pub mod Reading
 pub mod Pacing
 pub mod LinkTable
 pub mod Rounds

@@ -4,16 +4,13 @@ ghost use Rattle.af_child.specs.Acts.{words_of};
 ghost use Rattle.af_codec.specs.Codec.{TellsThese};
 ghost use Rattle.af_live.specs.CodecUse.{begun_codec, codec_allows, codec_with, CodecTakes, may_set, with_orders};
 
-use crate::command_line::is_command_line;
 use af_child::{Spawner, Words};
 use af_codec::Codec;
+use af_config::{MOST_RESTARTS, is_command_line};
 use af_io::Put;
 use af_world::Kind;
 use std::alloc::Global;
 use std::marker::Model;
-
-/// How often a child program may be started anew.
-pub(crate) const MOST_RESTARTS: u32 = 100;
 
 /// How far a codec is.
 #[derive(Clone, Copy, PartialEq, Eq)]

@@ -10,7 +10,7 @@ use Rattle.af_world.specs.declared.script.Step.TheVariants as step
 use Rattle.af_world.specs.Outside.{spec_has_line, frame_bytes_at}
 use Rattle.af_script.specs.declared.statement.LineKind.{LineKind}
 use Rattle.af_script.specs.declared.statement.LineKind.TheVariants as kind
-pub use Rattle.af_text.specs.Sound.{type_of, rate_of}
+pub use Rattle.af_text.specs.Sound.{type_of, rate_of, channels_stated, behind_channels}
 use Rattle.af_script.specs.Words.{number_of, number_within, only_if, bytes_within}
 use Rattle.af_world.specs.Sizes.{longest_send}
 
@@ -63,16 +63,6 @@ abbrev pub is_device_line : List (List ℕ) → Bool
 is_device_line words = is_device_kind (kind_of_words words)
 
 -- Devices
-
--- how many channels a device has by the words behind `device TYPE RATE START`: two if `stereo` is the first, and else one
-abbrev pub channels_stated : List (List ℕ) → ℕ
-channels_stated [] = 1
-channels_stated (word ∷ words) = if bytes_eq word (codes "stereo") then 2 else 1
-
--- the words behind `stereo`, if that is the first of these, and else all of them
-abbrev pub behind_channels : List (List ℕ) → List (List ℕ)
-behind_channels [] = []
-behind_channels (word ∷ words) = if bytes_eq word (codes "stereo") then words else word ∷ words
 
 -- whether the words behind these state a line: `line` does, and no word does not
 abbrev pub line_stated : List (List ℕ) → Option Bool

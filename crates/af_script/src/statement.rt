@@ -3,12 +3,13 @@ ghost use Rattle.std.specs.Prelude.{◌≡◌, ◌≤◌, IfOk, length};
 ghost use Rattle.af_world.specs.Outside.{frame_bytes_at, spec_has_line};
 ghost use Rattle.af_script.specs.Lines.{words};
 ghost use Rattle.af_script.specs.Words.{bytes_within};
-ghost use Rattle.af_script.specs.Statement.{line_kind_of, behind_channels, channels_stated, line_stated, device_with, device_number, line_number, link_of, switch_of, digit_of, open_of, send_of, end_of, room_stated, room_of, capture_of, tick_of, ring_of, loop_of, dial_of, fail_read_of, fail_write_of, fail_capture_of, fail_emit_of, fail_hook_of, idle_of, step_of_kind};
+ghost use Rattle.af_script.specs.Statement.{line_kind_of, line_stated, device_with, device_number, line_number, link_of, switch_of, digit_of, open_of, send_of, end_of, room_stated, room_of, capture_of, tick_of, ring_of, loop_of, dial_of, fail_read_of, fail_write_of, fail_capture_of, fail_emit_of, fail_hook_of, idle_of, step_of_kind};
 
 use af_io::Bytes;
 use af_phone::{LineChange, is_digit};
 use af_text::{
-    is_word, listed_rate, next_word, number, number_between, one_word, sample_type, two_words,
+    channel_count, is_word, listed_rate, next_word, number, number_between, one_word, sample_type,
+    two_words,
 };
 use af_time::OutOfMemory;
 use af_world::{DeviceSpec, Step};
@@ -87,7 +88,7 @@ pub fn device_stated(arguments: &[u8]) -> Option<DeviceSpec>
     let ty = sample_type(ty)?;
     let rate = listed_rate(rate)?;
     let start = number_between(0, u32::MAX, start)?;
-    let (channels, rest) = channels_stated(rest);
+    let (channels, rest) = channel_count(rest);
     let line = line_stated(rest)?;
     Some(DeviceSpec {
         ty,
@@ -96,18 +97,6 @@ pub fn device_stated(arguments: &[u8]) -> Option<DeviceSpec>
         channels,
         line,
     })
-}
-
-/// How many channels a device has by the words behind `device TYPE RATE START`, and the words behind `stereo`, if that is the
-/// first of them.
-fn channels_stated(arguments: &[u8]) -> (u8, &[u8])
-    ensures channels { result.0 ≡ channels_stated (words arguments.now) }
-    ensures rest { words result.1.now ≡ behind_channels (words arguments.now) }
-{
-    match next_word(arguments) {
-        Some((word, rest)) if is_word(word, b"stereo") => (2, rest),
-        _ => (1, arguments),
-    }
 }
 
 /// Whether the words behind these state a line: `line` does, and no word does not.

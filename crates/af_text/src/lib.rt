@@ -1,5 +1,5 @@
 //! Texts of lines and words, as scripts and configurations are: their lines, the words of a line, and the words that are
-//! numbers, sample types and rates.
+//! numbers, sample types, rates and channels.
 #![tactic(auto)]
 
 mod lines;
@@ -10,4 +10,4 @@ mod sound;
 pub use lines::{is_word, next_line, next_word, one_word, passes_over, two_words};
 pub use numbers::{long_number_between, number, number_between};
 pub use reading::{ByLine, LineFault, read_lines};
-pub use sound::{listed_rate, sample_type};
+pub use sound::{channel_count, listed_rate, sample_type};

@@ -1,9 +1,12 @@
-// Words that say how a device sounds: its sample type, and its rate.
+// Words that say how a device sounds: its sample type, its rate, and its channels.
 ghost use Rattle.std.specs.Prelude.{◌≡◌, IfSome};
+ghost use Rattle.std.specs.Str.{IsUtf8};
+ghost use Rattle.af_sample.specs.Channels.{IsChannelCount};
 ghost use Rattle.af_sample.specs.Rates.{IsListedRate};
-ghost use Rattle.af_text.specs.Sound.{type_of, rate_of};
+ghost use Rattle.af_text.specs.Lines.{words};
+ghost use Rattle.af_text.specs.Sound.{type_of, rate_of, channels_stated, behind_channels};
 
-use crate::{is_word, number};
+use crate::{is_word, next_word, number};
 use af_sample::{SampleType, is_listed_rate};
 
 /// The sample type that a word names: `mu255`, `alaw`, `lin16` or `lin32`.
@@ -33,5 +36,19 @@ pub fn listed_rate(word: &[u8]) -> Option<u32>
         Some(rate as u32)
     } else {
         None
+    }
+}
+
+/// How many channels a device has by the words behind its type, its rate and its start: two if `stereo` is the first of them,
+/// and else one. And the words behind `stereo`, or all of them.
+pub fn channel_count(arguments: &[u8]) -> (u8, &[u8])
+    ensures channels { result.0 ≡ channels_stated (words arguments.now) }
+    ensures count { IsChannelCount result.0 }
+    ensures rest { words result.1.now ≡ behind_channels (words arguments.now) }
+    ensures text { IsUtf8 arguments.now → IsUtf8 result.1.now }
+{
+    match next_word(arguments) {
+        Some((word, rest)) if is_word(word, b"stereo") => (2, rest),
+        _ => (1, arguments),
     }
 }

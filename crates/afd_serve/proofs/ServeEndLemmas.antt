@@ -8,8 +8,8 @@ use Rattle.af_io.specs.Observed.{Appended, Unchanged}
 use Rattle.af_world.specs.Log.{Log}
 use Rattle.af_io.specs.Flow.{ConsumedTooMuch, ConsumedWhole}
 use Rattle.af_text.specs.Reading.{IsGoodText}
-use Rattle.af_live.specs.Stating.{Settings}
-use Rattle.af_live.specs.Configuration.{config_of}
+use Rattle.af_config.specs.Stating.{Settings}
+use Rattle.af_config.specs.Configuration.{config_of}
 use Rattle.afd_serve.specs.declared.live.LiveEnd.{LiveEnd}
 use Rattle.afd_serve.specs.declared.live.LiveEnd.TheVariants as end
 use Rattle.afd_serve.specs.Words.{ServeJob, serve_job_of}

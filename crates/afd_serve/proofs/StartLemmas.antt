@@ -10,7 +10,7 @@ use Rattle.af_world.specs.declared.script.DeviceSpec.{DeviceSpec}
 use Rattle.af_world.specs.declared.outer.Backing.{Backing}
 use Rattle.af_io.specs.Observed.{Appended}
 use Rattle.af_io.proofs.AppendedLemmas.{appended_on}
-use Rattle.af_live.specs.Stating.{Settings}
+use Rattle.af_config.specs.Stating.{Settings}
 use Rattle.afd_serve.specs.declared.live.LiveEnd.{LiveEnd}
 use Rattle.afd_serve.specs.declared.live.LiveEnd.TheVariants as end
 use Rattle.afd_serve.specs.Serving.{all_attached, attached_from, started}

@@ -9,8 +9,8 @@ use Rattle.af_io.specs.Observed.{CountsFault, Appended, FaultCounted, Unchanged}
 use Rattle.af_world.specs.Log.{Log}
 use Rattle.af_io.specs.Flow.{ConsumedWhole, ConsumedWithin, ConsumedTooMuch}
 use Rattle.af_text.specs.Reading.{IsGoodText}
-use Rattle.af_live.specs.Stating.{Settings}
-use Rattle.af_live.specs.Configuration.{config_of}
+use Rattle.af_config.specs.Stating.{Settings}
+use Rattle.af_config.specs.Configuration.{config_of}
 use Rattle.af_model.specs.State.{State}
 use Rattle.af_model.specs.More.{has_more}
 use Rattle.afd_serve.specs.declared.live.LiveEnd.{LiveEnd}

@@ -10,7 +10,7 @@ use Rattle.af_world.specs.declared.script.DeviceSpec.{DeviceSpec}
 use Rattle.af_world.specs.declared.outer.Backing.{Backing}
 use Rattle.af_io.specs.Observed.{Appended}
 use Rattle.af_world.specs.Log.{Log}
-use Rattle.af_live.specs.Stating.{Settings}
+use Rattle.af_config.specs.Stating.{Settings}
 use Rattle.af_model.specs.State.{State, opening, outline}
 use Rattle.af_model.specs.Turn.{IsTurn, fits}
 use Rattle.af_model.specs.Run.{wakes, IsRun}

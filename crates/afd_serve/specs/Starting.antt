@@ -6,8 +6,8 @@ use Rattle.af_world.specs.declared.outer.Outer.{Outer}
 use Rattle.af_world.specs.declared.outer.Outer.TheVariants as noted
 use Rattle.af_io.specs.Observed.{Appended}
 use Rattle.af_io.specs.Flow.{ConsumedWhole}
-use Rattle.af_live.specs.Stating.{Settings}
-use Rattle.af_live.specs.Configuration.{config_of}
+use Rattle.af_config.specs.Stating.{Settings}
+use Rattle.af_config.specs.Configuration.{config_of}
 use Rattle.afd_serve.specs.declared.live.LiveEnd.{LiveEnd}
 use Rattle.afd_serve.specs.declared.live.LiveEnd.TheVariants as end
 use Rattle.afd_serve.specs.Ends.{longest_config}

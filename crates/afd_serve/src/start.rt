@@ -11,9 +11,9 @@ ghost use Rattle.afd_serve.specs.Serving.{all_attached, started};
 ghost use Rattle.afd_serve.specs.Starting.{AttachedUntil, IsReadEnd, IsReadFrom, StartedUntil};
 
 use crate::LiveEnd;
+use af_config::{ConfigFault, Setting, read_config};
 use af_core::Core;
 use af_io::{Source, TextFault, read_text};
-use af_live::{ConfigFault, Setting, read_config};
 use af_world::{Live, Ready};
 use std::alloc::Global;
 

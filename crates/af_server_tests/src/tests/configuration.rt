@@ -70,8 +70,10 @@ fn assert_due(rt: &impl Abort, cases: &[(u32, &[(u64, u32)])]) {
 
 #[test]
 fn configurations_are_read(rt: HostRuntime) -> Result<(), Fail> {
-    let text =
-        "# two devices\n\n device  mu255 08000 4294967295   silent\ndevice lin32 44100 7 line files grüße.raw /dev/null";
+    let text = "# four devices\n\n device  mu255 08000 4294967295   silent\n\
+                device lin32 44100 7 line files grüße.raw /dev/null\n\
+                device lin16 48000 0  stereo files stereo line\n\
+                device alaw 8000 1 stereo line silent";
     let first = DeviceSpec {
         ty: SampleType::Mu255,
         rate: 8000,
@@ -86,7 +88,26 @@ fn configurations_are_read(rt: HostRuntime) -> Result<(), Fail> {
         channels: 1,
         line: true,
     };
-    let devices = [(first, None), (second, Some(("grüße.raw", "/dev/null")))];
+    let third = DeviceSpec {
+        ty: SampleType::Lin16,
+        rate: 48000,
+        start: 0,
+        channels: 2,
+        line: false,
+    };
+    let fourth = DeviceSpec {
+        ty: SampleType::Alaw,
+        rate: 8000,
+        start: 1,
+        channels: 2,
+        line: true,
+    };
+    let devices = [
+        (first, None),
+        (second, Some(("grüße.raw", "/dev/null"))),
+        (third, Some(("stereo", "line"))),
+        (fourth, None),
+    ];
     assert_states(&rt, rt.alloc(), text.as_bytes(), &devices)
 }
 
@@ -132,7 +153,7 @@ fn a_codec_has_restarts_and_words(rt: HostRuntime) -> Result<(), Fail> {
     assert_codec(
         &rt,
         alloc,
-        b"device mu255 8000 0 line codec 000 1234567890123456789012345678901234567890123456789012345678901234",
+        b"device mu255 8000 0 stereo line codec 000 1234567890123456789012345678901234567890123456789012345678901234",
         0,
         &[longest],
     )
@@ -149,7 +170,13 @@ fn the_first_faulty_line_is_numbered(rt: HostRuntime) -> Result<(), Fail> {
             (b"device lin16 8001 0 silent", 1),
             (b"device lin16 8000 0 files a b c", 1),
             (b"device lin16 8000 0 line line silent\n", 1),
-            (b"device lin16 8000 0 stereo silent\n", 1),
+            // two channels that are stated twice, behind the line, behind what stands behind the device, before its start, or alone
+            (b"device lin16 8000 0 stereo stereo silent\n", 1),
+            (b"device lin16 8000 0 line stereo silent\n", 1),
+            (b"device lin16 8000 0 silent stereo\n", 1),
+            (b"device lin16 8000 stereo 0 silent\n", 1),
+            (b"device lin16 8000 0 Stereo silent\n", 1),
+            (b"device lin16 8000 0 stereo\n", 1),
             (b"device lin16 8000 0 silent\r\n", 1),
             (b"device lin16 8000 0 silent\ndevice lin16 8000 0", 2),
             (b"device lin16 8000 0 silent\nopen 0\n", 2),

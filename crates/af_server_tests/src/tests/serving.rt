@@ -12,11 +12,13 @@ const NINE: &[&str] = &["serve", "x", "9"];
 
 const DEVICE: &[u8] = b"device lin16 8000 0 silent";
 
-const TWO_DEVICES: &[u8] = b"device lin16 8000 0 silent\ndevice alaw 44100 7 line files a b\n";
+const TWO_DEVICES: &[u8] =
+    b"device lin16 8000 0 silent\ndevice alaw 44100 7 stereo line files a b\n";
 
 const TIME: &[u8] = b"device lin16 8000 0\nopen 0\nsend 0 414642000001000002000001\n";
 
-const TWO: &[u8] = b"device lin16 8000 0\ndevice alaw 44100 7 line\nopen 3\ntick 1 5\nidle\n";
+const TWO: &[u8] =
+    b"device lin16 8000 0\ndevice alaw 44100 7 stereo line\nopen 3\ntick 1 5\nidle\n";
 
 const NONE: OuterFaults = OuterFaults {
     listen: false,
@@ -369,7 +371,7 @@ static SERVED: [Served<'static>; 6] = [
         printed: "",
     },
     Served {
-        what: "each device is attached in order, and the second one ticks",
+        what: "each device is attached in order, and the second one, of two channels, ticks",
         words: NINE,
         config: TWO_DEVICES,
         script: TWO,
@@ -385,7 +387,7 @@ static SERVED: [Served<'static>; 6] = [
             Called::Wait(false, Wake::Stop),
         ],
         turns: &[Wake::Opened(3), Wake::Ticked(1, 5), Wake::Idle],
-        printed: "emit 1 d5d5d5d5d5\n",
+        printed: "emit 1 d5d5d5d5d5d5d5d5d5d5\n",
     },
     Served {
         what: "there is no second device: what does not fit is taken as Idle",
@@ -440,7 +442,7 @@ static SERVED: [Served<'static>; 6] = [
             Called::Wait(false, Wake::Idle),
         ],
         turns: &[Wake::Opened(3), Wake::Ticked(1, 5), Wake::Idle],
-        printed: "emit 1 d5d5d5d5d5\n",
+        printed: "emit 1 d5d5d5d5d5d5d5d5d5d5\n",
     },
 ];
 

@@ -1,0 +1,23 @@
+-- What the parts of a line stand for, once they are read.
+use Rattle.std.specs.Prelude.{string_bytes}
+use Rattle.af_world.specs.declared.outer.Backing.{Backing}
+use Rattle.af_world.specs.Kinds.{silence, two_files, child_program}
+use Rattle.af_config.specs.declared.device.OwnedKind.{OwnedKind}
+use Rattle.af_config.specs.declared.device.OwnedKind.TheVariants as held
+use Rattle.af_config.specs.declared.device.ConfiguredDevice.{ConfiguredDevice}
+use Rattle.af_config.specs.declared.device.Ending as kept
+use Rattle.af_config.specs.Stating.{Configured, EndingState}
+
+-- what stands behind a device
+abbrev pub backing : OwnedKind → Backing
+backing held.Silent = silence
+backing (held.Files input output) = two_files (string_bytes input) (string_bytes output)
+backing (held.Codec restarts words) = child_program restarts words
+
+-- a device with it
+abbrev pub placed : ConfiguredDevice → Configured
+placed device = record { spec = device.spec; kind = backing device.kind }
+
+-- the end of a device line
+abbrev pub stated_ending : kept.Ending → EndingState
+stated_ending stated = record { line = stated.line; kind = backing stated.kind }

@@ -1,0 +1,4 @@
+pub mod Stating
+pub mod Configuration
+pub mod Kept
+pub mod Reading

@@ -1,0 +1,98 @@
+-- What the words of a line of a configuration state: a device, and what stands behind it.
+use Rattle.std.specs.Prelude.{ℕ, ◌-◌, ◌^◌, Bool, true, false, nat_le, ◌&&◌, ◌||◌, List, [], ◌∷◌, length, fold, codes, bytes_eq, Option, Some, None, option_map, option_and_then, if◌then◌else◌}
+use Rattle.af_sample.specs.declared.sample_type.SampleType.{SampleType}
+use Rattle.af_text.specs.Words.{number_within, only_if}
+use Rattle.af_text.specs.Sound.{type_of, rate_of, channels_stated, behind_channels}
+use Rattle.af_world.specs.declared.script.DeviceSpec.{DeviceSpec}
+use Rattle.af_world.specs.declared.outer.Backing.{Backing}
+use Rattle.af_world.specs.declared.outer.Backing.TheVariants as backed
+use Rattle.af_world.specs.Kinds.{silence, two_files, child_program}
+
+-- the devices of a server, and what stands behind each, in the same order
+pub record Settings : Type 0 where
+  pub config : List DeviceSpec
+  pub kinds : List Backing
+
+-- a device, and what stands behind it
+pub record Configured : Type 0 where
+  pub spec : DeviceSpec
+  pub kind : Backing
+
+-- how a device line ends: whether it states a telephone line, and what stands behind the device
+pub record EndingState : Type 0 where
+  pub line : Bool
+  pub kind : Backing
+
+-- whether a child program stands behind a device
+abbrev pub is_program : Backing → Bool
+is_program backed.Silence = false
+is_program (backed.TwoFiles input output) = false
+is_program (backed.ChildProgram restarts words) = true
+
+-- whether one stands behind any of these
+abbrev pub has_program : List Backing → Bool
+has_program kinds = fold (λ has kind. has || is_program kind) false kinds
+
+-- no word comes behind `silent`
+abbrev pub silent_of : List (List ℕ) → Option Backing
+silent_of [] = Some silence
+silent_of (name ∷ names) = None
+
+-- the names of two files come behind `files`
+abbrev pub files_of : List (List ℕ) → Option Backing
+files_of (input ∷ output ∷ []) = Some (two_files input output)
+files_of _ = None
+
+-- these words have at most 64 bytes each
+abbrev pub are_short : List (List ℕ) → Bool
+are_short [] = true
+are_short (word ∷ words) = nat_le (length word) 64 && are_short words
+
+-- the words of a command line: 1 to 8 of them, of at most 64 bytes each
+abbrev pub is_command_line : List (List ℕ) → Bool
+is_command_line words = nat_le 1 (length words) && nat_le (length words) 8 && are_short words
+
+-- how often a child program is started anew, and its command line, come behind `codec`
+abbrev pub codec_of : List (List ℕ) → Option Backing
+codec_of [] = None
+codec_of (restarts ∷ words) = option_and_then (λ n. option_map (child_program n) (only_if is_command_line words)) (number_within 0 100 restarts)
+
+-- `silent`, `files INPUT OUTPUT`, or `codec RESTARTS WORD ..`
+abbrev pub backing_stated : List (List ℕ) → Option Backing
+backing_stated [] = None
+backing_stated (word ∷ names) =
+    if bytes_eq word (codes "silent") then silent_of names
+    else if bytes_eq word (codes "files") then files_of names
+    else if bytes_eq word (codes "codec") then codec_of names
+    else None
+
+-- with a telephone line, or with none
+abbrev pub ending_with : Bool → Backing → EndingState
+ending_with line kind = record { line = line; kind = kind }
+
+-- `KIND`, or `line KIND`
+abbrev pub ending_of : List (List ℕ) → Option EndingState
+ending_of [] = None
+ending_of (word ∷ rest) =
+    if bytes_eq word (codes "line") then option_map (ending_with true) (backing_stated rest)
+    else option_map (ending_with false) (backing_stated (word ∷ rest))
+
+-- a device of this type and rate, whose time begins here, of so many channels
+abbrev pub configured_at : SampleType → ℕ → ℕ → ℕ → DeviceSpec
+configured_at ty rate start channels = record { ty = ty; rate = rate; start = start; channels = channels; line = false }
+
+-- a device that ends so
+abbrev pub placed_at : DeviceSpec → EndingState → Configured
+placed_at device ending = record { spec = record device { line = ending.line }; kind = ending.kind }
+
+-- the device of `device TYPE RATE START`, then `stereo` if it has two channels, then `line` if it has a telephone line, then what
+-- stands behind it, by the words behind `device`
+abbrev pub configured_with : List (List ℕ) → Option Configured
+configured_with (ty ∷ rate ∷ start ∷ rest) =
+    option_and_then (λ t. option_and_then (λ r. option_and_then (λ s. option_map (placed_at (configured_at t r s (channels_stated rest))) (ending_of (behind_channels rest))) (number_within 0 (2 ^ 32 - 1) start)) (rate_of rate)) (type_of ty)
+configured_with _ = None
+
+-- the device that the words of a line state
+abbrev pub configured_of : List (List ℕ) → Option Configured
+configured_of [] = None
+configured_of (name ∷ arguments) = if bytes_eq name (codes "device") then configured_with arguments else None

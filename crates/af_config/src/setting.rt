@@ -1,0 +1,92 @@
+// What a server is started with: its devices, and what stands behind each.
+ghost use Rattle.std.specs.Prelude.{◌≡◌, ◌<◌, [], length, slice_get, Some, IsTrue, nat_eq, OnOk};
+ghost use Rattle.af_world.specs.Kinds.{backing_of};
+ghost use Rattle.af_config.specs.Stating.{has_program};
+ghost use Rattle.af_config.specs.Kept.{placed};
+ghost use Rattle.af_config.specs.Reading.{with_configured};
+
+use crate::device::{ConfiguredDevice, OwnedKind};
+use af_time::OutOfMemory;
+use af_world::{Config, Kind};
+use arrayvec::ArrayVec;
+use std::alloc::Global;
+use std::marker::Model;
+
+/// The devices of a server, and what stands behind each of them.
+#[derive(Drop)]
+pub struct Setting {
+    config: Config,
+    kinds: Vec<OwnedKind>,
+    has_codec: bool,
+}
+
+impl Model for Setting {
+    ghost use Rattle.std.specs.Prelude.{◌≡◌, length, map};
+    ghost use Rattle.af_config.specs.Stating.{Settings, has_program};
+    ghost use Rattle.af_config.specs.Kept.{backing};
+
+    ghost Value = { Settings };
+
+    ghost view = { λ s. record { config = s.config.items; kinds = map backing s.kinds.items } };
+
+    ghost invariant = { λ s. (length s.kinds.items ≡ length s.config.items) × (s.has_codec ≡ has_program (map backing s.kinds.items)) };
+}
+
+impl Setting {
+    /// No devices so far.
+    pub(crate) fn new(alloc: Global) -> Setting
+        ensures config { result.config ≡ [] }
+        ensures kinds { result.kinds ≡ [] }
+    {
+        Setting {
+            config: ArrayVec::new(),
+            kinds: Vec::new(alloc),
+            has_codec: false,
+        }
+    }
+
+    /// Adds a device at the end, of which there may be 8. Where memory runs out nothing is promised of the setting.
+    pub(crate) fn add(&mut self, device: ConfiguredDevice) -> Result<(), OutOfMemory>
+        requires { length self.old.config < 8 }
+        ensures { OnOk result (self.new ≡ with_configured self.old (placed device)) }
+    {
+        let is_codec = device.kind.is_codec();
+        self.kinds.push(device.kind)?;
+        self.has_codec = self.has_codec || is_codec;
+        self.config.push(device.spec);
+        Ok(())
+    }
+
+    /// The devices.
+    pub fn config(&self) -> &Config
+        ensures config { result.now.items ≡ self.now.config }
+        ensures kinds { length self.now.kinds ≡ length self.now.config }
+    {
+        &self.config
+    }
+
+    /// Whether a child program stands behind a device.
+    pub(crate) fn has_codec(&self) -> bool
+        ensures { result ≡ has_program self.now.kinds }
+    {
+        self.has_codec
+    }
+
+    /// What stands behind a device, which is one of these.
+    pub fn kind(&self, device: u8) -> Kind<'_>
+        requires { device < length self.now.config }
+        ensures { slice_get self.now.kinds device ≡ Some (backing_of result) }
+    {
+        match &self.kinds[device as usize] {
+            OwnedKind::Silent => Kind::Silent,
+            OwnedKind::Files { input, output } => Kind::Files {
+                input: input.as_str(),
+                output: output.as_str(),
+            },
+            OwnedKind::Codec { restarts, words } => Kind::Codec {
+                restarts: *restarts,
+                words: words.words(),
+            },
+        }
+    }
+}

@@ -1,7 +1,0 @@
-use Rattle.std.proofs.Common.{◌≡◌, drop, map}
-use Rattle.arrayvec.specs.ArrayString.{ArrayString}
-use Rattle.af_live.specs.Stating.{are_short}
-use Rattle.af_live.proofs.command_line.are_short.Given as goal
-
-abbrev pub invariant-loop-word : goal.invariant-loop-word
-invariant-loop-word l = are_short (map (λ (word : ArrayString). word.bytes) l.words) ≡ are_short (map (λ (word : ArrayString). word.bytes) (drop l.word-index l.words))

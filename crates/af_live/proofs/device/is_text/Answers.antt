@@ -1,6 +1,0 @@
-use Rattle.std.proofs.Common.{◌∙◌}
-use Rattle.af_live.proofs.Utf8Lemmas.{passes_text}
-use Rattle.af_live.proofs.device.is_text.Goals as goal
-
-pub returns : goal.returns
-returns c = c.is_ok.ensures.value ∙ passes_text _ _ c.args.line.now c.from_utf8.result c.from_utf8.ensures.cases

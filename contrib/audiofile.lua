@@ -3,15 +3,17 @@
 --   tshark -X lua_script:audiofile.lua -r FILE          and Wireshark reads it from its folder of personal plugins
 --
 -- A connection is known by its port (1701, or what the preferences say) or by the setup that its client sends first, so any
--- port will do where a capture has that. Fields are those of the protocol: `audiofile.time`, `audiofile.context`; a display
--- filter such as `audiofile.error` or `audiofile.opcode == 6` finds messages.
+-- port will do where a capture has that. The setup also says in which order numbers are; without it the preferences do. Fields
+-- are those of the protocol: `audiofile.time`, `audiofile.context`; a display filter such as `audiofile.error` or
+-- `audiofile.opcode == 6` finds messages.
 
 local audiofile = Proto("audiofile", "AudioFile")
 
 audiofile.prefs.ports = Pref.range("TCP ports", "1701", "Ports of servers", 65535)
+audiofile.prefs.little = Pref.bool("Little-endian without a setup", false, "Whether numbers are so where a capture begins behind the setup")
 
 -- how a setup begins, and whether the numbers of its link are little-endian. Samples are big-endian on every link
-local ORDERS = { [0x41464200] = false }
+local ORDERS = { [0x41464200] = false, [0x41466c00] = true }
 local LONGEST_FRAME = 4096
 
 local TYPES = { [0] = "mu255", [1] = "alaw", [2] = "lin16", [3] = "lin32" }
@@ -70,6 +72,7 @@ for opcode, layout in pairs(REQUESTS) do NAMES[opcode] = layout.name end
 local fields = {
     says = ProtoField.string("audiofile.says", "Says"),
     magic = ProtoField.bytes("audiofile.magic", "Protocol"),
+    order = ProtoField.string("audiofile.order", "Byte order"),
     major = ProtoField.uint16("audiofile.major", "Major version"),
     minor = ProtoField.uint16("audiofile.minor", "Minor version"),
     opcode = ProtoField.uint8("audiofile.opcode", "Request", base.DEC, NAMES),
@@ -120,9 +123,10 @@ local malformed = ProtoExpert.new("audiofile.malformed", "Malformed", expert.gro
 local refused = ProtoExpert.new("audiofile.refusal", "Refused", expert.group.RESPONSE_CODE, expert.severity.NOTE)
 audiofile.experts = { malformed, refused }
 
--- of each connection, by its two ends: the server's port, the order of its numbers, and how many requests it has had. When
--- frames are first gone through, `numbers` gets the number of each request by the place where it stands, `asked` the frame of
--- the request that each message answers, and `frames` the frame of each number
+-- of each connection, by its two ends: the server's port, whether its numbers are little-endian now, and how many requests it has
+-- had. When frames are first gone through, `setups` gets each setup, as ports may be used again, with its frame and its order,
+-- `numbers` the number of each request by the place where it stands, `asked` the frame of the request that each message answers, and
+-- `frames` the frame of each number
 local streams = {}
 
 function audiofile.init()
@@ -133,8 +137,17 @@ local function stream_of(pinfo)
     local one = tostring(pinfo.src) .. " " .. pinfo.src_port
     local other = tostring(pinfo.dst) .. " " .. pinfo.dst_port
     local ends = one < other and one .. " " .. other or other .. " " .. one
-    streams[ends] = streams[ends] or { little = false, count = nil, numbers = {}, asked = {}, frames = {} }
+    streams[ends] = streams[ends] or { little = false, count = nil, setups = {}, numbers = {}, asked = {}, frames = {} }
     return streams[ends]
+end
+
+-- the order in a frame is that of the last setup up to there
+local function is_little_in(stream, frame)
+    local little = audiofile.prefs.little
+    for _, each in ipairs(stream.setups) do
+        if each.frame <= frame then little = each.little end
+    end
+    return little
 end
 
 local function place_of(tvb, pinfo)
@@ -206,12 +219,16 @@ end
 local function setup(stream, tvb, pinfo, tree)
     stream.little = ORDERS[tvb(0, 4):uint()]
     tree:add(fields.magic, tvb(0, 4))
+    tree:add(fields.order, tvb(0, 4), stream.little and "little-endian" or "big-endian"):set_generated()
     add(stream, tree, "major", tvb(4, 2))
     add(stream, tree, "minor", tvb(6, 2))
-    if not pinfo.visited then stream.count = 0 end
+    if not pinfo.visited then
+        stream.count = 0
+        table.insert(stream.setups, { frame = pinfo.number, little = stream.little })
+    end
     local major = number_at(stream, tvb(4, 2))
     if major ~= 1 then return is_bad(pinfo, tree, "a setup of version " .. major) end
-    say(pinfo, tree, "setup")
+    say(pinfo, tree, "setup", stream.little and " (little-endian)")
 end
 
 -- the number of the request that stands here: they count from the setup on, which has to be in the capture
@@ -390,6 +407,7 @@ end
 
 local function dissect(tvb, pinfo, tree)
     local stream = stream_of(pinfo)
+    stream.little = is_little_in(stream, pinfo.number)
     if not stream.server_port then
         stream.server_port = is_setup(tvb) and pinfo.dst_port or pinfo.match_uint
     end

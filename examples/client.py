@@ -5,7 +5,7 @@
 
 It begins LEAD milliseconds from now, 250 where none is given. The file has one channel of 8 or 16 bits. The server converts to
 what its device has, but it does not resample: the first device of the file's rate is played to. The protocol is that of
-audiofile-protocol(7); every number on the wire is big-endian (`>`).
+audiofile-protocol(7); its numbers are big-endian (`>`), as its setup says. Samples are so in any case.
 """
 
 import socket
@@ -24,7 +24,8 @@ class Client:
         host, port = address.rsplit(":", 1)
         self.link = socket.create_connection((host, int(port)))
         self.number = 0  # of the last request: the server counts them too, and its answers say which one they are to
-        # First come eight bytes: "AFB", a zero, and the version, 1.0. The answer says what devices there are.
+        # First come eight bytes: "AFB", a zero, and the version, 1.0. The answer says what devices there are. With "AFl" all numbers
+        # would be little-endian (`<`), and samples still as they are.
         self.link.sendall(b"AFB\0" + struct.pack(">HH", 1, 0))
         body = self.answer()
         count = struct.unpack(">HHI", body[:8])[2]

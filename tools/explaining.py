@@ -40,9 +40,14 @@ class Conversation:
         self.contexts = Contexts()
         self.asked = {}
         self.count = self.answered = 0
-        self.messages, self.ends = [], []
+        self.answers = answers
+        self.messages, self.ends, self.refused = [], [], set()
+
+    def set_order(self, order):
+        """The setup tells the order of the answers."""
+        self.server.order = order
         number = end = 0
-        for item in ServerSide().feed(answers):
+        for item in ServerSide(order).feed(self.answers):
             number = unwrapped(item.number, number)
             end += len(item.octets)
             self.messages.append((number, item))
@@ -60,7 +65,10 @@ class Conversation:
     def sends(self, octets):
         """The words for each thing that is whole with these bytes, each with its number, and for what is not whole."""
         self.sent += octets
-        for item in self.client.feed(octets):
+        items = self.client.feed(octets)
+        if items and self.server.order is None:
+            self.set_order(self.client.order)
+        for item in items:
             if item.kind == "request":
                 self.count += 1
                 context = self.contexts.of(item)
@@ -397,9 +405,10 @@ class Script:
 def link_lines(client, server):
     """A link whose bytes are known, of one direction or of both: each request, and behind it what was said before the next."""
     talk = Conversation(server)
+    sent = list(talk.sends(client))
     messages = talk.server.feed(server)
     place = 0
-    for number, words in talk.sends(client):
+    for number, words in sent:
         yield "> " + words
         while place < len(messages) and messages[place].kind in SAID and unwrapped(messages[place].number, talk.answered) <= number:
             yield "< " + talk.said(messages[place])

@@ -1,14 +1,16 @@
 """Servers on real time, and what is said to them: what the scripts beside this file share."""
 
 import os
+import select
 import socket
 import struct
 import subprocess
 import sys
 import tempfile
+import threading
 import time
 
-from wire import request, setup
+from wire import OTHER, ClientSide, ServerSide, request, setup, turned
 
 ROOT = os.path.dirname(os.path.dirname(os.path.abspath(__file__)))
 SETUP = setup()
@@ -187,6 +189,38 @@ class TriedServer(Server):
 
     def __init__(self, folder, devices, seconds):
         self.start(["rt", "try", "--seconds", str(seconds), "--"], os.path.join(ROOT, "crates", "afd"), folder, devices, 600)
+
+
+class Tap:
+    """A server that passes on what one client and a server say to each other, and notes what the client says. It holds that up once,
+    for half a second behind so many bytes, if they are stated. If it turns, the server has a link of the other byte order."""
+
+    def __init__(self, address, held_behind=None, turns=False):
+        self.server, self.held_behind = connect(address), held_behind
+        self.asked, self.answered = (ClientSide(), ServerSide()) if turns else (None, None)
+        self.listener = socket.create_server(("127.0.0.1", 0))
+        self.address = "127.0.0.1:%d" % self.listener.getsockname()[1]
+        self.noted = b""
+        threading.Thread(target=self.carry, daemon=True).start()
+
+    def carry(self):
+        client, _ = self.listener.accept()
+        with self.listener, self.server, client:
+            while True:
+                for link in select.select([client, self.server], [], [])[0]:
+                    piece = link.recv(65536)
+                    if not piece:
+                        return
+                    (client if link is self.server else self.server).sendall(self.passed_on(piece, link is client))
+                    self.noted += piece if link is client else b""
+                if self.held_behind and len(self.noted) >= self.held_behind:
+                    self.held_behind = None
+                    time.sleep(0.5)
+
+    def passed_on(self, piece, is_asked):
+        """What becomes of a piece. Where it is turned, what is not whole waits for the rest."""
+        side = self.asked if is_asked else self.answered
+        return b"".join(turned(item, OTHER[side.order]) for item in side.feed(piece)) if side else piece
 
 
 class Trials:

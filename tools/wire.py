@@ -3,14 +3,18 @@
 `request` and `setup` spell what a client sends. A `ClientSide` and a `ServerSide` are given the bytes of one direction of a
 link, in any pieces, and give an `Item` for each thing that stands whole in them. Nothing here talks to anybody.
 
-All links are big-endian today. `ORDERS` says which setup means which order, and every number is read and written through it.
+A link has the order of its setup, and each number of two or four bytes on it is read and written in that order. Samples are
+big-endian in both.
 """
 
 import struct
 from dataclasses import dataclass, field
 
-# how a setup begins, and the order of the numbers on its link, in the letters of `struct`
-ORDERS = {b"AFB\0": ">"}
+# the orders in the letters of `struct`, how the setup of a link in each begins, and what they are called
+BIG, LITTLE = ">", "<"
+ORDERS = {b"AFB\0": BIG, b"AFl\0": LITTLE}
+ORDER_NAMES = {BIG: "big-endian", LITTLE: "little-endian"}
+OTHER = {BIG: LITTLE, LITTLE: BIG}
 MAJOR, MINOR = 1, 0
 LONGEST_FRAME = 4096
 MOST_DATA = 16368
@@ -57,6 +61,11 @@ REQUESTS = {
 OPCODES = {layout.name: opcode for opcode, layout in REQUESTS.items()}
 # requests whose replies have no body
 PLAIN = {"CreateAC", "ChangeAC", "FreeAC", "SelectEvents", "SetControls", "HookSwitch"}
+# how a message begins; the bodies of the other replies, without devices and data; a device; and the bodies of other messages
+HEAD = "BBHI"
+REPLIES = {"setup": "HHI", "GetTime": "I", "Play": "I", "Record": "II", "QueryControls": "BBHhh", "QueryPhone": "BBBBBBBB"}
+DEVICE = "BBBBII"
+BODIES = {"error": "IBBBB", "event": "III"}
 
 
 @dataclass(frozen=True)
@@ -95,12 +104,15 @@ class Bad(Exception):
     """Why bytes are not what they should be."""
 
 
-def setup(order=">", major=MAJOR, minor=MINOR):
-    magic = next(magic for magic, other in ORDERS.items() if other == order)
-    return magic + struct.pack(order + "HH", major, minor)
+def setup(order=BIG, major=MAJOR, minor=MINOR):
+    return magic_of(order) + struct.pack(order + "HH", major, minor)
 
 
-def request(name, detail=0, data=b"", order=">", **fields):
+def magic_of(order):
+    return next(magic for magic, other in ORDERS.items() if other == order)
+
+
+def request(name, detail=0, data=b"", order=BIG, **fields):
     """The bytes of a request. The count of a Play is that of its data where none is given."""
     opcode = OPCODES[name]
     layout = REQUESTS[opcode]
@@ -113,6 +125,28 @@ def request(name, detail=0, data=b"", order=">", **fields):
     return struct.pack(order + "BBH", opcode, detail, 1 + len(body) // 4) + body
 
 
+def turned(item, order):
+    """The bytes of an item as they are on a link of another order, which is named: those of each number the other way round, and
+    samples, single bytes and what is bad as they were."""
+    if item.kind == "setup":
+        return magic_of(order) + item.octets[4:6][::-1] + item.octets[6:8][::-1]
+    at, pieces = 0, []
+    for letter in form_of(item):
+        size = struct.calcsize(letter)
+        pieces.append(item.octets[at:at + size][::-1])
+        at += size
+    return b"".join(pieces) + item.octets[at:]
+
+
+def form_of(item):
+    """An item up to its data, in the letters of `struct`."""
+    if item.kind == "request":
+        return "BBH" + REQUESTS[OPCODES[item.name]].form
+    if item.kind == "reply":
+        return HEAD + REPLIES.get(item.name, "") + DEVICE * len(item.fields.get("devices", ()))
+    return HEAD + BODIES[item.kind] if item.kind in BODIES else ""
+
+
 def padded(size):
     return size + -size % 4
 
@@ -120,7 +154,7 @@ def padded(size):
 class Side:
     """Bytes of one direction: `rest` is what came and is not whole yet."""
 
-    def __init__(self, order=">"):
+    def __init__(self, order):
         self.order = order
         self.rest = b""
         self.ended = False
@@ -154,10 +188,11 @@ class Side:
 
 
 class ClientSide(Side):
-    """What a client sends: a setup and then requests, which are numbered from 1 on."""
+    """What a client sends: a setup, which states the order, and then requests, which are numbered from 1 on. The order is that of the
+    answers too: also where the setup has another version, and big-endian where it is none."""
 
     def __init__(self):
-        super().__init__()
+        super().__init__(BIG)
         self.is_set_up = False
         self.number = 0
 
@@ -175,7 +210,7 @@ class ClientSide(Side):
         if major != MAJOR:
             raise Bad("a setup of version %d" % major)
         self.is_set_up = True
-        return self.take(8, "setup", "setup", 0, {"major": major, "minor": minor})
+        return self.take(8, "setup", "setup", 0, {"order": ORDER_NAMES[order], "major": major, "minor": minor})
 
     def frame(self):
         if len(self.rest) < 4:
@@ -202,22 +237,28 @@ class ClientSide(Side):
 
 
 class ServerSide(Side):
-    """What a server sends: messages, read as strictly as a client reads them."""
+    """What a server sends: messages, read as strictly as a client reads them. The order is that of the setup. Where none is given, it
+    is the one in which the first message has a head: the length of an answer to a setup tells."""
+
+    def __init__(self, order=None):
+        super().__init__(order)
 
     def item(self):
         if len(self.rest) < 8:
             return None
-        kind, detail, number, words = self.unpack("BBHI")
+        if self.order is None:
+            self.order = order_of(self.rest)
+        kind, detail, number, words = self.unpack(HEAD)
         if not is_head(kind, detail, words):
             raise Bad("no head of a message")
         size = 8 + 4 * words
         if len(self.rest) < size:
             return None
         if kind == ERROR:
-            value, opcode = self.unpack("IB", 8)
+            value, opcode, *_ = self.unpack(BODIES["error"], 8)
             return self.take(size, "error", ERRORS[detail], number, {"value": value, "opcode": opcode})
         if kind == EVENT:
-            device, time, value = self.unpack("III", 8)
+            device, time, value = self.unpack(BODIES["event"], 8)
             if device > 7 or detail != 8 and value > 1:
                 raise Bad("no %s event: device %d, value %d" % (EVENTS[detail], device, value))
             return self.take(size, "event", EVENTS[detail], number, {"device": device, "time": time, "value": value})
@@ -227,39 +268,49 @@ class ServerSide(Side):
 
     def answer(self, name, size):
         """The fields and the data of a reply whose body has this size."""
+        form = REPLIES.get(name, "")
         if name == "setup":
             return self.devices(size), b""
         if name in PLAIN and size == 0:
             return {}, b""
         if name in ("GetTime", "Play") and size == 4:
-            return {"time": self.unpack("I", 8)[0]}, b""
+            return {"time": self.unpack(form, 8)[0]}, b""
         if name == "Record" and size >= 8:
-            time, count = self.unpack("II", 8)
+            time, count = self.unpack(form, 8)
             if size == 8 + padded(count) and not any(self.rest[16 + count:8 + size]):
                 return {"time": time, "count": count}, bytes(self.rest[16:16 + count])
         if name == "QueryControls" and size == 8:
-            input_on, output_on, zeros, input_gain, output_gain = self.unpack("BBHhh", 8)
+            input_on, output_on, zeros, input_gain, output_gain = self.unpack(form, 8)
             if input_on < 2 and output_on < 2 and not zeros and abs(input_gain) <= 30 and abs(output_gain) <= 30:
                 return {"input_on": input_on, "output_on": output_on, "input_gain": input_gain, "output_gain": output_gain}, b""
         if name == "QueryPhone" and size == 8:
-            flags = self.unpack("8B", 8)
+            flags = self.unpack(form, 8)
             if max(flags[:5]) < 2 and not any(flags[5:]):
                 return dict(zip(("wanted", "given", "ringing", "current", "dead"), flags)), b""
         raise Bad("no reply to %s: a body of %d bytes" % (name, size))
 
     def devices(self, size):
         if size >= 8:
-            major, minor, count = self.unpack("HHI", 8)
+            major, minor, count = self.unpack(REPLIES["setup"], 8)
             if (major, minor) == (MAJOR, MINOR) and 1 <= count <= 8 and size == 8 + 12 * count:
                 found = [self.device(16 + 12 * each) for each in range(count)]
                 return {"major": major, "minor": minor, "devices": found}
         raise Bad("no reply to a setup: a body of %d bytes" % size)
 
     def device(self, offset):
-        kind, channels, has_line, zero, rate, horizon = self.unpack("BBBBII", offset)
+        kind, channels, has_line, zero, rate, horizon = self.unpack(DEVICE, offset)
         if kind > 3 or channels not in CHANNELS or has_line > 1 or zero or rate not in RATES or horizon != 4 * rate:
             raise Bad("no device in the reply to a setup")
         return {"type": TYPES[kind], "channels": channels, "has_line": has_line, "rate": rate, "horizon": horizon}
+
+
+def order_of(octets):
+    """The order in which bytes begin with the head of a message. Where both would do, or none, it is big-endian."""
+    for order in ORDERS.values():
+        kind, detail, _, words = struct.unpack_from(order + HEAD, octets)
+        if is_head(kind, detail, words):
+            return order
+    return BIG
 
 
 def is_head(kind, detail, words):

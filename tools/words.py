@@ -2,7 +2,7 @@
 
 from dataclasses import dataclass, replace
 
-from wire import CHANNELS, EVENTS, REQUESTS, TYPES, Format, levels
+from wire import BIG, CHANNELS, EVENTS, ORDER_NAMES, REQUESTS, TYPES, Format, levels
 
 CONTROLS = ((1, "input_gain"), (2, "output_gain"), (4, "input_on"), (8, "output_on"))
 
@@ -96,7 +96,8 @@ class Contexts:
 def words_of_request(item, contexts):
     """What a client sends. The contexts are those that the link has when it is performed."""
     if item.kind == "setup":
-        return "setup, version %d.%d" % (item.fields["major"], item.fields["minor"])
+        order = item.fields["order"]
+        return joined("setup, version %d.%d" % (item.fields["major"], item.fields["minor"]), order != ORDER_NAMES[BIG] and order)
     if item.kind == "bad":
         return "malformed: %s, beginning with %s" % (item.name, item.octets.hex())
     if item.kind == "behind":

@@ -5,6 +5,7 @@ use Rattle.rand_core.specs.Pcg32Seed.{pcg32_seed}
 use Rattle.rand_pcg.specs.Lcg.{Lcg}
 use Rattle.rand_pcg.specs.Pcg.{pcg32, pcg32_of_seed}
 use Rattle.af_sample.specs.declared.sample_type.SampleType.TheVariants.{Lin16}
+use Rattle.af_wire.specs.declared.order.Order.TheVariants.{Big}
 use Rattle.af_wire.specs.Front.{setup_bytes}
 use Rattle.af_request.specs.Asked.{Asked, get_time, create_ac, play_run, record_run, select_events}
 use Rattle.af_request.specs.Fields.{i16_bytes}
@@ -35,7 +36,7 @@ preempts link = if link == 3 then 1 else 0
 -- SelectEvents of every kind of event
 unfoldable pub greeting : ℕ → List ℕ
 greeting link =
-    setup_bytes ++ request_bytes (create_ac 0 1 2 1 (preempts link) (pos 0) (pos 0)) ++ request_bytes (select_events 0 15)
+    setup_bytes Big ++ request_bytes Big (create_ac 0 1 2 1 (preempts link) (pos 0) (pos 0)) ++ request_bytes Big (select_events 0 15)
 
 -- each link is opened, and each greets
 unfoldable pub first_steps : List Step
@@ -72,7 +73,7 @@ record_drawn y time = record_run true 1 (time_about time 1000 (y % 2000)) 100
 
 -- a link sends a request
 abbrev pub sends : ℕ → Asked → Step
-sends link request = step.Send link (request_bytes request)
+sends link request = step.Send link (request_bytes Big request)
 
 -- a decimal digit is dialled
 unfoldable pub digit_drawn : ℕ → Step

@@ -4,6 +4,7 @@ ghost use Rattle.af_sample.specs.Channels.{IsChannelCount};
 ghost use Rattle.af_sample.specs.Rates.{IsListedRate};
 ghost use Rattle.af_request.specs.Asked.{request_meaning};
 ghost use Rattle.af_request.specs.Requests.{request_bytes, FitsFrame};
+ghost use Rattle.af_wire.specs.declared.order.Order.TheVariants.{Big};
 ghost use Rattle.af_world.specs.Outside.{IsStep};
 ghost use Rattle.af_exercise.specs.Exercise.{generated, exercised, first_steps, greeting, repeated, preempts, seeded, steps_drawn, start_time, sample_bytes, drawn, moved_on, turn_step, tick_drawn, play_drawn, record_drawn, sends, digit_drawn, room_drawn, frames_ticked};
 ghost use Rattle.af_sample.specs.Sizes.{longest_play};
@@ -15,7 +16,7 @@ use af_request::{Request, write_request};
 use af_sample::SampleType;
 use af_script::{Script, Steps};
 use af_time::{DevTime, OutOfMemory};
-use af_wire::SETUP;
+use af_wire::Order;
 use af_world::{Config, DeviceSpec, Step};
 use arrayvec::ArrayVec;
 use rand_core::SeedableRng;
@@ -129,7 +130,7 @@ fn greeting(alloc: Global, link: u8, room: &mut [u8]) -> Result<Bytes, OutOfMemo
     requires { longest_frame ≤ length room.old }
     ensures { IfOk result (λ bytes. bytes ≡ greeting link) }
 {
-    let mut bytes = Vec::from_slice(alloc, &SETUP)?;
+    let mut bytes = Vec::from_slice(alloc, &Order::Big.setup())?;
     let context = Request::CreateAc {
         device: 0,
         ac: 1,
@@ -163,9 +164,9 @@ fn add_request(
 ) -> Result<(), OutOfMemory>
     requires samples { FitsFrame (request_meaning request.now) }
     requires room { longest_frame ≤ length room.old }
-    ensures { OnOk result (bytes.new.items ≡ bytes.old.items ++ request_bytes (request_meaning request.now)) }
+    ensures { OnOk result (bytes.new.items ≡ bytes.old.items ++ request_bytes Big (request_meaning request.now)) }
 {
-    let length = write_request(request, room);
+    let length = write_request(Order::Big, request, room);
     bytes.extend_from_slice(&room[..length])?;
     Ok(())
 }
@@ -283,7 +284,7 @@ fn send(
     ensures value { IfOk result (λ s. s ≡ sends link (request_meaning request.now)) }
     ensures fits { IfOk result (λ s. IsStep exercised s) }
 {
-    let length = write_request(request, room);
+    let length = write_request(Order::Big, request, room);
     Ok(Step::Send(link, Bytes::copied(alloc, &room[..length])?))
 }
 

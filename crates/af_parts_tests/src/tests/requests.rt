@@ -9,6 +9,7 @@ use crate::tests::asserts::assert_bytes;
 use af_request::*;
 use af_sample::{Gain, SampleType};
 use af_time::DevTime;
+use af_wire::Order;
 use std::process::Abort;
 
 #[test]
@@ -62,6 +63,7 @@ fn requests_are_written_and_read(rt: HostRuntime) {
     let hook = Request::HookSwitch { device: 6, off: 1 };
     assert_requests(
         &rt,
+        Order::Big,
         &[
             (Request::NoOp, &[1, 0, 0, 1]),
             (Request::GetTime { device: 3 }, &[2, 3, 0, 1]),
@@ -95,16 +97,38 @@ fn requests_are_written_and_read(rt: HostRuntime) {
             (Request::QueryPhone { device: 7 }, &[12, 7, 0, 1]),
         ],
     );
+    // samples are in no order
+    assert_requests(
+        &rt,
+        Order::Little,
+        &[
+            (Request::NoOp, &[1, 0, 1, 0]),
+            (
+                create,
+                &[3, 1, 4, 0, 7, 0, 0, 0, 2, 1, 1, 0, 0xFA, 0xFF, 6, 0],
+            ),
+            (
+                play,
+                &[6, 0, 5, 0, 1, 0, 0, 0, 100, 0, 0, 0, 4, 0, 0, 0, 1, 2, 3, 4],
+            ),
+            (
+                record,
+                &[7, 1, 4, 0, 2, 0, 0, 0, 1, 1, 0, 0, 0x80, 0x3E, 0, 0],
+            ),
+            (select, &[8, 2, 2, 0, 15, 0, 0, 0]),
+            (set, &[9, 4, 3, 0, 3, 1, 0, 0, 0xFF, 0xFF, 2, 0]),
+        ],
+    );
 }
 
 // Each request is written as its frame, and read from it.
-fn assert_requests(rt: &impl Abort, cases: &[(Request<'_>, &[u8])]) {
+fn assert_requests(rt: &impl Abort, order: Order, cases: &[(Request<'_>, &[u8])]) {
     for (request, frame) in cases {
         assert!(rt; plays_within(request), "a play is too long");
         let mut out = [0xAA; 16384];
-        let length = write_request(request, &mut out);
+        let length = write_request(order, request, &mut out);
         assert_bytes(rt, "a request", &out[..length], frame);
-        assert_read(rt, frame, Some(*request));
+        assert_read(rt, order, frame, Some(*request));
     }
 }
 
@@ -117,8 +141,8 @@ fn plays_within(request: &Request<'_>) -> bool
     }
 }
 
-fn assert_read(rt: &impl Abort, frame: &[u8], request: Option<Request<'_>>) {
-    assert!(rt; read_request(frame) == request, "{frame:?}");
+fn assert_read(rt: &impl Abort, order: Order, frame: &[u8], request: Option<Request<'_>>) {
+    assert!(rt; read_request(order, frame) == request, "{frame:?}");
 }
 
 #[test]
@@ -132,7 +156,7 @@ fn padding_and_unnamed_bits_are_ignored(rt: HostRuntime) {
     let frame = [
         6, 0xFE, 0, 5, 0, 0, 0, 1, 0, 0, 0, 0, 0, 0, 0, 1, 9, 7, 7, 7,
     ];
-    assert_read(&rt, &frame, Some(play));
+    assert_read(&rt, Order::Big, &frame, Some(play));
 }
 
 #[test]
@@ -156,7 +180,7 @@ fn another_opcode_or_length_is_no_request(rt: HostRuntime) {
 
 fn assert_no_requests(rt: &impl Abort, frames: &[&[u8]]) {
     for frame in frames {
-        assert_read(rt, frame, None);
+        assert_read(rt, Order::Big, frame, None);
     }
 }
 
@@ -182,6 +206,7 @@ fn replies_are_written_and_read(rt: HostRuntime) {
     };
     assert_replies(
         &rt,
+        Order::Big,
         &[
             (2, Reply::Time { time }, 1, &[1, 2, 3, 4]),
             (6, Reply::Played { time }, 1, &[1, 2, 3, 4]),
@@ -202,6 +227,28 @@ fn replies_are_written_and_read(rt: HostRuntime) {
                 Reply::Controls { controls },
                 2,
                 &[1, 0, 0, 0, 0xFF, 0xE2, 0, 5],
+            ),
+            (12, Reply::Phone { phone }, 2, &[1, 0, 0, 1, 1, 0, 0, 0]),
+        ],
+    );
+    // samples are in no order
+    assert_replies(
+        &rt,
+        Order::Little,
+        &[
+            (2, Reply::Time { time }, 1, &[4, 3, 2, 1]),
+            (
+                7,
+                recorded,
+                4,
+                &[4, 3, 2, 1, 5, 0, 0, 0, 5, 6, 7, 8, 9, 0, 0, 0],
+            ),
+            (3, Reply::Plain, 0, &[]),
+            (
+                10,
+                Reply::Controls { controls },
+                2,
+                &[1, 0, 0, 0, 0xE2, 0xFF, 5, 0],
             ),
             (12, Reply::Phone { phone }, 2, &[1, 0, 0, 1, 1, 0, 0, 0]),
         ],
@@ -229,23 +276,44 @@ fn the_reply_to_a_setup_has_the_devices(rt: HostRuntime) {
         0, 1, 0, 0, 0, 0, 0, 2, 2, 1, 1, 0, 0, 0, 0x1F, 0x40, 0, 0, 0x7D, 0, 0, 2, 0, 0, 0, 0,
         0xBB, 0x80, 0, 2, 0xEE, 0,
     ];
-    assert_replies(&rt, &[(0, Reply::Setup { devices }, 8, &body)]);
+    assert_replies(
+        &rt,
+        Order::Big,
+        &[(0, Reply::Setup { devices }, 8, &body)],
+    );
+    let body = [
+        1, 0, 0, 0, 2, 0, 0, 0, 2, 1, 1, 0, 0x40, 0x1F, 0, 0, 0, 0x7D, 0, 0, 0, 2, 0, 0, 0x80,
+        0xBB, 0, 0, 0, 0xEE, 2, 0,
+    ];
+    assert_replies(
+        &rt,
+        Order::Little,
+        &[(0, Reply::Setup { devices }, 8, &body)],
+    );
 }
 
 // Each reply to request 258 is written as a head with this count of words and this body, and read from the body.
-fn assert_replies(rt: &impl Abort, cases: &[(u8, Reply<'_>, u8, &[u8])]) {
+fn assert_replies(rt: &impl Abort, order: Order, cases: &[(u8, Reply<'_>, u8, &[u8])]) {
     for (opcode, reply, words, body) in cases {
         assert!(rt; records_within(reply), "a record is too long");
         let mut out = [0xAA; 16016];
-        let length = write_reply(*opcode, reply, 258, &mut out);
+        let length = write_reply(order, *opcode, reply, 258, &mut out);
         assert_bytes(
             rt,
             "the head of a reply",
             &out[..8],
-            &[1, *opcode, 1, 2, 0, 0, 0, *words],
+            &head(order, *opcode, *words),
         );
         assert_bytes(rt, "the body of a reply", &out[8..length], body);
-        assert!(rt; is_read(*opcode, body, reply), "{opcode}");
+        assert!(rt; is_read(order, *opcode, body, reply), "{opcode}");
+    }
+}
+
+// The head of a reply to request 258.
+fn head(order: Order, opcode: u8, words: u8) -> [u8; 8] {
+    match order {
+        Order::Big => [1, opcode, 1, 2, 0, 0, 0, words],
+        Order::Little => [1, opcode, 2, 1, words, 0, 0, 0],
     }
 }
 
@@ -258,8 +326,8 @@ fn records_within(reply: &Reply<'_>) -> bool
     }
 }
 
-fn is_read(opcode: u8, body: &[u8], reply: &Reply<'_>) -> bool {
-    match read_reply(opcode, body) {
+fn is_read(order: Order, opcode: u8, body: &[u8], reply: &Reply<'_>) -> bool {
+    match read_reply(order, opcode, body) {
         Some(read) => read == *reply,
         None => false,
     }
@@ -332,5 +400,5 @@ fn assert_no_replies(rt: &impl Abort, cases: &[(u8, &[u8])]) {
 }
 
 fn is_no_reply(opcode: u8, body: &[u8]) -> bool {
-    read_reply(opcode, body).is_none()
+    read_reply(Order::Big, opcode, body).is_none()
 }

@@ -1,5 +1,5 @@
 """What .au and WAVE files mean, written down once more, from their standards and not from the programs here: for trials of what
-reads them."""
+reads and writes them."""
 
 import struct
 
@@ -69,7 +69,7 @@ def served(coding, sound):
     if coding == EIGHT:
         return 2, b"".join(struct.pack(">h", (octet - 128) * 256) for octet in sound)
     sound = sound[: len(sound) // 2 * 2]
-    return 2, sound if coding == LINEAR else b"".join(sound[at + 1 : at + 2] + sound[at : at + 1] for at in range(0, len(sound), 2))
+    return 2, sound if coding == LINEAR else swapped(sound)
 
 
 def au(encoding, sound, rate=8000, channels=1, size=None, annotation=b""):
@@ -82,13 +82,26 @@ def chunk(name, octets):
     return name + struct.pack("<I", len(octets)) + octets + bytes(len(octets) % 2)
 
 
-def wave(tag, bits, sound, rate=8000, channels=1, size=None, before=b"", behind=b""):
-    """A WAVE file, with chunks before its format and between that and the sound."""
+def wave(tag, bits, sound, rate=8000, channels=1, size=None, before=b"", behind=b"", pad=b""):
+    """A WAVE file, with chunks before its format and between that and the sound, and a byte behind that."""
     size = len(sound) if size is None else size
     width = channels * bits // 8
     form = chunk(b"fmt ", struct.pack("<HHIIHH", tag, channels, rate, rate * width, width, bits))
-    rest = b"WAVE" + before + form + behind + b"data" + struct.pack("<I", size) + sound
+    rest = b"WAVE" + before + form + behind + b"data" + struct.pack("<I", size) + sound + pad
     return b"RIFF" + struct.pack("<I", len(rest)) + rest
+
+
+def swapped(samples):
+    """Samples of 16 bits with their bytes in the other order."""
+    return b"".join(samples[at + 1 : at + 2] + samples[at : at + 1] for at in range(0, len(samples), 2))
+
+
+def file_of(form, kind, samples, rate, channels=1):
+    """The file of whole frames that a server records, by the number of their type: mu-law, A-law or 16 bits."""
+    if form == "au":
+        return au({0: 1, 1: 27, 2: 3}[kind], samples, rate, channels)
+    tag, bits = {0: (7, 8), 1: (6, 8), 2: (1, 16)}[kind]
+    return wave(tag, bits, swapped(samples) if kind == 2 else samples, rate, channels, pad=bytes(len(samples) % 2))
 
 
 SOUND = bytes.fromhex("0102037f80fffe")

@@ -167,6 +167,14 @@ abbrev pub listed : Result (ArrayVec DeviceInfo) ConnFault → Result (List Devi
 listed (Ok devices) = Ok devices.items
 listed (Err fault) = Err fault
 
+-- the channels of a device with a number among those of a server, one where it is not there
+abbrev pub channels_or_one : Option DeviceInfo → ℕ
+channels_or_one (Some device) = device.channels
+channels_or_one None = 1
+
+abbrev pub device_channels : List DeviceInfo → ℕ → ℕ
+device_channels devices number = channels_or_one (slice_get devices number)
+
 -- a field that a request changes, or zero
 abbrev pub gain_or_zero : Option ℤ → ℤ
 gain_or_zero (Some gain) = gain

@@ -5,7 +5,7 @@ ghost use Rattle.af_request.specs.Fields.{flag_byte};
 ghost use Rattle.af_request.specs.Asked.{request_meaning, create_ac, free_ac, get_time, hook_switch, play_run, query_controls, query_phone, record_run, select_events};
 ghost use Rattle.af_request.specs.Requests.{FitsFrame};
 ghost use Rattle.af_request.specs.Replies.{IsDeviceInfo};
-ghost use Rattle.af_lib.specs.Calls.{as_controls, as_done, as_phone, as_recorded, as_time, bit_if, controls_changed, flag_or_zero, gain_or_zero, recorded_in, settings_changed, Called, Connects, KeepsTail, EventAwaited};
+ghost use Rattle.af_lib.specs.Calls.{as_controls, as_done, as_phone, as_recorded, as_time, bit_if, controls_changed, device_channels, flag_or_zero, gain_or_zero, recorded_in, settings_changed, Called, Connects, KeepsTail, EventAwaited};
 ghost use Rattle.af_sample.specs.Sizes.{longest_play, longest_record};
 ghost use Rattle.af_wire.specs.Sizes.{longest_frame, longest_message};
 
@@ -124,7 +124,8 @@ impl<L: Link + Drop> Conn<L> {
         answer
     }
 
-    /// Creates a context with a number of the client's choice, on a device, of one channel. A device of two channels refuses it.
+    /// Creates a context with a number of the client's choice, on a device, of as many channels as that has. Where the server has
+    /// no such device it asks for one channel, and is refused.
     pub fn create_ac(
         &mut self,
         ac: u32,
@@ -134,14 +135,16 @@ impl<L: Link + Drop> Conn<L> {
         record_by: Gain,
         preempt: bool,
     ) -> Result<(), ConnFault>
-        ensures { Called L.left L.sent L.faults (create_ac device ac (code_of ty) 1 (flag_byte preempt) play record_by)
+        ensures { Called L.left L.sent L.faults
+            (create_ac device ac (code_of ty) (device_channels self.old.devices device) (flag_byte preempt) play record_by)
             as_done self.old self.new result }
     {
+        let channels = self.channels_of(device);
         self.ask(&Request::CreateAc {
             device,
             ac,
             ty: ty.code(),
-            channels: 1,
+            channels,
             preempt: u8::from(preempt),
             play_gain: decibels(play),
             record_gain: decibels(record_by),
@@ -281,6 +284,16 @@ impl<L: Link + Drop> Conn<L> {
         ensures { Called L.left L.sent L.faults (query_phone device) as_phone self.old self.new result }
     {
         self.ask(&Request::QueryPhone { device })
+    }
+
+    // The channels of a device, one where it is not there.
+    fn channels_of(&self, device: u8) -> u8
+        ensures { result ≡ device_channels self.now.devices device }
+    {
+        match self.devices.get(usize::from(device)) {
+            Some(info) => info.channels,
+            None => 1,
+        }
     }
 
     // Sends a request, and takes its answer: a value that the reply states.

@@ -1,2 +1,3 @@
 pub mod ParsedWordLemmas
 pub mod ToolNameLemmas
+pub mod FrameSizeLemmas

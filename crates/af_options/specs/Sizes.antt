@@ -1,6 +1,10 @@
--- The greatest of what the tools keep, in bytes.
-use Rattle.std.specs.Prelude.{ℕ}
+-- The blocks in which the tools play, record and pass.
+use Rattle.std.specs.Prelude.{ℕ, ◌/◌, min}
 
--- a block: 4,000 frames of the widest type
+-- the bytes of the greatest block: 4,000 frames of one sample of the widest type
 abbrev pub greatest_block : ℕ
 greatest_block = 16000
+
+-- how many frames a block has, each of so many bytes: as many as are asked for, or else as many as the greatest block has
+abbrev pub block_frames : (asked frame : ℕ) → ℕ
+block_frames asked frame = min asked (greatest_block / frame)

@@ -62,6 +62,7 @@ unfoldable pub arecord_app : App
 arecord_app = with_rules (new_app (codes "arecord")) (
     rule_at (codes "SERVER") Place ∷
     rule_at (codes "device") FreeOption ∷
+    rule_at (codes "file") FreeOption ∷
     rule_at (codes "type") FreeOption ∷
     rule_at (codes "gain") FreeOption ∷
     rule_at (codes "block") FreeOption ∷
@@ -142,12 +143,14 @@ play_job rows =
 abbrev pub record_job : List Row → Option RecordJob
 record_job rows =
     option_and_then (λ (basics : Basics).
+    option_and_then (λ form.
     option_and_then (λ frames.
     option_and_then (λ stop_peak.
-    option_map (λ stop_blocks. record { device = basics.device; ty = basics.ty; gain = basics.gain; block = basics.block; time = basics.time; frames = frames; stop_peak = stop_peak; stop_blocks = stop_blocks })
+    option_map (λ stop_blocks. record { device = basics.device; form = form; ty = basics.ty; gain = basics.gain; block = basics.block; time = basics.time; frames = frames; stop_peak = stop_peak; stop_blocks = stop_blocks })
     (number_at (codes "stop-blocks") 1 1 1000000 rows))
     (number_at (codes "stop-peak") 0 0 32768 rows))
     (option_and_then (number_in 1 2147483647) (first_of (codes "frames") rows)))
+    (or_default None form_in (first_of (codes "file") rows)))
     (basics_of rows)
 
 -- the job of aset

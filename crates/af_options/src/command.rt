@@ -33,9 +33,10 @@ static APLAY: [Word<'static>; 9] = [
     Word("preempt", ArgumentKind::Flag),
 ];
 
-static ARECORD: [Word<'static>; 9] = [
+static ARECORD: [Word<'static>; 10] = [
     Word("SERVER", ArgumentKind::Place),
     Word("device", ArgumentKind::FreeOption),
+    Word("file", ArgumentKind::FreeOption),
     Word("type", ArgumentKind::FreeOption),
     Word("gain", ArgumentKind::FreeOption),
     Word("block", ArgumentKind::FreeOption),

@@ -27,7 +27,9 @@ pub struct PlayJob {
 pub struct RecordJob {
     /// The number of the device, 0..7.
     pub device: u8,
-    /// The type of the samples, or that of the device.
+    /// The form of the file that is written, or none where the samples are written as they are.
+    pub form: Option<SoundForm>,
+    /// The type of the samples, or that of the device. In a file, samples of 32 bits become some of 16.
     pub ty: Option<SampleType>,
     pub gain: Gain,
     /// The frames of a block, 1..4000.

@@ -1,6 +1,7 @@
 //! What the tools are asked to do, by their words.
 #![tactic(auto)]
 
+mod block;
 mod call;
 mod command;
 mod job;
@@ -8,6 +9,7 @@ mod number;
 mod tool;
 mod words;
 
+pub use block::{GREATEST_BLOCK, block_frames};
 pub use call::{Call, OptionsFault, RelayCall, TaskCall, call_of};
 pub use command::{ArgumentKind, Word, matches_for, text_of};
 pub use job::{PassJob, PlayJob, RecordJob, SetJob, Task};

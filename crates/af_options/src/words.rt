@@ -167,11 +167,13 @@ pub fn record_job(matches: &ArgMatches<'_>) -> Option<RecordJob>
         × (1 ≤ job.stop_blocks) × (job.stop_blocks ≤ 1000000)) }
 {
     let basics = basics_of(matches)?;
+    let form = form_at(matches)?;
     let frames = number_in(1, 2147483647, text_of(matches, "frames")?.as_bytes())?;
     let stop_peak = number_at(matches, "stop-peak", 0, 0, 32768)?;
     let stop_blocks = number_at(matches, "stop-blocks", 1, 1, 1000000)?;
     Some(RecordJob {
         device: basics.device,
+        form,
         ty: basics.ty,
         gain: basics.gain,
         block: basics.block,

@@ -1,5 +1,5 @@
 -- Blocks that are passed, one behind the other.
-use Rattle.std.proofs.Common.{◌≡◌, ℕ, false, zero, suc, ◌-◌, ◌<◌, List, ◌++◌, ap, ◌∙◌, refl, arith}
+use Rattle.std.proofs.Common.{◌≡◌, ℕ, false, zero, suc, ◌-◌, ◌<◌, List, ◌++◌, ap, ◌∙◌, subst, refl, arith}
 use Rattle.std.specs.Prelude.{Result, Ok}
 use Rattle.std.specs.declared.option.Option.{Option}
 use Rattle.std.specs.declared.option.Option.TheVariants.{None, Some}
@@ -14,7 +14,7 @@ use Rattle.af_relay.specs.declared.pass.RelayPace.{RelayPace}
 use Rattle.af_relay.specs.declared.pass.RelayProgress.{RelayProgress}
 use Rattle.af_tool.specs.Trace.{ClientState}
 use Rattle.af_relay.specs.RelayParts.{RelayPart, ObservedRelayPart}
-use Rattle.af_relay.specs.Pass.{RelayTrace, as_word, asks_from, asks_to, ends_contexts, after_block, passes, passes_block, moment_of, to_context}
+use Rattle.af_relay.specs.Pass.{RelayTrace, as_word, asks_from, asks_to, begins_both, ends_contexts, after_block, passes, passes_block, moment_of, to_context}
 use Rattle.af_io.proofs.AppendedLemmas.{appended_on}
 use Rattle.af_relay.proofs.RelayPartLemmas.{both_behind_came, doing_both, doing_both_twice}
 
@@ -83,17 +83,26 @@ passes_next (suc n) job pace passed v w next some = let less : suc n - 1 ≡ n =
 abbrev pub behind_time : PassJob → RelayPace → RelayProgress → Recorded → DevTime → ClientState → ClientState → RelayPart RelayProgress
 behind_time job pace passed r now v w = λ next.
     let place = moment_of passed.due now pace.delay pace.slack in
-    asks_to (play_run false 1 place.time.0 r.samples) as_time w (λ _ w. next (after_block passed place job.block) v w)
+    asks_to (play_run false 1 place.time.0 r.samples) as_time w (λ _ w. next (after_block passed place pace.frames) v w)
 
 abbrev pub behind_record : PassJob → RelayPace → RelayProgress → Recorded → ClientState → ClientState → RelayPart RelayProgress
 behind_record job pace passed r v w = λ next. asks_to (get_time job.to_device) as_word w (λ now w. behind_time job pace passed r now v w next)
 
 -- the second context, and behind it
-abbrev pub behind_first : PassJob → SampleType → ClientState → ClientState → RelayPart DevTime
-behind_first job ty v w = λ next. asks_to (to_context job ty) as_done w (λ _ w. asks_from (get_time job.from_device) as_time v (λ now v. next now v w))
+abbrev pub behind_first : PassJob → SampleType → (channels : ℕ) → ClientState → ClientState → RelayPart DevTime
+behind_first job ty channels v w = λ next. asks_to (to_context job ty channels) as_done w (λ _ w. asks_from (get_time job.from_device) as_time v (λ now v. next now v w))
 
 abbrev pub behind_second : PassJob → ClientState → ClientState → RelayPart DevTime
 behind_second job v w = λ next. asks_from (get_time job.from_device) as_time v (λ now v. next now v w)
+
+-- the beginning of a relay, by other names of its type and of its channels
+pub begins_named : (job : PassJob) (ty ty' : SampleType) (from to channels : ℕ) (v w : ClientState) (r : Result DevTime ToolEnd)
+    (lf : Option (List ℕ)) (wf : List ℕ → ClientState) (s s' : Option (List ℕ)) (lt : Option (List ℕ)) (wt : List ℕ → ClientState) (t t' : Option (List ℕ)) →
+    ty ≡ ty' → from ≡ channels → to ≡ channels → ObservedRelayPart (begins_both job ty from to v w) r lf wf s s' lt wt t t' → ObservedRelayPart (begins_both job ty' channels channels v w) r lf wf s s' lt wt t t'
+begins_named job ty ty' from to channels v w r lf wf s s' lt wt t t' same one other g =
+    subst (λ (x : SampleType). ObservedRelayPart (begins_both job x channels channels v w) r lf wf s s' lt wt t t') same
+    (subst (λ (n : ℕ). ObservedRelayPart (begins_both job ty channels n v w) r lf wf s s' lt wt t t') other
+    (subst (λ (n : ℕ). ObservedRelayPart (begins_both job ty n to v w) r lf wf s s' lt wt t t') one g))
 
 -- the second context is freed
 abbrev pub behind_freed : ClientState → ClientState → RelayPart (Unit {0})

@@ -27,10 +27,10 @@ use Rattle.af_relay.specs.declared.pass.RelayPace.{RelayPace}
 use Rattle.af_relay.specs.declared.pass.RelayProgress.{RelayProgress}
 use Rattle.af_relay.specs.declared.pass.PlayMoment.{PlayMoment}
 use Rattle.af_tool.proofs.ToolEndLemmas.{finish_done}
-use Rattle.af_tool.specs.Trace.{ClientState, answer_on, after_reply, done, mismatch}
+use Rattle.af_tool.specs.Trace.{ClientState, answer_on, after_reply, channel_mismatch, done, mismatch}
 use Rattle.af_options.specs.Ranges.{IsPaced}
-use Rattle.af_relay.specs.Pass.{RelayTrace, after, apass_trace, as_word, asks_by, asks_from, asks_to, at_one_rate, begins_both, ends_both, ends_contexts, from_context, has_drifted, in_step, none_passed, on_one, pace_of, passed_between, after_block, passed_text, passes, passes_block, moment_of, relayed_by, sending_from, sending_to, to_context}
-use Rattle.af_relay.specs.Relayed.{AreTold, IsRelayed, PassedBlock, Relayed, is_moved, is_same_time, moves, play_requests, record_replies, record_requests, reply_then, samples_of, type_from}
+use Rattle.af_relay.specs.Pass.{RelayTrace, after, apass_trace, as_word, asks_by, asks_from, asks_to, of_one_shape, begins_both, ends_both, ends_contexts, from_context, has_drifted, in_step, none_passed, on_one, passed_between, after_block, passed_text, passes, passes_block, moment_of, relayed_by, sending_from, sending_to, to_context}
+use Rattle.af_relay.specs.Relayed.{AreTold, IsRelayed, PassedBlock, Relayed, is_moved, is_same_time, moves, pace_from, play_requests, record_replies, record_requests, reply_then, samples_of, type_from}
 use Rattle.af_relay.proofs.RelayEndLemmas.{reports}
 use Rattle.af_relay.proofs.TimeWordLemmas.{told_low}
 
@@ -110,11 +110,11 @@ record AllPassed (n : ℕ) (job : PassJob) (pace : RelayPace) (passed : RelayPro
   finish : (next passed' v' w').finish ≡ done
   number : length blocks ≡ n
   told : AreTold job w blocks
-  bytes : samples_of blocks ≡ record_replies n job pace.size passed.at v
+  bytes : samples_of blocks ≡ record_replies n pace passed.at v
   sent : relay.to ≡ play_requests job blocks ++ (next passed' v' w').to
-  recorded : relay.from ≡ record_requests n job pace.size passed.at ++ (next passed' v' w').from
+  recorded : relay.from ≡ record_requests n pace passed.at ++ (next passed' v' w').from
   wrote : relay.output ≡ (next passed' v' w').output
-  count : passed'.resynced ≡ passed.resynced + moves job.block passed.due blocks
+  count : passed'.resynced ≡ passed.resynced + moves pace.frames passed.due blocks
 
 passes_done : (n : ℕ) (job : PassJob) (pace : RelayPace) (passed : RelayProgress) (v w : ClientState) (next : RelayProgress → ClientState → ClientState → RelayTrace) → pace.delay < 2 ^ 31 → (passes n job pace passed v w next).finish ≡ done → AllPassed n job pace passed v w next (passes n job pace passed v w next)
 unfolding passes passes_block AreTold samples_of play_requests record_replies record_requests moves
@@ -143,12 +143,12 @@ passes_done (suc n) job pace passed v w next small is =
     let is_c = ap (λ (x : RelayTrace). x.finish) (sym b.is) ∙ is_b in
     let c = done_to (play_run false 1 place.time.0 r.samples) as_time (after_reply w) _ is_c in
     let is_d = ap (λ (x : RelayTrace). x.finish) (sym c.is) ∙ is_c in
-    let d = passes_done n job pace (after_block passed place job.block) (after_reply v) (after_reply (after_reply w)) next small is_d in
+    let d = passes_done n job pace (after_block passed place pace.frames) (after_reply v) (after_reply (after_reply w)) next small is_d in
     let get = request_bytes (get_time job.to_device) in
     let play = request_bytes (play_run false 1 place.time.0 r.samples) in
     let last = (next d.passed' d.v' d.w').to in
     let record_one = request_bytes (record_run true 1 passed.at.0 pace.size) in
-    let others = record_requests n job pace.size (after passed.at job.block) in
+    let others = record_requests n pace (after passed.at pace.frames) in
     record {
       passed' = d.passed';
       v' = d.v';
@@ -158,7 +158,7 @@ passes_done (suc n) job pace passed v w next small is =
       number = ap suc d.number;
       told = (b.good, d.told);
       bytes = ap (λ (l : List (List ℕ)). r.samples ∷ l) d.bytes
-          ∙ ap (λ (x : Result Recorded ConnFault). reply_then x (record_replies n job pace.size (after passed.at job.block) (after_reply v))) (sym a.good);
+          ∙ ap (λ (x : Result Recorded ConnFault). reply_then x (record_replies n pace (after passed.at pace.frames) (after_reply v))) (sym a.good);
       sent = ap (λ (x : RelayTrace). x.to) a.is ∙ ap (λ (x : RelayTrace). x.to) b.is ∙ ap (λ (x : RelayTrace). get ++ x.to) c.is ∙ ap (λ (l : List ℕ). get ++ play ++ l) d.sent
           ∙ sym (append_assoc get (play ++ play_requests job d.blocks) last ∙ ap (λ (l : List ℕ). get ++ l) (append_assoc play (play_requests job d.blocks) last));
       wrote = ap (λ (x : RelayTrace). x.output) a.is ∙ ap (λ (x : RelayTrace). x.output) b.is ∙ ap (λ (x : RelayTrace). x.output) c.is ∙ d.wrote;
@@ -166,7 +166,7 @@ passes_done (suc n) job pace passed v w next small is =
           ∙ sym (append_assoc record_one others (next d.passed' d.v' d.w').from);
       count =
           let here = moved_so passed.due now pace.delay pace.slack (told_low (get_time job.to_device) w now b.good) small in
-          d.count ∙ ap (λ (k : ℕ). passed.resynced + k + moves job.block (Some (after place.time job.block)) d.blocks) (sym here) ∙ omega arith;
+          d.count ∙ ap (λ (k : ℕ). passed.resynced + k + moves pace.frames (Some (after place.time pace.frames)) d.blocks) (sym here) ∙ omega arith;
     }
 
 -- the whole of a relay between two devices
@@ -174,11 +174,11 @@ between_done : (job : PassJob) (device : DeviceInfo) (v w : ClientState) (relay 
 unfolding passed_between begins_both ends_contexts
 between_done job device v w relay whole small end_is =
     let ty = type_from job device in
-    let pace = pace_of job ty device.rate in
+    let pace = pace_from job device in
     let is = ap (λ (x : RelayTrace). x.finish) (sym whole) ∙ end_is in
-    let a = done_from (from_context job ty) as_done v _ is in
+    let a = done_from (from_context job ty device.channels) as_done v _ is in
     let is_b = ap (λ (x : RelayTrace). x.finish) (sym a.is) ∙ is in
-    let b = done_to (to_context job ty) as_done w _ is_b in
+    let b = done_to (to_context job ty device.channels) as_done w _ is_b in
     let is_c = ap (λ (x : RelayTrace). x.finish) (sym b.is) ∙ is_b in
     let c = done_from (get_time job.from_device) as_time (after_reply v) _ is_c in
     let is_d = ap (λ (x : RelayTrace). x.finish) (sym c.is) ∙ is_c in
@@ -186,10 +186,10 @@ between_done job device v w relay whole small end_is =
     let e = done_from (free_ac 1) as_done d.v' _ d.finish in
     let is_f = ap (λ (x : RelayTrace). x.finish) (sym e.is) ∙ d.finish in
     let f = done_to (free_ac 1) as_done d.w' _ is_f in
-    let make_from = request_bytes (from_context job ty) in
-    let make_to = request_bytes (to_context job ty) in
+    let make_from = request_bytes (from_context job ty device.channels) in
+    let make_to = request_bytes (to_context job ty device.channels) in
     let time = request_bytes (get_time job.from_device) in
-    let asked = record_requests job.blocks job pace.size c.value in
+    let asked = record_requests job.blocks pace c.value in
     let free = request_bytes (free_ac 1) in
     record {
       start = c.value;
@@ -214,15 +214,17 @@ between_done job device v w relay whole small end_is =
     }
 
 -- a relay that is done has its devices
-rate_done : (b : Bool) (x y : DeviceInfo) (next : RelayTrace) → (if b then next else ends_both (mismatch x.rate y.rate)).finish ≡ done → (if b then next else ends_both (mismatch x.rate y.rate)) ≡ next
-rate_done true x y next is = refl
-rate_done false x y next is = cc
+shape_done : (b c : Bool) (next : RelayTrace) (x y z u : ℕ) → (if b then (if c then next else ends_both (channel_mismatch x y)) else ends_both (mismatch z u)).finish ≡ done →
+    (if b then (if c then next else ends_both (channel_mismatch x y)) else ends_both (mismatch z u)) ≡ next
+shape_done true true next x y z u is = refl
+shape_done true false next x y z u is = cc
+shape_done false c next x y z u is = cc
 
-devices_done : (o p : Option DeviceInfo) (n m : ℕ) (next : DeviceInfo → RelayTrace) → (on_one o n (λ a. on_one p m (λ b. at_one_rate a b (next a)))).finish ≡ done →
-    (device : DeviceInfo) × (o ≡ Some device) × (on_one o n (λ a. on_one p m (λ b. at_one_rate a b (next a))) ≡ next device)
+devices_done : (o p : Option DeviceInfo) (n m : ℕ) (next : DeviceInfo → RelayTrace) → (on_one o n (λ a. on_one p m (λ b. of_one_shape a b (next a)))).finish ≡ done →
+    (device : DeviceInfo) × (o ≡ Some device) × (on_one o n (λ a. on_one p m (λ b. of_one_shape a b (next a))) ≡ next device)
 devices_done None p n m next is = absurd (cc)
 devices_done (Some a) None n m next is = absurd (cc)
-devices_done (Some a) (Some b) n m next is = (a, refl, rate_done (a.rate == b.rate) a b (next a) is)
+devices_done (Some a) (Some b) n m next is = (a, refl, shape_done (a.rate == b.rate) (a.channels == b.channels) (next a) a.channels b.channels a.rate b.rate is)
 
 -- a relay that is done has passed all blocks
 pub trace_relayed : (job : PassJob) (from to : List DeviceInfo) (v w : ClientState) → ((d : DeviceInfo) → slice_get from job.from_device ≡ Some d → IsDeviceInfo d) → IsPaced job → (apass_trace job from to v w).finish ≡ done →

@@ -5,7 +5,7 @@ use Rattle.std.specs.declared.option.Option.TheVariants.{None, Some}
 use Rattle.af_time.specs.declared.DevTime.{DevTime}
 use Rattle.af_time.specs.DeviceTime.{frames_lasting, word_difference}
 use Rattle.af_sample.specs.declared.sample_type.SampleType.{SampleType}
-use Rattle.af_sample.specs.SampleTypes.{code_of, width_of}
+use Rattle.af_sample.specs.SampleTypes.{code_of, frame_bytes}
 use Rattle.af_request.specs.declared.reply.DeviceInfo.{DeviceInfo}
 use Rattle.af_request.specs.Asked.{Asked, create_ac, free_ac, get_time, play_run, record_run}
 use Rattle.af_request.specs.Answer.{Answer}
@@ -13,7 +13,8 @@ use Rattle.af_request.specs.Requests.{request_bytes}
 use Rattle.af_lib.specs.declared.fault.ConnFault.{ConnFault}
 use Rattle.af_lib.specs.Calls.{as_done, as_recorded, as_time}
 use Rattle.af_options.specs.declared.job.PassJob.{PassJob}
-use Rattle.af_tool.specs.Trace.{Trace, Finish, ClientState, answer_on, after_reply, done, mismatch, no_device, refused}
+use Rattle.af_options.specs.Sizes.{block_frames}
+use Rattle.af_tool.specs.Trace.{Trace, Finish, ClientState, answer_on, after_reply, channel_mismatch, done, mismatch, no_device, refused}
 use Rattle.af_relay.specs.declared.pass.RelayPace.{RelayPace}
 use Rattle.af_relay.specs.declared.pass.RelayProgress.{RelayProgress}
 use Rattle.af_relay.specs.declared.pass.PlayMoment.{PlayMoment}
@@ -102,45 +103,51 @@ passes_block job pace passed v w next =
     asks_to (get_time job.to_device) as_word w (λ now w.
     let place = moment_of passed.due now pace.delay pace.slack in
     asks_to (play_run false 1 place.time.0 r.samples) as_time w (λ _ w.
-    next (after_block passed place job.block) v w)))
+    next (after_block passed place pace.frames) v w)))
 
 -- n blocks
 unfoldable pub passes : ℕ → PassJob → RelayPace → RelayProgress → (v w : ClientState) → (RelayProgress → ClientState → ClientState → RelayTrace) → RelayTrace
 passes zero job pace passed v w next = next passed v w
 passes (suc n) job pace passed v w next = passes_block job pace passed v w (λ passed v w. passes n job pace passed v w next)
 
--- the contexts of a job, of one type
-abbrev pub from_context : PassJob → SampleType → Asked
-from_context job ty = create_ac job.from_device 1 (code_of ty) 1 0 (pos 0) job.gain
+-- the contexts of a job, of one type and as many channels
+abbrev pub from_context : PassJob → SampleType → (channels : ℕ) → Asked
+from_context job ty channels = create_ac job.from_device 1 (code_of ty) channels 0 (pos 0) job.gain
 
-abbrev pub to_context : PassJob → SampleType → Asked
-to_context job ty = create_ac job.to_device 1 (code_of ty) 1 0 (pos 0) (pos 0)
+abbrev pub to_context : PassJob → SampleType → (channels : ℕ) → Asked
+to_context job ty channels = create_ac job.to_device 1 (code_of ty) channels 0 (pos 0) (pos 0)
 
 -- both contexts are made, and the time of the device that is recorded is asked
-unfoldable pub begins_both : PassJob → SampleType → (v w : ClientState) → (DevTime → ClientState → ClientState → RelayTrace) → RelayTrace
-begins_both job ty v w next =
-    asks_from (from_context job ty) as_done v (λ _ v.
-    asks_to (to_context job ty) as_done w (λ _ w.
+unfoldable pub begins_both : PassJob → SampleType → (channels_from channels_to : ℕ) → (v w : ClientState) → (DevTime → ClientState → ClientState → RelayTrace) → RelayTrace
+begins_both job ty channels_from channels_to v w next =
+    asks_from (from_context job ty channels_from) as_done v (λ _ v.
+    asks_to (to_context job ty channels_to) as_done w (λ _ w.
     asks_from (get_time job.from_device) as_time v (λ now v. next now v w)))
 
 -- both contexts are freed
 unfoldable pub ends_contexts : (v w : ClientState) → (Unit {0} → ClientState → ClientState → RelayTrace) → RelayTrace
 ends_contexts v w next = asks_from (free_ac 1) as_done v (λ _ v. asks_to (free_ac 1) as_done w (λ _ w. next tt v w))
 
--- the pace of a job at a rate: the bytes of a block, and the delay and the slack in frames
-abbrev pub pace_of : PassJob → SampleType → (rate : ℕ) → RelayPace
-pace_of job ty rate = record { size = job.block * width_of ty; delay = frames_lasting rate job.delay; slack = frames_lasting rate job.slack }
+-- the pace of a job whose frames have so many bytes, at a rate: the frames and the bytes of a block, and the delay and the slack in
+-- frames
+abbrev pub pace_of : PassJob → (frame rate : ℕ) → RelayPace
+pace_of job frame rate = record {
+  frames = block_frames job.block frame;
+  size = block_frames job.block frame * frame;
+  delay = frames_lasting rate job.delay;
+  slack = frames_lasting rate job.slack;
+}
 
 -- nothing was passed so far
 abbrev pub none_passed : DevTime → RelayProgress
 none_passed now = record { at = now; due = None; resynced = 0 }
 
--- all blocks of a job are passed between two devices of one rate; what follows is told how often the relay fell in step again
+-- all blocks of a job are passed between two devices of one rate and as many channels; what follows is told how often the relay fell in step again
 unfoldable pub passed_between : PassJob → (from : DeviceInfo) → (v w : ClientState) → (ℕ → ClientState → ClientState → RelayTrace) → RelayTrace
 passed_between job device v w next =
     let ty = unwrap_or job.ty device.ty in
-    begins_both job ty v w (λ now v w.
-    passes job.blocks job (pace_of job ty device.rate) (none_passed now) v w (λ passed v w.
+    begins_both job ty device.channels device.channels v w (λ now v w.
+    passes job.blocks job (pace_of job (frame_bytes ty device.channels) device.rate) (none_passed now) v w (λ passed v w.
     ends_contexts v w (λ _ v w. next passed.resynced v w)))
 
 -- what apass writes
@@ -152,9 +159,12 @@ abbrev pub on_one : Option DeviceInfo → ℕ → (DeviceInfo → RelayTrace) �
 on_one (Some device) devices next = next device
 on_one None devices next = ends_both (no_device devices)
 
--- the two devices are to have one rate
-abbrev pub at_one_rate : (from to : DeviceInfo) → RelayTrace → RelayTrace
-at_one_rate from to next = if from.rate == to.rate then next else ends_both (mismatch from.rate to.rate)
+-- the two devices are to have one rate, and as many channels
+abbrev pub of_one_shape : (from to : DeviceInfo) → RelayTrace → RelayTrace
+of_one_shape from to next =
+    if from.rate == to.rate
+    then (if from.channels == to.channels then next else ends_both (channel_mismatch from.channels to.channels))
+    else ends_both (mismatch from.rate to.rate)
 
 -- the trace of apass, by the devices of the two servers and what the links give: it passes all blocks, and then writes how many
 -- these were and how often it fell in step again
@@ -162,4 +172,4 @@ unfoldable pub apass_trace : PassJob → (from to : List DeviceInfo) → (v w : 
 apass_trace job from to v w =
     on_one (slice_get from job.from_device) (length from) (λ a.
     on_one (slice_get to job.to_device) (length to) (λ b.
-    at_one_rate a b (passed_between job a v w (λ resynced _ _. relay_writing (passed_text job.blocks resynced) (ends_both done)))))
+    of_one_shape a b (passed_between job a v w (λ resynced _ _. relay_writing (passed_text job.blocks resynced) (ends_both done)))))

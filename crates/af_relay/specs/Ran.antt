@@ -17,7 +17,7 @@ use Rattle.af_relay.specs.Relayed.{IsRelayed}
 -- A relay ran, by what its links give. What each link was sent and the sink gained are those of the trace, or prefixes of them where
 -- something from outside ended it. Done, the bytes of each play are those of the record reply with its number, and each play's time
 -- is the one before plus the block, but at exactly as many plays as are written. An end of a reply is that of the trace. With both
--- devices there, of one rate, and an awaited reply for each request it is done, unless something from outside ended it.
+-- devices there, of one rate and as many channels, and an awaited reply for each request it is done, unless something from outside ended it.
 pub record ApassRan (job : PassJob) (from to : List DeviceInfo) (v w : ClientState) (how : ToolEnd) (sent sent' sent_to sent_to' held held' : Option (List ℕ)) : Type 0 where
   pub followed : ObservedRelayTrace (apass_trace job from to v w) how sent sent' sent_to sent_to' held held'
   pub relayed : how ≡ end.Done → IsRelayed job from v w sent sent' sent_to sent_to' held held'

@@ -4,6 +4,7 @@ use Rattle.std.specs.declared.option.Option.{Option}
 use Rattle.std.specs.declared.option.Option.TheVariants.{None, Some}
 use Rattle.af_time.specs.declared.DevTime.{DevTime}
 use Rattle.af_sample.specs.declared.sample_type.SampleType.{SampleType}
+use Rattle.af_sample.specs.SampleTypes.{frame_bytes}
 use Rattle.af_io.specs.Observed.{Appended}
 use Rattle.af_request.specs.declared.reply.DeviceInfo.{DeviceInfo}
 use Rattle.af_request.specs.Asked.{free_ac, get_time, play_run, record_run}
@@ -12,6 +13,7 @@ use Rattle.af_lib.specs.declared.fault.ConnFault.{ConnFault}
 use Rattle.af_lib.specs.Calls.{Recorded, as_recorded, as_time}
 use Rattle.af_options.specs.declared.job.PassJob.{PassJob}
 use Rattle.af_tool.specs.Trace.{ClientState, answer_on, after_reply}
+use Rattle.af_relay.specs.declared.pass.RelayPace.{RelayPace}
 use Rattle.af_relay.specs.Pass.{after, as_word, from_context, pace_of, passed_text, to_context}
 
 -- a block that was passed: the time that the other server told before it, when it was played, and its bytes
@@ -30,10 +32,10 @@ unfoldable pub play_requests : PassJob → List PassedBlock → List ℕ
 play_requests job [] = []
 play_requests job (b ∷ blocks) = request_bytes (get_time job.to_device) ++ request_bytes (play_run false 1 b.time.0 b.samples) ++ play_requests job blocks
 
--- n record requests, each of n bytes: the first records from a time on, and each other from a block later
-unfoldable pub record_requests : ℕ → PassJob → (size : ℕ) → DevTime → List ℕ
-record_requests zero job size at = []
-record_requests (suc n) job size at = request_bytes (record_run true 1 at.0 size) ++ record_requests n job size (after at job.block)
+-- n record requests, each of a block: the first records from a time on, and each other from a block later
+unfoldable pub record_requests : ℕ → RelayPace → DevTime → List ℕ
+record_requests zero pace at = []
+record_requests (suc n) pace at = request_bytes (record_run true 1 at.0 pace.size) ++ record_requests n pace (after at pace.frames)
 
 -- what one more record request was answered with
 abbrev pub reply_then : Result Recorded ConnFault → List (List ℕ) → List (List ℕ)
@@ -41,10 +43,10 @@ reply_then (Ok r) replies = r.samples ∷ replies
 reply_then (Err fault) replies = []
 
 -- the bytes of the replies to these record requests
-unfoldable pub record_replies : ℕ → PassJob → (size : ℕ) → DevTime → ClientState → List (List ℕ)
-record_replies zero job size at v = []
-record_replies (suc n) job size at v =
-    reply_then (answer_on (record_run true 1 at.0 size) (as_recorded true size) v) (record_replies n job size (after at job.block) (after_reply v))
+unfoldable pub record_replies : ℕ → RelayPace → DevTime → ClientState → List (List ℕ)
+record_replies zero pace at v = []
+record_replies (suc n) pace at v =
+    reply_then (answer_on (record_run true 1 at.0 pace.size) (as_recorded true pace.size) v) (record_replies n pace (after at pace.frames) (after_reply v))
 
 -- two times are one, as a request states them: in 32 bits
 abbrev pub is_same_time : DevTime → DevTime → Bool
@@ -69,9 +71,9 @@ AreTold job w (b ∷ blocks) = (answer_on (get_time job.to_device) as_word w ≡
 abbrev pub type_from : PassJob → DeviceInfo → SampleType
 type_from job device = unwrap_or job.ty device.ty
 
--- the bytes of a block
-abbrev pub size_from : PassJob → DeviceInfo → ℕ
-size_from job device = (pace_of job (type_from job device) device.rate).size
+-- the pace of a job, where this device is recorded
+abbrev pub pace_from : PassJob → DeviceInfo → RelayPace
+pace_from job device = pace_of job (frame_bytes (type_from job device) device.channels) device.rate
 
 -- What a relay has sent and written that passed all blocks of its job from a device, by what its links gave: the bytes of each
 -- play are those of the record reply with its number, and each play's time is the one before plus the block, but at exactly so
@@ -81,13 +83,13 @@ pub record Relayed (job : PassJob) (device : DeviceInfo) (v w : ClientState) (se
   pub started : answer_on (get_time job.from_device) as_time (after_reply v) ≡ Ok start
   pub blocks : List PassedBlock
   pub number : length blocks ≡ job.blocks
-  pub bytes : samples_of blocks ≡ record_replies job.blocks job (size_from job device) start (after_reply (after_reply v))
+  pub bytes : samples_of blocks ≡ record_replies job.blocks (pace_from job device) start (after_reply (after_reply v))
   pub told : AreTold job (after_reply w) blocks
-  pub recorded : sends_from ≡ request_bytes (from_context job (type_from job device)) ++ request_bytes (get_time job.from_device) ++ record_requests job.blocks job (size_from job device) start ++ request_bytes (free_ac 1)
-  pub played : sends_to ≡ request_bytes (to_context job (type_from job device)) ++ play_requests job blocks ++ request_bytes (free_ac 1)
+  pub recorded : sends_from ≡ request_bytes (from_context job (type_from job device) device.channels) ++ request_bytes (get_time job.from_device) ++ record_requests job.blocks (pace_from job device) start ++ request_bytes (free_ac 1)
+  pub played : sends_to ≡ request_bytes (to_context job (type_from job device) device.channels) ++ play_requests job blocks ++ request_bytes (free_ac 1)
   pub resynced : ℕ
   pub wrote : output ≡ passed_text job.blocks resynced
-  pub moved : resynced ≡ moves job.block None blocks
+  pub moved : resynced ≡ moves (pace_from job device).frames None blocks
 
 -- the same by what the links were sent and the sink holds, before and after, and by the devices of the server that is recorded
 pub record IsRelayed (job : PassJob) (from : List DeviceInfo) (v w : ClientState) (sent sent' sent_to sent_to' held held' : Option (List ℕ)) : Type 0 where

@@ -12,11 +12,12 @@ use af_options::PassJob;
 use af_time::DevTime;
 use af_tool::{CONTEXT, ToolEnd, time_behind};
 
-/// The pace of a relay: the bytes of a block, and in frames how far ahead of the other server's time it plays, and by how much
-/// it may drift from that.
+/// The pace of a relay: the frames and the bytes of a block, and in frames how far ahead of the other server's time it plays, and
+/// by how much it may drift from that.
 #[derive(Clone, Copy)]
 pub struct RelayPace {
-    pub size: u32,
+    pub frames: u32,
+    pub size: usize,
     pub delay: u64,
     pub slack: u64,
 }
@@ -117,7 +118,7 @@ fn pass_block<L: Link + Drop, M: Link + Drop>(
     let now = to.get_time(plan.job.to_device)?;
     let place = moment_of(passed.due, now, plan.pace.delay, plan.pace.slack);
     to.play_run(CONTEXT, place.time, block)?;
-    Ok(after_block(passed, place, plan.job.block))
+    Ok(after_block(passed, place, plan.pace.frames))
 }
 
 /// Passes all blocks of a job, the first of them recorded from a time on.

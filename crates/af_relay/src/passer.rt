@@ -3,10 +3,12 @@ ghost use Rattle.std.specs.Prelude.{◌≡◌, ◌<◌, ◌≤◌, ◌^◌, ◌�
 ghost use Rattle.std.specs.declared.option.Option.{Option};
 ghost use Rattle.std.specs.declared.option.Option.TheVariants.{None};
 ghost use Rattle.af_io.specs.Observed.{CountsFault};
+ghost use Rattle.af_sample.specs.Channels.{IsChannelCount};
 ghost use Rattle.af_request.specs.Replies.{IsDeviceInfo};
+ghost use Rattle.af_lib.specs.Calls.{device_channels};
 ghost use Rattle.af_tool.specs.Ends.{is_of_link, is_of_report, Reports};
 ghost use Rattle.af_relay.specs.RelayParts.{CountsEither, ObservedRelayPartOver, KeepsConnections};
-ghost use Rattle.af_relay.specs.Pair.{is_of_pass, pair_of};
+ghost use Rattle.af_relay.specs.Pair.{is_of_pass, pair_of, HaveChannels};
 ghost use Rattle.af_relay.specs.Ran.{RunsBetween};
 ghost use Rattle.af_options.specs.Ranges.{IsPaced};
 ghost use Rattle.af_relay.specs.Pass.{begins_both, ends_contexts, pace_of, passed_between, passed_text};
@@ -15,21 +17,24 @@ ghost use Rattle.af_options.specs.Sizes.{greatest_block};
 use crate::pass::{RelayPace, RelayPlan, pass_blocks};
 use af_io::{Link, Sink};
 use af_lib::Conn;
-use af_options::PassJob;
+use af_options::{PassJob, block_frames};
 use af_request::DeviceInfo;
 use af_sample::{Gain, SampleType};
 use af_time::DevTime;
 use af_tool::{CONTEXT, ToolEnd, device_with, put, put_number, write_text};
 
-// The pace of a job at a rate.
-fn pace_of(job: &PassJob, ty: SampleType, rate: u32) -> RelayPace
-    requires { (job.now.block ≤ 4000) × (job.now.delay ≤ 3000) }
-    ensures value { result ≡ pace_of job.now ty rate }
+// The pace of a job whose frames have so many bytes, at a rate.
+fn pace_of(job: &PassJob, frame: usize, rate: u32) -> RelayPace
+    requires some { 0 < frame }
+    requires delay { job.now.delay ≤ 3000 }
+    ensures value { result ≡ pace_of job.now frame rate }
     ensures size { result.size ≤ greatest_block }
     ensures delay { result.delay < 2 ^ 40 }
 {
+    let frames = block_frames(job.block, frame);
     RelayPace {
-        size: job.block * ty.width() as u32,
+        frames,
+        size: frames as usize * frame,
         delay: u64::from(rate) * u64::from(job.delay) / 1000,
         slack: u64::from(rate) * u64::from(job.slack) / 1000,
     }
@@ -44,7 +49,8 @@ fn begin_both<L: Link + Drop, M: Link + Drop>(
 ) -> Result<DevTime, ToolEnd>
     requires usable { (from.old.cause ≡ None) × (to.old.cause ≡ None) }
     ensures goes { ObservedRelayPartOver L.left L.sent M.left M.sent from.old from.new to.old to.new
-        (λ v w. begins_both job.now ty v w) result }
+        (λ v w. begins_both job.now ty (device_channels from.old.devices job.now.from_device)
+        (device_channels to.old.devices job.now.to_device) v w) result }
     ensures holds { KeepsConnections L.left L.faults M.left M.faults from.old from.new to.old to.new result }
     ensures end { IfErr result (λ how. is_of_link how ≡ true) }
 {
@@ -69,7 +75,7 @@ fn finish_both<L: Link + Drop, M: Link + Drop>(
     Ok(())
 }
 
-// Passes all blocks of a job between two devices of one rate: how often the relay fell in step again.
+// Passes all blocks of a job between two devices of one rate and as many channels: how often the relay fell in step again.
 fn pass_between<L: Link + Drop, M: Link + Drop>(
     job: &PassJob,
     device: DeviceInfo,
@@ -79,6 +85,8 @@ fn pass_between<L: Link + Drop, M: Link + Drop>(
 ) -> Result<u32, ToolEnd>
     requires usable { (from.old.cause ≡ None) × (to.old.cause ≡ None) }
     requires range { IsPaced job.now }
+    requires alike { HaveChannels job.now from.old.devices to.old.devices device.channels }
+    requires count { IsChannelCount device.channels }
     requires room { greatest_block ≤ length room.old }
     ensures goes { ObservedRelayPartOver L.left L.sent M.left M.sent from.old from.new to.old to.new
         (λ v w. passed_between job.now device v w) result }
@@ -86,9 +94,9 @@ fn pass_between<L: Link + Drop, M: Link + Drop>(
     ensures end { IfErr result (λ how. is_of_link how ≡ true) }
 {
     let ty = job.ty.unwrap_or(device.ty);
-    let pace = pace_of(job, ty, device.rate);
+    let pace = pace_of(job, ty.frame_bytes(device.channels), device.rate);
     let start = begin_both(job, ty, from, to)?;
-    let block = &mut room[..pace.size as usize];
+    let block = &mut room[..pace.size];
     let plan = RelayPlan { job: *job, pace };
     let passed = pass_blocks(&plan, start, from, to, block)?;
     finish_both(from, to)?;
@@ -120,7 +128,7 @@ fn report<K: Sink>(sink: &mut K, blocks: u32, resynced: u32) -> ToolEnd
     write_text(sink, &line[..length])
 }
 
-// The device that is recorded, if both are there and have one rate.
+// The device that is recorded, if both are there and have one rate and as many channels.
 fn pair_of<L: Link + Drop, M: Link + Drop>(
     job: &PassJob,
     from: &Conn<L>,
@@ -131,18 +139,23 @@ fn pair_of<L: Link + Drop, M: Link + Drop>(
 {
     let recorded = device_with(from, job.from_device)?;
     let played = device_with(to, job.to_device)?;
-    if recorded.rate == played.rate {
-        Ok(recorded)
-    } else {
-        Err(ToolEnd::RateMismatch {
+    if recorded.rate != played.rate {
+        return Err(ToolEnd::RateMismatch {
             from: recorded.rate,
             to: played.rate,
-        })
+        });
     }
+    if recorded.channels != played.channels {
+        return Err(ToolEnd::ChannelMismatch {
+            from: recorded.channels,
+            to: played.channels,
+        });
+    }
+    Ok(recorded)
 }
 
-/// Passes blocks from a device of one server to a device of another that has the same rate: each block is recorded, and played
-/// ahead of the other server's time by the delay. Where the two clocks drift apart by more than the slack, the relay falls in
+/// Passes blocks from a device of one server to a device of another that has the same rate and as many channels: each block is
+/// recorded, and played ahead of the other server's time by the delay. Where the two clocks drift apart by more than the slack, the relay falls in
 /// step anew. Then it writes how many blocks were passed, and how often it fell in step again. The connections are ones that were
 /// just made; room for 16000 bytes is handed in.
 pub fn apass<L: Link + Drop, M: Link + Drop, K: Sink>(
@@ -166,6 +179,8 @@ pub fn apass<L: Link + Drop, M: Link + Drop, K: Sink>(
         (pair_of from.old.devices job.now.from_device to.old.devices job.now.to_device ≡ Err (ToolEnd.NoDevice n)) }
     ensures rates { (a b : ℕ) → (result ≡ ToolEnd.RateMismatch a b) ↔
         (pair_of from.old.devices job.now.from_device to.old.devices job.now.to_device ≡ Err (ToolEnd.RateMismatch a b)) }
+    ensures shapes { (a b : ℕ) → (result ≡ ToolEnd.ChannelMismatch a b) ↔
+        (pair_of from.old.devices job.now.from_device to.old.devices job.now.to_device ≡ Err (ToolEnd.ChannelMismatch a b)) }
     ensures link { CountsEither (result ≡ ToolEnd.LinkFault)
         (L.faults from.old.link) (L.faults from.new.link) (M.faults to.old.link) (M.faults to.new.link) }
     ensures sink { CountsFault (result ≡ ToolEnd.SinkFault) (K.faults sink.old) (K.faults sink.new) }

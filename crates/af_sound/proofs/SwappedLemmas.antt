@@ -1,9 +1,13 @@
 -- Pairs that are swapped, place by place.
-use Rattle.std.proofs.Common.{◌≡◌, ◌<◌, ◌+◌, ◌-◌, ◌%◌, ◌==◌, ℕ, List, [], ◌∷◌, length, get_or, refl, sym, ap, ◌∙◌, suc, zero, arith}
+use Rattle.std.proofs.Common.{◌≡◌, ◌≢◌, ◌<◌, ◌≤◌, ◌+◌, ◌-◌, ◌*◌, ◌%◌, ◌==◌, ℕ, List, [], ◌∷◌, ◌++◌, length, get_or, refl, sym, ap, ◌∙◌, suc, zero, arith, inl, inr}
 use Rattle.std.specs.Prelude.{if◌then◌else◌}
+use Rattle.std.specs.List.{SwappedAt}
+use Rattle.std.proofs.lemmas.Bool.{cases_lt}
 use Rattle.std.proofs.lemmas.Bool.Decides.{nat_tests}
 use Rattle.std.proofs.lemmas.List.{ext_get_or}
-use Rattle.af_sound.specs.Served.{swapped}
+use Rattle.af_sound.specs.declared.head.Coding.{Coding}
+use Rattle.af_sound.specs.declared.head.Coding.TheVariants as coding
+use Rattle.af_sound.specs.Served.{HasWholePairs, filed, served, swapped}
 
 -- the other place of a pair
 abbrev pub partner : ℕ → ℕ
@@ -30,3 +34,55 @@ pub swapped_run : (bytes out : List ℕ) → length out ≡ length bytes → len
 swapped_run bytes out size even from =
     ext_get_or 0 out (swapped bytes) (size ∙ sym (length-swapped bytes even))
     (λ k low. from k low ∙ sym (each bytes k even (omega arith)))
+
+-- the first n pairs of a list are swapped, and what is behind them is as it was
+pub record AreSwappedUpTo (first bytes : List ℕ) (n : ℕ) : Type 0 where
+  pub size : length bytes ≡ length first
+  pub front : (k : ℕ) → k < 2 * n → get_or bytes k 0 ≡ get_or first (partner k) 0
+  pub rest : (k : ℕ) → 2 * n ≤ k → get_or bytes k 0 ≡ get_or first k 0
+
+-- one pair more
+pub swapped_on : (first bytes next : List ℕ) (n : ℕ) → AreSwappedUpTo first bytes n → length next ≡ length bytes → SwappedAt bytes next (2 * n) (2 * n + 1) → AreSwappedUpTo first next (n + 1)
+swapped_on first bytes next n s size at = record {
+  size = size ∙ s.size;
+  front = λ k low. elim (cases_lt k (2 * n)) [
+    | inl before ↦
+        let left : k ≢ 2 * n = omega arith in
+        let right : k ≢ 2 * n + 1 = omega arith in
+        at.2 k 0 left right ∙ s.front k before
+    | inr behind ↦ elim (cases_lt k (2 * n + 1)) [
+      | inl is ↦
+          let place : k ≡ 2 * n = omega arith in
+          let other : partner (2 * n) ≡ 2 * n + 1 = grind (arith, nat_tests) in
+          ap (λ (p : ℕ). get_or next p 0) place ∙ at.0 0 ∙ s.rest (2 * n + 1) (omega arith) ∙ ap (λ (p : ℕ). get_or first p 0) (sym other) ∙ ap (λ (p : ℕ). get_or first (partner p) 0) (sym place)
+      | inr is ↦
+          let place : k ≡ 2 * n + 1 = omega arith in
+          let other : partner (2 * n + 1) ≡ 2 * n = grind (arith, nat_tests) in
+          ap (λ (p : ℕ). get_or next p 0) place ∙ at.1 0 ∙ s.rest (2 * n) (omega arith) ∙ ap (λ (p : ℕ). get_or first p 0) (sym other) ∙ ap (λ (p : ℕ). get_or first (partner p) 0) (sym place)
+    ]
+  ];
+  rest = λ k high.
+      let left : k ≢ 2 * n = omega arith in
+      let right : k ≢ 2 * n + 1 = omega arith in
+      at.2 k 0 left right ∙ s.rest k (omega arith);
+}
+
+-- pairs that are swapped twice are as they were
+swapped_twice : (bytes : List ℕ) → length bytes % 2 ≡ 0 → swapped (swapped bytes) ≡ bytes
+swapped_twice [] even = refl
+swapped_twice (a ∷ []) even = absurd (omega arith)
+swapped_twice (a ∷ b ∷ rest) even = ap (λ (l : List ℕ). a ∷ b ∷ l) (swapped_twice rest (omega arith))
+
+-- the sound of a file that is written of samples is taken as these
+pub served_again : (c : Coding) (bytes : List ℕ) → c ≢ coding.U8 → HasWholePairs c (length bytes) → served c (filed c bytes) ≡ bytes
+served_again coding.Mu255 bytes written whole = refl
+served_again coding.Alaw bytes written whole = refl
+served_again coding.Lin16Big bytes written whole = refl
+served_again coding.Lin16Little bytes written whole = swapped_twice bytes whole
+served_again coding.U8 bytes written whole = absurd (written refl)
+
+-- whole pairs, and what is behind them
+pub swapped_append : (a b : List ℕ) → length a % 2 ≡ 0 → swapped (a ++ b) ≡ swapped a ++ swapped b
+swapped_append [] b even = refl
+swapped_append (x ∷ []) b even = absurd (omega arith)
+swapped_append (x ∷ y ∷ rest) b even = ap (λ (l : List ℕ). y ∷ x ∷ l) (swapped_append rest b (omega arith))

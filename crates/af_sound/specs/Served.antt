@@ -1,4 +1,4 @@
--- The sound of a file as a server takes it.
+-- The sound of a file as a server takes it, and the other way.
 use Rattle.std.specs.Prelude.{◌≡◌, ◌*◌, ◌%◌, ℕ, ℤ, pos, ◌-ℤ◌, ◌*ℤ◌, List, [], ◌∷◌, map}
 use Rattle.af_sample.specs.declared.sample_type.SampleType.TheVariants as ty
 use Rattle.af_sample.specs.Samples.{bytes_of}
@@ -21,6 +21,11 @@ served Alaw bytes = bytes
 served Lin16Big bytes = bytes
 served Lin16Little bytes = swapped bytes
 served U8 bytes = bytes_of ty.Lin16 (map sample_of bytes)
+
+-- the sound of a file that a server takes as these samples, in a coding that is written
+abbrev pub filed : Coding → List ℕ → List ℕ
+filed Lin16Little bytes = swapped bytes
+filed _ bytes = bytes
 
 -- how many bytes a server takes in place of some
 abbrev pub served_length : Coding → ℕ → ℕ

@@ -11,5 +11,5 @@ mod writer;
 
 pub use head::{Coding, HeadStep, SoundFault, SoundForm, SoundHead};
 pub use head_reader::HeadReader;
-pub use served::to_server;
+pub use served::{to_file, to_server};
 pub use writer::write_sound_head;

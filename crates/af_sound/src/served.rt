@@ -1,8 +1,8 @@
-// The sound of a file as a server takes it.
-ghost use Rattle.std.specs.Prelude.{◌≡◌, ◌*◌, ◌%◌, length, map};
+// The sound of a file as a server takes it, and the other way.
+ghost use Rattle.std.specs.Prelude.{◌≡◌, ◌≢◌, ◌*◌, ◌%◌, length, map};
 ghost use Rattle.af_sample.specs.declared.sample_type.SampleType.TheVariants as ty;
 ghost use Rattle.af_sample.specs.Samples.{bytes_of};
-ghost use Rattle.af_sound.specs.Served.{HasWholePairs, sample_of, served, served_length, swapped};
+ghost use Rattle.af_sound.specs.Served.{HasWholePairs, filed, sample_of, served, served_length, swapped};
 
 use crate::Coding;
 use af_sample::{SampleType, encode};
@@ -18,6 +18,29 @@ pub fn to_server(coding: Coding, bytes: &[u8], out: &mut [u8])
         Coding::Mu255 | Coding::Alaw | Coding::Lin16Big => out.copy_from_slice(bytes),
         Coding::Lin16Little => swap_pairs(bytes, out),
         Coding::U8 => widen(bytes, out),
+    }
+}
+
+/// Turns samples of a server, mu-law, A-law or big-endian ones of 16 bits, into the sound of a file. No file of 8 bits without a
+/// sign is written.
+pub fn to_file(coding: Coding, samples: &mut [u8])
+    requires written { coding ≢ Coding.U8 }
+    requires whole { HasWholePairs coding (length samples.old) }
+    ensures sound { samples.new ≡ filed coding samples.old }
+    ensures again { served coding samples.new ≡ samples.old }
+{
+    if coding == Coding::Lin16Little {
+        swap_in_place(samples);
+    }
+}
+
+// The bytes of each pair change their places.
+fn swap_in_place(bytes: &mut [u8])
+    requires { length bytes.old % 2 ≡ 0 }
+    ensures { bytes.new ≡ swapped bytes.old }
+{
+    for i in 0..bytes.len() / 2 {
+        bytes.swap(2 * i, 2 * i + 1);
     }
 }
 

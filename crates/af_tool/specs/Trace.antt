@@ -33,7 +33,7 @@ pub data Finish : Type 0 where
   no_device : (devices : ℕ) → Finish
   -- two devices, or a file and a device, have these different rates
   mismatch : (from to : ℕ) → Finish
-  -- a file and a device have these different numbers of channels
+  -- two devices, or a file and a device, have these different numbers of channels
   channel_mismatch : (from to : ℕ) → Finish
   -- the source does not begin with the head of a sound file, or ends inside of one
   bad_sound : (fault : SoundFault) → Finish

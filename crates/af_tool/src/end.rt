@@ -21,7 +21,7 @@ pub enum ToolEnd {
     NoDevice { devices: u8 },
     /// Two devices, or a file and a device, have these different rates.
     RateMismatch { from: u32, to: u32 },
-    /// A file and a device have one rate, and these different numbers of channels.
+    /// Two devices, or a file and a device, have one rate, and these different numbers of channels.
     ChannelMismatch { from: u8, to: u8 },
     /// The source does not begin with the head of a sound file.
     BadSound { fault: SoundFault },

@@ -2,7 +2,7 @@
 ghost use Rattle.std.specs.Prelude.{◌≡◌, true, IfErr};
 ghost use Rattle.std.specs.declared.option.Option.TheVariants.{None};
 ghost use Rattle.af_request.specs.Asked.{free_ac};
-ghost use Rattle.af_lib.specs.Calls.{as_done};
+ghost use Rattle.af_lib.specs.Calls.{as_done, device_channels};
 ghost use Rattle.af_tool.specs.Trace.{asks, begins};
 ghost use Rattle.af_tool.specs.Talk.{creates};
 ghost use Rattle.af_tool.specs.Ends.{is_of_link, ObservedPartOver, KeepsConnection};
@@ -26,10 +26,11 @@ pub struct ToolContext {
     pub preempt: bool,
 }
 
-/// Creates the context, and asks for the device's time.
+/// Creates the context, with the channels of its device, and asks for the device's time.
 pub fn begin<L: Link + Drop>(conn: &mut Conn<L>, context: ToolContext) -> Result<DevTime, ToolEnd>
     requires { conn.old.cause ≡ None }
-    ensures goes { ObservedPartOver L.left L.sent conn.old conn.new (λ w. begins (creates context) context.device w) result }
+    ensures goes { ObservedPartOver L.left L.sent conn.old conn.new
+        (λ w. begins (creates (device_channels conn.old.devices context.device) context) context.device w) result }
     ensures holds { KeepsConnection L.left L.faults conn.old conn.new result }
     ensures end { IfErr result (λ how. is_of_link how ≡ true) }
 {

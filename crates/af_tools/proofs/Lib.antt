@@ -3,10 +3,12 @@ pub mod PartProgressLemmas
 pub mod PlayBlockLemmas
 pub mod PlayStepLemmas
 pub mod PlayTailLemmas
+pub mod WritingLemmas
 pub mod RecordBlockLemmas
 pub mod TraceEndLemmas
 pub mod DeviceChoiceLemmas
 pub mod RecordTailLemmas
+pub mod FiledLemmas
 pub mod SetRequestLemmas
 pub mod OneServerLemmas
 pub mod DialLemmas

@@ -17,6 +17,8 @@ use Rattle.af_tool.specs.declared.end.ToolEnd.{ToolEnd}
 use Rattle.af_tool.specs.declared.end.ToolEnd.TheVariants as end
 use Rattle.af_options.specs.declared.job.PassJob.{PassJob}
 use Rattle.af_options.specs.declared.job.PlayJob.{PlayJob}
+use Rattle.af_options.specs.declared.job.RecordJob.{RecordJob}
+use Rattle.af_options.specs.declared.job.Task.{Task}
 use Rattle.af_options.specs.declared.job.Task.TheVariants as task
 use Rattle.af_options.specs.declared.call.Call.{Call}
 use Rattle.af_options.specs.declared.call.Call.TheVariants as call
@@ -26,13 +28,15 @@ use Rattle.af_options.specs.Ranges.{IsPaced, IsRanged}
 use Rattle.af_relay.specs.Pass.{RelayTrace, apass_trace, sending_from, sending_to}
 use Rattle.af_tools.specs.Dialled.{connects_by, dials_to, relay_trace}
 use Rattle.af_tools.specs.Play.{aplay_trace}
+use Rattle.af_tools.specs.Record.{arecord_trace}
 use Rattle.af_tool.specs.Ends.{ObservedTrace, is_outer}
 use Rattle.af_relay.specs.Relayed.{IsRelayed}
-use Rattle.af_tools.specs.Run.{JobDone, ReturnedLinks, PlayRan, JobRan, RelayRan, one_trace}
+use Rattle.af_tools.specs.Run.{JobDone, ReturnedLinks, PlayRan, JobRan, RecordRan, RelayRan, one_trace, task_trace}
 use Rattle.af_options.specs.Words.{Job, one, relay}
 use Rattle.af_tool.proofs.ToolEndLemmas.{finish_done, reply_of}
 use Rattle.af_relay.proofs.RelayedLemmas.{answered_from, answered_to, trace_relayed}
 use Rattle.af_tools.proofs.PlayedBlockLemmas.{answered_done, is_played}
+use Rattle.af_tools.proofs.FiledLemmas.{is_recorded}
 use Rattle.af_tools.proofs.DialLemmas.{run_done}
 use Rattle.af_tools.proofs.OneServerLemmas.{device_of, rates_of}
 use Rattle.af_tools.proofs.SoundEndLemmas.{ends_by_sound}
@@ -139,20 +143,20 @@ ran_relayed from to job bytes how links links' held held' back back' r paced way
       link = consumed_both links links' r.sends_from r.sends_to (setup_bytes ++ b.part.from) (setup_bytes ++ b.part.to) back back' from_is to_is r.link;
     }
 
--- aplay that is done behind its setup
-record AfterSetup (job : PlayJob) (bytes : List ℕ) (links : List ToldLink) : Type 0 where
+-- a tool with one server that is done behind its setup
+record AfterSetup (t : Task) (bytes : List ℕ) (links : List ToldLink) : Type 0 where
   first : ToldLink
   rest : List ToldLink
   links_are : links ≡ first ∷ rest
   devices : List DeviceInfo
   set : answered as_devices 0 0 (next_message (unused first.gives)).found ≡ Ok devices
-  whole : one_trace (task.Play job) links bytes ≡ sending setup_bytes (aplay_trace job devices bytes (set_up first.gives))
+  whole : one_trace t links bytes ≡ sending setup_bytes (task_trace t devices bytes (set_up first.gives))
 
-behind_setup : (job : PlayJob) (bytes : List ℕ) (links : List ToldLink) → (one_trace (task.Play job) links bytes).finish ≡ done → AfterSetup job bytes links
+behind_setup : (t : Task) (bytes : List ℕ) (links : List ToldLink) → (one_trace t links bytes).finish ≡ done → AfterSetup t bytes links
 unfolding connects
-behind_setup job bytes [] is = cc
-behind_setup job bytes (first ∷ rest) is =
-    let a = answered_done (answered as_devices 0 0 (next_message (unused first.gives)).found) (set_up first.gives) (λ devices w. aplay_trace job devices bytes w) is in
+behind_setup t bytes [] is = cc
+behind_setup t bytes (first ∷ rest) is =
+    let a = answered_done (answered as_devices 0 0 (next_message (unused first.gives)).found) (set_up first.gives) (λ devices w. task_trace t devices bytes w) is in
     record { first = first; rest = rest; links_are = refl; devices = a.0; set = a.1; whole = ap (sending setup_bytes) a.2 }
 
 -- a trace that is sent and written to its end
@@ -171,30 +175,62 @@ followed_whole trace how held held' way finish sink = record {
   sink = sink;
 }
 
+-- what a tool with one server that is done did behind its setup
+record OneDone (t : Task) (bytes : List ℕ) (how : ToolEnd) (links : List ToldLink) (links' : Option (List ToldLink)) (held held' : Option (List ℕ)) (back back' : Option (List (List ℕ))) : Type 0 where
+  after : AfterSetup t bytes links
+  followed : ObservedTrace (task_trace t after.devices bytes (set_up after.first.gives)) how (Some []) (Some (task_trace t after.devices bytes (set_up after.first.gives)).sends) held held'
+  link : ReturnedLinks links links' (setup_bytes ++ (task_trace t after.devices bytes (set_up after.first.gives)).sends) [] back back'
+
+one_done : (server : Text) (t : Task) (bytes : List ℕ) (how : ToolEnd) (links : List ToldLink) (links' : Option (List ToldLink)) (held held' : Option (List ℕ)) (back back' : Option (List (List ℕ))) →
+    JobRan (one server t) bytes how links links' held held' back back' → how ≡ end.Done → OneDone t bytes how links links' held held' back back'
+one_done server t bytes how links links' held held' back back' r way =
+    let trace = one_trace t links bytes in
+    let a = r.recorded.whole (ap is_outer way) in
+    let p = r.played.whole (ap is_outer way) in
+    let finish = finish_done trace.finish (sym a.0 ∙ way) in
+    let b = behind_setup t bytes links finish in
+    let inner = task_trace t b.devices bytes (set_up b.first.gives) in
+    let from_is = sent_all trace.sends r.sends_from r.recorded.unsent (setup_bytes ++ inner.sends) r.recorded.sent a.1 (ap (λ (x : Trace). x.sends) b.whole) in
+    let to_is = sent_all [] r.sends_to r.played.unsent [] r.played.sent p.1 refl in
+    let output_is = sent_all trace.output r.output r.recorded.unwritten inner.output r.recorded.wrote a.2 (ap (λ (x : Trace). x.output) b.whole) in
+    record {
+      after = b;
+      followed = followed_whole inner how held held' way (ap (λ (x : Trace). x.finish) (sym b.whole) ∙ finish) (subst (λ (l : List ℕ). Appended held l held') output_is r.sink);
+      link = consumed_both links links' r.sends_from r.sends_to (setup_bytes ++ inner.sends) [] back back' from_is to_is r.link;
+    }
+
 -- what aplay that is done has played is heard as it was intended
 ran_played : (server : Text) (job : PlayJob) (bytes : List ℕ) (how : ToolEnd) (links : List ToldLink) (links' : Option (List ToldLink)) (held held' : Option (List ℕ)) (back back' : Option (List (List ℕ))) →
     JobRan (one server (task.Play job)) bytes how links links' held held' back back' → 0 < job.block → how ≡ end.Done → PlayRan job bytes links links' held held' back back'
 ran_played server job bytes how links links' held held' back back' r some way =
-    let trace = one_trace (task.Play job) links bytes in
-    let a = r.recorded.whole (ap is_outer way) in
-    let p = r.played.whole (ap is_outer way) in
-    let finish = finish_done trace.finish (sym a.0 ∙ way) in
-    let b = behind_setup job bytes links finish in
-    let w = set_up b.first.gives in
-    let inner = aplay_trace job b.devices bytes w in
-    let from_is = sent_all trace.sends r.sends_from r.recorded.unsent (setup_bytes ++ inner.sends) r.recorded.sent a.1 (ap (λ (x : Trace). x.sends) b.whole) in
-    let to_is = sent_all [] r.sends_to r.played.unsent [] r.played.sent p.1 refl in
-    let output_is = sent_all trace.output r.output r.recorded.unwritten inner.output r.recorded.wrote a.2 (ap (λ (x : Trace). x.output) b.whole) in
+    let d = one_done server (task.Play job) bytes how links links' held held' back back' r way in
+    let b = d.after in
     record {
       first = b.first;
       rest = b.rest;
       links_are = b.links_are;
       devices = b.devices;
       set = b.set;
-      sends = inner.sends;
-      played = is_played job b.devices bytes w how (Some []) (Some inner.sends) held held'
-          (followed_whole inner how held held' way (ap (λ (x : Trace). x.finish) (sym b.whole) ∙ finish) (subst (λ (l : List ℕ). Appended held l held') output_is r.sink)) way some;
-      link = consumed_both links links' r.sends_from r.sends_to (setup_bytes ++ inner.sends) [] back back' from_is to_is r.link;
+      sends = (aplay_trace job b.devices bytes (set_up b.first.gives)).sends;
+      played = is_played job b.devices bytes (set_up b.first.gives) how _ _ held held' d.followed way some;
+      link = d.link;
+    }
+
+-- what arecord that is done has recorded is in its sink
+ran_recorded : (server : Text) (job : RecordJob) (bytes : List ℕ) (how : ToolEnd) (links : List ToldLink) (links' : Option (List ToldLink)) (held held' : Option (List ℕ)) (back back' : Option (List (List ℕ))) →
+    JobRan (one server (task.Record job)) bytes how links links' held held' back back' → how ≡ end.Done → RecordRan job links links' held held' back back'
+ran_recorded server job bytes how links links' held held' back back' r way =
+    let d = one_done server (task.Record job) bytes how links links' held held' back back' r way in
+    let b = d.after in
+    record {
+      first = b.first;
+      rest = b.rest;
+      links_are = b.links_are;
+      devices = b.devices;
+      set = b.set;
+      sends = (arecord_trace job b.devices (set_up b.first.gives)).sends;
+      recorded = is_recorded job b.devices (set_up b.first.gives) how _ _ held held' d.followed way;
+      link = d.link;
     }
 
 -- the values of a job are in their ranges
@@ -219,6 +255,7 @@ did j bytes how links links' held held' back back' r ranged = record {
       let range = subst IsInRange same (ranged way) in
       let some : 1 ≤ play.block = range.0 in
       ran_played server play bytes how links links' held held' back back' (subst (λ (x : Job). JobRan x bytes how links links' held held' back back') same r) (omega arith) way;
+  recorded = λ server recording same way. ran_recorded server recording bytes how links links' held held' back back' (subst (λ (x : Job). JobRan x bytes how links links' held held' back back') same r) way;
   relayed = λ from to pass same way.
       ran_relayed from to pass bytes how links links' held held' back back' (subst (λ (x : Job). JobRan x bytes how links links' held held' back back') same r) (subst IsInRange same (ranged way)) way;
   complete = run_done j links bytes _ _ how r.recorded;

@@ -1,36 +1,45 @@
 -- Blocks that are recorded, one behind the other.
-use Rattle.std.proofs.Common.{◌≡◌, ℕ, suc, ◌+◌, ◌-◌, ◌*◌, ◌/◌, ◌%◌, ◌^◌, ◌<◌, ◌≤◌, ◌==◌, min, max, nat_lt, nat_le, unsigned_abs, Bool, ℤ, map, true, false, List, [], ◌∷◌, ◌++◌, length, sym, ap, ap₂, ◌∙◌, subst, refl, arith, inl, inr, if◌then◌else◌}
-use Rattle.std.specs.Prelude.{Ok, Err}
+use Rattle.std.proofs.Common.{◌≡◌, ℕ, suc, ◌+◌, ◌-◌, ◌*◌, ◌/◌, ◌%◌, ◌^◌, ◌<◌, ◌≤◌, ◌==◌, min, max, nat_lt, nat_le, unsigned_abs, Bool, ℤ, map, true, false, List, [], ◌∷◌, ◌++◌, length, sym, ap, ap₂, ◌∙◌, ◌⊎◌, subst, refl, arith, inl, inr, if◌then◌else◌}
+use Rattle.std.specs.Prelude.{Result, Ok, Err}
 use Rattle.std.proofs.lemmas.Bool.Decides.{nat_tests}
 use Rattle.std.proofs.lemmas.Bool.{cases_lt}
 use Rattle.std.proofs.lemmas.List.{map-append}
 use Rattle.std.proofs.lemmas.List.FromFn.{map-range_with_len_more}
 use Rattle.std.specs.List.{range_with_len}
-use Rattle.std.proofs.Math.Nat.{zero-div, zero-mod, div-eq_of_lt, mod-eq_of_lt, add-mul-div_left, add-mul-mod_self_left}
+use Rattle.std.proofs.Math.Nat.{zero-div, zero-mod, div-eq_of_lt, mod-eq_of_lt, add-mul-div_left, add-mul-mod_self_left, mul_comm, mul_left_comm, mul-mod_left}
 use Rattle.std.specs.declared.option.Option.{Option}
-use Rattle.std.specs.declared.option.Option.TheVariants.{Some}
+use Rattle.std.specs.declared.option.Option.TheVariants.{None, Some}
 use Rattle.af_sample.specs.declared.sample_type.SampleType.{SampleType}
-use Rattle.af_sample.specs.SampleTypes.{width_of}
+use Rattle.af_sample.specs.declared.sample_type.SampleType.TheVariants as ty
+use Rattle.af_sample.specs.SampleTypes.{frame_bytes, width_of}
 use Rattle.af_sample.specs.Samples.{decoded, piece, samples}
 use Rattle.af_tool.specs.declared.end.ToolEnd.{ToolEnd}
 use Rattle.af_options.specs.declared.job.RecordJob.{RecordJob}
 use Rattle.af_tool.specs.Trace.{Trace, ClientState}
 use Rattle.af_tool.specs.Ends.{ObservedPart, TracePart}
 use Rattle.af_tool.proofs.TracePartLemmas.{doing, goes_stop}
-use Rattle.af_tools.specs.Record.{block_lengths, ends_row, greatest_of, peak, records, row_below, takes_block}
+use Rattle.af_sound.specs.declared.head.Coding.{Coding}
+use Rattle.af_sound.specs.declared.head.Coding.TheVariants as coding
+use Rattle.af_options.specs.Sizes.{block_frames}
+use Rattle.af_tools.specs.declared.record.RecordedSound.{RecordedSound}
+use Rattle.af_tools.specs.Files.{IsFiledAs}
+use Rattle.af_tools.specs.Sounds.{AreWhole}
+use Rattle.af_tools.specs.Record.{block_lengths, ends_row, greatest_of, peak, recorded_frame, records, row_below, takes_block}
 use Rattle.af_tools.proofs.PartProgressLemmas.{Reaches, goes_same, goes_value, reaches_goes, reaches_none, reaches_on}
 
 -- what is left of recording
-abbrev pub left_to_record : RecordJob → SampleType → (at : ℕ) (peaks : List ℕ) → (frames : ℕ) → ClientState → TracePart (Unit {0})
-left_to_record job ty at peaks frames w = λ next. records job ty at peaks (block_lengths job.block frames) w (next tt)
+abbrev pub left_to_record : RecordJob → RecordedSound → (block at before : ℕ) (peaks : List ℕ) → (frames : ℕ) → ClientState → TracePart ℕ
+left_to_record job sound block at before peaks frames w = λ next. records job sound at before peaks (block_lengths block frames) w next
 
 -- n frames are left to be recorded, behind a row of so many quiet blocks
-pub record IsRecording (job : RecordJob) (ty : SampleType) (start at frames row : ℕ) (first : ClientState) (told : Option (List ℕ)) (wire : List ℕ → ClientState) (sent sent' held held' : Option (List ℕ)) : Type 0 where
+pub record IsRecording (job : RecordJob) (sound : RecordedSound) (block start at frames row : ℕ) (first : ClientState) (told : Option (List ℕ)) (wire : List ℕ → ClientState) (sent sent' held held' : Option (List ℕ)) : Type 0 where
   pub peaks : List ℕ
   pub input : List ℕ
+  pub before : ℕ
   pub is_told : told ≡ Some input
   pub is_row : row ≡ row_below job.stop_peak peaks
-  pub reaches : Reaches (left_to_record job ty start [] job.frames first) (left_to_record job ty at peaks frames (wire input)) sent sent' held held'
+  pub is_before : before + frames ≡ job.frames
+  pub reaches : Reaches (left_to_record job sound block start 0 [] job.frames first) (left_to_record job sound block at before peaks frames (wire input)) sent sent' held held'
 
 lengths_none : (block : ℕ) → block_lengths block 0 ≡ []
 unfolding block_lengths
@@ -84,89 +93,137 @@ unfolding peak samples
 peak_whole ty bytes = refl
 
 -- one block of those that are left
-records_some : (job : RecordJob) (ty : SampleType) (at n : ℕ) (peaks more : List ℕ) (w : ClientState) (next : ClientState → Trace) → records job ty at peaks (n ∷ more) w next
-    ≡ takes_block at (n * width_of ty) w (λ samples v. if ends_row job (peak ty samples ∷ peaks) then next v else records job ty ((at + n) % 2 ^ 32) (peak ty samples ∷ peaks) more v next)
+records_some : (job : RecordJob) (sound : RecordedSound) (at before n : ℕ) (peaks more : List ℕ) (w : ClientState) (next : ℕ → ClientState → Trace) → records job sound at before peaks (n ∷ more) w next
+    ≡ takes_block sound at (n * recorded_frame sound) w (λ p v. if ends_row job (p ∷ peaks) then next (before + n) v else records job sound ((at + n) % 2 ^ 32) (before + n) (p ∷ peaks) more v next)
 unfolding records
-records_some job ty at n peaks more w next = refl
+records_some job sound at before n peaks more w next = refl
 
-records_none : (job : RecordJob) (ty : SampleType) (at : ℕ) (peaks : List ℕ) (w : ClientState) (next : ClientState → Trace) → records job ty at peaks [] w next ≡ next w
+records_none : (job : RecordJob) (sound : RecordedSound) (at before : ℕ) (peaks : List ℕ) (w : ClientState) (next : ℕ → ClientState → Trace) → records job sound at before peaks [] w next ≡ next before w
 unfolding records
-records_none job ty at peaks w next = refl
+records_none job sound at before peaks w next = refl
 
--- what follows a block
-abbrev behind_block : RecordJob → SampleType → (at n frames : ℕ) (peaks samples : List ℕ) → ClientState → TracePart (Unit {0})
-behind_block job ty at n frames peaks samples v = λ next. if ends_row job (peak ty samples ∷ peaks) then next tt v else records job ty ((at + n) % 2 ^ 32) (peak ty samples ∷ peaks) (block_lengths job.block frames) v (next tt)
+-- what follows a block with this peak
+abbrev behind_block : RecordJob → RecordedSound → (block at n before frames : ℕ) (peaks : List ℕ) (p : ℕ) → ClientState → TracePart ℕ
+behind_block job sound block at n before frames peaks p v = λ next.
+    if ends_row job (p ∷ peaks) then next (before + n) v else records job sound ((at + n) % 2 ^ 32) (before + n) (p ∷ peaks) (block_lengths block frames) v next
 
-module _ (job : RecordJob) (ty : SampleType) (start at frames row : ℕ) (first : ClientState) (told : Option (List ℕ)) (wire : List ℕ → ClientState) (sent sent' held held' : Option (List ℕ))
-    (r : IsRecording job ty start at frames row first told wire sent sent' held held') (some : 0 < job.block) where
+module _ (job : RecordJob) (sound : RecordedSound) (block start at frames row : ℕ) (first : ClientState) (told : Option (List ℕ)) (wire : List ℕ → ClientState) (sent sent' held held' : Option (List ℕ))
+    (r : IsRecording job sound block start at frames row first told wire sent sent' held held') (some : 0 < block) where
   -- none is left
-  pub record_done : frames ≡ 0 → ObservedPart (left_to_record job ty start [] job.frames first) (Ok tt) told wire sent sent' held held'
+  pub record_done : frames ≡ 0 → ObservedPart (left_to_record job sound block start 0 [] job.frames first) (Ok job.frames) told wire sent sent' held held'
   record_done none =
-      reaches_goes _ (left_to_record job ty at r.peaks frames (wire r.input)) (Ok tt) told wire sent sent' sent' held held' held' r.reaches
-      (goes_value _ tt r.input told wire sent' held' r.is_told
-      (λ next. ap (λ (l : List ℕ). records job ty at r.peaks l (wire r.input) (next tt)) (ap (block_lengths job.block) none ∙ lengths_none job.block) ∙ records_none job ty at r.peaks (wire r.input) (next tt)))
+      let all : r.before ≡ job.frames = omega (arith, r.is_before) in
+      subst (λ (k : ℕ). ObservedPart (left_to_record job sound block start 0 [] job.frames first) (Ok k) told wire sent sent' held held') all
+      (reaches_goes _ (left_to_record job sound block at r.before r.peaks frames (wire r.input)) (Ok r.before) told wire sent sent' sent' held held' held' r.reaches
+      (goes_value _ r.before r.input told wire sent' held' r.is_told
+      (λ next. ap (λ (l : List ℕ). records job sound at r.before r.peaks l (wire r.input) next) (ap (block_lengths block) none ∙ lengths_none block) ∙ records_none job sound at r.before r.peaks (wire r.input) next)))
 
-  module _ (more : 0 < frames) (n size : ℕ) (is_least : n ≡ min frames job.block) (is_size : size ≡ n * width_of ty) (told' : Option (List ℕ)) (wire' : List ℕ → ClientState) (sent'' held'' : Option (List ℕ)) where
-    next_block : (next : Unit {0} → ClientState → Trace) → left_to_record job ty at r.peaks frames (wire r.input) next
-        ≡ takes_block at size (wire r.input) (λ samples v. behind_block job ty at n (frames - n) r.peaks samples v next)
+  module _ (more : 0 < frames) (n size : ℕ) (is_least : n ≡ min frames block) (is_size : size ≡ n * recorded_frame sound) (told' : Option (List ℕ)) (wire' : List ℕ → ClientState) (sent'' held'' : Option (List ℕ)) where
+    next_block : (next : ℕ → ClientState → Trace) → left_to_record job sound block at r.before r.peaks frames (wire r.input) next
+        ≡ takes_block sound at size (wire r.input) (λ p v. behind_block job sound block at n r.before (frames - n) r.peaks p v next)
     next_block next =
-        ap (λ (l : List ℕ). records job ty at r.peaks l (wire r.input) (next tt)) (lengths_some job.block frames some more)
-        ∙ ap (λ (k : ℕ). records job ty at r.peaks (k ∷ block_lengths job.block (frames - k)) (wire r.input) (next tt)) (sym is_least)
-        ∙ records_some job ty at n r.peaks (block_lengths job.block (frames - n)) (wire r.input) (next tt)
-        ∙ ap (λ (k : ℕ). takes_block at k (wire r.input) (λ samples v. behind_block job ty at n (frames - n) r.peaks samples v next)) (sym is_size)
+        ap (λ (l : List ℕ). records job sound at r.before r.peaks l (wire r.input) next) (lengths_some block frames some more)
+        ∙ ap (λ (k : ℕ). records job sound at r.before r.peaks (k ∷ block_lengths block (frames - k)) (wire r.input) next) (sym is_least)
+        ∙ records_some job sound at r.before n r.peaks (block_lengths block (frames - n)) (wire r.input) next
+        ∙ ap (λ (k : ℕ). takes_block sound at k (wire r.input) (λ p v. behind_block job sound block at n r.before (frames - n) r.peaks p v next)) (sym is_size)
 
     -- the tool ended within the block
-    pub record_stopped : (how : ToolEnd) → ObservedPart {X = List ℕ} (takes_block at size (wire r.input)) (Err how) told' wire' sent' sent'' held' held'' →
-        ObservedPart {X = Unit {0}} (left_to_record job ty start [] job.frames first) (Err how) told' wire' sent sent'' held held''
+    pub record_stopped : (how : ToolEnd) → ObservedPart {X = ℕ} (takes_block sound at size (wire r.input)) (Err how) told' wire' sent' sent'' held' held'' →
+        ObservedPart {X = ℕ} (left_to_record job sound block start 0 [] job.frames first) (Err how) told' wire' sent sent'' held held''
     record_stopped how g =
-        reaches_goes _ (left_to_record job ty at r.peaks frames (wire r.input)) (Err how) told' wire' sent sent' sent'' held held' held'' r.reaches
+        reaches_goes _ (left_to_record job sound block at r.before r.peaks frames (wire r.input)) (Err how) told' wire' sent sent' sent'' held held' held'' r.reaches
         (goes_same _ _ (Err how) told' wire' sent' sent'' held' held'' next_block
-        (goes_stop (takes_block at size (wire r.input)) (λ samples v. behind_block job ty at n (frames - n) r.peaks samples v) how told' told' wire' wire' sent' sent'' held' held'' g))
+        (goes_stop (takes_block sound at size (wire r.input)) (λ p v. behind_block job sound block at n r.before (frames - n) r.peaks p v) how told' told' wire' wire' sent' sent'' held' held'' g))
 
-    module _ (samples : List ℕ) (g : ObservedPart (takes_block at size (wire r.input)) (Ok samples) told' wire' sent' sent'' held' held'') (row' : ℕ)
-        (is_row : row' ≡ (if nat_lt (peak ty samples) job.stop_peak then row + 1 else 0)) where
-      row_grown : row' ≡ row_below job.stop_peak (peak ty samples ∷ r.peaks)
-      row_grown = is_row ∙ ap (λ (k : ℕ). if nat_lt (peak ty samples) job.stop_peak then k else 0) (ap (λ (k : ℕ). k + 1) r.is_row ∙ (let e : row_below job.stop_peak r.peaks + 1 ≡ suc (row_below job.stop_peak r.peaks) = omega arith in e))
+    module _ (p : ℕ) (g : ObservedPart (takes_block sound at size (wire r.input)) (Ok p) told' wire' sent' sent'' held' held'') (row' : ℕ)
+        (is_row : row' ≡ (if nat_lt p job.stop_peak then row + 1 else 0)) where
+      row_grown : row' ≡ row_below job.stop_peak (p ∷ r.peaks)
+      row_grown = is_row ∙ ap (λ (k : ℕ). if nat_lt p job.stop_peak then k else 0) (ap (λ (k : ℕ). k + 1) r.is_row ∙ (let e : row_below job.stop_peak r.peaks + 1 ≡ suc (row_below job.stop_peak r.peaks) = omega arith in e))
 
-      reached : (input : List ℕ) × (told' ≡ Some input) × Reaches (left_to_record job ty start [] job.frames first) (behind_block job ty at n (frames - n) r.peaks samples (wire' input)) sent sent'' held held''
-      reached = reaches_on (left_to_record job ty start [] job.frames first) (left_to_record job ty at r.peaks frames (wire r.input)) (takes_block at size (wire r.input)) (λ samples v. behind_block job ty at n (frames - n) r.peaks samples v) samples told' wire' sent sent' sent'' held held' held'' r.reaches next_block g
+      reached : (input : List ℕ) × (told' ≡ Some input) × Reaches (left_to_record job sound block start 0 [] job.frames first) (behind_block job sound block at n r.before (frames - n) r.peaks p (wire' input)) sent sent'' held held''
+      reached =
+          reaches_on (left_to_record job sound block start 0 [] job.frames first) (left_to_record job sound block at r.before r.peaks frames (wire r.input)) (takes_block sound at size (wire r.input))
+          (λ p v. behind_block job sound block at n r.before (frames - n) r.peaks p v) p told' wire' sent sent' sent'' held held' held'' r.reaches next_block g
 
       -- the block ends a row of quiet ones
-      pub record_quiet : job.stop_blocks ≤ row' → ObservedPart (left_to_record job ty start [] job.frames first) (Ok tt) told' wire' sent sent'' held held''
-      record_quiet long =
+      pub record_quiet : job.stop_blocks ≤ row' → (all : ℕ) → all ≡ job.frames - (frames - n) → ObservedPart (left_to_record job sound block start 0 [] job.frames first) (Ok all) told' wire' sent sent'' held held''
+      record_quiet long all is_all =
           let k = reached in
-          let ends : ends_row job (peak ty samples ∷ r.peaks) ≡ true = ap (nat_le job.stop_blocks) (sym row_grown) ∙ (let t : nat_le job.stop_blocks row' ≡ true = grind (arith, nat_tests) in t) in
-          reaches_goes _ (behind_block job ty at n (frames - n) r.peaks samples (wire' k.0)) (Ok tt) told' wire' sent sent'' sent'' held held'' held'' k.2
-          (goes_value _ tt k.0 told' wire' sent'' held'' k.1
-          (λ next. ap (λ (b : Bool). if b then next tt (wire' k.0) else records job ty ((at + n) % 2 ^ 32) (peak ty samples ∷ r.peaks) (block_lengths job.block (frames - n)) (wire' k.0) (next tt)) ends))
+          let sum : r.before + n ≡ all = omega (arith, r.is_before) in
+          let ends : ends_row job (p ∷ r.peaks) ≡ true = ap (nat_le job.stop_blocks) (sym row_grown) ∙ (let t : nat_le job.stop_blocks row' ≡ true = grind (arith, nat_tests) in t) in
+          subst (λ (k : ℕ). ObservedPart (left_to_record job sound block start 0 [] job.frames first) (Ok k) told' wire' sent sent'' held held'') sum
+          (reaches_goes _ (behind_block job sound block at n r.before (frames - n) r.peaks p (wire' k.0)) (Ok (r.before + n)) told' wire' sent sent'' sent'' held held'' held'' k.2
+          (goes_value _ (r.before + n) k.0 told' wire' sent'' held'' k.1
+          (λ next. ap (λ (b : Bool). if b then next (r.before + n) (wire' k.0) else records job sound ((at + n) % 2 ^ 32) (r.before + n) (p ∷ r.peaks) (block_lengths block (frames - n)) (wire' k.0) next) ends)))
 
       -- recording goes on
-      pub record_on : row' < job.stop_blocks → (at' : ℕ) → at' ≡ (at + n) % 2 ^ 32 → IsRecording job ty start at' (frames - n) row' first told' wire' sent sent'' held held''
+      pub record_on : row' < job.stop_blocks → (at' : ℕ) → at' ≡ (at + n) % 2 ^ 32 → IsRecording job sound block start at' (frames - n) row' first told' wire' sent sent'' held held''
       record_on short at' place =
           let k = reached in
-          let goes_on : ends_row job (peak ty samples ∷ r.peaks) ≡ false = ap (nat_le job.stop_blocks) (sym row_grown) ∙ (let t : nat_le job.stop_blocks row' ≡ false = grind (arith, nat_tests) in t) in
+          let goes_on : ends_row job (p ∷ r.peaks) ≡ false = ap (nat_le job.stop_blocks) (sym row_grown) ∙ (let t : nat_le job.stop_blocks row' ≡ false = grind (arith, nat_tests) in t) in
           record {
-            peaks = peak ty samples ∷ r.peaks;
+            peaks = p ∷ r.peaks;
             input = k.0;
+            before = r.before + n;
             is_told = k.1;
             is_row = row_grown;
+            is_before = omega (arith, r.is_before);
             reaches = record {
               sends = k.2.sends;
               output = k.2.output;
               goes = λ next. k.2.goes next ∙ ap (doing k.2.sends k.2.output)
-                  (ap (λ (b : Bool). if b then next tt (wire' k.0) else records job ty ((at + n) % 2 ^ 32) (peak ty samples ∷ r.peaks) (block_lengths job.block (frames - n)) (wire' k.0) (next tt)) goes_on
-                  ∙ ap (λ (t : ℕ). records job ty t (peak ty samples ∷ r.peaks) (block_lengths job.block (frames - n)) (wire' k.0) (next tt)) (sym place));
+                  (ap (λ (b : Bool). if b then next (r.before + n) (wire' k.0) else records job sound ((at + n) % 2 ^ 32) (r.before + n) (p ∷ r.peaks) (block_lengths block (frames - n)) (wire' k.0) next) goes_on
+                  ∙ ap (λ (t : ℕ). records job sound t (r.before + n) (p ∷ r.peaks) (block_lengths block (frames - n)) (wire' k.0) next) (sym place));
               link = k.2.link;
               sink = k.2.sink;
             };
           }
 
-pub record_begin : (job : RecordJob) (ty : SampleType) (start : ℕ) (first : ClientState) (input : List ℕ) (told : Option (List ℕ)) (wire : List ℕ → ClientState) (sent held : Option (List ℕ)) → told ≡ Some input → wire input ≡ first →
-    IsRecording job ty start start job.frames 0 first told wire sent sent held held
-record_begin job ty start first input told wire sent held is_told is = record {
+pub record_begin : (job : RecordJob) (sound : RecordedSound) (block start : ℕ) (first : ClientState) (input : List ℕ) (told : Option (List ℕ)) (wire : List ℕ → ClientState) (sent held : Option (List ℕ)) → told ≡ Some input → wire input ≡ first →
+    IsRecording job sound block start start job.frames 0 first told wire sent sent held held
+record_begin job sound block start first input told wire sent held is_told is = record {
   peaks = [];
   input = input;
+  before = 0;
   is_told = is_told;
   is_row = refl;
-  reaches = subst (λ (w : ClientState). Reaches (left_to_record job ty start [] job.frames first) (left_to_record job ty start [] job.frames w) sent sent held held) (sym is) (reaches_none (left_to_record job ty start [] job.frames first) sent held);
+  is_before = omega arith;
+  reaches = subst (λ (w : ClientState). Reaches (left_to_record job sound block start 0 [] job.frames first) (left_to_record job sound block start 0 [] job.frames w) sent sent held held) (sym is)
+      (reaches_none (left_to_record job sound block start 0 [] job.frames first) sent held);
 }
+
+-- all frames, in blocks of another name
+pub all_recorded : (job : RecordJob) (sound : RecordedSound) (block block' start : ℕ) (first : ClientState) (result : Result ℕ ToolEnd) (told : Option (List ℕ)) (wire : List ℕ → ClientState) (s s' h h' : Option (List ℕ)) → block ≡ block' →
+    ObservedPart (left_to_record job sound block start 0 [] job.frames first) result told wire s s' h h' → ObservedPart (left_to_record job sound block' start 0 [] job.frames first) result told wire s s' h h'
+all_recorded job sound block block' start first result told wire s s' h h' is g = subst (λ (b : ℕ). ObservedPart (left_to_record job sound b start 0 [] job.frames first) result told wire s s' h h') is g
+
+-- a frame has 1 to 8 bytes, and so the greatest block has some
+pub some_frames : (sound : RecordedSound) (asked : ℕ) → (sound.channels ≡ 1) ⊎ (sound.channels ≡ 2) → 1 ≤ asked → 1 ≤ block_frames asked (recorded_frame sound)
+some_frames sound asked (inl one) some = rw one (by sound.ty) where
+  by : (t : SampleType) → 1 ≤ block_frames asked (frame_bytes t 1)
+  by ty.Mu255 = omega arith
+  by ty.Alaw = omega arith
+  by ty.Lin16 = omega arith
+  by ty.Lin32 = omega arith
+some_frames sound asked (inr two) some = rw two (by sound.ty) where
+  by : (t : SampleType) → 1 ≤ block_frames asked (frame_bytes t 2)
+  by ty.Mu255 = omega arith
+  by ty.Alaw = omega arith
+  by ty.Lin16 = omega arith
+  by ty.Lin32 = omega arith
+
+-- whole frames of a file of 16 bits are whole pairs
+even_run : (n k : ℕ) → (n * (2 * k)) % 2 ≡ 0
+even_run n k = ap (λ (m : ℕ). m % 2) (mul_left_comm n 2 k ∙ mul_comm 2 (n * k)) ∙ mul-mod_left (n * k) 2
+
+pub whole_frames : (sound : RecordedSound) (n size : ℕ) → IsFiledAs sound.coding sound.ty → size ≡ n * recorded_frame sound → AreWhole sound.coding size
+whole_frames sound n size filed is = by sound.coding sound.ty filed is where
+  by : (coding : Option Coding) (t : SampleType) → IsFiledAs coding t → size ≡ n * frame_bytes t sound.channels → AreWhole coding size
+  by None t f is = tt
+  by (Some coding.Mu255) t f is = tt
+  by (Some coding.Alaw) t f is = tt
+  by (Some coding.U8) t f is = tt
+  by (Some coding.Lin16Big) ty.Lin16 f is = ap (λ (m : ℕ). m % 2) is ∙ even_run n sound.channels
+  by (Some coding.Lin16Little) ty.Lin16 f is = ap (λ (m : ℕ). m % 2) is ∙ even_run n sound.channels
+  by (Some coding.Lin16Big) t f is = absurd (cc f.0)
+  by (Some coding.Lin16Little) t f is = absurd (cc f.0)

@@ -22,7 +22,9 @@ use Rattle.af_tools.specs.declared.sound.SourceSound.{SourceSound}
 use Rattle.af_tools.specs.Most.{most_bytes}
 use Rattle.af_tools.specs.Sounds.{as_served, stated_part}
 use Rattle.af_tools.specs.Play.{block_time, blocks, cut, play_context, played_on, plays}
-use Rattle.af_tools.specs.Record.{block_lengths, ends_row, peak, record_context, recorded_on, records}
+use Rattle.af_tools.specs.declared.record.RecordedSound.{RecordedSound}
+use Rattle.af_tools.specs.Files.{recorded_sound}
+use Rattle.af_tools.specs.Record.{ends_row, peak, record_context, recorded_on, records, writes_recording}
 use Rattle.af_tools.specs.Set.{asks_line, asks_where, control_request, hooks, set_on, states_controls}
 
 answer_finish : {X : Type 0} (r : Result X ConnFault) (w : ClientState) (next : X → ClientState → Trace) → ((x : X) (v : ClientState) → IsDoneOrRefused (next x v).finish) → IsDoneOrRefused (answered_by r w next).finish
@@ -65,19 +67,20 @@ played_finish job sound device bytes w next within more =
     plays_finish _ _ _ (length (stated_part sound.length bytes)) _ 0 sound.head (stated_part sound.length bytes) v _ (let few = part_few sound.length bytes in omega arith) (λ frames v.
     asked_finish (free_ac 1) as_done v _ (λ _ v. more frames _ v))))
 
-records_finish : (job : RecordJob) (ty : SampleType) (at : ℕ) (peaks lengths : List ℕ) (w : ClientState) (next : ClientState → Trace) → ((v : ClientState) → IsDoneOrRefused (next v).finish) → IsDoneOrRefused (records job ty at peaks lengths w next).finish
+records_finish : (job : RecordJob) (sound : RecordedSound) (at before : ℕ) (peaks lengths : List ℕ) (w : ClientState) (next : ℕ → ClientState → Trace) → ((frames : ℕ) (v : ClientState) → IsDoneOrRefused (next frames v).finish) →
+    IsDoneOrRefused (records job sound at before peaks lengths w next).finish
 unfolding records
-records_finish job ty at peaks [] w next more = more w
-records_finish job ty at peaks (n ∷ lengths) w next more =
-    asked_finish _ _ w _ (λ r v. if_finish (ends_row job (peak ty r.samples ∷ peaks)) (next v) _ (more v)
-    (records_finish job ty ((at + n) % 2 ^ 32) (peak ty r.samples ∷ peaks) lengths v next more))
+records_finish job sound at before peaks [] w next more = more before w
+records_finish job sound at before peaks (n ∷ lengths) w next more =
+    asked_finish _ _ w _ (λ r v. if_finish (ends_row job (peak sound.ty r.samples ∷ peaks)) (next (before + n) v) _ (more (before + n) v)
+    (records_finish job sound ((at + n) % 2 ^ 32) (before + n) (peak sound.ty r.samples ∷ peaks) lengths v next more))
 
 pub recorded_finish : (job : RecordJob) (device : DeviceInfo) (w : ClientState) (next : ClientState → Trace) → ((v : ClientState) → IsDoneOrRefused (next v).finish) → IsDoneOrRefused (recorded_on job device w next).finish
-unfolding recorded_on
+unfolding recorded_on writes_recording
 recorded_finish job device w next more =
     asked_finish (record_context job device) as_done w _ (λ _ v.
     asked_finish (get_time job.device) as_time v _ (λ now v.
-    records_finish job _ _ [] (block_lengths job.block job.frames) v _ (λ v.
+    records_finish job (recorded_sound job device) _ 0 [] _ v _ (λ frames v.
     asked_finish (free_ac 1) as_done v _ (λ _ v. more v))))
 
 where_finish : (b : Bool) (asked : Asked) (w : ClientState) (next : Unit {0} → ClientState → Trace) → ((x : Unit {0}) (v : ClientState) → IsDoneOrRefused (next x v).finish) → IsDoneOrRefused (asks_where b asked w next).finish

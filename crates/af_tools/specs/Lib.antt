@@ -3,7 +3,9 @@ pub mod Sounds
 pub mod Play
 pub mod Blocks
 pub mod Intent
+pub mod Files
 pub mod Record
+pub mod Recorded
 pub mod Set
 pub mod Ways
 pub mod Fill

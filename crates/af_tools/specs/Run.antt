@@ -17,12 +17,14 @@ use Rattle.af_tools.specs.Record.{arecord_trace}
 use Rattle.af_tools.specs.Set.{aset_trace}
 use Rattle.af_options.specs.declared.job.PassJob.{PassJob}
 use Rattle.af_options.specs.declared.job.PlayJob.{PlayJob}
+use Rattle.af_options.specs.declared.job.RecordJob.{RecordJob}
 use Rattle.af_wire.specs.Front.{setup_bytes}
 use Rattle.af_lib.specs.Calls.{answered, as_devices, ConnState}
 use Rattle.af_relay.specs.Pass.{RelayTrace, apass_trace, on_from, on_to}
 use Rattle.af_tools.specs.Dialled.{alone, dials_to, relay_trace}
 use Rattle.af_relay.specs.Relayed.{IsRelayed}
 use Rattle.af_tools.specs.Intent.{IsPlayed}
+use Rattle.af_tools.specs.Recorded.{IsRecorded}
 use Rattle.af_options.specs.Words.{Job, one, relay}
 use Rattle.af_relay.specs.Pair.{is_of_pass}
 use Rattle.af_tool.specs.Ends.{MatchesTrace, EndsByReply, IsAnswered, is_outer, client_of}
@@ -191,6 +193,17 @@ pub record PlayRan (job : PlayJob) (bytes : List ℕ) (links : List ToldLink) (l
   pub played : IsPlayed job devices bytes (set_up first.gives) (Some []) (Some sends) held held'
   pub link : ReturnedLinks links links' (setup_bytes ++ sends) [] back back'
 
+-- What arecord has recorded on its server: its link was set up and then used, and given back.
+pub record RecordRan (job : RecordJob) (links : List ToldLink) (links' : Option (List ToldLink)) (held held' : Option (List ℕ)) (back back' : Option (List (List ℕ))) : Type 0 where
+  pub first : ToldLink
+  pub rest : List ToldLink
+  pub links_are : links ≡ first ∷ rest
+  pub devices : List DeviceInfo
+  pub set : answered as_devices 0 0 (next_message (unused first.gives)).found ≡ Ok devices
+  pub sends : List ℕ
+  pub recorded : IsRecorded job devices (set_up first.gives) (Some []) (Some sends) held held'
+  pub link : ReturnedLinks links links' (setup_bytes ++ sends) [] back back'
+
 -- the same by what the links that a dial gives, a sink, and a source if the job reads it tell
 abbrev pub RunsJob : {D S K : Type 0} → (links : D → Option (List ToldLink)) → (back : D → Option (List (List ℕ))) → (gives : S → Option (List ℕ)) → (held : K → Option (List ℕ)) →
     Job → ToolEnd → (dial dial' : D) → (source source' : S) → (sink sink' : K) → Type 0
@@ -242,7 +255,7 @@ pub record IsServed (trace : Trace) : Type 0 where
   pub answered : IsAnswered trace
 
 -- What the tools did for a job: it ran, and each end that replies or devices cause is that of its trace. Done, what aplay played is
--- heard as it was intended, and a relay has passed all blocks. If the source gives no more than a tool takes, and the job is served,
+-- heard as it was intended, arecord left a recording, and a relay has passed all blocks. If the source gives no more than a tool takes, and the job is served,
 -- it is done, unless something from outside ended it.
 pub record JobDone (j : Job) (bytes : List ℕ) (how : ToolEnd) (links : List ToldLink) (links' : Option (List ToldLink)) (held held' : Option (List ℕ)) (back back' : Option (List (List ℕ))) : Type 0 where
   pub ran : JobRan j bytes how links links' held held' back back'
@@ -251,6 +264,7 @@ pub record JobDone (j : Job) (bytes : List ℕ) (how : ToolEnd) (links : List To
   pub rates : EndsByRates (on_from (run_trace j links bytes)) how
   pub sound : EndsBySound (on_from (run_trace j links bytes)) how
   pub heard : (server : Text) (play : PlayJob) → j ≡ one server (task.Play play) → how ≡ end.Done → PlayRan play bytes links links' held held' back back'
+  pub recorded : (server : Text) (recording : RecordJob) → j ≡ one server (task.Record recording) → how ≡ end.Done → RecordRan recording links links' held held' back back'
   pub relayed : (from to : Text) (pass : PassJob) → j ≡ relay from to pass → how ≡ end.Done → RelayRan pass links links' held held' back back'
   pub complete : length bytes ≤ most_bytes → IsServed (on_from (run_trace j links bytes)) → (how ≡ end.Done) ⊎ (is_outer how ≡ true)
 

@@ -1,6 +1,7 @@
 //! The tools: what they send, read and write, by their words.
 #![tactic(auto)]
 
+mod file;
 mod fill;
 pub mod laws;
 mod memory;

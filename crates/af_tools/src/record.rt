@@ -1,26 +1,41 @@
 // Blocks are recorded, one behind the other, and written to the sink.
-ghost use Rattle.std.specs.Prelude.{◌≡◌, ◌<◌, ◌≤◌, ◌+◌, ◌*◌, ◌^◌, [], length, nat_lt, if◌then◌else◌, true, Err, IfErr};
+ghost use Rattle.std.specs.Prelude.{◌≡◌, ◌<◌, ◌≤◌, ◌⊎◌, ◌+◌, ◌*◌, ◌^◌, length, nat_lt, if◌then◌else◌, true, Err, IfErr, IfOk};
 ghost use Rattle.std.specs.declared.option.Option.{Option};
 ghost use Rattle.std.specs.declared.option.Option.TheVariants.{None};
 ghost use Rattle.af_io.specs.Observed.{CountsFault};
 ghost use Rattle.af_tool.specs.Ends.{KeepsConnection};
-ghost use Rattle.af_tools.specs.Record.{block_lengths, peak, records, takes_block, value_stored};
+ghost use Rattle.af_tools.specs.Files.{IsFiledAs};
+ghost use Rattle.af_tools.specs.Record.{peak, recorded_frame, records_all, takes_block};
 ghost use Rattle.af_tools.specs.Ways.{is_of_records};
 ghost use Rattle.af_tools.specs.Reading.{ObservedPartWriting};
+ghost use Rattle.af_tools.specs.Sounds.{AreWhole};
 ghost use Rattle.af_options.specs.Sizes.{greatest_block};
 
+use crate::file::file_samples;
 use af_io::{Link, Put, Sink};
 use af_lib::Conn;
-use af_options::RecordJob;
+use af_options::{RecordJob, block_frames};
 use af_sample::{SampleType, decode};
+use af_sound::Coding;
 use af_time::DevTime;
 use af_tool::{CONTEXT, ToolEnd};
 
-/// The type of the samples that are recorded, and when the first of them is.
+/// What is recorded, and how it is written.
 #[derive(Clone, Copy)]
-pub struct Recording {
+pub struct RecordedSound {
     pub ty: SampleType,
-    pub start: DevTime,
+    /// How a file codes the samples, or none where they are written as they are.
+    pub coding: Option<Coding>,
+    pub channels: u8,
+}
+
+impl RecordedSound {
+    /// The bytes of a frame.
+    pub fn frame_bytes(self) -> usize
+        ensures { result ≡ recorded_frame self }
+    {
+        self.ty.frame_bytes(self.channels)
+    }
 }
 
 /// The peak of a block: the greatest absolute value of its samples.
@@ -45,61 +60,69 @@ fn row_behind(row: u32, peak: u32, limit: u32) -> u32
     if peak < limit { row + 1 } else { 0 }
 }
 
-// Records a block, and writes it to the sink.
+// Records a block, and writes it to the sink: its peak.
 fn record_block<L: Link + Drop, K: Sink>(
     conn: &mut Conn<L>,
     sink: &mut K,
+    sound: RecordedSound,
     at: DevTime,
     block: &mut [u8],
-) -> Result<(), ToolEnd>
+) -> Result<u32, ToolEnd>
     requires usable { conn.old.cause ≡ None }
-    requires block { (0 < length block.old) × (length block.old ≤ greatest_block) }
+    requires filed { IsFiledAs sound.coding sound.ty }
+    requires block { (0 < length block.old) × (length block.old ≤ greatest_block) × AreWhole sound.coding (length block.old) }
     ensures goes { ObservedPartWriting L.left L.sent K.held conn.old conn.new sink.old sink.new
-        (λ w. takes_block at.0 (length block.old) w) (value_stored result block.new) }
+        (λ w. takes_block sound at.0 (length block.old) w) result }
     ensures holds { KeepsConnection L.left L.faults conn.old conn.new result }
     ensures end { IfErr result (λ how. is_of_records how ≡ true) }
     ensures fault { CountsFault (result ≡ Err ToolEnd.SinkFault) (K.faults sink.old) (K.faults sink.new) }
 {
     conn.record_run(CONTEXT, at, true, block)?;
+    let peak = peak(sound.ty, block);
+    file_samples(sound.coding, block, sound.ty);
     match sink.write(block) {
-        Put::Done => Ok(()),
+        Put::Done => Ok(peak),
         Put::Failed => Err(ToolEnd::SinkFault),
     }
 }
 
-/// Records n frames from a start on, in blocks, and writes each block. Enough quiet blocks in a row end it.
+/// Records n frames from a start on, in blocks, and writes each block: how many frames these were. Enough quiet blocks in a row
+/// end it.
 pub fn record_blocks<L: Link + Drop, K: Sink>(
     job: &RecordJob,
-    recording: Recording,
+    sound: RecordedSound,
+    start: DevTime,
     conn: &mut Conn<L>,
     sink: &mut K,
     room: &mut [u8],
-) -> Result<(), ToolEnd>
+) -> Result<u32, ToolEnd>
     requires usable { conn.old.cause ≡ None }
+    requires filed { IsFiledAs sound.coding sound.ty }
+    requires shape { (sound.channels ≡ 1) ⊎ (sound.channels ≡ 2) }
     requires block { (1 ≤ job.now.block) × (job.now.block ≤ 4000) }
     requires stop { (1 ≤ job.now.stop_blocks) × (job.now.stop_blocks ≤ 1000000) }
     requires room { greatest_block ≤ length room.old }
     ensures goes { ObservedPartWriting L.left L.sent K.held conn.old conn.new sink.old sink.new
-        (λ w next. records job.now recording.ty recording.start.0 [] (block_lengths job.now.block job.now.frames) w (next tt)) result }
+        (λ w. records_all job.now sound start.0 w) result }
     ensures holds { KeepsConnection L.left L.faults conn.old conn.new result }
     ensures end { IfErr result (λ how. is_of_records how ≡ true) }
     ensures fault { CountsFault (result ≡ Err ToolEnd.SinkFault) (K.faults sink.old) (K.faults sink.new) }
 {
-    let Recording { ty, start } = recording;
-    let width = ty.width();
+    let frame = sound.frame_bytes();
+    let block = block_frames(job.block, frame);
     let mut at = start;
     let mut left = job.frames;
     let mut row = 0;
     while left > 0 {
-        let count = left.min(job.block);
-        let size = count as usize * width;
-        record_block(conn, sink, at, &mut room[..size])?;
+        let count = left.min(block);
+        let size = count as usize * frame;
+        let peak = record_block(conn, sink, sound, at, &mut room[..size])?;
         at = at.after(count);
         left -= count;
-        row = row_behind(row, peak(ty, &room[..size]), job.stop_peak);
+        row = row_behind(row, peak, job.stop_peak);
         if row >= job.stop_blocks {
-            return Ok(());
+            return Ok(job.frames - left);
         }
     }
-    Ok(())
+    Ok(job.frames)
 }

@@ -2,15 +2,18 @@
 ghost use Rattle.std.specs.Prelude.{◌≡◌, ◌≤◌, true, length, unwrap_or, Err, IfErr};
 ghost use Rattle.std.specs.declared.option.Option.TheVariants.{None};
 ghost use Rattle.af_io.specs.Observed.{CountsFault};
+ghost use Rattle.af_request.specs.Replies.{IsDeviceInfo};
 ghost use Rattle.af_tool.specs.Talk.{creates};
 ghost use Rattle.af_tool.specs.Ends.{KeepsConnection};
-ghost use Rattle.af_tools.specs.Record.{arecord_trace, record_context, recorded_on};
+ghost use Rattle.af_tools.specs.Record.{arecord_trace, record_context, recorded_on, writes_recording};
+ghost use Rattle.af_tools.specs.Recorded.{LeavesRecording};
 ghost use Rattle.af_tools.specs.Ways.{is_of_writer, is_of_records};
 ghost use Rattle.af_tools.specs.Reading.{ObservedPartWriting};
 ghost use Rattle.af_tools.specs.Ran.{LacksDevice, RunsTool};
 ghost use Rattle.af_options.specs.Sizes.{greatest_block};
 
-use crate::record::{Recording, record_blocks};
+use crate::file::{recorded_sound, write_front, write_pad};
+use crate::record::record_blocks;
 use af_io::{Link, Sink};
 use af_lib::Conn;
 use af_options::RecordJob;
@@ -33,15 +36,41 @@ fn start_of(job: &RecordJob, now: DevTime) -> DevTime
 fn context_of(job: &RecordJob, device: DeviceInfo) -> ToolContext
     ensures asked { creates result ≡ record_context job.now device }
     ensures device { result.device ≡ job.now.device }
-    ensures ty { result.ty ≡ unwrap_or job.now.ty device.ty }
 {
     ToolContext {
         device: job.device,
-        ty: job.ty.unwrap_or(device.ty),
+        ty: recorded_sound(job, device).ty,
         play: Gain::default(),
         record_by: job.gain,
         preempt: false,
     }
+}
+
+// Records a device from a start on, and writes it, as samples or in a sound file.
+fn write_recording<L: Link + Drop, K: Sink>(
+    job: &RecordJob,
+    device: DeviceInfo,
+    start: DevTime,
+    conn: &mut Conn<L>,
+    sink: &mut K,
+    room: &mut [u8],
+) -> Result<(), ToolEnd>
+    requires usable { conn.old.cause ≡ None }
+    requires shape { IsDeviceInfo device }
+    requires block { (1 ≤ job.now.block) × (job.now.block ≤ 4000) }
+    requires stop { (1 ≤ job.now.stop_blocks) × (job.now.stop_blocks ≤ 1000000) }
+    requires room { greatest_block ≤ length room.old }
+    ensures goes { ObservedPartWriting L.left L.sent K.held conn.old conn.new sink.old sink.new
+        (λ w next. writes_recording job.now device start.0 w (next tt)) result }
+    ensures holds { KeepsConnection L.left L.faults conn.old conn.new result }
+    ensures end { IfErr result (λ how. is_of_records how ≡ true) }
+    ensures fault { CountsFault (result ≡ Err ToolEnd.SinkFault) (K.faults sink.old) (K.faults sink.new) }
+{
+    let sound = recorded_sound(job, device);
+    write_front(sink, job, device)?;
+    let frames = record_blocks(job, sound, start, conn, sink, room)?;
+    let size = u64::from(frames) * sound.frame_bytes() as u64;
+    write_pad(sink, job.form, size)
 }
 
 // Records on a device.
@@ -53,6 +82,7 @@ fn record_on<L: Link + Drop, K: Sink>(
     room: &mut [u8],
 ) -> Result<(), ToolEnd>
     requires usable { conn.old.cause ≡ None }
+    requires shape { IsDeviceInfo device }
     requires block { (1 ≤ job.now.block) × (job.now.block ≤ 4000) }
     requires stop { (1 ≤ job.now.stop_blocks) × (job.now.stop_blocks ≤ 1000000) }
     requires room { greatest_block ≤ length room.old }
@@ -63,15 +93,14 @@ fn record_on<L: Link + Drop, K: Sink>(
     ensures fault { CountsFault (result ≡ Err ToolEnd.SinkFault) (K.faults sink.old) (K.faults sink.new) }
 {
     let context = context_of(job, device);
-    let ty = context.ty;
     let now = begin(conn, context)?;
     let start = start_of(job, now);
-    record_blocks(job, Recording { ty, start }, conn, sink, room)?;
+    write_recording(job, device, start, conn, sink, room)?;
     finish(conn)
 }
 
-/// Records n frames of a device in blocks, and writes each block to the sink. Enough quiet blocks in a row end it early.
-/// The connection is one that was just made; room for 16000 bytes is handed in.
+/// Records n frames of a device in blocks, and writes each block to the sink, as samples or in a sound file. Enough quiet blocks
+/// in a row end it early. The connection is one that was just made; room for 16000 bytes is handed in.
 pub fn arecord<L: Link + Drop, K: Sink>(
     job: &RecordJob,
     conn: &mut Conn<L>,
@@ -86,6 +115,7 @@ pub fn arecord<L: Link + Drop, K: Sink>(
     // what was sent and written, and when it is done
     ensures ran { RunsTool L.left L.sent K.held (λ w. arecord_trace job.now conn.old.devices w)
         job.now.device result conn.old conn.new sink.old sink.new }
+    ensures recorded { LeavesRecording L.left L.sent K.held job.now result conn.old conn.new sink.old sink.new }
 
     // each end has its cause
     ensures end { is_of_writer result ≡ true }

@@ -1,6 +1,6 @@
 // Words of the tools, and what they ask.
 use crate::tests::checks::{holds, words_of};
-use af_options::{Call, OptionsFault, PassJob, PlayJob, RelayCall, Task, TaskCall, call_of};
+use af_options::{Call, OptionsFault, PassJob, PlayJob, RecordJob, RelayCall, Task, TaskCall, call_of};
 use af_sample::{Gain, SampleType};
 use af_sound::SoundForm;
 use std::alloc::Global;
@@ -73,6 +73,23 @@ fn a_sound_file_is_named_by_its_form(rt: HostRuntime) -> Result<(), Fail> {
         &["aplay", "h:1", "--file=wave"],
         Task::Play(job),
     )
+}
+
+#[test]
+fn a_recording_is_named_by_its_form(rt: HostRuntime) -> Result<(), Fail> {
+    let job = RecordJob {
+        device: 0,
+        form: Some(SoundForm::Au),
+        ty: Some(SampleType::Lin32),
+        gain: Gain::default(),
+        block: 1000,
+        time: None,
+        frames: 9,
+        stop_peak: 0,
+        stop_blocks: 1,
+    };
+    let words = ["arecord", "h:1", "--file=au", "--type=lin32", "--frames=9"];
+    ask_task(&rt, rt.alloc(), &words, Task::Record(job))
 }
 
 #[test]

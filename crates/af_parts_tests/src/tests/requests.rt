@@ -187,10 +187,7 @@ fn assert_no_requests(rt: &impl Abort, frames: &[&[u8]]) {
 #[test]
 fn replies_are_written_and_read(rt: HostRuntime) {
     let time = DevTime(0x0102_0304);
-    let recorded = Reply::Recorded {
-        time,
-        samples: &[5, 6, 7, 8, 9],
-    };
+    let samples = &[5, 6, 7, 8, 9];
     let controls = Controls {
         input_on: true,
         output_on: false,
@@ -212,7 +209,7 @@ fn replies_are_written_and_read(rt: HostRuntime) {
             (6, Reply::Played { time }, 1, &[1, 2, 3, 4]),
             (
                 7,
-                recorded,
+                Reply::Recorded { time, samples },
                 4,
                 &[1, 2, 3, 4, 0, 0, 0, 5, 5, 6, 7, 8, 9, 0, 0, 0],
             ),
@@ -239,7 +236,7 @@ fn replies_are_written_and_read(rt: HostRuntime) {
             (2, Reply::Time { time }, 1, &[4, 3, 2, 1]),
             (
                 7,
-                recorded,
+                Reply::Recorded { time, samples },
                 4,
                 &[4, 3, 2, 1, 5, 0, 0, 0, 5, 6, 7, 8, 9, 0, 0, 0],
             ),
@@ -257,6 +254,27 @@ fn replies_are_written_and_read(rt: HostRuntime) {
 
 #[test]
 fn the_reply_to_a_setup_has_the_devices(rt: HostRuntime) {
+    let body = [
+        0, 1, 0, 0, 0, 0, 0, 2, 2, 1, 1, 0, 0, 0, 0x1F, 0x40, 0, 0, 0x7D, 0, 0, 2, 0, 0, 0, 0,
+        0xBB, 0x80, 0, 2, 0xEE, 0,
+    ];
+    assert_replies(
+        &rt,
+        Order::Big,
+        &[(0, Reply::Setup { devices: two_devices() }, 8, &body)],
+    );
+    let body = [
+        1, 0, 0, 0, 2, 0, 0, 0, 2, 1, 1, 0, 0x40, 0x1F, 0, 0, 0, 0x7D, 0, 0, 0, 2, 0, 0, 0x80,
+        0xBB, 0, 0, 0, 0xEE, 2, 0,
+    ];
+    assert_replies(
+        &rt,
+        Order::Little,
+        &[(0, Reply::Setup { devices: two_devices() }, 8, &body)],
+    );
+}
+
+fn two_devices() -> Devices {
     let mut devices = Devices::new();
     devices.push(DeviceInfo {
         ty: SampleType::Lin16,
@@ -272,24 +290,7 @@ fn the_reply_to_a_setup_has_the_devices(rt: HostRuntime) {
         rate: 48000,
         horizon: 192000,
     });
-    let body = [
-        0, 1, 0, 0, 0, 0, 0, 2, 2, 1, 1, 0, 0, 0, 0x1F, 0x40, 0, 0, 0x7D, 0, 0, 2, 0, 0, 0, 0,
-        0xBB, 0x80, 0, 2, 0xEE, 0,
-    ];
-    assert_replies(
-        &rt,
-        Order::Big,
-        &[(0, Reply::Setup { devices }, 8, &body)],
-    );
-    let body = [
-        1, 0, 0, 0, 2, 0, 0, 0, 2, 1, 1, 0, 0x40, 0x1F, 0, 0, 0, 0x7D, 0, 0, 0, 2, 0, 0, 0x80,
-        0xBB, 0, 0, 0, 0xEE, 2, 0,
-    ];
-    assert_replies(
-        &rt,
-        Order::Little,
-        &[(0, Reply::Setup { devices }, 8, &body)],
-    );
+    devices
 }
 
 // Each reply to request 258 is written as a head with this count of words and this body, and read from the body.

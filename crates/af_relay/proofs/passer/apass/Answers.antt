@@ -2,7 +2,7 @@ use Rattle.std.proofs.Common.{◌≡◌, ◌∙◌, true, false, ap, sym, refl}
 use Rattle.af_tool.specs.Ends.{is_of_link, is_of_report, client_of}
 use Rattle.af_relay.specs.Pass.{passed_between, passed_text}
 use Rattle.af_relay.proofs.RelayedLemmas.{is_relayed}
-use Rattle.af_relay.proofs.RelayEndLemmas.{apart_followed, apart_iff, apass_there, both_followed_on, both_followed_stop, pair_stated, pair_undone, pass_ran, reports, there_neither}
+use Rattle.af_relay.proofs.RelayEndLemmas.{apart_followed, apart_iff, apass_there, both_followed_on, both_followed_stop, pair_alike, pair_stated, pair_undone, pass_ran, reports, there_neither}
 use Rattle.af_relay.proofs.passer.apass.Goals as goal
 
 pub returns-in-Err-clause-ran : goal.returns-in-Err-clause-ran
@@ -17,6 +17,12 @@ returns-in-Err-clause-no_device g c n = apart_iff _ _ _ c.in-Err.ensures.value
 
 pub returns-in-Err-clause-rates : goal.returns-in-Err-clause-rates
 returns-in-Err-clause-rates g c a b = apart_iff _ _ _ c.in-Err.ensures.value
+
+pub returns-in-Err-clause-shapes : goal.returns-in-Err-clause-shapes
+returns-in-Err-clause-shapes g c a b = apart_iff _ _ _ c.in-Err.ensures.value
+
+pub pass_between-requires-clause-alike : goal.pass_between-requires-clause-alike
+pass_between-requires-clause-alike g c = pair_alike c.args.job.now c.args.from.now.devices c.args.to.now.devices c.in-Ok.device c.in-Ok.ensures.value
 
 pub returns-in-Ok-pass_between-clause-ran : goal.returns-in-Ok-pass_between-clause-ran
 returns-in-Ok-pass_between-clause-ran g c v w told_from told_to =
@@ -37,6 +43,9 @@ returns-in-Ok-pass_between-clause-no_device g c n = there_neither c.in-Ok.device
 pub returns-in-Ok-pass_between-clause-rates : goal.returns-in-Ok-pass_between-clause-rates
 returns-in-Ok-pass_between-clause-rates g c a b = there_neither c.in-Ok.device _ _ _ c.in-Ok.ensures.value (λ e. let bad : false ≡ true = ap is_of_report (sym e) ∙ c.report.ensures.end in cc)
 
+pub returns-in-Ok-pass_between-clause-shapes : goal.returns-in-Ok-pass_between-clause-shapes
+returns-in-Ok-pass_between-clause-shapes g c a b = there_neither c.in-Ok.device _ _ _ c.in-Ok.ensures.value (λ e. let bad : false ≡ true = ap is_of_report (sym e) ∙ c.report.ensures.end in cc)
+
 pub returns-in-Err-pass_between-clause-ran : goal.returns-in-Err-pass_between-clause-ran
 returns-in-Err-pass_between-clause-ran g c v w told_from told_to =
     let job = c.args.job.now in
@@ -55,3 +64,6 @@ returns-in-Err-pass_between-clause-no_device g c n = there_neither c.in-Ok.devic
 
 pub returns-in-Err-pass_between-clause-rates : goal.returns-in-Err-pass_between-clause-rates
 returns-in-Err-pass_between-clause-rates g c a b = there_neither c.in-Ok.device _ _ _ c.in-Ok.ensures.value (λ e. let bad : false ≡ true = ap is_of_link (sym e) ∙ c.in-Err-pass_between.ensures.end in cc)
+
+pub returns-in-Err-pass_between-clause-shapes : goal.returns-in-Err-pass_between-clause-shapes
+returns-in-Err-pass_between-clause-shapes g c a b = there_neither c.in-Ok.device _ _ _ c.in-Ok.ensures.value (λ e. let bad : false ≡ true = ap is_of_link (sym e) ∙ c.in-Err-pass_between.ensures.end in cc)

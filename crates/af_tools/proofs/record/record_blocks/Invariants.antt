@@ -12,8 +12,9 @@ invariant-loop-left g l = record {
   link_count : g.L.Link.faults l.initial.conn.link ≤ g.L.Link.faults l.conn.link;
   count : g.K.Sink.faults l.initial.sink ≤ g.K.Sink.faults l.sink;
   going : l.row < l.job.stop_blocks;
+  left : l.left ≤ l.job.frames;
   recording : (input : List ℕ) → g.L.Link.left l.initial.conn.link ≡ Some input →
-      IsRecording l.job l.ty l.fn.recording.start.0 l.at.0 l.left l.row (client_of l.initial.conn input) (g.L.Link.left l.conn.link) (client_of l.conn) (g.L.Link.sent l.initial.conn.link) (g.L.Link.sent l.conn.link) (g.K.Sink.held l.initial.sink) (g.K.Sink.held l.sink);
+      IsRecording l.job l.sound l.block l.fn.start.0 l.at.0 l.left l.row (client_of l.initial.conn input) (g.L.Link.left l.conn.link) (client_of l.conn) (g.L.Link.sent l.initial.conn.link) (g.L.Link.sent l.conn.link) (g.K.Sink.held l.initial.sink) (g.K.Sink.held l.sink);
 }
 
 abbrev pub decreases-loop-left : goal.decreases-loop-left

@@ -1,7 +1,10 @@
-use Rattle.std.proofs.Common.{refl}
+use Rattle.std.proofs.Common.{◌≡◌, ◌∙◌, true, false, length, ap, refl, sym}
+use Rattle.af_tool.specs.declared.end.ToolEnd.TheVariants as end
 use Rattle.af_tool.specs.Trace.{done, ends}
 use Rattle.af_tool.specs.Ends.{client_of}
 use Rattle.af_tools.specs.Record.{recorded_on}
+use Rattle.af_tools.specs.Ways.{is_of_records}
+use Rattle.af_tools.proofs.FiledLemmas.{is_recorded}
 use Rattle.af_tools.proofs.SetupTraceLemmas.{followed_on, followed_stop}
 use Rattle.af_tools.proofs.HavingRun.{arecord_on, missing_ran, there_ran}
 use Rattle.af_tools.proofs.DeviceChoiceLemmas.{followed_done, is_missing, is_there, missing_iff, never_records, there_iff}
@@ -31,3 +34,18 @@ returns-in-Err-record_on-clause-ran g c input told =
 
 pub returns-in-Err-record_on-clause-no_device : goal.returns-in-Err-record_on-clause-no_device
 returns-in-Err-record_on-clause-no_device g c n = there_iff _ _ _ _ (is_there _ _ c.in-Ok.device c.in-Ok.ensures.value) (never_records _ c.in-Err-record_on.ensures.end) n
+
+pub returns-in-Err-clause-recorded : goal.returns-in-Err-clause-recorded
+returns-in-Err-clause-recorded g c input told way =
+    let missing = is_missing _ _ _ c.in-Err.ensures.value in
+    let bad : end.NoDevice (length c.args.conn.now.devices) ≡ end.Done = sym missing.way ∙ way in
+    absurd (cc bad)
+
+pub returns-in-Ok-record_on-clause-recorded : goal.returns-in-Ok-record_on-clause-recorded
+returns-in-Ok-record_on-clause-recorded g c input told way =
+    is_recorded c.args.job.now c.args.conn.now.devices (client_of c.args.conn.now input) end.Done _ _ _ _ (returns-in-Ok-record_on-clause-ran g c input told).followed refl
+
+pub returns-in-Err-record_on-clause-recorded : goal.returns-in-Err-record_on-clause-recorded
+returns-in-Err-record_on-clause-recorded g c input told way =
+    let bad : true ≡ false = sym c.in-Err-record_on.ensures.end ∙ ap is_of_records way in
+    absurd (cc bad)

@@ -15,19 +15,19 @@ returns-in_err-now-clause-goes g c input told =
     let device = c.args.device in
     let same : c.from_residual.result ≡ Err c.in_err-now.field-0.0 = search rules in
     let context = c.context_of-context.ensures in
-    rw same (goes_stop (begins (record_context job device) job.device (client_of c.args.conn.now input)) (λ now w. tail job (unwrap_or job.ty device.ty) (unwrap_or job.time now.0) w) _ _ _ _ _ _ _ _ _
+    rw same (goes_stop (begins (record_context job device) job.device (client_of c.args.conn.now input)) (λ now w. tail job device (unwrap_or job.time now.0) w) _ _ _ _ _ _ _ _ _
     (begins_named _ _ _ _ _ _ _ _ _ _ _ _ context.asked context.device (c.in_err-now.ensures.goes input (g.K.Sink.held c.args.sink.now) told)))
 
-pub returns-in_err-record_blocks-clause-goes : goal.returns-in_err-record_blocks-clause-goes
+pub returns-in_err-write_recording-clause-goes : goal.returns-in_err-write_recording-clause-goes
 unfolding recorded_on
-returns-in_err-record_blocks-clause-goes g c input told =
+returns-in_err-write_recording-clause-goes g c input told =
     let job = c.args.job.now in
     let device = c.args.device in
-    let same : c.from_residual-in_err-record_blocks.result ≡ Err c.in_err-record_blocks.field-0.0 = search rules in
+    let same : c.from_residual-in_err-write_recording.result ≡ Err c.in_err-write_recording.field-0.0 = search rules in
     let context = c.context_of-context.ensures in
-    rw same (goes_on (begins (record_context job device) job.device (client_of c.args.conn.now input)) (λ now w. tail job (unwrap_or job.ty device.ty) (unwrap_or job.time now.0) w) _ _ _ _ _ _ _ _ _ _ _ _
+    rw same (goes_on (begins (record_context job device) job.device (client_of c.args.conn.now input)) (λ now w. tail job device (unwrap_or job.time now.0) w) _ _ _ _ _ _ _ _ _ _ _ _
     (begins_named _ _ _ _ _ _ _ _ _ _ _ _ context.asked context.device (c.in_ok-now.ensures.goes input (g.K.Sink.held c.args.sink.now) told))
-    (λ i t. tail_named _ _ _ _ _ _ _ _ _ _ _ _ _ context.ty c.start_of-start.ensures (tail_stop _ _ _ _ _ _ _ _ _ _ _ (c.in_err-record_blocks.ensures.goes i t))))
+    (λ i t. tail_named _ _ _ _ _ _ _ _ _ _ _ _ c.start_of-start.ensures (tail_stop _ _ _ _ _ _ _ _ _ _ _ (c.in_err-write_recording.ensures.goes i t))))
 
 pub returns-clause-goes : goal.returns-clause-goes
 unfolding recorded_on
@@ -35,6 +35,6 @@ returns-clause-goes g c input told =
     let job = c.args.job.now in
     let device = c.args.device in
     let context = c.context_of-context.ensures in
-    goes_on (begins (record_context job device) job.device (client_of c.args.conn.now input)) (λ now w. tail job (unwrap_or job.ty device.ty) (unwrap_or job.time now.0) w) _ _ _ _ _ _ _ _ _ _ _ _
+    goes_on (begins (record_context job device) job.device (client_of c.args.conn.now input)) (λ now w. tail job device (unwrap_or job.time now.0) w) _ _ _ _ _ _ _ _ _ _ _ _
     (begins_named _ _ _ _ _ _ _ _ _ _ _ _ context.asked context.device (c.in_ok-now.ensures.goes input (g.K.Sink.held c.args.sink.now) told))
-    (λ i t. tail_named _ _ _ _ _ _ _ _ _ _ _ _ _ context.ty c.start_of-start.ensures (tail_on _ _ _ _ _ _ _ _ _ _ _ _ _ _ (c.in_ok-record_blocks.ensures.goes i t) (λ i' t'. c.finish.ensures.goes i' _ t')))
+    (λ i t. tail_named _ _ _ _ _ _ _ _ _ _ _ _ c.start_of-start.ensures (tail_on _ _ _ _ _ _ _ _ _ _ _ _ _ _ (c.in_ok-write_recording.ensures.goes i t) (λ i' t'. c.finish.ensures.goes i' _ t')))

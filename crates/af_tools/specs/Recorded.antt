@@ -1,0 +1,29 @@
+-- What arecord has sent and written where it is done.
+use Rattle.std.specs.Prelude.{◌≡◌, ℕ, List, slice_get}
+use Rattle.std.specs.declared.option.Option.{Option}
+use Rattle.std.specs.declared.option.Option.TheVariants.{Some}
+use Rattle.af_io.specs.Observed.{Appended}
+use Rattle.af_request.specs.declared.reply.DeviceInfo.{DeviceInfo}
+use Rattle.af_options.specs.declared.job.RecordJob.{RecordJob}
+use Rattle.af_tool.specs.declared.end.ToolEnd.{ToolEnd}
+use Rattle.af_tool.specs.declared.end.ToolEnd.TheVariants as end
+use Rattle.af_tool.specs.Trace.{ClientState}
+use Rattle.af_tool.specs.Ends.{client_of}
+use Rattle.af_lib.specs.Calls.{ConnState}
+use Rattle.af_tools.specs.Files.{as_raw, recording_of}
+use Rattle.af_tools.specs.Record.{arecord_output, arecord_sends}
+
+-- A job is done on a device. What was sent is what the same job sends that writes its samples as they are; and of what that one writes
+-- the sink gained the recording: a sound file of it, if the job writes one.
+pub record IsRecorded (job : RecordJob) (devices : List DeviceInfo) (w : ClientState) (sent sent' held held' : Option (List ℕ)) : Type 0 where
+  pub device : DeviceInfo
+  pub is_there : slice_get devices job.device ≡ Some device
+  pub samples : List ℕ
+  pub are_raw : samples ≡ arecord_output (as_raw job device) devices w
+  pub link : Appended sent (arecord_sends (as_raw job device) devices w) sent'
+  pub sink : Appended held (recording_of job device samples) held'
+
+-- arecord, if it is done, over a connection whose link tells what it gives
+abbrev pub LeavesRecording : {L K : Type 0} → (left sent : L → Option (List ℕ)) → (held : K → Option (List ℕ)) → RecordJob → ToolEnd → (conn conn' : ConnState L) → (sink sink' : K) → Type 0
+LeavesRecording left sent held job how conn conn' sink sink' = (input : List ℕ) → left conn.link ≡ Some input → how ≡ end.Done →
+    IsRecorded job conn.devices (client_of conn input) (sent conn.link) (sent conn'.link) (held sink) (held sink')

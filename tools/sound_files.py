@@ -110,6 +110,7 @@ WHOLE = {
         "mu-law": au(1, SOUND),
         "A-law": au(27, SOUND),
         "linear": au(3, SOUND),
+        "two channels": au(1, SOUND, channels=2),
         "an annotation": au(1, SOUND, annotation=b"annotated"),
         "no stated length": au(3, SOUND, size=UNSTATED),
         "a stated length of less": au(1, SOUND, size=3),
@@ -122,6 +123,8 @@ WHOLE = {
         "A-law": wave(6, 8, SOUND),
         "16 bits": wave(1, 16, SOUND),
         "8 bits": wave(1, 8, SOUND),
+        "16 bits and two channels": wave(1, 16, SOUND, channels=2),
+        "8 bits and two channels": wave(1, 8, SOUND, channels=2),
         "chunks of odd sizes": wave(1, 16, SOUND, before=chunk(b"LIST", b"abc"), behind=chunk(b"fact", b"12345")),
         "no stated length": wave(1, 16, SOUND, size=UNSTATED),
         "a stated length of less": wave(1, 16, SOUND, size=3),
@@ -134,11 +137,17 @@ WHOLE = {
 }
 
 
-def files():
-    """Files by a name: whole ones, each cut of some, and some with single bytes of the head changed."""
+def whole_files():
+    """Files by a name that are not cut, and have no byte changed."""
     for form, whole in WHOLE.items():
         for name, octets in whole.items():
             yield form, "%s, %s" % (form, name), octets
+
+
+def files():
+    """Files by a name: whole ones, each cut of some, and some with single bytes of the head changed."""
+    yield from whole_files()
+    for form, whole in WHOLE.items():
         first = whole["mu-law" if form == "au" else "chunks of odd sizes"]
         for count in range(len(first)):
             yield form, "%s, cut behind %d bytes" % (form, count), first[:count]

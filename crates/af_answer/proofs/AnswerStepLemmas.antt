@@ -31,7 +31,7 @@ part_of (Ok x) = Ok x
 part_of (Err f) = Err (connection_end f)
 
 requests_is : (asked : Asked) (b : ToCome) (next : ToCome → AnswerTrace) →
-    requests asked b next ≡ having (requesting (request_bytes asked)) (by_reply (answer_on asked as_done b.wire) (record { wire = after_reply b.wire; runs = b.runs }) next)
+    requests asked b next ≡ having (requesting (request_bytes b.wire.order asked)) (by_reply (answer_on asked as_done b.wire) (record { wire = after_reply b.wire; runs = b.runs }) next)
 unfolding requests
 requests_is asked b next = refl
 
@@ -39,7 +39,7 @@ module _ (asked : Asked) (w : ClientState) (left' : Option (List ℕ)) (wire : L
   abbrev part : List ChildRun → AnswerPart (Unit {0})
   part runs next = requests asked (record { wire = w; runs = runs }) (next tt)
 
-  request_failed : AppendedPrefix sent (request_bytes asked) sent' → PartSeen {X = Unit {0}} part (Err end.LinkFault) left' wire sent sent' acts acts
+  request_failed : AppendedPrefix sent (request_bytes w.order asked) sent' → PartSeen {X = Unit {0}} part (Err end.LinkFault) left' wire sent sent' acts acts
   request_failed front = record {
     done = requesting front.front;
     runs = [];
@@ -54,32 +54,32 @@ module _ (asked : Asked) (w : ClientState) (left' : Option (List ℕ)) (wire : L
     children = appended_none acts;
   }
 
-  request_refused : (f : ConnFault) → (connection_end f ≡ end.OutOfMemory → ⊥) → Appended sent (request_bytes asked) sent' → (let r : Result (Unit {0}) ConnFault = Err f in r ≡ answer_on asked as_done w) →
+  request_refused : (f : ConnFault) → (connection_end f ≡ end.OutOfMemory → ⊥) → Appended sent (request_bytes w.order asked) sent' → (let r : Result (Unit {0}) ConnFault = Err f in r ≡ answer_on asked as_done w) →
       PartSeen {X = Unit {0}} part (Err (connection_end f)) left' wire sent sent' acts acts
   request_refused f other appended same = record {
-    done = requesting (request_bytes asked);
+    done = requesting (request_bytes w.order asked);
     runs = [];
     came = λ more next.
         let b : ToCome = record { wire = after_reply w; runs = more } in
-        matches_at_once (requesting (request_bytes asked)) _ (met_fault f) (connection_end f)
+        matches_at_once (requesting (request_bytes w.order asked)) _ (met_fault f) (connection_end f)
         (requests_is asked (record { wire = w; runs = more }) (next tt)
-        ∙ ap (λ (r : Result (Unit {0}) ConnFault). having (requesting (request_bytes asked)) (by_reply r b (next tt))) (sym same)) refl (λ e. absurd (other e));
+        ∙ ap (λ (r : Result (Unit {0}) ConnFault). having (requesting (request_bytes w.order asked)) (by_reply r b (next tt))) (sym same)) refl (λ e. absurd (other e));
     link = appended;
     children = appended_none acts;
   }
 
-  request_answered : Appended sent (request_bytes asked) sent' → (x : Unit {0}) → (let r : Result (Unit {0}) ConnFault = Ok x in r ≡ answer_on asked as_done w) → (a : List ℕ) → left' ≡ Some a → wire a ≡ after_reply w →
+  request_answered : Appended sent (request_bytes w.order asked) sent' → (x : Unit {0}) → (let r : Result (Unit {0}) ConnFault = Ok x in r ≡ answer_on asked as_done w) → (a : List ℕ) → left' ≡ Some a → wire a ≡ after_reply w →
       PartSeen part (Ok tt) left' wire sent sent' acts acts
   request_answered appended x same a told place = record {
-    done = requesting (request_bytes asked);
+    done = requesting (request_bytes w.order asked);
     runs = [];
     came = (
       a,
       told,
       λ more next.
           requests_is asked (record { wire = w; runs = more }) (next tt)
-          ∙ ap (λ (r : Result (Unit {0}) ConnFault). having (requesting (request_bytes asked)) (by_reply r (record { wire = after_reply w; runs = more }) (next tt))) (sym same)
-          ∙ ap (λ (v : ClientState). having (requesting (request_bytes asked)) (next tt (record { wire = v; runs = more }))) (sym place),
+          ∙ ap (λ (r : Result (Unit {0}) ConnFault). having (requesting (request_bytes w.order asked)) (by_reply r (record { wire = after_reply w; runs = more }) (next tt))) (sym same)
+          ∙ ap (λ (v : ClientState). having (requesting (request_bytes w.order asked)) (next tt (record { wire = v; runs = more }))) (sym place),
     );
     link = appended;
     children = appended_none acts;
@@ -88,11 +88,11 @@ module _ (asked : Asked) (w : ClientState) (left' : Option (List ℕ)) (wire : L
   abbrev IsKnown : Result (Unit {0}) ConnFault → Type 0
   IsKnown result = Known (answer_on asked as_done w) (after_reply w) left' wire result
 
-  refused_by : (f : ConnFault) → (connection_end f ≡ end.OutOfMemory → ⊥) → Sends {X = Unit {0}} (Err f) sent (request_bytes asked) sent' → IsKnown (Err f) → (let r : Result (Unit {0}) ConnFault = Err f in r ≢ Err fault.LinkFault) →
+  refused_by : (f : ConnFault) → (connection_end f ≡ end.OutOfMemory → ⊥) → Sends {X = Unit {0}} (Err f) sent (request_bytes w.order asked) sent' → IsKnown (Err f) → (let r : Result (Unit {0}) ConnFault = Err f in r ≢ Err fault.LinkFault) →
       PartSeen {X = Unit {0}} part (Err (connection_end f)) left' wire sent sent' acts acts
   refused_by f other sends known sound = request_refused f other (sends.whole sound) (known sound).2
 
-  pub request_goes : (result : Result (Unit {0}) ConnFault) → IsFresh result → Sends result sent (request_bytes asked) sent' → IsKnown result → PartSeen {X = Unit {0}} part (part_of result) left' wire sent sent' acts acts
+  pub request_goes : (result : Result (Unit {0}) ConnFault) → IsFresh result → Sends result sent (request_bytes w.order asked) sent' → IsKnown result → PartSeen {X = Unit {0}} part (part_of result) left' wire sent sent' acts acts
   request_goes (Ok tt) fresh sends known = let k = known (λ e. cc e) in request_answered (sends.whole (λ e. cc e)) tt k.2 k.0 k.1 k.3
   request_goes (Err fault.LinkFault) fresh sends known = request_failed sends.part
   request_goes (Err fault.LinkEnded) fresh sends known = refused_by fault.LinkEnded (λ e. cc e) sends known (λ e. cc e)
@@ -136,7 +136,7 @@ event_known_at left sent faults old new input result None is awaited usable told
       both.1,
       both.2.0 ∙ ap (λ (f : Option Event). event_at_hand f w) (sym is),
       ap (λ (c : ConnState _). client_of c both.0) kept
-          ∙ ap (λ (i : List ℕ). (let v : ClientState = record { sequence = old.sequence; ring = old.ring; input = i } in v)) both.2.1
+          ∙ ap (λ (i : List ℕ). (let v : ClientState = record { order = old.order; sequence = old.sequence; ring = old.ring; input = i } in v)) both.2.1
           ∙ ap (λ (f : Option Event). behind_from f w) (sym is),
     )
 

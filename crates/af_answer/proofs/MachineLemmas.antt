@@ -8,6 +8,7 @@ use Rattle.std.specs.declared.option.Option.TheVariants.{None, Some}
 use Rattle.af_io.specs.Observed.{Appended}
 use Rattle.af_io.proofs.AppendedLemmas.{appended_none}
 use Rattle.af_wire.specs.declared.event.Event.{Event}
+use Rattle.af_wire.specs.declared.order.Order.{Order}
 use Rattle.af_child.specs.Acts.{Told}
 use Rattle.af_request.specs.Asked.{select_events}
 use Rattle.af_request.specs.Requests.{request_bytes}
@@ -30,46 +31,46 @@ use Rattle.af_answer.proofs.AnswerPartLemmas.{matches_at_once, no_deeds}
 use Rattle.af_answer.proofs.KeptActLemmas.{KeepsTo, acts_leave_on, attending, attends_keeps}
 
 -- a trace keeps to these acts, behind the request for rings and hooks
-pub record KeepsAll (job : AnswerJob) (acts : List MachineAct) (runs : List ChildRun) (t : AnswerTrace) : Type 0 where
+pub record KeepsAll (order : Order) (job : AnswerJob) (acts : List MachineAct) (runs : List ChildRun) (t : AnswerTrace) : Type 0 where
   pub unsent : List ℕ
   pub untold : List Told
   pub unwritten : List ℕ
-  pub sent : sends_of_job job acts ≡ t.sends ++ unsent
+  pub sent : sends_of_job order job acts ≡ t.sends ++ unsent
   pub children : children_of job acts runs ≡ t.told ++ untold
   pub text : text_of_acts acts ≡ t.output ++ unwritten
   pub whole : IsReplied t → (unsent ≡ []) × (untold ≡ []) × (unwritten ≡ [])
 
-select_keeps : (job : AnswerJob) (acts : List Event → List MachineAct) (runs : List ChildRun) (r : Result (Unit {0}) ConnFault) (b : ToCome) (next : ToCome → AnswerTrace) →
-    KeepsTo job (acts (next b).heard) runs (next b) → (let t : AnswerTrace = having (requesting (request_bytes (select_events job.device 3))) (by_reply r b next) in KeepsAll job (acts t.heard) runs t)
-select_keeps job acts runs (Ok u) b next k = record {
+select_keeps : (order : Order) (job : AnswerJob) (acts : List Event → List MachineAct) (runs : List ChildRun) (r : Result (Unit {0}) ConnFault) (b : ToCome) (next : ToCome → AnswerTrace) →
+    KeepsTo order job (acts (next b).heard) runs (next b) → (let t : AnswerTrace = having (requesting (request_bytes order (select_events job.device 3))) (by_reply r b next) in KeepsAll order job (acts t.heard) runs t)
+select_keeps order job acts runs (Ok u) b next k = record {
   unsent = k.unsent;
   untold = k.untold;
   unwritten = k.unwritten;
-  sent = ap (λ l. request_bytes (select_events job.device 3) ++ l) k.sent ∙ sym (append_assoc (request_bytes (select_events job.device 3)) (next b).sends k.unsent);
+  sent = ap (λ l. request_bytes order (select_events job.device 3) ++ l) k.sent ∙ sym (append_assoc (request_bytes order (select_events job.device 3)) (next b).sends k.unsent);
   children = k.children;
   text = k.text;
   whole = k.whole;
 }
-select_keeps job acts runs (Err f) b next k = record {
-  unsent = requests_of job.device (acts []);
+select_keeps order job acts runs (Err f) b next k = record {
+  unsent = requests_of order job.device (acts []);
   untold = children_of job (acts []) runs;
   unwritten = text_of_acts (acts []);
-  sent = ap (λ l. l ++ requests_of job.device (acts [])) (sym (append-nil (request_bytes (select_events job.device 3))));
+  sent = ap (λ l. l ++ requests_of order job.device (acts [])) (sym (append-nil (request_bytes order (select_events job.device 3))));
   children = refl;
   text = refl;
   whole = λ served. absurd (served f refl);
 }
 
 line_keeps : (job : AnswerJob) (w : ClientState) (runs : List ChildRun) → 1 ≤ job.calls →
-    (let t : AnswerTrace = attends_line job (record { wire = w; runs = runs }) in KeepsAll job (answer_acts job t.heard (map run_end runs)) runs t)
+    (let t : AnswerTrace = attends_line job (record { wire = w; runs = runs }) in KeepsAll w.order job (answer_acts job t.heard (map run_end runs)) runs t)
 unfolding attends_line requests
 line_keeps job w runs some =
     let b : ToCome = record { wire = after_reply w; runs = runs } in
     let x = attending job job.calls no_calls b in
-    let k = attends_keeps job job.calls no_calls (omega arith) (after_reply w) runs in
+    let k = attends_keeps w.order job job.calls no_calls (omega arith) (after_reply w) runs refl in
     let first : (0 == job.calls) ≡ false = ne_eqb 0 job.calls (λ e. absurd (omega (arith, some, e))) in
-    select_keeps job (λ events. answer_acts job events (map run_end runs)) runs (answer_on (select_events job.device 3) as_done w) b (λ b. attending job job.calls no_calls b)
-    (subst (λ (l : List MachineAct). KeepsTo job l runs x) (ap (λ (y : Bool). if y then write_tally no_calls ∷ [] else acts_from job 0 no_calls x.heard (map run_end runs)) first) k)
+    select_keeps w.order job (λ events. answer_acts job events (map run_end runs)) runs (answer_on (select_events job.device 3) as_done w) b (λ b. attending job job.calls no_calls b)
+    (subst (λ (l : List MachineAct). KeepsTo w.order job l runs x) (ap (λ (y : Bool). if y then write_tally no_calls ∷ [] else acts_from job 0 no_calls x.heard (map run_end runs)) first) k)
 
 -- no fault of a connection is Done
 fault_is_other : (f : ConnFault) → connection_end f ≡ end.Done → ⊥
@@ -98,8 +99,8 @@ by_finish t how rang_too_little is way there line served enough = absurd (enough
 by_finish t how child_starved is way there line served enough = inr (inl (sym is))
 
 -- the acts of a machine on a line, by how far it came in its trace
-module _ (job : AnswerJob) (t : AnswerTrace) (runs : List ChildRun) (how : AnswerEnd) (done : Deeds) (output : List ℕ) (m : MatchesAnswer t how done output)
-    (k : KeepsAll job (answer_acts job t.heard (map run_end runs)) runs t) where
+module _ (order : Order) (job : AnswerJob) (t : AnswerTrace) (runs : List ChildRun) (how : AnswerEnd) (done : Deeds) (output : List ℕ) (m : MatchesAnswer t how done output)
+    (k : KeepsAll order job (answer_acts job t.heard (map run_end runs)) runs t) where
   abbrev acts : List MachineAct
   acts = answer_acts job t.heard (map run_end runs)
 
@@ -109,7 +110,7 @@ module _ (job : AnswerJob) (t : AnswerTrace) (runs : List ChildRun) (how : Answe
       let rest = k.whole (served_where_done t how is w.0) in
       (none_left _ _ (ap (λ (d : Deeds). d.sends) w.1) rest.0, none_left _ _ (ap (λ (d : Deeds). d.told) w.1) rest.1, none_left _ _ w.2 rest.2)
 
-  kept_acts : KeepsToActs job acts runs how done.sends done.told output
+  kept_acts : KeepsToActs order job acts runs how done.sends done.told output
   kept_acts = record {
     unsent = m.undone.sends ++ k.unsent;
     untold = m.undone.told ++ k.untold;
@@ -120,7 +121,7 @@ module _ (job : AnswerJob) (t : AnswerTrace) (runs : List ChildRun) (how : Answe
     whole = all_done;
   }
 
-  hangs : IsReplied t → done.sends ≡ t.sends → done.told ≡ t.told → HangsUp job acts runs done.sends done.told
+  hangs : IsReplied t → done.sends ≡ t.sends → done.told ≡ t.told → HangsUp order job acts runs done.sends done.told
   hangs served sends told =
       let rest = k.whole served in
       record {
@@ -143,7 +144,7 @@ module _ (job : AnswerJob) (t : AnswerTrace) (runs : List ChildRun) (how : Answe
 
   pub ran_as : (devices : List DeviceInfo) (s s' : Option (List ℕ)) (a a' : Option (List Told)) (h h' : Option (List ℕ)) →
       (how ≢ end.LinkFault → (done.sends ≡ t.sends) × (done.told ≡ t.told)) → ((n : ℕ) → how ≢ end.NoDevice n) → ((n : ℕ) → how ≢ end.NoLine n) →
-      Appended s done.sends s' → Appended a done.told a' → Appended h output h' → RanAs job devices t runs how s s' a a' h h'
+      Appended s done.sends s' → Appended a done.told a' → Appended h output h' → RanAs order job devices t runs how s s' a a' h h'
   ran_as devices s s' a a' h h' cut there line sent told wrote = record {
     done = done;
     output = output;
@@ -202,7 +203,7 @@ lacking_at job devices b how None there is none =
     }
 
 pub lacking_ran : (job : AnswerJob) (devices : List DeviceInfo) (w : ClientState) (how : AnswerEnd) (s : Option (List ℕ)) (a : Option (List Told)) (h : Option (List ℕ)) → line_or_end job (slice_get devices job.device) (length devices) ≡ Err how →
-    RanAs job devices (answer_trace job devices (record { wire = w; runs = [] })) [] how s s a a h h
+    RanAs w.order job devices (answer_trace job devices (record { wire = w; runs = [] })) [] how s s a a h h
 lacking_ran job devices w how s a h is =
     let none : HasLine job devices → ⊥ = λ l. lineless_at job (length devices) (slice_get devices job.device) how is l.0 l.1 l.2 in
     let lack = lacking_at job devices (record { wire = w; runs = [] }) how (slice_get devices job.device) refl is none in
@@ -243,9 +244,9 @@ unfolding attends_line
 line_is job w runs = refl
 
 line_kept : (job : AnswerJob) (devices : List DeviceInfo) (w : ClientState) (runs : List ChildRun) → 1 ≤ job.calls → line_or_end job (slice_get devices job.device) (length devices) ≡ Ok tt →
-    (let t : AnswerTrace = answer_trace job devices (record { wire = w; runs = runs }) in KeepsAll job (answer_acts job t.heard (map run_end runs)) runs t)
+    (let t : AnswerTrace = answer_trace job devices (record { wire = w; runs = runs }) in KeepsAll w.order job (answer_acts job t.heard (map run_end runs)) runs t)
 line_kept job devices w runs some is =
-    subst (λ (t : AnswerTrace). KeepsAll job (answer_acts job t.heard (map run_end runs)) runs t) (sym (on_line job devices (record { wire = w; runs = runs }) is)) (line_keeps job w runs some)
+    subst (λ (t : AnswerTrace). KeepsAll w.order job (answer_acts job t.heard (map run_end runs)) runs t) (sym (on_line job devices (record { wire = w; runs = runs }) is)) (line_keeps job w runs some)
 
 pub calls_no_device : (how : AnswerEnd) → is_of_calls how ≡ true → (n : ℕ) → how ≢ end.NoDevice n
 calls_no_device how is n e = let bad : false ≡ true = sym (ap is_of_calls e) ∙ is in cc bad
@@ -270,13 +271,13 @@ calls_inner end.OutOfMemory is sound = refl
 
 pub stopped_ran : (job : AnswerJob) (devices : List DeviceInfo) (w : ClientState) (how : AnswerEnd) (left : Option (List ℕ)) (wire : List ℕ → ClientState) (s s' : Option (List ℕ)) (a a' : Option (List Told)) (h : Option (List ℕ)) →
     1 ≤ job.calls → line_or_end job (slice_get devices job.device) (length devices) ≡ Ok tt → is_of_calls how ≡ true →
-    (g : PartSeen {X = Tally} (attending_part job w) (Err how) left wire s s' a a') → RanAs job devices (answer_trace job devices (record { wire = w; runs = g.runs ++ [] })) (g.runs ++ []) how s s' a a' h h
+    (g : PartSeen {X = Tally} (attending_part job w) (Err how) left wire s s' a a') → RanAs w.order job devices (answer_trace job devices (record { wire = w; runs = g.runs ++ [] })) (g.runs ++ []) how s s' a a' h h
 stopped_ran job devices w how left wire s s' a a' h some line way g =
     let runs = g.runs ++ [] in
     let t = answer_trace job devices (record { wire = w; runs = runs }) in
     let is : t ≡ attending_part job w runs (λ t b. writes_tally t) = on_line job devices (record { wire = w; runs = runs }) line ∙ line_is job w runs in
     let m = subst (λ (x : AnswerTrace). MatchesAnswer x how g.done []) (sym is) (g.came [] (λ t b. writes_tally t)) in
-    ran_as job t runs how g.done [] m (line_kept job devices w runs some line) devices s s' a a' h h
+    ran_as w.order job t runs how g.done [] m (line_kept job devices w runs some line) devices s s' a a' h h
     (λ sound.
     let whole = m.whole (calls_inner how way sound) in (
       sym (m.sent ∙ ap (λ (d : Deeds). g.done.sends ++ d.sends) whole.1 ∙ append-nil g.done.sends),
@@ -334,13 +335,13 @@ line_no_line how is n e = let bad : false ≡ true = sym (ap is_of_line e) ∙ i
 
 pub reported_ran : (job : AnswerJob) (devices : List DeviceInfo) (w : ClientState) (tally : Tally) (how : AnswerEnd) (left : Option (List ℕ)) (wire : List ℕ → ClientState) (s s' : Option (List ℕ)) (a a' : Option (List Told)) (h h' : Option (List ℕ)) →
     1 ≤ job.calls → line_or_end job (slice_get devices job.device) (length devices) ≡ Ok tt → is_of_line how ≡ true → WritesTo (tally_text tally) how h h' →
-    (g : PartSeen (attending_part job w) (Ok tally) left wire s s' a a') → RanAs job devices (answer_trace job devices (record { wire = w; runs = g.runs ++ [] })) (g.runs ++ []) how s s' a a' h h'
+    (g : PartSeen (attending_part job w) (Ok tally) left wire s s' a a') → RanAs w.order job devices (answer_trace job devices (record { wire = w; runs = g.runs ++ [] })) (g.runs ++ []) how s s' a a' h h'
 reported_ran job devices w tally how left wire s s' a a' h h' some line way wrote g =
     let runs = g.runs ++ [] in
     let t = answer_trace job devices (record { wire = w; runs = runs }) in
     let is : t ≡ having g.done (writes_tally tally) = on_line job devices (record { wire = w; runs = runs }) line ∙ line_is job w runs ∙ g.came.2 [] (λ t b. writes_tally t) in
     let r = reported t g.done tally how h h' is way wrote in
-    ran_as job t runs how g.done r.0 r.2 (line_kept job devices w runs some line) devices s s' a a' h h'
+    ran_as w.order job t runs how g.done r.0 r.2 (line_kept job devices w runs some line) devices s s' a a' h h'
     (λ sound. (sym (ap (λ (x : AnswerTrace). x.sends) is ∙ append-nil g.done.sends), sym (ap (λ (x : AnswerTrace). x.told) is ∙ append-nil g.done.told)))
     (line_no_device how way) (line_no_line how way) g.link g.children r.1
 

@@ -7,6 +7,7 @@ use Rattle.af_io.specs.Observed.{Appended}
 use Rattle.af_io.specs.Flow.{AppendedPrefix}
 use Rattle.af_io.specs.Dial.{AppendedBack, IsFirstOf, ToldLink}
 use Rattle.af_io.proofs.AppendedLemmas.{appended_none, appended_on}
+use Rattle.af_wire.specs.declared.order.Order.TheVariants.{Big}
 use Rattle.af_wire.specs.Front.{setup_bytes}
 use Rattle.af_child.specs.Acts.{Told}
 use Rattle.af_request.specs.declared.reply.DeviceInfo.{DeviceInfo}
@@ -15,8 +16,9 @@ use Rattle.af_lib.specs.declared.fault.ConnFault.TheVariants as fault
 use Rattle.af_lib.specs.Calls.{ConnState, IsFresh, IsSetUp, Sends}
 use Rattle.af_lib.specs.Ring.{RingState}
 use Rattle.af_lib.proofs.LinkByteLemmas.{told_both}
-use Rattle.af_tool.specs.Trace.{ClientState, set_up}
+use Rattle.af_tool.specs.Trace.{ClientState, begun, set_up, setup_answer}
 use Rattle.af_tool.specs.Ends.{client_of}
+use Rattle.af_tool.proofs.TracePartLemmas.{client_begun}
 use Rattle.af_answer.specs.declared.end.AnswerEnd.{AnswerEnd}
 use Rattle.af_answer.specs.declared.end.AnswerEnd.TheVariants as end
 use Rattle.af_answer.specs.declared.job.AnswerJob.{AnswerJob}
@@ -25,27 +27,27 @@ use Rattle.af_answer.specs.AnswerTrace.{AnswerTrace, answer_trace, having, conne
 use Rattle.af_answer.specs.Answered.{AnswerRan, RanAs}
 use Rattle.clap.specs.Words.{Text}
 use Rattle.af_answer.specs.AnswerWords.{AnswerWords, answer_words, words_of_job}
-use Rattle.af_answer.specs.AnswerRun.{AskedForServer, Attended, RanAsked, LinkRan, NotDialled, RanOver, RanServer, by_setup, setup_answer, whole_trace}
+use Rattle.af_answer.specs.AnswerRun.{AskedForServer, Attended, RanAsked, LinkRan, NotDialled, RanOver, RanServer, by_setup, whole_trace}
 use Rattle.af_answer.proofs.AnswerPartLemmas.{both_deeds, matches_at_once, matches_behind, matches_early}
 
-whole_is : (job : AnswerJob) (input : List ℕ) (runs : List ChildRun) → whole_trace job input runs ≡ having (requesting setup_bytes) (by_setup (setup_answer input) job (record { wire = set_up input; runs = runs }))
+whole_is : (job : AnswerJob) (input : List ℕ) (runs : List ChildRun) → whole_trace job input runs ≡ having (requesting (setup_bytes Big)) (by_setup (setup_answer Big input) job (record { wire = set_up Big input; runs = runs }))
 unfolding whole_trace
 whole_is job input runs = refl
 
 -- what is known of a setup, if the link did not fail
 setup_told : {L : Type 0} (left sent : L → Option (List ℕ)) (faults : L → ℕ) (old new : L) (ring : RingState) (input : List ℕ) (result : Result (List DeviceInfo) ConnFault) →
-    IsSetUp left sent faults old new ring result → left old ≡ Some input → result ≢ Err fault.LinkFault →
-    (a : List ℕ) × (left new ≡ Some a) × (result ≡ setup_answer input) × ((let w : ClientState = record { sequence = 0; ring = ring; input = a } in w) ≡ set_up input)
+    IsSetUp Big left sent faults old new ring result → left old ≡ Some input → result ≢ Err fault.LinkFault →
+    (a : List ℕ) × (left new ≡ Some a) × (result ≡ setup_answer Big input) × (begun Big ring a ≡ set_up Big input)
 setup_told left sent faults old new ring input result is told sound =
     let both = told_both (left old) (left new) input _ told is.tells (is.answers sound) in
     let facts = both.2 in
-    (both.0, both.1, facts.0, ap₂ (λ (r : RingState) (i : List ℕ). (let w : ClientState = record { sequence = 0; ring = r; input = i } in w)) facts.1 facts.2)
+    (both.0, both.1, facts.0, ap₂ (begun Big) facts.1 facts.2)
 
 module _ (job : AnswerJob) (input : List ℕ) (sent sent' : Option (List ℕ)) (acts : Option (List Told)) (held : Option (List ℕ)) where
   -- the link failed within the setup
-  setup_failed : AppendedPrefix sent setup_bytes sent' → LinkRan job input end.LinkFault sent sent' acts acts held held
+  setup_failed : AppendedPrefix sent (setup_bytes Big) sent' → LinkRan job input end.LinkFault sent sent' acts acts held held
   setup_failed front =
-      let t = by_setup (setup_answer input) job (record { wire = set_up input; runs = [] }) in
+      let t = by_setup (setup_answer Big input) job (record { wire = set_up Big input; runs = [] }) in
       let is = whole_is job input [] in
       record {
         runs = [];
@@ -62,24 +64,24 @@ module _ (job : AnswerJob) (input : List ℕ) (sent sent' : Option (List ℕ)) (
       }
 
   -- the setup was answered with another fault
-  setup_refused : (f : ConnFault) → (connection_end f ≡ end.OutOfMemory → ⊥) → Appended sent setup_bytes sent' → (let r : Result (List DeviceInfo) ConnFault = Err f in r ≡ setup_answer input) →
+  setup_refused : (f : ConnFault) → (connection_end f ≡ end.OutOfMemory → ⊥) → Appended sent (setup_bytes Big) sent' → (let r : Result (List DeviceInfo) ConnFault = Err f in r ≡ setup_answer Big input) →
       LinkRan job input (connection_end f) sent sent' acts acts held held
   setup_refused f other appended same = record {
     runs = [];
-    done = requesting setup_bytes;
+    done = requesting (setup_bytes Big);
     output = [];
     link = appended;
     children = appended_none acts;
     sink = appended_none held;
-    followed = matches_at_once (requesting setup_bytes) _ (met_fault f) (connection_end f)
-        (whole_is job input [] ∙ ap (λ (r : Result (List DeviceInfo) ConnFault). having (requesting setup_bytes) (by_setup r job (record { wire = set_up input; runs = [] }))) (sym same)) refl (λ e. absurd (other e));
+    followed = matches_at_once (requesting (setup_bytes Big)) _ (met_fault f) (connection_end f)
+        (whole_is job input [] ∙ ap (λ (r : Result (List DeviceInfo) ConnFault). having (requesting (setup_bytes Big)) (by_setup r job (record { wire = set_up Big input; runs = [] }))) (sym same)) refl (λ e. absurd (other e));
     attended = λ devices set. absurd (let bad : (let r : Result (List DeviceInfo) ConnFault = Err f in r ≡ Ok devices) = same ∙ set in cc bad);
   }
 
   abbrev IsKnownSetup : ConnFault → Type 0
-  IsKnownSetup f = (let r : Result (List DeviceInfo) ConnFault = Err f in r ≢ Err fault.LinkFault) → (let r : Result (List DeviceInfo) ConnFault = Err f in r ≡ setup_answer input)
+  IsKnownSetup f = (let r : Result (List DeviceInfo) ConnFault = Err f in r ≢ Err fault.LinkFault) → (let r : Result (List DeviceInfo) ConnFault = Err f in r ≡ setup_answer Big input)
 
-  setup_ends : (f : ConnFault) → Sends {X = List DeviceInfo} (Err f) sent setup_bytes sent' → (let r : Result (List DeviceInfo) ConnFault = Err f in IsFresh r) → IsKnownSetup f →
+  setup_ends : (f : ConnFault) → Sends {X = List DeviceInfo} (Err f) sent (setup_bytes Big) sent' → (let r : Result (List DeviceInfo) ConnFault = Err f in IsFresh r) → IsKnownSetup f →
       LinkRan job input (connection_end f) sent sent' acts acts held held
   setup_ends fault.LinkFault sends fresh known = setup_failed sends.part
   setup_ends fault.LinkEnded sends fresh known = setup_refused fault.LinkEnded (λ e. cc e) (sends.whole (λ e. cc e)) (known (λ e. cc e))
@@ -91,30 +93,30 @@ module _ (job : AnswerJob) (input : List ℕ) (sent sent' : Option (List ℕ)) (
 
 -- a link that was not set up
 pub not_set_up_ran : {L : Type 0} (left sent : L → Option (List ℕ)) (faults : L → ℕ) (job : AnswerJob) (input : List ℕ) (old new : L) (ring : RingState) (f : ConnFault) (acts : Option (List Told)) (held : Option (List ℕ)) →
-    IsSetUp left sent faults old new ring (Err f) → left old ≡ Some input → LinkRan job input (connection_end f) (sent old) (sent new) acts acts held held
+    IsSetUp Big left sent faults old new ring (Err f) → left old ≡ Some input → LinkRan job input (connection_end f) (sent old) (sent new) acts acts held held
 not_set_up_ran left sent faults job input old new ring f acts held is told =
     setup_ends job input (sent old) (sent new) acts held f is.sends is.fresh (λ sound. (setup_told left sent faults old new ring input (Err f) is told sound).2)
 
 -- one that was
 pub set_up_ran : {L : Type 0} (left sent : L → Option (List ℕ)) (faults : L → ℕ) (job : AnswerJob) (input : List ℕ) (far : L) (conn : ConnState L) (how : AnswerEnd) (s' : Option (List ℕ)) (a a' : Option (List Told)) (h h' : Option (List ℕ)) →
-    conn.sequence ≡ 0 → IsSetUp left sent faults far conn.link conn.ring (Ok conn.devices) → left far ≡ Some input →
+    conn.order ≡ Big → conn.sequence ≡ 0 → IsSetUp Big left sent faults far conn.link conn.ring (Ok conn.devices) → left far ≡ Some input →
     ((i : List ℕ) → left conn.link ≡ Some i → AnswerRan job conn.devices (client_of conn i) how (sent conn.link) s' a a' h h') → LinkRan job input how (sent far) s' a a' h h'
-set_up_ran left sent faults job input far conn how s' a a' h h' first is told answered =
+set_up_ran left sent faults job input far conn how s' a a' h h' same_order first is told answered =
     let k = setup_told left sent faults far conn.link conn.ring input (Ok conn.devices) is told (λ e. cc e) in
     let r = answered k.0 k.1 in
-    let place : client_of conn k.0 ≡ set_up input = ap (λ (n : ℕ). (let w : ClientState = record { sequence = n; ring = conn.ring; input = k.0 } in w)) first ∙ k.3 in
-    let ran = subst (λ (v : ClientState). RanAs job conn.devices (answer_trace job conn.devices (record { wire = v; runs = r.runs })) r.runs how (sent conn.link) s' a a' h h') place r.ran in
-    let set : Appended (sent far) setup_bytes (sent conn.link) = is.sends.whole (λ e. cc e) in
-    let t = answer_trace job conn.devices (record { wire = set_up input; runs = r.runs }) in
+    let place : client_of conn k.0 ≡ set_up Big input = client_begun Big conn k.0 same_order first ∙ k.3 in
+    let ran = subst (λ (v : ClientState). RanAs v.order job conn.devices (answer_trace job conn.devices (record { wire = v; runs = r.runs })) r.runs how (sent conn.link) s' a a' h h') place r.ran in
+    let set : Appended (sent far) (setup_bytes Big) (sent conn.link) = is.sends.whole (λ e. cc e) in
+    let t = answer_trace job conn.devices (record { wire = set_up Big input; runs = r.runs }) in
     record {
       runs = r.runs;
-      done = both_deeds (requesting setup_bytes) ran.done;
+      done = both_deeds (requesting (setup_bytes Big)) ran.done;
       output = ran.output;
-      link = appended_on _ _ _ setup_bytes ran.done.sends set ran.link;
+      link = appended_on _ _ _ (setup_bytes Big) ran.done.sends set ran.link;
       children = ran.children;
       sink = ran.sink;
-      followed = matches_behind (requesting setup_bytes) ran.done t _ how ran.output
-          (whole_is job input r.runs ∙ ap (λ (x : Result (List DeviceInfo) ConnFault). having (requesting setup_bytes) (by_setup x job (record { wire = set_up input; runs = r.runs }))) (sym k.2)) ran.followed;
+      followed = matches_behind (requesting (setup_bytes Big)) ran.done t _ how ran.output
+          (whole_is job input r.runs ∙ ap (λ (x : Result (List DeviceInfo) ConnFault). having (requesting (setup_bytes Big)) (by_setup x job (record { wire = set_up Big input; runs = r.runs }))) (sym k.2)) ran.followed;
       attended = λ devices same.
           let both : (let x : Result (List DeviceInfo) ConnFault = Ok conn.devices in x ≡ Ok devices) = k.2 ∙ same in
           let devices_are : conn.devices ≡ devices = cc in

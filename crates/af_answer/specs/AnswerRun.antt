@@ -1,4 +1,4 @@
--- An answering machine by its words: its server is dialled, the link set up, and its job done.
+-- An answering machine by its words: its server is dialled, the link set up in Big order, and its job done.
 use Rattle.std.specs.Prelude.{◌≡◌, ◌⊎◌, ℕ, Bool, true, false, List, [], ◌∷◌, Result, Ok, Err}
 use Rattle.std.specs.declared.option.Option.{Option}
 use Rattle.std.specs.declared.option.Option.TheVariants.{Some}
@@ -6,12 +6,12 @@ use Rattle.clap.specs.Words.{Text}
 use Rattle.af_io.specs.Observed.{Appended}
 use Rattle.af_io.specs.Flow.{AppendedPrefix}
 use Rattle.af_io.specs.Dial.{AppendedBack, ToldLink}
+use Rattle.af_wire.specs.declared.order.Order.TheVariants.{Big}
 use Rattle.af_wire.specs.Front.{setup_bytes}
 use Rattle.af_child.specs.Acts.{Told}
 use Rattle.af_request.specs.declared.reply.DeviceInfo.{DeviceInfo}
 use Rattle.af_lib.specs.declared.fault.ConnFault.{ConnFault}
-use Rattle.af_lib.specs.Calls.{answered, as_devices}
-use Rattle.af_tool.specs.Trace.{next_message, set_up, unused}
+use Rattle.af_tool.specs.Trace.{set_up, setup_answer}
 use Rattle.af_answer.specs.declared.end.AnswerEnd.{AnswerEnd}
 use Rattle.af_answer.specs.declared.end.AnswerEnd.TheVariants as end
 use Rattle.af_answer.specs.declared.job.AnswerJob.{AnswerJob}
@@ -22,10 +22,6 @@ use Rattle.af_answer.specs.Answered.{RanAs}
 use Rattle.af_answer.specs.AnswerWords.{AnswerWords, words_of_job}
 use Rattle.af_answer.specs.Ways.{is_of_answer}
 
--- the devices that the answer to a setup states, or its fault
-abbrev pub setup_answer : List ℕ → Result (List DeviceInfo) ConnFault
-setup_answer input = answered as_devices 0 0 (next_message (unused input)).found
-
 -- what follows the answer to a setup
 abbrev pub by_setup : Result (List DeviceInfo) ConnFault → AnswerJob → ToCome → AnswerTrace
 by_setup (Ok devices) job a = answer_trace job devices a
@@ -33,7 +29,7 @@ by_setup (Err fault) job a = stops (met_fault fault)
 
 -- the trace of a machine on a link that is set up first, by all bytes that the link gives and how the children run
 unfoldable pub whole_trace : AnswerJob → List ℕ → List ChildRun → AnswerTrace
-whole_trace job input runs = having (requesting setup_bytes) (by_setup (setup_answer input) job (record { wire = set_up input; runs = runs }))
+whole_trace job input runs = having (requesting (setup_bytes Big)) (by_setup (setup_answer Big input) job (record { wire = set_up Big input; runs = runs }))
 
 -- how a machine ends, by these
 abbrev pub answer_end : AnswerJob → List ℕ → List ChildRun → AnswerEnd
@@ -42,13 +38,13 @@ answer_end job input runs = machine_end (whole_trace job input runs).finish
 -- a link was set up, and then the machine ran on it
 pub record Attended (job : AnswerJob) (devices : List DeviceInfo) (input : List ℕ) (runs : List ChildRun) (how : AnswerEnd) (sent sent' : Option (List ℕ)) (acts acts' : Option (List Told)) (held held' : Option (List ℕ)) : Type 0 where
   pub between : Option (List ℕ)
-  pub set : Appended sent setup_bytes between
-  pub ran : RanAs job devices (answer_trace job devices (record { wire = set_up input; runs = runs })) runs how between sent' acts acts' held held'
+  pub set : Appended sent (setup_bytes Big) between
+  pub ran : RanAs Big job devices (answer_trace job devices (record { wire = set_up Big input; runs = runs })) runs how between sent' acts acts' held held'
 
 -- the link failed before it was set up
 pub record FailedSetup (how : AnswerEnd) (sent sent' : Option (List ℕ)) : Type 0 where
   pub fault : how ≡ end.LinkFault
-  pub part : AppendedPrefix sent setup_bytes sent'
+  pub part : AppendedPrefix sent (setup_bytes Big) sent'
 
 -- What came of a link that gives these bytes: what was done and written is that of the trace, and how the machine ended, unless
 -- something from outside ended it; and where the link was set up, all of what is said of a machine on a connection.
@@ -60,7 +56,7 @@ pub record LinkRan (job : AnswerJob) (input : List ℕ) (how : AnswerEnd) (sent 
   pub children : Appended acts done.told acts'
   pub sink : Appended held output held'
   pub followed : MatchesAnswer (whole_trace job input runs) how done output
-  pub attended : (devices : List DeviceInfo) → setup_answer input ≡ Ok devices → FailedSetup how sent sent' ⊎ Attended job devices input runs how sent sent' acts acts' held held'
+  pub attended : (devices : List DeviceInfo) → setup_answer Big input ≡ Ok devices → FailedSetup how sent sent' ⊎ Attended job devices input runs how sent sent' acts acts' held held'
 
 -- memory ran out before anything was done
 pub record IsIdle (how : AnswerEnd) (sent sent' : Option (List ℕ)) (acts acts' : Option (List Told)) (held held' : Option (List ℕ)) : Type 0 where

@@ -78,20 +78,20 @@ by_reply (Err fault) a next = stops (met_fault fault)
 -- a request is sent, and what follows goes by its answer
 unfoldable pub requests : Asked → ToCome → (ToCome → AnswerTrace) → AnswerTrace
 requests asked a next =
-    having (requesting (request_bytes asked)) (by_reply (answer_on asked as_done a.wire) (record { wire = after_reply a.wire; runs = a.runs }) next)
+    having (requesting (request_bytes a.wire.order asked)) (by_reply (answer_on asked as_done a.wire) (record { wire = after_reply a.wire; runs = a.runs }) next)
 
 -- the event that a client is handed next: the oldest of its ring, or else the next message
 abbrev pub event_at_hand : Option Event → ClientState → Result Event ConnFault
 event_at_hand (Some e) w = Ok e
-event_at_hand None w = event_of w.input
+event_at_hand None w = event_of w.order w.input
 
 abbrev pub next_event : ClientState → Result Event ConnFault
 next_event w = event_at_hand (slice_get w.ring.events 0) w
 
 -- a client behind that event
 abbrev pub behind_from : Option Event → ClientState → ClientState
-behind_from (Some e) w = record { sequence = w.sequence; ring = record w.ring { events = drop 1 w.ring.events }; input = w.input }
-behind_from None w = record { sequence = w.sequence; ring = w.ring; input = behind_message w.input }
+behind_from (Some e) w = record { order = w.order; sequence = w.sequence; ring = record w.ring { events = drop 1 w.ring.events }; input = w.input }
+behind_from None w = record { order = w.order; sequence = w.sequence; ring = w.ring; input = behind_message w.order w.input }
 
 abbrev pub behind_event : ClientState → ClientState
 behind_event w = behind_from (slice_get w.ring.events 0) w

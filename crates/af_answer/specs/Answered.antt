@@ -3,6 +3,7 @@ use Rattle.std.specs.Prelude.{◌≡◌, ◌≢◌, ◌≤◌, ◌↔◌, ◌⊎
 use Rattle.std.specs.declared.option.Option.{Option}
 use Rattle.std.specs.declared.option.Option.TheVariants.{None, Some}
 use Rattle.af_io.specs.Observed.{Appended}
+use Rattle.af_wire.specs.declared.order.Order.{Order}
 use Rattle.af_child.specs.Acts.{Told}
 use Rattle.af_lib.specs.declared.fault.ConnFault.{ConnFault}
 use Rattle.af_lib.specs.Calls.{ConnState}
@@ -28,21 +29,21 @@ pub record IsAnswerJob (job : AnswerJob) : Type 0 where
   pub message : (1 ≤ length job.message.bytes) × (length job.message.bytes ≤ 200)
 
 -- the request of an act
-abbrev pub bytes_of_act : ℕ → MachineAct → List ℕ
-bytes_of_act device off_hook = request_bytes (hook_switch device 1)
-bytes_of_act device on_hook = request_bytes (hook_switch device 0)
-bytes_of_act device greet = []
-bytes_of_act device record_message = []
-bytes_of_act device (write_tally t) = []
+abbrev pub bytes_of_act : Order → ℕ → MachineAct → List ℕ
+bytes_of_act order device off_hook = request_bytes order (hook_switch device 1)
+bytes_of_act order device on_hook = request_bytes order (hook_switch device 0)
+bytes_of_act order device greet = []
+bytes_of_act order device record_message = []
+bytes_of_act order device (write_tally t) = []
 
 -- the requests of acts, in order
-abbrev pub requests_of : ℕ → List MachineAct → List ℕ
-requests_of device [] = []
-requests_of device (act ∷ acts) = bytes_of_act device act ++ requests_of device acts
+abbrev pub requests_of : Order → ℕ → List MachineAct → List ℕ
+requests_of order device [] = []
+requests_of order device (act ∷ acts) = bytes_of_act order device act ++ requests_of order device acts
 
 -- all that the machine is to send behind the setup: it asks for rings and hooks, and then come its acts
-abbrev pub sends_of_job : AnswerJob → List MachineAct → List ℕ
-sends_of_job job acts = request_bytes (select_events job.device 3) ++ requests_of job.device acts
+abbrev pub sends_of_job : Order → AnswerJob → List MachineAct → List ℕ
+sends_of_job order job acts = request_bytes order (select_events job.device 3) ++ requests_of order job.device acts
 
 -- what is told of the children of acts, by how these run
 abbrev pub children_of : AnswerJob → List MachineAct → List ChildRun → List Told
@@ -66,18 +67,18 @@ text_of_acts [] = []
 text_of_acts (act ∷ acts) = text_of_act act ++ text_of_acts acts
 
 -- What was sent, told of children and written are prefixes of what these acts have, in order, and all three are whole at Done.
-pub record KeepsToActs (job : AnswerJob) (acts : List MachineAct) (runs : List ChildRun) (how : AnswerEnd) (sends : List ℕ) (told : List Told) (output : List ℕ) : Type 0 where
+pub record KeepsToActs (order : Order) (job : AnswerJob) (acts : List MachineAct) (runs : List ChildRun) (how : AnswerEnd) (sends : List ℕ) (told : List Told) (output : List ℕ) : Type 0 where
   pub unsent : List ℕ
   pub untold : List Told
   pub unwritten : List ℕ
-  pub sent : sends_of_job job acts ≡ sends ++ unsent
+  pub sent : sends_of_job order job acts ≡ sends ++ unsent
   pub children : children_of job acts runs ≡ told ++ untold
   pub text : text_of_acts acts ≡ output ++ unwritten
   pub whole : how ≡ end.Done → (unsent ≡ []) × (untold ≡ []) × (unwritten ≡ [])
 
 -- all was sent and done that these acts have, and they leave the hook on
-pub record HangsUp (job : AnswerJob) (acts : List MachineAct) (runs : List ChildRun) (sends : List ℕ) (told : List Told) : Type 0 where
-  pub sent : sends ≡ sends_of_job job acts
+pub record HangsUp (order : Order) (job : AnswerJob) (acts : List MachineAct) (runs : List ChildRun) (sends : List ℕ) (told : List Told) : Type 0 where
+  pub sent : sends ≡ sends_of_job order job acts
   pub children : told ≡ children_of job acts runs
   pub on : leaves_off acts ≡ false
 
@@ -89,8 +90,8 @@ HasLine job devices = (device : DeviceInfo) × (slice_get devices job.device ≡
 abbrev pub IsReplied : AnswerTrace → Type 0
 IsReplied trace = (f : ConnFault) → trace.finish ≢ met_fault f
 
--- A machine did as in this trace, with its children running so.
-pub record RanAs (job : AnswerJob) (devices : List DeviceInfo) (trace : AnswerTrace) (runs : List ChildRun) (how : AnswerEnd) (sent sent' : Option (List ℕ)) (acts acts' : Option (List Told)) (held held' : Option (List ℕ)) : Type 0 where
+-- A machine did as in this trace, in an order of bytes, with its children running so.
+pub record RanAs (order : Order) (job : AnswerJob) (devices : List DeviceInfo) (trace : AnswerTrace) (runs : List ChildRun) (how : AnswerEnd) (sent sent' : Option (List ℕ)) (acts acts' : Option (List Told)) (held held' : Option (List ℕ)) : Type 0 where
   -- what was done and written
   pub done : Deeds
   pub output : List ℕ
@@ -100,9 +101,9 @@ pub record RanAs (job : AnswerJob) (devices : List DeviceInfo) (trace : AnswerTr
   -- it is what the trace has, and the machine ended as the trace does, unless something from outside ended it
   pub followed : MatchesAnswer trace how done output
   -- it is what the events that were handed out and the ends of the children ask for
-  pub answered : HasLine job devices → KeepsToActs job (answer_acts job trace.heard (map run_end runs)) runs how done.sends done.told output
+  pub answered : HasLine job devices → KeepsToActs order job (answer_acts job trace.heard (map run_end runs)) runs how done.sends done.told output
   -- the hook is on at the end, unless a call on the connection answered a fault
-  pub hung_up : HasLine job devices → IsReplied trace → how ≢ end.LinkFault → HangsUp job (answer_acts job trace.heard (map run_end runs)) runs done.sends done.told
+  pub hung_up : HasLine job devices → IsReplied trace → how ≢ end.LinkFault → HangsUp order job (answer_acts job trace.heard (map run_end runs)) runs done.sends done.told
   -- memory ran out exactly where it did for a child, and the hook was put on behind it
   pub starved : how ≡ end.OutOfMemory → trace.finish ≡ child_starved
   pub starves : trace.finish ≡ child_starved → (how ≡ end.OutOfMemory) ⊎ (is_from_outside how ≡ true)
@@ -113,7 +114,7 @@ pub record RanAs (job : AnswerJob) (devices : List DeviceInfo) (trace : AnswerTr
 -- An answering machine ran, by what its link gives: its children ran somehow, and it did as its trace does then.
 pub record AnswerRan (job : AnswerJob) (devices : List DeviceInfo) (w : ClientState) (how : AnswerEnd) (sent sent' : Option (List ℕ)) (acts acts' : Option (List Told)) (held held' : Option (List ℕ)) : Type 0 where
   pub runs : List ChildRun
-  pub ran : RanAs job devices (answer_trace job devices (record { wire = w; runs = runs })) runs how sent sent' acts acts' held held'
+  pub ran : RanAs w.order job devices (answer_trace job devices (record { wire = w; runs = runs })) runs how sent sent' acts acts' held held'
 
 -- the same over a connection whose link tells what it gives
 abbrev pub RunsAnswer : {L S K : Type 0} → (left sent : L → Option (List ℕ)) → (acts : S → Option (List Told)) → (held : K → Option (List ℕ)) →

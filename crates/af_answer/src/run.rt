@@ -16,9 +16,10 @@ use af_child::Spawner;
 use af_io::{Args, Dial, Dialed, Link, Sink};
 use af_lib::Conn;
 use af_options::OptionsFault;
+use af_wire::Order;
 use std::alloc::Global;
 
-// Sets a link up, and attends a line over it. The link comes back.
+// Sets a link up in Big order, and attends a line over it. The link comes back.
 fn answer_over<L: Link + Drop, S: Spawner, K: Sink>(
     alloc: Global,
     job: &AnswerJob,
@@ -34,7 +35,7 @@ fn answer_over<L: Link + Drop, S: Spawner, K: Sink>(
     ensures sink { CountsFault (result.0 ≡ AnswerEnd.SinkFault) (K.faults sink.old) (K.faults sink.new) }
     ensures children { S.faults spawner.old ≤ S.faults spawner.new }
 {
-    match Conn::connect(alloc, far) {
+    match Conn::connect(alloc, far, Order::Big) {
         Ok(mut conn) => {
             let end = answer(alloc, job, &mut conn, spawner, sink);
             (end, conn.into_link())

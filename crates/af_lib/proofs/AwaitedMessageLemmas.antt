@@ -4,6 +4,7 @@ use Rattle.std.proofs.lemmas.List.{take_at, drop_at, take-take, length-take-le}
 use Rattle.std.specs.Prelude.{Result, Ok, Err}
 use Rattle.std.specs.declared.option.Option.{Option}
 use Rattle.std.specs.declared.option.Option.TheVariants.{None, Some}
+use Rattle.af_wire.specs.declared.order.Order.{Order}
 use Rattle.af_wire.specs.declared.event.Event.{Event}
 use Rattle.af_wire.specs.declared.message_front.MessageFront.TheVariants.{BadMessage}
 use Rattle.af_wire.specs.MessageFront.{message_front}
@@ -17,31 +18,6 @@ use Rattle.af_lib.specs.Receive.{IsWhole, IsCut, IsTakenWithin, taken_as}
 use Rattle.af_lib.specs.Observed.{BothTold}
 use Rattle.af_lib.proofs.LinkByteLemmas.{BothTold-map}
 
--- the first message of an input that has one
-incoming_front : (b : List ℕ) (n : ℕ) → IsWhole b n → incoming b ≡ message_in (take n b)
-unfolding incoming
-incoming_front b n w = ap (λ f. incoming_at f b) w.front
-
-rest_front : (b : List ℕ) (n : ℕ) → IsWhole b n → behind_message b ≡ drop n b
-unfolding behind_message
-rest_front b n w = ap (λ f. rest_at f b) w.front
-
-incoming_bad : (b : List ℕ) → message_front b ≡ BadMessage → incoming b ≡ Err (bad_reply (take 8 b))
-unfolding incoming
-incoming_bad b front = ap (λ f. incoming_at f b) front
-
-rest_bad : (b : List ℕ) → message_front b ≡ BadMessage → behind_message b ≡ drop 8 b
-unfolding behind_message
-rest_bad b front = ap (λ f. rest_at f b) front
-
-incoming_cut : (b : List ℕ) → IsCut b → incoming b ≡ Err fault.LinkEnded
-unfolding incoming
-incoming_cut b cut = ap (λ f. incoming_at f b) cut.front
-
-rest_cut : (b : List ℕ) → IsCut b → behind_message b ≡ []
-unfolding behind_message
-rest_cut b cut = ap (λ f. rest_at f b) cut.front
-
 -- a message that stands in the first bytes of a buffer
 taken_in : (result : Result Taken ConnFault) (into : List ℕ) (n : ℕ) → n ≤ length into → IsTakenWithin result (length (take n into)) → taken_as result (take n into) ≡ taken_as result into
 taken_in (Ok (taken.Event e)) into n fits within = refl
@@ -51,33 +27,6 @@ taken_in (Ok (taken.Other m)) into n fits within =
     ap (λ (bytes : List ℕ). Ok (other bytes)) (take-take m n into (omega arith))
 taken_in (Err fault) into n fits within = refl
 
--- a whole message is taken as what it is
-pub taken_whole : (before after : Option (List ℕ)) (result : Result Taken ConnFault) (into : List ℕ) (n : ℕ) → n ≤ length into →
-    BothTold before after (λ b a. IsWhole b n × (b ≡ take n into ++ a)) → taken_as result (take n into) ≡ message_in (take n into) → IsTakenWithin result (length (take n into)) →
-    BothTold before after (λ b a. (taken_as result into ≡ incoming b) × (a ≡ behind_message b))
-taken_whole before after result into n fits told is within =
-    let len = length-take-le n into fits in
-    BothTold-map before after _ _ told (λ b a t.
-    let front : take n b ≡ take n into = ap (take n) t.1 ∙ take_at (take n into) a n len in
-    let back : drop n b ≡ a = ap (drop n) t.1 ∙ drop_at (take n into) a n len in
-    (sym (taken_in result into n fits within) ∙ is ∙ ap message_in (sym front) ∙ sym (incoming_front b n t.0), sym back ∙ sym (rest_front b n t.0)))
-
--- a bad head is taken alone
-pub taken_bad : (before after : Option (List ℕ)) (fault : ConnFault) (into : List ℕ) → 8 ≤ length into →
-    BothTold before after (λ b a. (message_front b ≡ BadMessage) × (b ≡ take 8 into ++ a)) → fault ≡ bad_reply (take 8 into) →
-    BothTold before after (λ b a. (Err fault ≡ incoming b) × (a ≡ behind_message b))
-taken_bad before after fault into fits told is =
-    let len = length-take-le 8 into fits in
-    BothTold-map before after _ _ told (λ b a t.
-    let front : take 8 b ≡ take 8 into = ap (take 8) t.1 ∙ take_at (take 8 into) a 8 len in
-    let back : drop 8 b ≡ a = ap (drop 8) t.1 ∙ drop_at (take 8 into) a 8 len in
-    (ap (λ (f : ConnFault). Err f) (is ∙ ap bad_reply (sym front)) ∙ sym (incoming_bad b t.0), sym back ∙ sym (rest_bad b t.0)))
-
--- of a message that is cut off all is taken
-pub taken_cut : (before after : Option (List ℕ)) → BothTold before after (λ b a. IsCut b × (a ≡ [])) →
-    BothTold before after (λ b a. (Err fault.LinkEnded ≡ incoming b) × (a ≡ behind_message b))
-taken_cut before after told = BothTold-map before after _ _ told (λ b a t. (sym (incoming_cut b t.0), t.1 ∙ sym (rest_cut b t.0)))
-
 -- a stretch, and one behind it
 pub BothTold-trans : (before now after : Option (List ℕ)) (P Q R : List ℕ → List ℕ → Type 0) → BothTold before now P → BothTold now after Q →
     ((b n a : List ℕ) → P b n → Q n a → R b a) → BothTold before after R
@@ -86,52 +35,105 @@ BothTold-trans before None (Some z) P Q R first second f = absurd second
 BothTold-trans None (Some y) (Some z) P Q R first second f = absurd first
 BothTold-trans (Some x) (Some y) (Some z) P Q R first second f = f x y z first second
 
--- an event more
-awaited_event : (n : ℕ) (ring : RingState) (now next : List ℕ) (e : Event) → 0 < n → Ok (event e) ≡ incoming now → next ≡ behind_message now →
-    awaited n ring now ≡ awaited (n - 1) (with_event e ring) next
-unfolding awaited
-awaited_event zero ring now next e some is rest = absurd (omega (arith, some))
-awaited_event (suc m) ring now next e some is rest =
-    ap (λ (i : Result Incoming ConnFault). awaited_by i ring (behind_message now) (λ r. awaited m r (behind_message now))) (sym is)
-    ∙ ap₂ (λ (k : ℕ) (input : List ℕ). awaited k (with_event e ring) input) (let same : m ≡ suc m - 1 = omega arith in same) (sym rest)
+module _ (order : Order) where
+  -- the first message of an input that has one
+  incoming_front : (b : List ℕ) (n : ℕ) → IsWhole order b n → incoming order b ≡ message_in order (take n b)
+  unfolding incoming
+  incoming_front b n w = ap (λ f. incoming_at order f b) w.front
 
--- a message that is no event
-awaited_other : (n : ℕ) (ring : RingState) (now next bytes : List ℕ) → 0 < n → Ok (other bytes) ≡ incoming now → next ≡ behind_message now →
-    awaited n ring now ≡ record { found = Ok bytes; ring = ring; rest = next }
-unfolding awaited
-awaited_other zero ring now next bytes some is rest = absurd (omega (arith, some))
-awaited_other (suc m) ring now next bytes some is rest =
-    ap (λ (i : Result Incoming ConnFault). awaited_by i ring (behind_message now) (λ r. awaited m r (behind_message now))) (sym is)
-    ∙ ap (λ (input : List ℕ). (let w : Awaited = record { found = Ok bytes; ring = ring; rest = input } in w)) (sym rest)
+  rest_front : (b : List ℕ) (n : ℕ) → IsWhole order b n → behind_message order b ≡ drop n b
+  unfolding behind_message
+  rest_front b n w = ap (λ f. rest_at f b) w.front
 
--- no message
-awaited_fault : (n : ℕ) (ring : RingState) (now next : List ℕ) (fault : ConnFault) → 0 < n → Err fault ≡ incoming now → next ≡ behind_message now →
-    awaited n ring now ≡ record { found = Err fault; ring = ring; rest = next }
-unfolding awaited
-awaited_fault zero ring now next fault some is rest = absurd (omega (arith, some))
-awaited_fault (suc m) ring now next fault some is rest =
-    ap (λ (i : Result Incoming ConnFault). awaited_by i ring (behind_message now) (λ r. awaited m r (behind_message now))) (sym is)
-    ∙ ap (λ (input : List ℕ). (let w : Awaited = record { found = Err fault; ring = ring; rest = input } in w)) (sym rest)
+  incoming_bad : (b : List ℕ) → message_front order b ≡ BadMessage → incoming order b ≡ Err (bad_reply (take 8 b))
+  unfolding incoming
+  incoming_bad b front = ap (λ f. incoming_at order f b) front
 
-awaited_none : (n : ℕ) (ring : RingState) (now : List ℕ) → n ≡ 0 → awaited n ring now ≡ record { found = Err fault.EventFlood; ring = ring; rest = now }
-unfolding awaited
-awaited_none zero ring now none = refl
-awaited_none (suc m) ring now none = absurd (omega (arith, none))
+  rest_bad : (b : List ℕ) → message_front order b ≡ BadMessage → behind_message order b ≡ drop 8 b
+  unfolding behind_message
+  rest_bad b front = ap (λ f. rest_at f b) front
 
-module _ (before now after : Option (List ℕ)) (most n : ℕ) (ring0 ring : RingState) (first : BothTold before now (λ b m. awaited most ring0 b ≡ awaited n ring m)) where
-  pub await_event : (e : Event) → 0 < n → BothTold now after (λ m a. (Ok (event e) ≡ incoming m) × (a ≡ behind_message m)) →
-      BothTold before after (λ b a. awaited most ring0 b ≡ awaited (n - 1) (with_event e ring) a)
-  await_event e some second = BothTold-trans before now after _ _ _ first second (λ b m a p q. p ∙ awaited_event n ring m a e some q.0 q.1)
+  incoming_cut : (b : List ℕ) → IsCut order b → incoming order b ≡ Err fault.LinkEnded
+  unfolding incoming
+  incoming_cut b cut = ap (λ f. incoming_at order f b) cut.front
 
-  pub await_other : (bytes : List ℕ) → 0 < n → BothTold now after (λ m a. (Ok (other bytes) ≡ incoming m) × (a ≡ behind_message m)) →
-      BothTold before after (λ b a. awaited most ring0 b ≡ record { found = Ok bytes; ring = ring; rest = a })
-  await_other bytes some second = BothTold-trans before now after _ _ _ first second (λ b m a p q. p ∙ awaited_other n ring m a bytes some q.0 q.1)
+  rest_cut : (b : List ℕ) → IsCut order b → behind_message order b ≡ []
+  unfolding behind_message
+  rest_cut b cut = ap (λ f. rest_at f b) cut.front
 
-  pub await_fault : (fault : ConnFault) → 0 < n → BothTold now after (λ m a. (Err fault ≡ incoming m) × (a ≡ behind_message m)) →
-      BothTold before after (λ b a. awaited most ring0 b ≡ record { found = Err fault; ring = ring; rest = a })
-  await_fault fault some second = BothTold-trans before now after _ _ _ first second (λ b m a p q. p ∙ awaited_fault n ring m a fault some q.0 q.1)
+  -- a whole message is taken as what it is
+  pub taken_whole : (before after : Option (List ℕ)) (result : Result Taken ConnFault) (into : List ℕ) (n : ℕ) → n ≤ length into →
+      BothTold before after (λ b a. IsWhole order b n × (b ≡ take n into ++ a)) → taken_as result (take n into) ≡ message_in order (take n into) → IsTakenWithin result (length (take n into)) →
+      BothTold before after (λ b a. (taken_as result into ≡ incoming order b) × (a ≡ behind_message order b))
+  taken_whole before after result into n fits told is within =
+      let len = length-take-le n into fits in
+      BothTold-map before after _ _ told (λ b a t.
+      let front : take n b ≡ take n into = ap (take n) t.1 ∙ take_at (take n into) a n len in
+      let back : drop n b ≡ a = ap (drop n) t.1 ∙ drop_at (take n into) a n len in
+      (sym (taken_in result into n fits within) ∙ is ∙ ap (message_in order) (sym front) ∙ sym (incoming_front b n t.0), sym back ∙ sym (rest_front b n t.0)))
 
--- all the events that may come have come
-pub await_flood : (before now : Option (List ℕ)) (most n : ℕ) (ring0 ring : RingState) → BothTold before now (λ b m. awaited most ring0 b ≡ awaited n ring m) → n ≡ 0 →
-    BothTold before now (λ b m. awaited most ring0 b ≡ record { found = Err fault.EventFlood; ring = ring; rest = m })
-await_flood before now most n ring0 ring told none = BothTold-map before now _ _ told (λ b m p. p ∙ awaited_none n ring m none)
+  -- a bad head is taken alone
+  pub taken_bad : (before after : Option (List ℕ)) (fault : ConnFault) (into : List ℕ) → 8 ≤ length into →
+      BothTold before after (λ b a. (message_front order b ≡ BadMessage) × (b ≡ take 8 into ++ a)) → fault ≡ bad_reply (take 8 into) →
+      BothTold before after (λ b a. (Err fault ≡ incoming order b) × (a ≡ behind_message order b))
+  taken_bad before after fault into fits told is =
+      let len = length-take-le 8 into fits in
+      BothTold-map before after _ _ told (λ b a t.
+      let front : take 8 b ≡ take 8 into = ap (take 8) t.1 ∙ take_at (take 8 into) a 8 len in
+      let back : drop 8 b ≡ a = ap (drop 8) t.1 ∙ drop_at (take 8 into) a 8 len in
+      (ap (λ (f : ConnFault). Err f) (is ∙ ap bad_reply (sym front)) ∙ sym (incoming_bad b t.0), sym back ∙ sym (rest_bad b t.0)))
+
+  -- of a message that is cut off all is taken
+  pub taken_cut : (before after : Option (List ℕ)) → BothTold before after (λ b a. IsCut order b × (a ≡ [])) →
+      BothTold before after (λ b a. (Err fault.LinkEnded ≡ incoming order b) × (a ≡ behind_message order b))
+  taken_cut before after told = BothTold-map before after _ _ told (λ b a t. (sym (incoming_cut b t.0), t.1 ∙ sym (rest_cut b t.0)))
+
+  -- an event more
+  awaited_event : (n : ℕ) (ring : RingState) (now next : List ℕ) (e : Event) → 0 < n → Ok (event e) ≡ incoming order now → next ≡ behind_message order now →
+      awaited order n ring now ≡ awaited order (n - 1) (with_event e ring) next
+  unfolding awaited
+  awaited_event zero ring now next e some is rest = absurd (omega (arith, some))
+  awaited_event (suc m) ring now next e some is rest =
+      ap (λ (i : Result Incoming ConnFault). awaited_by i ring (behind_message order now) (λ r. awaited order m r (behind_message order now))) (sym is)
+      ∙ ap₂ (λ (k : ℕ) (input : List ℕ). awaited order k (with_event e ring) input) (let same : m ≡ suc m - 1 = omega arith in same) (sym rest)
+
+  -- a message that is no event
+  awaited_other : (n : ℕ) (ring : RingState) (now next bytes : List ℕ) → 0 < n → Ok (other bytes) ≡ incoming order now → next ≡ behind_message order now →
+      awaited order n ring now ≡ record { found = Ok bytes; ring = ring; rest = next }
+  unfolding awaited
+  awaited_other zero ring now next bytes some is rest = absurd (omega (arith, some))
+  awaited_other (suc m) ring now next bytes some is rest =
+      ap (λ (i : Result Incoming ConnFault). awaited_by i ring (behind_message order now) (λ r. awaited order m r (behind_message order now))) (sym is)
+      ∙ ap (λ (input : List ℕ). (let w : Awaited = record { found = Ok bytes; ring = ring; rest = input } in w)) (sym rest)
+
+  -- no message
+  awaited_fault : (n : ℕ) (ring : RingState) (now next : List ℕ) (fault : ConnFault) → 0 < n → Err fault ≡ incoming order now → next ≡ behind_message order now →
+      awaited order n ring now ≡ record { found = Err fault; ring = ring; rest = next }
+  unfolding awaited
+  awaited_fault zero ring now next fault some is rest = absurd (omega (arith, some))
+  awaited_fault (suc m) ring now next fault some is rest =
+      ap (λ (i : Result Incoming ConnFault). awaited_by i ring (behind_message order now) (λ r. awaited order m r (behind_message order now))) (sym is)
+      ∙ ap (λ (input : List ℕ). (let w : Awaited = record { found = Err fault; ring = ring; rest = input } in w)) (sym rest)
+
+  awaited_none : (n : ℕ) (ring : RingState) (now : List ℕ) → n ≡ 0 → awaited order n ring now ≡ record { found = Err fault.EventFlood; ring = ring; rest = now }
+  unfolding awaited
+  awaited_none zero ring now none = refl
+  awaited_none (suc m) ring now none = absurd (omega (arith, none))
+
+  module _ (before now after : Option (List ℕ)) (most n : ℕ) (ring0 ring : RingState) (first : BothTold before now (λ b m. awaited order most ring0 b ≡ awaited order n ring m)) where
+    pub await_event : (e : Event) → 0 < n → BothTold now after (λ m a. (Ok (event e) ≡ incoming order m) × (a ≡ behind_message order m)) →
+        BothTold before after (λ b a. awaited order most ring0 b ≡ awaited order (n - 1) (with_event e ring) a)
+    await_event e some second = BothTold-trans before now after _ _ _ first second (λ b m a p q. p ∙ awaited_event n ring m a e some q.0 q.1)
+
+    pub await_other : (bytes : List ℕ) → 0 < n → BothTold now after (λ m a. (Ok (other bytes) ≡ incoming order m) × (a ≡ behind_message order m)) →
+        BothTold before after (λ b a. awaited order most ring0 b ≡ record { found = Ok bytes; ring = ring; rest = a })
+    await_other bytes some second = BothTold-trans before now after _ _ _ first second (λ b m a p q. p ∙ awaited_other n ring m a bytes some q.0 q.1)
+
+    pub await_fault : (fault : ConnFault) → 0 < n → BothTold now after (λ m a. (Err fault ≡ incoming order m) × (a ≡ behind_message order m)) →
+        BothTold before after (λ b a. awaited order most ring0 b ≡ record { found = Err fault; ring = ring; rest = a })
+    await_fault fault some second = BothTold-trans before now after _ _ _ first second (λ b m a p q. p ∙ awaited_fault n ring m a fault some q.0 q.1)
+
+  -- all the events that may come have come
+  pub await_flood : (before now : Option (List ℕ)) (most n : ℕ) (ring0 ring : RingState) → BothTold before now (λ b m. awaited order most ring0 b ≡ awaited order n ring m) → n ≡ 0 →
+      BothTold before now (λ b m. awaited order most ring0 b ≡ record { found = Err fault.EventFlood; ring = ring; rest = m })
+  await_flood before now most n ring0 ring told none = BothTold-map before now _ _ told (λ b m p. p ∙ awaited_none n ring m none)

@@ -1,6 +1,7 @@
 -- What a message answers to a request of a client.
 use Rattle.std.specs.Prelude.{ℕ, ◌==◌, ◌&&◌, if◌then◌else◌, List, [], ◌∷◌, drop, Option, Some, None, Result, Ok, Err}
-use Rattle.std.specs.Int.{w32, from_be_bytes}
+use Rattle.af_wire.specs.declared.order.Order.{Order}
+use Rattle.af_wire.specs.Order.{u32_of}
 use Rattle.af_request.specs.Fields.{u8_at, u16_at}
 use Rattle.af_lib.specs.declared.fault.ConnFault.{ConnFault}
 use Rattle.af_lib.specs.declared.fault.ConnFault.TheVariants as fault
@@ -8,10 +9,10 @@ use Rattle.af_lib.specs.Incoming.{bad_reply}
 
 -- the value that an error refuses, if its body is that of an error to a request of this opcode: the value, the opcode, and
 -- three zeros
-abbrev pub refused_in : ℕ → List ℕ → Option ℕ
-refused_in opcode (a ∷ b ∷ c ∷ d ∷ asked ∷ x ∷ y ∷ z ∷ []) =
-    if asked == opcode && x == 0 && y == 0 && z == 0 then Some (from_be_bytes w32 (a ∷ b ∷ c ∷ d ∷ [])) else None
-refused_in opcode _ = None
+abbrev pub refused_in : Order → ℕ → List ℕ → Option ℕ
+refused_in order opcode (a ∷ b ∷ c ∷ d ∷ asked ∷ x ∷ y ∷ z ∷ []) =
+    if asked == opcode && x == 0 && y == 0 && z == 0 then Some (u32_of order (a ∷ b ∷ c ∷ d ∷ [])) else None
+refused_in order opcode _ = None
 
 -- the fault that an error of a code is, if its body refuses a value of the request
 abbrev pub refusal_fault : List ℕ → ℕ → Option ℕ → ConnFault
@@ -20,10 +21,10 @@ refusal_fault bytes code None = bad_reply bytes
 
 -- a message that is no event, as the answer to a request of an opcode with a number: the message itself where it is a
 -- reply to that request, the error where it is one to that request, and else it is bad
-abbrev pub answer_to : ℕ → ℕ → List ℕ → Result (List ℕ) ConnFault
-answer_to opcode sequence bytes =
-    if u16_at 2 bytes == sequence && u8_at 0 bytes == 1 && u8_at 1 bytes == opcode then Ok bytes
-    else if u16_at 2 bytes == sequence && u8_at 0 bytes == 0 then Err (refusal_fault bytes (u8_at 1 bytes) (refused_in opcode (drop 8 bytes)))
+abbrev pub answer_to : Order → ℕ → ℕ → List ℕ → Result (List ℕ) ConnFault
+answer_to order opcode sequence bytes =
+    if u16_at order 2 bytes == sequence && u8_at 0 bytes == 1 && u8_at 1 bytes == opcode then Ok bytes
+    else if u16_at order 2 bytes == sequence && u8_at 0 bytes == 0 then Err (refusal_fault bytes (u8_at 1 bytes) (refused_in order opcode (drop 8 bytes)))
     else Err (bad_reply bytes)
 
 -- the value that the body of a reply states, or a bad reply

@@ -12,6 +12,7 @@ use Rattle.af_request.specs.Asked.{Asked, no_op, get_time, create_ac, change_ac,
 use Rattle.af_request.specs.Answer.{Answer, setup, plain, time, played, recorded, controls, phone}
 use Rattle.af_request.specs.Fields.{flag_byte}
 use Rattle.af_request.specs.Requests.{request_bytes}
+use Rattle.af_wire.specs.declared.order.Order.{Order}
 use Rattle.af_wire.specs.declared.event.Event.{Event}
 use Rattle.af_wire.specs.Front.{setup_bytes}
 use Rattle.arrayvec.specs.ArrayVec.{ArrayVec}
@@ -25,10 +26,11 @@ use Rattle.af_lib.specs.Incoming.{Incoming, event, other, awaited, bad_reply, in
 use Rattle.af_lib.specs.Answers.{and_then, answer_to, value_or_bad}
 use Rattle.af_lib.specs.Observed.{BothTold}
 
--- a connection: its link, the devices of the reply to its setup, the number of the last request that it sent, its ring of
+-- a connection: its link, the order of the bytes of its numbers, the devices of the reply to its setup, the number of the last request that it sent, its ring of
 -- events, and the first fault behind which it can be used no more
 pub record ConnState (L : Type 0) : Type 0 where
   pub link : L
+  pub order : Order
   pub devices : List DeviceInfo
   pub sequence : ℕ
   pub ring : RingState
@@ -93,16 +95,16 @@ as_recorded blocking asked (recorded now samples) =
 as_recorded blocking asked _ = None
 
 -- the value that the body of a reply states
-abbrev pub stated : {X : Type 0} → (Answer → Option X) → ℕ → List ℕ → Option X
-stated value_of opcode body = option_and_then value_of (answer_in opcode body)
+abbrev pub stated : {X : Type 0} → Order → (Answer → Option X) → ℕ → List ℕ → Option X
+stated order value_of opcode body = option_and_then value_of (answer_in order opcode body)
 
 -- the value of a reply that stands in a message
-abbrev pub value_in : {X : Type 0} → (Answer → Option X) → ℕ → List ℕ → Result X ConnFault
-value_in value_of opcode bytes = value_or_bad bytes (stated value_of opcode (drop 8 bytes))
+abbrev pub value_in : {X : Type 0} → Order → (Answer → Option X) → ℕ → List ℕ → Result X ConnFault
+value_in order value_of opcode bytes = value_or_bad bytes (stated order value_of opcode (drop 8 bytes))
 
 -- what the message that was found answers to a request of an opcode with a number
-abbrev pub answered : {X : Type 0} → (Answer → Option X) → ℕ → ℕ → Result (List ℕ) ConnFault → Result X ConnFault
-answered value_of opcode sequence found = and_then (value_in value_of opcode) (and_then (answer_to opcode sequence) found)
+abbrev pub answered : {X : Type 0} → Order → (Answer → Option X) → ℕ → ℕ → Result (List ℕ) ConnFault → Result X ConnFault
+answered order value_of opcode sequence found = and_then (value_in order value_of opcode) (and_then (answer_to order opcode sequence) found)
 
 -- the fault, if the connection can be used no more behind it
 abbrev pub cause_of : {X : Type 0} → Result X ConnFault → Option Cause
@@ -133,10 +135,10 @@ pub record Sends {X : Type 0} (result : Result X ConnFault) (before : Option (Li
 
 -- if the link did not fail and tells its bytes, exactly the messages up to the first that is no event were taken, the
 -- events went into the ring, and the answer is what that message says
-abbrev pub Answers : {X : Type 0} → (Answer → Option X) → ℕ → ℕ → Result X ConnFault → RingState → RingState → Option (List ℕ) → Option (List ℕ) → Type 0
-Answers value_of opcode sequence result ring ring' before after = result ≢ Err fault.LinkFault →
-    BothTold before after (λ b a. (result ≡ answered value_of opcode sequence (awaited 4096 ring b).found)
-    × (ring' ≡ (awaited 4096 ring b).ring) × (a ≡ (awaited 4096 ring b).rest))
+abbrev pub Answers : {X : Type 0} → Order → (Answer → Option X) → ℕ → ℕ → Result X ConnFault → RingState → RingState → Option (List ℕ) → Option (List ℕ) → Type 0
+Answers order value_of opcode sequence result ring ring' before after = result ≢ Err fault.LinkFault →
+    BothTold before after (λ b a. (result ≡ answered order value_of opcode sequence (awaited order 4096 ring b).found)
+    × (ring' ≡ (awaited order 4096 ring b).ring) × (a ≡ (awaited order 4096 ring b).rest))
 
 -- the same of the message itself, which stands in a buffer then
 abbrev pub held_in : {X : Type 0} → Result X ConnFault → List ℕ → Result (List ℕ) ConnFault
@@ -205,8 +207,8 @@ abbrev pub event_only : Incoming → Result Event ConnFault
 event_only (event e) = Ok e
 event_only (other bytes) = Err (bad_reply bytes)
 
-abbrev pub event_of : List ℕ → Result Event ConnFault
-event_of input = and_then event_only (incoming input)
+abbrev pub event_of : Order → List ℕ → Result Event ConnFault
+event_of order input = and_then event_only (incoming order input)
 
 -- A call of a connection that sends a request and takes its answer, by the bytes that the link is left to give and was
 -- sent, if it tells them, and by its count of faults.
@@ -217,17 +219,17 @@ pub record Called {L X : Type 0} (left sent : L → Option (List ℕ)) (faults :
   -- and then nothing is read or written
   pub untouched : IsSome old.cause → new ≡ old
   -- exactly the request was sent
-  pub sends : old.cause ≡ None → Sends result (sent old.link) (request_bytes asked) (sent new.link)
+  pub sends : old.cause ≡ None → Sends result (sent old.link) (request_bytes old.order asked) (sent new.link)
   -- exactly its answer was taken
-  pub answers : old.cause ≡ None → Answers value_of (opcode_of asked) (following old.sequence) result old.ring new.ring (left old.link) (left new.link)
+  pub answers : old.cause ≡ None → Answers old.order value_of (opcode_of asked) (following old.sequence) result old.ring new.ring (left old.link) (left new.link)
   -- the ring gained events and nothing else, also where the link failed
   pub gained : old.cause ≡ None → Gained old.ring new.ring
   -- the answer is one of a connection that can still be used
   pub fresh : old.cause ≡ None → IsFresh result
   -- bytes that are observed stay observed
   pub tells : IsSome (left old.link) → IsSome (left new.link)
-  -- the devices stay, and a fault is kept
-  pub keeps : old.cause ≡ None → new ≡ record { link = new.link; devices = old.devices; sequence = following old.sequence; ring = new.ring; cause = cause_of result }
+  -- the order and the devices stay, and a fault is kept
+  pub keeps : old.cause ≡ None → new ≡ record { link = new.link; order = old.order; devices = old.devices; sequence = following old.sequence; ring = new.ring; cause = cause_of result }
   -- LinkFault only where the link's count of faults rose
   pub failed : result ≡ Err fault.LinkFault → FaultCounted (faults old.link) (faults new.link)
   pub count : faults old.link ≤ faults new.link
@@ -243,26 +245,26 @@ pub record EventAwaited {L : Type 0} (left sent : L → Option (List ℕ)) (faul
       (result ≡ Ok e) × (new ≡ record old { ring = record old.ring { events = drop 1 old.ring.events } })
   -- exactly one message was taken
   pub next : old.cause ≡ None → slice_get old.ring.events 0 ≡ None → result ≢ Err fault.LinkFault →
-      BothTold (left old.link) (left new.link) (λ b a. (result ≡ event_of b) × (a ≡ behind_message b))
+      BothTold (left old.link) (left new.link) (λ b a. (result ≡ event_of old.order b) × (a ≡ behind_message old.order b))
   -- and but for Spent no other answer comes than an event, LinkFault, LinkEnded or BadReply
   pub answer : old.cause ≡ None → IsOfMessage result
   -- bytes that are observed stay observed
   pub tells : IsSome (left old.link) → IsSome (left new.link)
   -- the ring stays empty, and a fault is kept
   pub keeps : old.cause ≡ None → slice_get old.ring.events 0 ≡ None →
-      new ≡ record { link = new.link; devices = old.devices; sequence = old.sequence; ring = old.ring; cause = cause_of result }
+      new ≡ record { link = new.link; order = old.order; devices = old.devices; sequence = old.sequence; ring = old.ring; cause = cause_of result }
   -- nothing is sent
   pub sends : sent new.link ≡ sent old.link
   -- LinkFault only where the link's count of faults rose
   pub failed : result ≡ Err fault.LinkFault → FaultCounted (faults old.link) (faults new.link)
   pub count : faults old.link ≤ faults new.link
 
--- A setup that was sent, and its answer.
-pub record IsSetUp {L : Type 0} (left sent : L → Option (List ℕ)) (faults : L → ℕ) (old new : L) (ring : RingState) (result : Result (List DeviceInfo) ConnFault) : Type 0 where
+-- A setup of an order that was sent, and its answer.
+pub record IsSetUp {L : Type 0} (order : Order) (left sent : L → Option (List ℕ)) (faults : L → ℕ) (old new : L) (ring : RingState) (result : Result (List DeviceInfo) ConnFault) : Type 0 where
   -- exactly the setup was sent
-  pub sends : Sends result (sent old) setup_bytes (sent new)
+  pub sends : Sends result (sent old) (setup_bytes order) (sent new)
   -- exactly its answer was taken
-  pub answers : Answers as_devices 0 0 result (record { events = []; lost = 0 }) ring (left old) (left new)
+  pub answers : Answers order as_devices 0 0 result (record { events = []; lost = 0 }) ring (left old) (left new)
   -- it is neither Spent nor want of memory
   pub fresh : IsFresh result
   -- bytes that are observed stay observed
@@ -272,16 +274,17 @@ pub record IsSetUp {L : Type 0} (left sent : L → Option (List ℕ)) (faults : 
   pub count : faults old ≤ faults new
 
 -- a connection that was set up; or a fault, with the link, which is as it was where memory ran out
-abbrev pub Connects : {L : Type 0} → (L → Option (List ℕ)) → (L → Option (List ℕ)) → (L → ℕ) → L → Result (ConnState L) (ConnFault × L) → Type 0
-Connects left sent faults link (Ok conn) = (conn.sequence ≡ 0) × (conn.cause ≡ None) × IsSetUp left sent faults link conn.link conn.ring (Ok conn.devices)
-Connects left sent faults link (Err e) =
-    ((e.0 ≡ fault.OutOfMemory) × (e.1 ≡ link)) ⊎ ((ring : RingState) × IsSetUp left sent faults link e.1 ring (Err e.0))
+abbrev pub Connects : {L : Type 0} → Order → (L → Option (List ℕ)) → (L → Option (List ℕ)) → (L → ℕ) → L → Result (ConnState L) (ConnFault × L) → Type 0
+Connects order left sent faults link (Ok conn) =
+    (conn.order ≡ order) × (conn.sequence ≡ 0) × (conn.cause ≡ None) × IsSetUp order left sent faults link conn.link conn.ring (Ok conn.devices)
+Connects order left sent faults link (Err e) =
+    ((e.0 ≡ fault.OutOfMemory) × (e.1 ≡ link)) ⊎ ((ring : RingState) × IsSetUp order left sent faults link e.1 ring (Err e.0))
 
 -- a call whose link tells its bytes is Ok where these hold the awaited reply and the link's count of faults did not rise
 abbrev pub Succeeds : {L X : Type 0} → (L → Option (List ℕ)) → (L → ℕ) → Asked → (Answer → Option X) → ConnState L → ConnState L → Result X ConnFault → Type 0
 Succeeds left faults asked value_of old new result =
     old.cause ≡ None → ¬ (FaultCounted (faults old.link) (faults new.link)) → BothTold (left old.link) (left new.link) (λ b a.
-    IsOk (answered value_of (opcode_of asked) (following old.sequence) (awaited 4096 old.ring b).found) → IsOk result)
+    IsOk (answered old.order value_of (opcode_of asked) (following old.sequence) (awaited old.order 4096 old.ring b).found) → IsOk result)
 
 -- each call of a connection whose reply states such a value is one of these
 abbrev pub IsOkWhereAwaited : {L X : Type 0} → (left sent : L → Option (List ℕ)) → (faults : L → ℕ) → (Answer → Option X) → Type 0

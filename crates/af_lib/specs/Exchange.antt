@@ -1,6 +1,7 @@
 -- What the steps of an exchange do, if the link tells its bytes.
 use Rattle.std.specs.Prelude.{◌≡◌, ◌≤◌, ℕ, List, Result, length}
 use Rattle.std.specs.declared.option.Option.{Option}
+use Rattle.af_wire.specs.declared.order.Order.{Order}
 use Rattle.af_lib.specs.declared.fault.ConnFault.{ConnFault}
 use Rattle.af_lib.specs.Ring.{RingState}
 use Rattle.af_lib.specs.Incoming.{awaited}
@@ -14,7 +15,7 @@ abbrev pub HasBuffers : (input output : List ℕ) → Type 0
 HasBuffers input output = (longest_message ≤ length input) × (longest_frame ≤ length output)
 
 -- a reply to the request was found, which stands in a buffer, or what is there in its place
-abbrev pub Finds : ℕ → ℕ → Result ℕ ConnFault → List ℕ → RingState → RingState → Option (List ℕ) → Option (List ℕ) → Type 0
-Finds opcode sequence result into ring ring' before after = BothTold before after (λ b a.
-    (found_as result into ≡ and_then (answer_to opcode sequence) (awaited 4096 ring b).found)
-    × (ring' ≡ (awaited 4096 ring b).ring) × (a ≡ (awaited 4096 ring b).rest))
+abbrev pub Finds : Order → ℕ → ℕ → Result ℕ ConnFault → List ℕ → RingState → RingState → Option (List ℕ) → Option (List ℕ) → Type 0
+Finds order opcode sequence result into ring ring' before after = BothTold before after (λ b a.
+    (found_as result into ≡ and_then (answer_to order opcode sequence) (awaited order 4096 ring b).found)
+    × (ring' ≡ (awaited order 4096 ring b).ring) × (a ≡ (awaited order 4096 ring b).rest))

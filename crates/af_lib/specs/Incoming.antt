@@ -1,5 +1,6 @@
 -- What a client takes off the bytes that a server sends, message by message.
 use Rattle.std.specs.Prelude.{ℕ, zero, suc, ◌-◌, ◌==◌, if◌then◌else◌, List, [], ◌++◌, length, take, drop, replicate, Option, Some, None, Result, Ok, Err}
+use Rattle.af_wire.specs.declared.order.Order.{Order}
 use Rattle.af_wire.specs.declared.event.Event.{Event}
 use Rattle.af_wire.specs.declared.message_front.MessageFront.{MessageFront}
 use Rattle.af_wire.specs.declared.message_front.MessageFront.TheVariants.{NeedMore, Message, BadMessage}
@@ -29,15 +30,15 @@ event_or_bad bytes (Some e) = Ok (event e)
 event_or_bad bytes None = Err (bad_reply bytes)
 
 -- what a whole message with a good head is; kind 2 is that of events
-abbrev pub message_in : List ℕ → Result Incoming ConnFault
-message_in bytes =
-    if u8_at 0 bytes == 2 then event_or_bad bytes (event_in (u8_at 1 bytes) (drop 8 bytes)) else Ok (other bytes)
+abbrev pub message_in : Order → List ℕ → Result Incoming ConnFault
+message_in order bytes =
+    if u8_at 0 bytes == 2 then event_or_bad bytes (event_in order (u8_at 1 bytes) (drop 8 bytes)) else Ok (other bytes)
 
 -- the message at such a front of the input; if the input is too short for it, the link has ended
-abbrev pub incoming_at : MessageFront → List ℕ → Result Incoming ConnFault
-incoming_at (NeedMore n) input = Err fault.LinkEnded
-incoming_at (Message kind detail sequence n) input = message_in (take n input)
-incoming_at BadMessage input = Err (bad_reply (take 8 input))
+abbrev pub incoming_at : Order → MessageFront → List ℕ → Result Incoming ConnFault
+incoming_at order (NeedMore n) input = Err fault.LinkEnded
+incoming_at order (Message kind detail sequence n) input = message_in order (take n input)
+incoming_at order BadMessage input = Err (bad_reply (take 8 input))
 
 -- the input behind that message: a bad head is taken alone, and of a message that is cut off all is taken
 abbrev pub rest_at : MessageFront → List ℕ → List ℕ
@@ -46,12 +47,12 @@ rest_at (Message kind detail sequence n) input = drop n input
 rest_at BadMessage input = drop 8 input
 
 -- the first message of an input, to its end
-unfoldable pub incoming : List ℕ → Result Incoming ConnFault
-incoming input = incoming_at (message_front input) input
+unfoldable pub incoming : Order → List ℕ → Result Incoming ConnFault
+incoming order input = incoming_at order (message_front order input) input
 
 -- the input behind its first message
-unfoldable pub behind_message : List ℕ → List ℕ
-behind_message input = rest_at (message_front input) input
+unfoldable pub behind_message : Order → List ℕ → List ℕ
+behind_message order input = rest_at (message_front order input) input
 
 -- where a client that awaits a message has come to: what it found, its ring of events, and the input that is left
 pub record Awaited : Type 0 where
@@ -66,6 +67,7 @@ awaited_by (Ok (other bytes)) ring rest more = record { found = Ok bytes; ring =
 awaited_by (Err fault) ring rest more = record { found = Err fault; ring = ring; rest = rest }
 
 -- the first message of an input that is no event, where fewer than n events come before it
-unfoldable pub awaited : ℕ → RingState → List ℕ → Awaited
-awaited zero ring input = record { found = Err fault.EventFlood; ring = ring; rest = input }
-awaited (suc n) ring input = awaited_by (incoming input) ring (behind_message input) (λ r. awaited n r (behind_message input))
+unfoldable pub awaited : Order → ℕ → RingState → List ℕ → Awaited
+awaited order zero ring input = record { found = Err fault.EventFlood; ring = ring; rest = input }
+awaited order (suc n) ring input =
+    awaited_by (incoming order input) ring (behind_message order input) (λ r. awaited order n r (behind_message order input))

@@ -2,6 +2,7 @@
 use Rattle.std.specs.Prelude.{◌≡◌, ◌<◌, ◌≤◌, ⊤, ℕ, List, [], ◌++◌, length, take, Result, Ok, Err}
 use Rattle.std.specs.declared.option.Option.{Option}
 use Rattle.af_io.specs.Observed.{Consumed}
+use Rattle.af_wire.specs.declared.order.Order.{Order}
 use Rattle.af_wire.specs.declared.message_front.MessageFront.TheVariants.{NeedMore, Message, BadMessage}
 use Rattle.af_wire.specs.MessageFront.{message_front}
 use Rattle.af_lib.specs.declared.fault.ConnFault.{ConnFault}
@@ -23,23 +24,23 @@ Fills filled.Ended into before after = BothTold before after (λ b a. (length b 
 Fills filled.Failed into before after = ⊤
 
 -- the front of an input states a whole message of n bytes
-pub record IsWhole (input : List ℕ) (n : ℕ) : Type 0 where
+pub record IsWhole (order : Order) (input : List ℕ) (n : ℕ) : Type 0 where
   pub kind : ℕ
   pub detail : ℕ
   pub sequence : ℕ
-  pub front : message_front input ≡ Message kind detail sequence n
+  pub front : message_front order input ≡ Message kind detail sequence n
 
 -- an input that is too short for its first message
-pub record IsCut (input : List ℕ) : Type 0 where
+pub record IsCut (order : Order) (input : List ℕ) : Type 0 where
   pub length : ℕ
-  pub front : message_front input ≡ NeedMore length
+  pub front : message_front order input ≡ NeedMore length
 
 -- one message was read, or a head that is none, or all of an input that is too short
-abbrev pub Frames : Framed → List ℕ → Option (List ℕ) → Option (List ℕ) → Type 0
-Frames (framed.Message n) into before after = BothTold before after (λ b a. IsWhole b n × (b ≡ take n into ++ a))
-Frames framed.BadHead into before after = BothTold before after (λ b a. (message_front b ≡ BadMessage) × (b ≡ take 8 into ++ a))
-Frames framed.Ended into before after = BothTold before after (λ b a. IsCut b × (a ≡ []))
-Frames framed.Failed into before after = ⊤
+abbrev pub Frames : Order → Framed → List ℕ → Option (List ℕ) → Option (List ℕ) → Type 0
+Frames order (framed.Message n) into before after = BothTold before after (λ b a. IsWhole order b n × (b ≡ take n into ++ a))
+Frames order framed.BadHead into before after = BothTold before after (λ b a. (message_front order b ≡ BadMessage) × (b ≡ take 8 into ++ a))
+Frames order framed.Ended into before after = BothTold before after (λ b a. IsCut order b × (a ≡ []))
+Frames order framed.Failed into before after = ⊤
 
 -- a message has a head, and the buffer has room for it
 abbrev pub IsFramedWithin : Framed → Type 0
@@ -63,8 +64,8 @@ IsTakenWithin (Ok (taken.Other n)) most = (8 ≤ n) × (n ≤ most)
 IsTakenWithin _ most = ⊤
 
 -- the first message was taken, and nothing behind it
-abbrev pub Takes : Result Taken ConnFault → List ℕ → Option (List ℕ) → Option (List ℕ) → Type 0
-Takes result into before after = BothTold before after (λ b a. (taken_as result into ≡ incoming b) × (a ≡ behind_message b))
+abbrev pub Takes : Order → Result Taken ConnFault → List ℕ → Option (List ℕ) → Option (List ℕ) → Type 0
+Takes order result into before after = BothTold before after (λ b a. (taken_as result into ≡ incoming order b) × (a ≡ behind_message order b))
 
 -- the message that was found, which stands in a buffer
 abbrev pub found_as : Result ℕ ConnFault → List ℕ → Result (List ℕ) ConnFault
@@ -72,6 +73,6 @@ found_as (Ok n) into = Ok (take n into)
 found_as (Err fault) into = Err fault
 
 -- the messages up to the first that is no event were taken, at most 4096 of them, and nothing behind them
-abbrev pub Awaits : Result ℕ ConnFault → List ℕ → RingState → RingState → Option (List ℕ) → Option (List ℕ) → Type 0
-Awaits result into ring ring' before after =
-    BothTold before after (λ b a. awaited 4096 ring b ≡ record { found = found_as result into; ring = ring'; rest = a })
+abbrev pub Awaits : Order → Result ℕ ConnFault → List ℕ → RingState → RingState → Option (List ℕ) → Option (List ℕ) → Type 0
+Awaits order result into ring ring' before after =
+    BothTold before after (λ b a. awaited order 4096 ring b ≡ record { found = found_as result into; ring = ring'; rest = a })

@@ -20,6 +20,7 @@ use crate::ring::Ring;
 use af_io::Link;
 use af_request::{Controls, Devices, Phone, Reply, Request, read_reply};
 use af_time::DevTime;
+use af_wire::Order;
 
 // The value of a reply, or the fault of a message that states none.
 fn or_bad<T>(value: Option<T>, bytes: &[u8]) -> Result<T, ConnFault>
@@ -90,13 +91,13 @@ impl Stated for Phone {
 }
 
 // The value of a message that is a reply, or the fault of one whose body states none.
-fn value_in<T: Stated>(opcode: u8, bytes: &[u8]) -> Result<T, ConnFault>
+fn value_in<T: Stated>(order: Order, opcode: u8, bytes: &[u8]) -> Result<T, ConnFault>
     requires { 8 ≤ length bytes.now }
-    ensures value { result ≡ value_in T.value_of opcode bytes.now }
+    ensures value { result ≡ value_in order T.value_of opcode bytes.now }
     ensures fresh { IsFresh result }
     ensures sound { result ≢ Err ConnFault.LinkFault }
 {
-    match read_reply(opcode, &bytes[8..]) {
+    match read_reply(order, opcode, &bytes[8..]) {
         Some(reply) => or_bad(T::stated_in(&reply), bytes),
         None => Err(bad_reply(bytes)),
     }
@@ -104,23 +105,24 @@ fn value_in<T: Stated>(opcode: u8, bytes: &[u8]) -> Result<T, ConnFault>
 
 /// Sends a request, and takes its answer: a value that the reply states.
 pub fn ask_value<T: Stated, L: Link + Drop>(
+    order: Order,
     exchange: &mut Exchange<L>,
     request: &Request<'_>,
     sequence: u16,
 ) -> Result<T, ConnFault>
     requires samples { FitsFrame (request_meaning request.now) }
     requires room { HasBuffers exchange.old.input.items exchange.old.output.items }
-    ensures answers { Answers T.value_of (opcode_of (request_meaning request.now)) sequence result
+    ensures answers { Answers order T.value_of (opcode_of (request_meaning request.now)) sequence result
         exchange.old.ring exchange.new.ring (L.left exchange.old.link) (L.left exchange.new.link) }
     ensures gained { Gained exchange.old.ring exchange.new.ring }
     ensures fresh { IsFresh result }
-    ensures sends { Sends result (L.sent exchange.old.link) (request_bytes (request_meaning request.now)) (L.sent exchange.new.link) }
+    ensures sends { Sends result (L.sent exchange.old.link) (request_bytes order (request_meaning request.now)) (L.sent exchange.new.link) }
     ensures tells { IsSome (L.left exchange.old.link) → IsSome (L.left exchange.new.link) }
     ensures faults { CountsFault (result ≡ Err ConnFault.LinkFault) (L.faults exchange.old.link) (L.faults exchange.new.link) }
     ensures room { HasBuffers exchange.new.input.items exchange.new.output.items }
 {
-    match ask(exchange, request, sequence) {
-        Ok(length) => value_in(opcode_of(request), &exchange.input[..length]),
+    match ask(order, exchange, request, sequence) {
+        Ok(length) => value_in(order, opcode_of(request), &exchange.input[..length]),
         Err(fault) => Err(fault),
     }
 }
@@ -158,20 +160,21 @@ fn recorded_of(reply: &Reply<'_>, blocking: bool, into: &mut [u8]) -> Option<(De
 }
 
 fn recorded_in(
+    order: Order,
     opcode: u8,
     bytes: &[u8],
     blocking: bool,
     into: &mut [u8],
 ) -> Result<(DevTime, usize), ConnFault>
     requires { 8 ≤ length bytes.now }
-    ensures value { recorded_in result into.new ≡ value_in (as_recorded blocking (length into.old)) opcode bytes.now }
+    ensures value { recorded_in result into.new ≡ value_in order (as_recorded blocking (length into.old)) opcode bytes.now }
     ensures kept { KeepsTail result into.old into.new }
     ensures within { IfOk result (λ r. r.1 ≤ length into.old) }
     ensures all { IfOk result (λ r. IsTrue blocking → r.1 ≡ length into.old) }
     ensures fresh { IsFresh result }
     ensures sound { result ≢ Err ConnFault.LinkFault }
 {
-    match read_reply(opcode, &bytes[8..]) {
+    match read_reply(order, opcode, &bytes[8..]) {
         Some(reply) => or_bad(recorded_of(&reply, blocking, into), bytes),
         None => Err(bad_reply(bytes)),
     }
@@ -179,6 +182,7 @@ fn recorded_in(
 
 /// Sends a request for samples, and takes its answer.
 pub fn ask_recorded<L: Link + Drop>(
+    order: Order,
     exchange: &mut Exchange<L>,
     request: &Request<'_>,
     sequence: u16,
@@ -187,7 +191,7 @@ pub fn ask_recorded<L: Link + Drop>(
 ) -> Result<(DevTime, usize), ConnFault>
     requires samples { FitsFrame (request_meaning request.now) }
     requires room { HasBuffers exchange.old.input.items exchange.old.output.items }
-    ensures answers { Answers (as_recorded blocking (length into.old)) (opcode_of (request_meaning request.now)) sequence
+    ensures answers { Answers order (as_recorded blocking (length into.old)) (opcode_of (request_meaning request.now)) sequence
         (recorded_in result into.new) exchange.old.ring exchange.new.ring (L.left exchange.old.link) (L.left exchange.new.link) }
     ensures gained { Gained exchange.old.ring exchange.new.ring }
     ensures kept { KeepsTail result into.old into.new }
@@ -195,13 +199,14 @@ pub fn ask_recorded<L: Link + Drop>(
     ensures all { IfOk result (λ r. IsTrue blocking → r.1 ≡ length into.old) }
     ensures fresh { IsFresh result }
     ensures sends { Sends (recorded_in result into.new)
-        (L.sent exchange.old.link) (request_bytes (request_meaning request.now)) (L.sent exchange.new.link) }
+        (L.sent exchange.old.link) (request_bytes order (request_meaning request.now)) (L.sent exchange.new.link) }
     ensures tells { IsSome (L.left exchange.old.link) → IsSome (L.left exchange.new.link) }
     ensures faults { CountsFault (result ≡ Err ConnFault.LinkFault) (L.faults exchange.old.link) (L.faults exchange.new.link) }
     ensures room { HasBuffers exchange.new.input.items exchange.new.output.items }
 {
-    match ask(exchange, request, sequence) {
+    match ask(order, exchange, request, sequence) {
         Ok(length) => recorded_in(
+            order,
             opcode_of(request),
             &exchange.input[..length],
             blocking,
@@ -220,35 +225,36 @@ fn devices_of(reply: Reply<'_>) -> Option<Devices>
     }
 }
 
-fn devices_in(bytes: &[u8]) -> Result<Devices, ConnFault>
+fn devices_in(order: Order, bytes: &[u8]) -> Result<Devices, ConnFault>
     requires { 8 ≤ length bytes.now }
-    ensures value { listed result ≡ value_in as_devices 0 bytes.now }
+    ensures value { listed result ≡ value_in order as_devices 0 bytes.now }
     ensures stated { IfOk result (λ devices. IsReplyTo 0 (setup devices.items)) }
     ensures fresh { IsFresh result }
     ensures sound { result ≢ Err ConnFault.LinkFault }
 {
-    match read_reply(0, &bytes[8..]) {
+    match read_reply(order, 0, &bytes[8..]) {
         Some(reply) => or_bad(devices_of(reply), bytes),
         None => Err(bad_reply(bytes)),
     }
 }
 
-/// Sends the setup, and takes its answer.
+/// Sends the setup of an order, and takes its answer.
 pub fn set_up<L: Link>(
+    order: Order,
     link: &mut L,
     ring: &mut Ring,
     input: &mut [u8],
 ) -> Result<Devices, ConnFault>
     requires { longest_message ≤ length input.old }
-    ensures answers { Answers as_devices 0 0 (listed result) ring.old ring.new (L.left link.old) (L.left link.new) }
+    ensures answers { Answers order as_devices 0 0 (listed result) ring.old ring.new (L.left link.old) (L.left link.new) }
     ensures stated { IfOk result (λ devices. IsReplyTo 0 (setup devices.items)) }
     ensures fresh { IsFresh result }
-    ensures sends { Sends (listed result) (L.sent link.old) setup_bytes (L.sent link.new) }
+    ensures sends { Sends (listed result) (L.sent link.old) (setup_bytes order) (L.sent link.new) }
     ensures tells { IsSome (L.left link.old) → IsSome (L.left link.new) }
     ensures faults { CountsFault (result ≡ Err ConnFault.LinkFault) (L.faults link.old) (L.faults link.new) }
 {
-    match await_setup(link, ring, input) {
-        Ok(length) => devices_in(&input[..length]),
+    match await_setup(order, link, ring, input) {
+        Ok(length) => devices_in(order, &input[..length]),
         Err(fault) => Err(fault),
     }
 }

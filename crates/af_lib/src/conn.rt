@@ -18,7 +18,7 @@ use af_io::Link;
 use af_request::{Controls, DeviceInfo, Devices, Phone, Request};
 use af_sample::{Gain, SampleType};
 use af_time::{DevTime, OutOfMemory};
-use af_wire::Event;
+use af_wire::{Event, Order};
 use std::alloc::Global;
 use std::marker::Model;
 
@@ -28,6 +28,7 @@ use std::marker::Model;
 #[derive(Drop)]
 pub struct Conn<L: Link + Drop> {
     exchange: Exchange<L>,
+    order: Order,
     devices: Devices,
     sequence: u16,
     cause: Option<Cause>,
@@ -41,22 +42,22 @@ impl<L: Link + Drop> Model for Conn<L> {
 
     ghost Value = { ConnState L };
 
-    ghost view = { λ a. record { link = a.exchange.link; devices = a.devices.items; sequence = a.sequence; ring = a.exchange.ring; cause = a.cause } };
+    ghost view = { λ a. record { link = a.exchange.link; order = a.order; devices = a.devices.items; sequence = a.sequence; ring = a.exchange.ring; cause = a.cause } };
 
     ghost invariant = { λ a. HasBuffers a.exchange.input.items a.exchange.output.items × IsReplyTo 0 (setup a.devices.items) };
 }
 
 impl<L: Link + Drop> Conn<L> {
-    /// Sends the setup, and takes its answer. All memory that the connection needs is taken before anything is sent. The
-    /// link comes back with a fault.
-    pub fn connect(alloc: Global, link: L) -> Result<Conn<L>, (ConnFault, L)>
-        ensures { Connects L.left L.sent L.faults link result }
+    /// Sends the setup of an order, and takes its answer. All numbers of the connection are in that order. All memory that
+    /// it needs is taken before anything is sent. The link comes back with a fault.
+    pub fn connect(alloc: Global, link: L, order: Order) -> Result<Conn<L>, (ConnFault, L)>
+        ensures { Connects order L.left L.sent L.faults link result }
     {
         let mut link = link;
         let Ok((mut ring, mut input, output)) = room(alloc) else {
             return Err((ConnFault::OutOfMemory, link));
         };
-        match set_up(&mut link, &mut ring, &mut input) {
+        match set_up(order, &mut link, &mut ring, &mut input) {
             Ok(devices) => Ok(Conn {
                 exchange: Exchange {
                     link,
@@ -64,6 +65,7 @@ impl<L: Link + Drop> Conn<L> {
                     input,
                     output,
                 },
+                order,
                 devices,
                 sequence: 0,
                 cause: None,
@@ -119,7 +121,11 @@ impl<L: Link + Drop> Conn<L> {
         if let Some(event) = self.exchange.ring.take() {
             return Ok(event);
         }
-        let answer = take_event(&mut self.exchange.link, &mut self.exchange.input);
+        let answer = take_event(
+            self.order,
+            &mut self.exchange.link,
+            &mut self.exchange.input,
+        );
         self.cause = cause_of(&answer);
         answer
     }
@@ -225,7 +231,14 @@ impl<L: Link + Drop> Conn<L> {
             time,
             nbytes: into.len() as u32,
         };
-        let answer = ask_recorded(&mut self.exchange, &request, self.sequence, blocking, into);
+        let answer = ask_recorded(
+            self.order,
+            &mut self.exchange,
+            &request,
+            self.sequence,
+            blocking,
+            into,
+        );
         self.cause = cause_of(&answer);
         answer
     }
@@ -305,7 +318,7 @@ impl<L: Link + Drop> Conn<L> {
             return Err(ConnFault::Spent { first });
         }
         self.sequence = self.sequence.wrapping_add(1);
-        let answer = ask_value(&mut self.exchange, request, self.sequence);
+        let answer = ask_value(self.order, &mut self.exchange, request, self.sequence);
         self.cause = cause_of(&answer);
         answer
     }

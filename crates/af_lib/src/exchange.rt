@@ -17,7 +17,7 @@ use crate::receive::{await_message, bad_reply};
 use crate::ring::Ring;
 use af_io::{Link, Put};
 use af_request::{Request, write_request};
-use af_wire::SETUP;
+use af_wire::Order;
 
 /// What a connection exchanges messages by: its link, the ring of events that come before an answer, and a buffer for one message
 /// each way.
@@ -63,34 +63,34 @@ pub fn opcode_of(request: &Request<'_>) -> u8
 }
 
 // The value that an error to a request of this opcode refuses.
-fn refused_in(opcode: u8, body: &[u8]) -> Option<u32>
-    ensures { result ≡ refused_in opcode body.now }
+fn refused_in(order: Order, opcode: u8, body: &[u8]) -> Option<u32>
+    ensures { result ≡ refused_in order opcode body.now }
 {
     let [a, b, c, d, asked, 0, 0, 0] = body else {
         return None;
     };
     if *asked == opcode {
-        Some(u32::from_be_bytes([*a, *b, *c, *d]))
+        Some(order.u32([*a, *b, *c, *d]))
     } else {
         None
     }
 }
 
 // Whether a message that is no event is a reply to a request of an opcode with a number, or what it is in its place.
-fn answer_to(opcode: u8, sequence: u16, bytes: &[u8]) -> Result<(), ConnFault>
+fn answer_to(order: Order, opcode: u8, sequence: u16, bytes: &[u8]) -> Result<(), ConnFault>
     requires { 8 ≤ length bytes.now }
-    ensures value { held_in result bytes.now ≡ answer_to opcode sequence bytes.now }
+    ensures value { held_in result bytes.now ≡ answer_to order opcode sequence bytes.now }
     ensures fresh { IsFresh result }
     ensures sound { result ≢ Err ConnFault.LinkFault }
 {
-    let answers = u16::from_be_bytes([bytes[2], bytes[3]]) == sequence;
+    let answers = order.u16([bytes[2], bytes[3]]) == sequence;
     if answers && bytes[0] == 1 && bytes[1] == opcode {
         return Ok(());
     }
     if !answers || bytes[0] != 0 {
         return Err(bad_reply(bytes));
     }
-    match refused_in(opcode, &bytes[8..]) {
+    match refused_in(order, opcode, &bytes[8..]) {
         Some(value) => Err(ConnFault::ServerError {
             code: bytes[1],
             value,
@@ -102,6 +102,7 @@ fn answer_to(opcode: u8, sequence: u16, bytes: &[u8]) -> Result<(), ConnFault>
 /// Takes messages up to the answer to a request of an opcode with a number. A reply stands in the input then, and its
 /// length is answered.
 pub fn await_answer<L: Link>(
+    order: Order,
     link: &mut L,
     ring: &mut Ring,
     input: &mut [u8],
@@ -110,53 +111,55 @@ pub fn await_answer<L: Link>(
 ) -> Result<usize, ConnFault>
     requires { longest_message ≤ length input.old }
     ensures finds { result ≢ Err ConnFault.LinkFault →
-        Finds opcode sequence result input.new ring.old ring.new (L.left link.old) (L.left link.new) }
+        Finds order opcode sequence result input.new ring.old ring.new (L.left link.old) (L.left link.new) }
     ensures gained { Gained ring.old ring.new }
     ensures within { IfOk result (λ n. (8 ≤ n) × (n ≤ longest_message)) }
     ensures fresh { IsFresh result }
     ensures reads { OnlyRead L.left L.sent L.faults (result ≡ Err ConnFault.LinkFault) link.old link.new }
 {
-    let length = await_message(link, input, ring)?;
-    match answer_to(opcode, sequence, &input[..length]) {
+    let length = await_message(order, link, input, ring)?;
+    match answer_to(order, opcode, sequence, &input[..length]) {
         Ok(()) => Ok(length),
         Err(fault) => Err(fault),
     }
 }
 
 // Sends a request.
-fn send<L: Link>(link: &mut L, output: &mut [u8], request: &Request<'_>) -> Put
+fn send<L: Link>(order: Order, link: &mut L, output: &mut [u8], request: &Request<'_>) -> Put
     requires samples { FitsFrame (request_meaning request.now) }
     requires room { longest_frame ≤ length output.old }
-    ensures written { Written result (L.sent link.old) (request_bytes (request_meaning request.now)) (L.sent link.new) }
+    ensures written { Written result (L.sent link.old) (request_bytes order (request_meaning request.now)) (L.sent link.new) }
     ensures gives { L.left link.new ≡ L.left link.old }
     ensures tells { IsSome (L.left link.old) → IsSome (L.left link.new) }
     ensures faults { CountsFault (result ≡ Put.Failed) (L.faults link.old) (L.faults link.new) }
 {
-    let length = write_request(request, output);
+    let length = write_request(order, request, output);
     link.write(&output[..length])
 }
 
 /// Sends a request with a number, and takes messages up to its answer. A reply stands in the input then, and its length is
 /// answered.
 pub fn ask<L: Link + Drop>(
+    order: Order,
     exchange: &mut Exchange<L>,
     request: &Request<'_>,
     sequence: u16,
 ) -> Result<usize, ConnFault>
     requires samples { FitsFrame (request_meaning request.now) }
     requires room { HasBuffers exchange.old.input.items exchange.old.output.items }
-    ensures finds { result ≢ Err ConnFault.LinkFault → Finds (opcode_of (request_meaning request.now)) sequence result
+    ensures finds { result ≢ Err ConnFault.LinkFault → Finds order (opcode_of (request_meaning request.now)) sequence result
         exchange.new.input.items exchange.old.ring exchange.new.ring (L.left exchange.old.link) (L.left exchange.new.link) }
     ensures gained { Gained exchange.old.ring exchange.new.ring }
     ensures within { IfOk result (λ n. (8 ≤ n) × (n ≤ longest_message)) }
     ensures fresh { IsFresh result }
-    ensures sends { Sends result (L.sent exchange.old.link) (request_bytes (request_meaning request.now)) (L.sent exchange.new.link) }
+    ensures sends { Sends result (L.sent exchange.old.link) (request_bytes order (request_meaning request.now)) (L.sent exchange.new.link) }
     ensures tells { IsSome (L.left exchange.old.link) → IsSome (L.left exchange.new.link) }
     ensures faults { CountsFault (result ≡ Err ConnFault.LinkFault) (L.faults exchange.old.link) (L.faults exchange.new.link) }
     ensures room { HasBuffers exchange.new.input.items exchange.new.output.items }
 {
-    match send(&mut exchange.link, &mut exchange.output, request) {
+    match send(order, &mut exchange.link, &mut exchange.output, request) {
         Put::Done => await_answer(
+            order,
             &mut exchange.link,
             &mut exchange.ring,
             &mut exchange.input,
@@ -167,23 +170,24 @@ pub fn ask<L: Link + Drop>(
     }
 }
 
-/// Sends the setup, and takes messages up to its answer.
+/// Sends the setup of an order, and takes messages up to its answer.
 pub fn await_setup<L: Link>(
+    order: Order,
     link: &mut L,
     ring: &mut Ring,
     input: &mut [u8],
 ) -> Result<usize, ConnFault>
     requires { longest_message ≤ length input.old }
     ensures finds { result ≢ Err ConnFault.LinkFault →
-        Finds 0 0 result input.new ring.old ring.new (L.left link.old) (L.left link.new) }
+        Finds order 0 0 result input.new ring.old ring.new (L.left link.old) (L.left link.new) }
     ensures within { IfOk result (λ n. (8 ≤ n) × (n ≤ longest_message)) }
     ensures fresh { IsFresh result }
-    ensures sends { Sends result (L.sent link.old) setup_bytes (L.sent link.new) }
+    ensures sends { Sends result (L.sent link.old) (setup_bytes order) (L.sent link.new) }
     ensures tells { IsSome (L.left link.old) → IsSome (L.left link.new) }
     ensures faults { CountsFault (result ≡ Err ConnFault.LinkFault) (L.faults link.old) (L.faults link.new) }
 {
-    match link.write(&SETUP) {
-        Put::Done => await_answer(link, ring, input, 0, 0),
+    match link.write(&order.setup()) {
+        Put::Done => await_answer(order, link, ring, input, 0, 0),
         Put::Failed => Err(ConnFault::LinkFault),
     }
 }

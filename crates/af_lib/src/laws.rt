@@ -1,5 +1,6 @@
 //! Laws of connections, each the contract of a function that does nothing.
 ghost use Rattle.std.specs.Prelude.{◌≡◌, ◌<◌, ◌+◌, ◌*◌, ◌^◌, ◌++◌, Bool, ℕ, List, Result};
+ghost use Rattle.af_wire.specs.declared.order.Order.{Order};
 ghost use Rattle.af_wire.specs.declared.message_front.MessageFront.TheVariants.{Message};
 ghost use Rattle.af_wire.specs.MessageFront.{message_front};
 ghost use Rattle.af_request.specs.Answer.{Answer};
@@ -24,6 +25,6 @@ pub fn awaited_replies_are_ok<L: Link>()
 
 /// A reply that is written is one message to a client, whatever follows it.
 pub fn replies_are_messages()
-    ensures { (opcode : ℕ) (a : Answer) (sequence : ℕ) (rest : List ℕ) → IsReplyTo opcode a → sequence < 2 ^ 16
-        → message_front (reply_bytes opcode a sequence ++ rest) ≡ Message 1 opcode sequence (8 + 4 * body_words a) }
+    ensures { (order : Order) (opcode : ℕ) (a : Answer) (sequence : ℕ) (rest : List ℕ) → IsReplyTo opcode a → sequence < 2 ^ 16
+        → message_front order (reply_bytes order opcode a sequence ++ rest) ≡ Message 1 opcode sequence (8 + 4 * body_words a) }
 {}

@@ -10,7 +10,7 @@ ghost use Rattle.af_wire.specs.Sizes.{longest_message};
 use crate::fault::ConnFault;
 use crate::ring::Ring;
 use af_io::{Got, Link};
-use af_wire::{Event, MessageFront, message_at, read_event};
+use af_wire::{Event, MessageFront, Order, message_at, read_event};
 
 // The most events that a client lets by while it awaits a message.
 const MOST_EVENTS: u32 = 4096;
@@ -56,9 +56,9 @@ pub fn fill<L: Link>(link: &mut L, into: &mut [u8]) -> Filled
 }
 
 /// Reads one message: a head, and if that is good the rest of its message.
-pub fn frame<L: Link>(link: &mut L, input: &mut [u8]) -> Framed
+pub fn frame<L: Link>(order: Order, link: &mut L, input: &mut [u8]) -> Framed
     requires { longest_message ≤ length input.old }
-    ensures frames { Frames result input.new (L.left link.old) (L.left link.new) }
+    ensures frames { Frames order result input.new (L.left link.old) (L.left link.new) }
     ensures within { IsFramedWithin result }
     ensures reads { OnlyRead L.left L.sent L.faults (result ≡ Framed.Failed) link.old link.new }
 {
@@ -67,7 +67,7 @@ pub fn frame<L: Link>(link: &mut L, input: &mut [u8]) -> Framed
         Filled::Ended => return Framed::Ended,
         Filled::Failed => return Framed::Failed,
     }
-    match message_at(&input[..8]) {
+    match message_at(order, &input[..8]) {
         MessageFront::BadMessage => Framed::BadHead,
         MessageFront::Message { length, .. } => Framed::Message(length),
         MessageFront::NeedMore(length) => match fill(link, &mut input[8..length]) {
@@ -100,31 +100,35 @@ fn first_bytes(body: &[u8]) -> [u8; 8]
 }
 
 /// What a whole message is.
-pub fn message_in(bytes: &[u8]) -> Result<Taken, ConnFault>
+pub fn message_in(order: Order, bytes: &[u8]) -> Result<Taken, ConnFault>
     requires { 8 ≤ length bytes.now }
-    ensures value { taken_as result bytes.now ≡ message_in bytes.now }
+    ensures value { taken_as result bytes.now ≡ message_in order bytes.now }
     ensures within { IsTakenWithin result (length bytes.now) }
     ensures message { IsOfMessage result }
 {
     if bytes[0] != 2 {
         return Ok(Taken::Other(bytes.len()));
     }
-    match read_event(bytes[1], &bytes[8..]) {
+    match read_event(order, bytes[1], &bytes[8..]) {
         Some(event) => Ok(Taken::Event(event)),
         None => Err(bad_reply(bytes)),
     }
 }
 
 /// Takes one message. One that is no event stands in the input then.
-pub fn take_message<L: Link>(link: &mut L, input: &mut [u8]) -> Result<Taken, ConnFault>
+pub fn take_message<L: Link>(
+    order: Order,
+    link: &mut L,
+    input: &mut [u8],
+) -> Result<Taken, ConnFault>
     requires { longest_message ≤ length input.old }
-    ensures takes { result ≢ Err ConnFault.LinkFault → Takes result input.new (L.left link.old) (L.left link.new) }
+    ensures takes { result ≢ Err ConnFault.LinkFault → Takes order result input.new (L.left link.old) (L.left link.new) }
     ensures within { IsTakenWithin result longest_message }
     ensures message { IsOfMessage result }
     ensures reads { OnlyRead L.left L.sent L.faults (result ≡ Err ConnFault.LinkFault) link.old link.new }
 {
-    match frame(link, input) {
-        Framed::Message(length) => message_in(&input[..length]),
+    match frame(order, link, input) {
+        Framed::Message(length) => message_in(order, &input[..length]),
         Framed::BadHead => Err(bad_reply(&input[..8])),
         Framed::Ended => Err(ConnFault::LinkEnded),
         Framed::Failed => Err(ConnFault::LinkFault),
@@ -134,13 +138,14 @@ pub fn take_message<L: Link>(link: &mut L, input: &mut [u8]) -> Result<Taken, Co
 /// Takes messages up to the first that is no event, which then stands in the input, and answers its length. Events go into
 /// the ring.
 pub fn await_message<L: Link>(
+    order: Order,
     link: &mut L,
     input: &mut [u8],
     ring: &mut Ring,
 ) -> Result<usize, ConnFault>
     requires { longest_message ≤ length input.old }
     ensures awaits { result ≢ Err ConnFault.LinkFault →
-        Awaits result input.new ring.old ring.new (L.left link.old) (L.left link.new) }
+        Awaits order result input.new ring.old ring.new (L.left link.old) (L.left link.new) }
     ensures gained { Gained ring.old ring.new }
     ensures within { IfOk result (λ n. (8 ≤ n) × (n ≤ longest_message)) }
     ensures fresh { IsFresh result }
@@ -148,7 +153,7 @@ pub fn await_message<L: Link>(
 {
     let mut allowed = MOST_EVENTS;
     while allowed > 0 {
-        match take_message(link, input)? {
+        match take_message(order, link, input)? {
             Taken::Event(event) => ring.note(event),
             Taken::Other(length) => return Ok(length),
         }
@@ -158,14 +163,14 @@ pub fn await_message<L: Link>(
 }
 
 /// Takes one message, which is to be an event.
-pub fn take_event<L: Link>(link: &mut L, input: &mut [u8]) -> Result<Event, ConnFault>
+pub fn take_event<L: Link>(order: Order, link: &mut L, input: &mut [u8]) -> Result<Event, ConnFault>
     requires { longest_message ≤ length input.old }
     ensures takes { result ≢ Err ConnFault.LinkFault →
-        BothTold (L.left link.old) (L.left link.new) (λ b a. (result ≡ event_of b) × (a ≡ behind_message b)) }
+        BothTold (L.left link.old) (L.left link.new) (λ b a. (result ≡ event_of order b) × (a ≡ behind_message order b)) }
     ensures message { IsOfMessage result }
     ensures reads { OnlyRead L.left L.sent L.faults (result ≡ Err ConnFault.LinkFault) link.old link.new }
 {
-    match take_message(link, input) {
+    match take_message(order, link, input) {
         Ok(taken) => event_in(taken, input),
         Err(fault) => Err(fault),
     }

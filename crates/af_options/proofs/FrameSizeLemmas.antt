@@ -18,10 +18,10 @@ by_size P one two four eight w (inr (inr (inl e))) = subst P (sym e) four
 by_size P one two four eight w (inr (inr (inr e))) = subst P (sym e) eight
 
 pub frame_size : (ty : SampleType) (channels : ℕ) → IsChannelCount channels → IsFrameSize (frame_bytes ty channels)
-frame_size Mu255 channels count = elim (one_or_two channels count) [ | inl one ↦ inl (omega arith) | inr two ↦ inr (inl (omega arith)) ]
-frame_size Alaw channels count = elim (one_or_two channels count) [ | inl one ↦ inl (omega arith) | inr two ↦ inr (inl (omega arith)) ]
-frame_size Lin16 channels count = elim (one_or_two channels count) [ | inl one ↦ inr (inl (omega arith)) | inr two ↦ inr (inr (inl (omega arith))) ]
-frame_size Lin32 channels count = elim (one_or_two channels count) [ | inl one ↦ inr (inr (inl (omega arith))) | inr two ↦ inr (inr (inr (omega arith))) ]
+frame_size Mu255 channels count = elim (one_or_two channels count) [ inl one ↦ inl (omega arith) | inr two ↦ inr (inl (omega arith)) ]
+frame_size Alaw channels count = elim (one_or_two channels count) [ inl one ↦ inl (omega arith) | inr two ↦ inr (inl (omega arith)) ]
+frame_size Lin16 channels count = elim (one_or_two channels count) [ inl one ↦ inr (inl (omega arith)) | inr two ↦ inr (inr (inl (omega arith))) ]
+frame_size Lin32 channels count = elim (one_or_two channels count) [ inl one ↦ inr (inr (inl (omega arith))) | inr two ↦ inr (inr (inr (omega arith))) ]
 
 pub some_bytes : (w : ℕ) → IsFrameSize w → 0 < w
 some_bytes w size = by_size (λ w. 0 < w) (omega arith) (omega arith) (omega arith) (omega arith) w size

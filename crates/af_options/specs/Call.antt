@@ -6,8 +6,8 @@ use Rattle.af_options.specs.Words.{Job, one, relay}
 
 -- the job of a call
 abbrev pub job_of_call : Call → Job
-job_of_call (call.One c) = one c.server.now c.task
-job_of_call (call.Relay c) = relay c.from.now c.to.now c.job
+job_of_call (call.One c) = one c.server.now c.order c.task
+job_of_call (call.Relay c) = relay c.from.now c.to.now c.order c.job
 
 -- its values are in their ranges
 abbrev pub IsCall : Call → Type 0

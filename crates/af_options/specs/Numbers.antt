@@ -1,9 +1,11 @@
--- The values of words: numbers, gains, switches and forms of files.
+-- The values of words: numbers, gains, switches, forms of files and orders of bytes.
 use Rattle.std.specs.Prelude.{Bool, true, false, ℕ, ℤ, pos, neg_ℤ, nat_le, ◌==◌, ◌&&◌, List, [], ◌∷◌, length, Option, Some, None, codes, option_map, if◌then◌else◌}
 use Rattle.std.specs.Str.{all_ascii_digits, bytes_eq}
 use Rattle.std.specs.Str.Parse.{digits_value}
 use Rattle.af_sound.specs.declared.head.SoundForm.{SoundForm}
 use Rattle.af_sound.specs.declared.head.SoundForm.TheVariants.{Au, Wave}
+use Rattle.af_wire.specs.declared.order.Order.{Order}
+use Rattle.af_wire.specs.declared.order.Order.TheVariants.{Big, Little}
 
 -- the number of some decimal digits, where it lies between these two
 abbrev pub number_in : ℕ → ℕ → List ℕ → Option ℕ
@@ -25,6 +27,13 @@ form_in text =
     if bytes_eq text (codes "raw") then Some None
     else if bytes_eq text (codes "au") then Some (Some Au)
     else if bytes_eq text (codes "wave") then Some (Some Wave)
+    else None
+
+-- the order of the bytes of a connection, by its name
+abbrev pub order_in : List ℕ → Option Order
+order_in text =
+    if bytes_eq text (codes "big") then Some Big
+    else if bytes_eq text (codes "little") then Some Little
     else None
 
 -- a value that need not be there

@@ -19,7 +19,9 @@ use Rattle.af_options.specs.declared.words.Basics.{Basics}
 use Rattle.af_sample.specs.declared.sample_type.SampleType.{SampleType}
 use Rattle.af_sound.specs.declared.head.SoundForm.{SoundForm}
 use Rattle.af_text.specs.Sound.{type_of}
-use Rattle.af_options.specs.Numbers.{form_in, gain_in, if_there, number_in, or_default, switch_in}
+use Rattle.af_wire.specs.declared.order.Order.{Order}
+use Rattle.af_wire.specs.declared.order.Order.TheVariants.{Big}
+use Rattle.af_options.specs.Numbers.{form_in, gain_in, if_there, number_in, or_default, order_in, switch_in}
 
 -- `--id VALUE` or `--id=VALUE`
 abbrev pub option_rule : Text → Rule
@@ -48,6 +50,7 @@ command_app name words = with_rules (new_app name) (map rule_for words)
 unfoldable pub aplay_app : App
 aplay_app = with_rules (new_app (codes "aplay")) (
     rule_at (codes "SERVER") Place ∷
+    rule_at (codes "order") FreeOption ∷
     rule_at (codes "device") FreeOption ∷
     rule_at (codes "file") FreeOption ∷
     rule_at (codes "type") FreeOption ∷
@@ -61,6 +64,7 @@ aplay_app = with_rules (new_app (codes "aplay")) (
 unfoldable pub arecord_app : App
 arecord_app = with_rules (new_app (codes "arecord")) (
     rule_at (codes "SERVER") Place ∷
+    rule_at (codes "order") FreeOption ∷
     rule_at (codes "device") FreeOption ∷
     rule_at (codes "file") FreeOption ∷
     rule_at (codes "type") FreeOption ∷
@@ -75,6 +79,7 @@ arecord_app = with_rules (new_app (codes "arecord")) (
 unfoldable pub aset_app : App
 aset_app = with_rules (new_app (codes "aset")) (
     rule_at (codes "SERVER") Place ∷
+    rule_at (codes "order") FreeOption ∷
     rule_at (codes "device") FreeOption ∷
     rule_at (codes "input-gain") FreeOption ∷
     rule_at (codes "output-gain") FreeOption ∷
@@ -87,6 +92,7 @@ unfoldable pub apass_app : App
 apass_app = with_rules (new_app (codes "apass")) (
     rule_at (codes "FROM") Place ∷
     rule_at (codes "TO") Place ∷
+    rule_at (codes "order") FreeOption ∷
     rule_at (codes "from-device") FreeOption ∷
     rule_at (codes "to-device") FreeOption ∷
     rule_at (codes "type") FreeOption ∷
@@ -106,6 +112,10 @@ address_in text = if nat_le 1 (length text) && nat_le (length text) 64 then Some
 
 abbrev pub address_at : Text → List Row → Option Text
 address_at id rows = option_and_then address_in (first_of id rows)
+
+-- the order of the bytes of a connection, Big by default
+abbrev pub order_at : List Row → Option Order
+order_at rows = or_default Big order_in (first_of (codes "order") rows)
 
 -- what aplay and arecord have in common, where each value is in its range
 abbrev pub basics_of : List Row → Option Basics
@@ -189,18 +199,33 @@ pass_job rows =
     (number_at (codes "to-device") 0 0 7 rows))
     (number_at (codes "from-device") 0 0 7 rows)
 
--- what a tool is asked to do: a task with one server, or to pass blocks from one server to another
+-- what a tool is asked to do: a task with one server, or to pass blocks from one server to another; and the order of its
+-- connections
 pub data Job : Type 0 where
-  one : (server : Text) (task : Task) → Job
-  relay : (from to : Text) (job : PassJob) → Job
+  one : (server : Text) (order : Order) (task : Task) → Job
+  relay : (from to : Text) (order : Order) (job : PassJob) → Job
 
--- a task with one server, if both are there
+-- a task with one server, if all is there
 abbrev pub job_with : Option Task → List Row → Option Job
-job_with found rows = option_and_then (λ task. option_map (λ server. one server task) (address_at (codes "SERVER") rows)) found
+job_with found rows =
+    option_and_then (λ task.
+    option_and_then (λ server.
+    option_map (λ order. one server order task)
+    (order_at rows))
+    (address_at (codes "SERVER") rows))
+    found
 
--- a relay, where both servers are there
+-- a relay, if all is there
 abbrev pub relay_with : Option PassJob → List Row → Option Job
-relay_with found rows = option_and_then (λ job. option_and_then (λ from. option_map (λ to. relay from to job) (address_at (codes "TO") rows)) (address_at (codes "FROM") rows)) found
+relay_with found rows =
+    option_and_then (λ job.
+    option_and_then (λ from.
+    option_and_then (λ to.
+    option_map (λ order. relay from to order job)
+    (order_at rows))
+    (address_at (codes "TO") rows))
+    (address_at (codes "FROM") rows))
+    found
 
 -- the job of a tool, by the matches of its command, where each value is in its range
 abbrev pub job_in : Tool → List Row → Option Job

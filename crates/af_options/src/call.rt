@@ -9,24 +9,27 @@ ghost use Rattle.af_options.specs.Words.{is_spelled, job, job_in, job_with, rela
 use crate::command::tool_matches;
 use crate::job::{PassJob, Task};
 use crate::tool::{Tool, tool_named};
-use crate::words::{address_at, pass_job, play_job, record_job, set_job};
+use crate::words::{address_at, order_at, pass_job, play_job, record_job, set_job};
 use af_io::Args;
+use af_wire::Order;
 use clap::ArgMatches;
 use clap::error::ErrorKind;
 use std::alloc::Global;
 
-/// A task, and the server that it is done with.
+/// A task, the server that it is done with, and the order of the connection.
 #[derive(Clone, Copy)]
 pub struct TaskCall<'a> {
     pub server: &'a str,
+    pub order: Order,
     pub task: Task,
 }
 
-/// A relay, and its two servers.
+/// A relay, its two servers, and the order of both connections.
 #[derive(Clone, Copy)]
 pub struct RelayCall<'a> {
     pub from: &'a str,
     pub to: &'a str,
+    pub order: Order,
     pub job: PassJob,
 }
 
@@ -51,7 +54,12 @@ fn one_call<'a>(matches: &ArgMatches<'a>, task: Task) -> Option<Call<'a>>
     ensures call { IfSome result (λ call. IsCall call) }
 {
     let server = address_at(matches, "SERVER")?;
-    Some(Call::One(TaskCall { server, task }))
+    let order = order_at(matches)?;
+    Some(Call::One(TaskCall {
+        server,
+        order,
+        task,
+    }))
 }
 
 // A relay with its servers.
@@ -62,7 +70,13 @@ fn relay_call<'a>(matches: &ArgMatches<'a>, job: PassJob) -> Option<Call<'a>>
 {
     let from = address_at(matches, "FROM")?;
     let to = address_at(matches, "TO")?;
-    Some(Call::Relay(RelayCall { from, to, job }))
+    let order = order_at(matches)?;
+    Some(Call::Relay(RelayCall {
+        from,
+        to,
+        order,
+        job,
+    }))
 }
 
 // The call of a tool, by the matches of its command.

@@ -21,8 +21,9 @@ pub enum ArgumentKind {
 #[derive(Clone, Copy)]
 pub struct Word<'a>(pub &'a str, pub ArgumentKind);
 
-static APLAY: [Word<'static>; 9] = [
+static APLAY: [Word<'static>; 10] = [
     Word("SERVER", ArgumentKind::Place),
+    Word("order", ArgumentKind::FreeOption),
     Word("device", ArgumentKind::FreeOption),
     Word("file", ArgumentKind::FreeOption),
     Word("type", ArgumentKind::FreeOption),
@@ -33,8 +34,9 @@ static APLAY: [Word<'static>; 9] = [
     Word("preempt", ArgumentKind::Flag),
 ];
 
-static ARECORD: [Word<'static>; 10] = [
+static ARECORD: [Word<'static>; 11] = [
     Word("SERVER", ArgumentKind::Place),
+    Word("order", ArgumentKind::FreeOption),
     Word("device", ArgumentKind::FreeOption),
     Word("file", ArgumentKind::FreeOption),
     Word("type", ArgumentKind::FreeOption),
@@ -46,8 +48,9 @@ static ARECORD: [Word<'static>; 10] = [
     Word("stop-blocks", ArgumentKind::FreeOption),
 ];
 
-static ASET: [Word<'static>; 7] = [
+static ASET: [Word<'static>; 8] = [
     Word("SERVER", ArgumentKind::Place),
+    Word("order", ArgumentKind::FreeOption),
     Word("device", ArgumentKind::FreeOption),
     Word("input-gain", ArgumentKind::FreeOption),
     Word("output-gain", ArgumentKind::FreeOption),
@@ -56,9 +59,10 @@ static ASET: [Word<'static>; 7] = [
     Word("hook", ArgumentKind::FreeOption),
 ];
 
-static APASS: [Word<'static>; 10] = [
+static APASS: [Word<'static>; 11] = [
     Word("FROM", ArgumentKind::Place),
     Word("TO", ArgumentKind::Place),
+    Word("order", ArgumentKind::FreeOption),
     Word("from-device", ArgumentKind::FreeOption),
     Word("to-device", ArgumentKind::FreeOption),
     Word("type", ArgumentKind::FreeOption),

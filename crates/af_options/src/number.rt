@@ -1,9 +1,10 @@
-// The values of words: numbers, gains, switches and forms of files.
+// The values of words: numbers, gains, switches, forms of files and orders of bytes.
 ghost use Rattle.std.specs.Prelude.{◌≡◌, ◌<◌};
-ghost use Rattle.af_options.specs.Numbers.{form_in, gain_in, number_in, switch_in};
+ghost use Rattle.af_options.specs.Numbers.{form_in, gain_in, number_in, order_in, switch_in};
 
 use af_sample::Gain;
 use af_sound::SoundForm;
+use af_wire::Order;
 
 /// The number of some decimal digits, of any number with zeros before them, where it lies between these two.
 pub fn number_in(low: u32, high: u32, text: &[u8]) -> Option<u32>
@@ -63,6 +64,19 @@ pub fn form_in(text: &str) -> Option<Option<SoundForm>>
         Some(Some(SoundForm::Au))
     } else if text == "wave" {
         Some(Some(SoundForm::Wave))
+    } else {
+        None
+    }
+}
+
+/// The order of the bytes of a connection, by its name.
+pub fn order_in(text: &str) -> Option<Order>
+    ensures { result ≡ order_in text.now }
+{
+    if text == "big" {
+        Some(Order::Big)
+    } else if text == "little" {
+        Some(Order::Little)
     } else {
         None
     }

@@ -2,16 +2,17 @@
 ghost use Rattle.std.specs.Prelude.{◌≡◌, ◌≤◌, None, codes, length, option_map, pos, IfSome};
 ghost use Rattle.clap.specs.Words.{first_of, found_of, rows_of};
 ghost use Rattle.af_text.specs.Sound.{type_of};
-ghost use Rattle.af_options.specs.Numbers.{form_in, gain_in, if_there, number_in, or_default, switch_in};
-ghost use Rattle.af_options.specs.Words.{address_at, basics_of, is_set, number_at, pass_job, play_job, record_job, set_job};
+ghost use Rattle.af_options.specs.Numbers.{form_in, gain_in, if_there, number_in, or_default, order_in, switch_in};
+ghost use Rattle.af_options.specs.Words.{address_at, basics_of, is_set, number_at, order_at, pass_job, play_job, record_job, set_job};
 ghost use Rattle.af_options.specs.Ranges.{IsPaced};
 
 use crate::command::text_of;
 use crate::job::{PassJob, PlayJob, RecordJob, SetJob};
-use crate::number::{form_in, gain_in, number_in, switch_in};
+use crate::number::{form_in, gain_in, number_in, order_in, switch_in};
 use af_sample::{Gain, SampleType};
 use af_sound::SoundForm;
 use af_text::sample_type;
+use af_wire::Order;
 use clap::ArgMatches;
 
 /// What aplay and arecord have in common.
@@ -66,6 +67,16 @@ pub fn address_at<'a>(matches: &ArgMatches<'a>, name: &str) -> Option<&'a str>
         Some(address)
     } else {
         None
+    }
+}
+
+/// The order of the bytes of a connection, Big by default.
+pub fn order_at(matches: &ArgMatches<'_>) -> Option<Order>
+    ensures { result ≡ order_at (rows_of (found_of matches.now)) }
+{
+    match text_of(matches, "order") {
+        Some(text) => order_in(text),
+        None => Some(Order::Big),
     }
 }
 

@@ -94,7 +94,7 @@ pub both_named : {X A : Type 0} (part : A → RelayPart X) (a a' : A) (r : Resul
 both_named {X} {A} part a a' r lf wf s s' lt wt t t' same g = subst (λ (x : A). ObservedRelayPart (part x) r lf wf s s' lt wt t t') same g
 
 by_is : {X : Type 0} (sending : List ℕ → RelayTrace → RelayTrace) (asked : Asked) (value_of : Answer → Option X) (w : ClientState) (next : X → ClientState → RelayTrace) →
-    asks_by sending asked value_of w next ≡ sending (request_bytes asked) (relayed_by (answer_on asked value_of w) (after_reply w) next)
+    asks_by sending asked value_of w next ≡ sending (request_bytes w.order asked) (relayed_by (answer_on asked value_of w) (after_reply w) next)
 unfolding asks_by
 by_is sending asked value_of w next = refl
 
@@ -216,9 +216,9 @@ module _ {L X : Type 0} (left sent : L → Option (List ℕ)) (faults : L → �
   pub asked_from : ObservedRelayPart {X = X} (λ next. asks_from asked value_of (client_of old input) (λ x v. next x v (wire_other other))) (ended result) (left new.link) (client_of new) (sent old.link) (sent new.link) left_other wire_other sent_other sent_other
   asked_from =
       from_one asked value_of (client_of old input) other (left new.link) (client_of new) (sent old.link) (sent new.link) left_other wire_other sent_other told (ended result)
-      (one_goes sending_from on_from on_to is_from (request_bytes asked) (answer_on asked value_of (client_of old input)) (after_reply (client_of old input)) (λ next. asks_from asked value_of (client_of old input) next) (by_is sending_from asked value_of (client_of old input)) (left new.link) (client_of new) (sent old.link) (sent new.link) result (called.sends usable) (asked_known left sent faults asked value_of old new input result called usable told_input))
+      (one_goes sending_from on_from on_to is_from (request_bytes old.order asked) (answer_on asked value_of (client_of old input)) (after_reply (client_of old input)) (λ next. asks_from asked value_of (client_of old input) next) (by_is sending_from asked value_of (client_of old input)) (left new.link) (client_of new) (sent old.link) (sent new.link) result (called.sends usable) (asked_known left sent faults asked value_of old new input result called usable told_input))
 
   pub asked_to : ObservedRelayPart {X = X} (λ next. asks_to asked value_of (client_of old input) (λ x w. next x (wire_other other) w)) (ended result) left_other wire_other sent_other sent_other (left new.link) (client_of new) (sent old.link) (sent new.link)
   asked_to =
       to_one asked value_of (client_of old input) other (left new.link) (client_of new) (sent old.link) (sent new.link) left_other wire_other sent_other told (ended result)
-      (one_goes sending_to on_to on_from is_to (request_bytes asked) (answer_on asked value_of (client_of old input)) (after_reply (client_of old input)) (λ next. asks_to asked value_of (client_of old input) next) (by_is sending_to asked value_of (client_of old input)) (left new.link) (client_of new) (sent old.link) (sent new.link) result (called.sends usable) (asked_known left sent faults asked value_of old new input result called usable told_input))
+      (one_goes sending_to on_to on_from is_to (request_bytes old.order asked) (answer_on asked value_of (client_of old input)) (after_reply (client_of old input)) (λ next. asks_to asked value_of (client_of old input) next) (by_is sending_to asked value_of (client_of old input)) (left new.link) (client_of new) (sent old.link) (sent new.link) result (called.sends usable) (asked_known left sent faults asked value_of old new input result called usable told_input))

@@ -11,6 +11,7 @@ use Rattle.af_time.specs.declared.DevTime.{DevTime}
 use Rattle.af_time.specs.DeviceTime.{frames_lasting, word_difference}
 use Rattle.af_io.specs.Observed.{Appended}
 use Rattle.af_request.specs.declared.reply.DeviceInfo.{DeviceInfo}
+use Rattle.af_wire.specs.declared.order.Order.{Order}
 use Rattle.af_request.specs.Asked.{Asked, free_ac, get_time, play_run, record_run}
 use Rattle.af_request.specs.Answer.{Answer}
 use Rattle.af_request.specs.Requests.{request_bytes}
@@ -48,13 +49,13 @@ pub answered_to : {X : Type 0} (bytes : List ℕ) (r : Result X ConnFault) (w : 
 answered_to bytes (Ok x) w next is = record { value = x; good = refl; is = refl }
 answered_to bytes (Err fault) w next is = cc
 
-done_from : {X : Type 0} (asked : Asked) (value_of : Answer → Option X) (w : ClientState) (next : X → ClientState → RelayTrace) → (asks_from asked value_of w next).finish ≡ done → WasAnswered sending_from (request_bytes asked) (answer_on asked value_of w) (after_reply w) next (asks_from asked value_of w next)
+done_from : {X : Type 0} (asked : Asked) (value_of : Answer → Option X) (w : ClientState) (next : X → ClientState → RelayTrace) → (asks_from asked value_of w next).finish ≡ done → WasAnswered sending_from (request_bytes w.order asked) (answer_on asked value_of w) (after_reply w) next (asks_from asked value_of w next)
 unfolding asks_by
-done_from asked value_of w next is = answered_from (request_bytes asked) (answer_on asked value_of w) (after_reply w) next is
+done_from asked value_of w next is = answered_from (request_bytes w.order asked) (answer_on asked value_of w) (after_reply w) next is
 
-done_to : {X : Type 0} (asked : Asked) (value_of : Answer → Option X) (w : ClientState) (next : X → ClientState → RelayTrace) → (asks_to asked value_of w next).finish ≡ done → WasAnswered sending_to (request_bytes asked) (answer_on asked value_of w) (after_reply w) next (asks_to asked value_of w next)
+done_to : {X : Type 0} (asked : Asked) (value_of : Answer → Option X) (w : ClientState) (next : X → ClientState → RelayTrace) → (asks_to asked value_of w next).finish ≡ done → WasAnswered sending_to (request_bytes w.order asked) (answer_on asked value_of w) (after_reply w) next (asks_to asked value_of w next)
 unfolding asks_by
-done_to asked value_of w next is = answered_to (request_bytes asked) (answer_on asked value_of w) (after_reply w) next is
+done_to asked value_of w next is = answered_to (request_bytes w.order asked) (answer_on asked value_of w) (after_reply w) next is
 
 -- a delay at the rate of a device that may be stated has few frames
 few_frames : (d : DeviceInfo) (delay : ℕ) → IsDeviceInfo d → delay ≤ 3000 → frames_lasting d.rate delay < 2 ^ 31
@@ -107,12 +108,14 @@ record AllPassed (n : ℕ) (job : PassJob) (pace : RelayPace) (passed : RelayPro
   v' : ClientState
   w' : ClientState
   blocks : List PassedBlock
+  order_from : v'.order ≡ v.order
+  order_to : w'.order ≡ w.order
   finish : (next passed' v' w').finish ≡ done
   number : length blocks ≡ n
   told : AreTold job w blocks
   bytes : samples_of blocks ≡ record_replies n pace passed.at v
-  sent : relay.to ≡ play_requests job blocks ++ (next passed' v' w').to
-  recorded : relay.from ≡ record_requests n pace passed.at ++ (next passed' v' w').from
+  sent : relay.to ≡ play_requests w.order job blocks ++ (next passed' v' w').to
+  recorded : relay.from ≡ record_requests v.order n pace passed.at ++ (next passed' v' w').from
   wrote : relay.output ≡ (next passed' v' w').output
   count : passed'.resynced ≡ passed.resynced + moves pace.frames passed.due blocks
 
@@ -123,6 +126,8 @@ passes_done zero job pace passed v w next small is = record {
   v' = v;
   w' = w;
   blocks = [];
+  order_from = refl;
+  order_to = refl;
   finish = is;
   number = refl;
   told = tt;
@@ -144,23 +149,25 @@ passes_done (suc n) job pace passed v w next small is =
     let c = done_to (play_run false 1 place.time.0 r.samples) as_time (after_reply w) _ is_c in
     let is_d = ap (λ (x : RelayTrace). x.finish) (sym c.is) ∙ is_c in
     let d = passes_done n job pace (after_block passed place pace.frames) (after_reply v) (after_reply (after_reply w)) next small is_d in
-    let get = request_bytes (get_time job.to_device) in
-    let play = request_bytes (play_run false 1 place.time.0 r.samples) in
+    let get = request_bytes w.order (get_time job.to_device) in
+    let play = request_bytes w.order (play_run false 1 place.time.0 r.samples) in
     let last = (next d.passed' d.v' d.w').to in
-    let record_one = request_bytes (record_run true 1 passed.at.0 pace.size) in
-    let others = record_requests n pace (after passed.at pace.frames) in
+    let record_one = request_bytes v.order (record_run true 1 passed.at.0 pace.size) in
+    let others = record_requests v.order n pace (after passed.at pace.frames) in
     record {
       passed' = d.passed';
       v' = d.v';
       w' = d.w';
       blocks = record { told = now; time = place.time; samples = r.samples } ∷ d.blocks;
+      order_from = d.order_from;
+      order_to = d.order_to;
       finish = d.finish;
       number = ap suc d.number;
       told = (b.good, d.told);
       bytes = ap (λ (l : List (List ℕ)). r.samples ∷ l) d.bytes
           ∙ ap (λ (x : Result Recorded ConnFault). reply_then x (record_replies n pace (after passed.at pace.frames) (after_reply v))) (sym a.good);
       sent = ap (λ (x : RelayTrace). x.to) a.is ∙ ap (λ (x : RelayTrace). x.to) b.is ∙ ap (λ (x : RelayTrace). get ++ x.to) c.is ∙ ap (λ (l : List ℕ). get ++ play ++ l) d.sent
-          ∙ sym (append_assoc get (play ++ play_requests job d.blocks) last ∙ ap (λ (l : List ℕ). get ++ l) (append_assoc play (play_requests job d.blocks) last));
+          ∙ sym (append_assoc get (play ++ play_requests w.order job d.blocks) last ∙ ap (λ (l : List ℕ). get ++ l) (append_assoc play (play_requests w.order job d.blocks) last));
       wrote = ap (λ (x : RelayTrace). x.output) a.is ∙ ap (λ (x : RelayTrace). x.output) b.is ∙ ap (λ (x : RelayTrace). x.output) c.is ∙ d.wrote;
       recorded = ap (λ (x : RelayTrace). x.from) a.is ∙ ap (λ (x : RelayTrace). record_one ++ x.from) b.is ∙ ap (λ (x : RelayTrace). record_one ++ x.from) c.is ∙ ap (λ (l : List ℕ). record_one ++ l) d.recorded
           ∙ sym (append_assoc record_one others (next d.passed' d.v' d.w').from);
@@ -186,11 +193,13 @@ between_done job device v w relay whole small end_is =
     let e = done_from (free_ac 1) as_done d.v' _ d.finish in
     let is_f = ap (λ (x : RelayTrace). x.finish) (sym e.is) ∙ d.finish in
     let f = done_to (free_ac 1) as_done d.w' _ is_f in
-    let make_from = request_bytes (from_context job ty device.channels) in
-    let make_to = request_bytes (to_context job ty device.channels) in
-    let time = request_bytes (get_time job.from_device) in
-    let asked = record_requests job.blocks pace c.value in
-    let free = request_bytes (free_ac 1) in
+    let make_from = request_bytes v.order (from_context job ty device.channels) in
+    let make_to = request_bytes w.order (to_context job ty device.channels) in
+    let time = request_bytes v.order (get_time job.from_device) in
+    let asked = record_requests v.order job.blocks pace c.value in
+    let played = play_requests w.order job d.blocks in
+    let free_from = request_bytes d.v'.order (free_ac 1) in
+    let free_to = request_bytes d.w'.order (free_ac 1) in
     record {
       start = c.value;
       started = c.good;
@@ -200,11 +209,13 @@ between_done job device v w relay whole small end_is =
       bytes = d.bytes;
       recorded = ap (λ (x : RelayTrace). x.from) whole ∙ ap (λ (x : RelayTrace). x.from) a.is ∙ ap (λ (x : RelayTrace). make_from ++ x.from) b.is ∙ ap (λ (x : RelayTrace). make_from ++ x.from) c.is
           ∙ ap (λ (l : List ℕ). make_from ++ time ++ l) d.recorded
-          ∙ ap (λ (x : RelayTrace). make_from ++ time ++ asked ++ x.from) e.is ∙ ap (λ (x : RelayTrace). make_from ++ time ++ asked ++ (free ++ x.from)) f.is
-          ∙ ap (λ (l : List ℕ). make_from ++ time ++ asked ++ l) (append-nil free);
+          ∙ ap (λ (x : RelayTrace). make_from ++ time ++ asked ++ x.from) e.is ∙ ap (λ (x : RelayTrace). make_from ++ time ++ asked ++ (free_from ++ x.from)) f.is
+          ∙ ap (λ (l : List ℕ). make_from ++ time ++ asked ++ l) (append-nil free_from)
+          ∙ ap (λ (o : Order). make_from ++ time ++ asked ++ request_bytes o (free_ac 1)) d.order_from;
       played = ap (λ (x : RelayTrace). x.to) whole ∙ ap (λ (x : RelayTrace). x.to) a.is ∙ ap (λ (x : RelayTrace). x.to) b.is ∙ ap (λ (x : RelayTrace). make_to ++ x.to) c.is ∙ ap (λ (l : List ℕ). make_to ++ l) d.sent
-          ∙ ap (λ (x : RelayTrace). make_to ++ play_requests job d.blocks ++ x.to) e.is ∙ ap (λ (x : RelayTrace). make_to ++ play_requests job d.blocks ++ x.to) f.is
-          ∙ ap (λ (l : List ℕ). make_to ++ play_requests job d.blocks ++ l) (append-nil free);
+          ∙ ap (λ (x : RelayTrace). make_to ++ played ++ x.to) e.is ∙ ap (λ (x : RelayTrace). make_to ++ played ++ x.to) f.is
+          ∙ ap (λ (l : List ℕ). make_to ++ played ++ l) (append-nil free_to)
+          ∙ ap (λ (o : Order). make_to ++ played ++ request_bytes o (free_ac 1)) d.order_to;
       resynced = d.passed'.resynced;
       wrote =
           ap (λ (x : RelayTrace). x.output) whole ∙ ap (λ (x : RelayTrace). x.output) a.is ∙ ap (λ (x : RelayTrace). x.output) b.is ∙ ap (λ (x : RelayTrace). x.output) c.is ∙ d.wrote

@@ -55,7 +55,7 @@ relayed_by (Err fault) w next = ends_both (refused fault)
 
 -- a request is sent on one of the links, and what follows goes by its answer
 unfoldable pub asks_by : {X : Type 0} → (List ℕ → RelayTrace → RelayTrace) → Asked → (Answer → Option X) → ClientState → (X → ClientState → RelayTrace) → RelayTrace
-asks_by sending asked value_of w next = sending (request_bytes asked) (relayed_by (answer_on asked value_of w) (after_reply w) next)
+asks_by sending asked value_of w next = sending (request_bytes w.order asked) (relayed_by (answer_on asked value_of w) (after_reply w) next)
 
 abbrev pub asks_from : {X : Type 0} → Asked → (Answer → Option X) → ClientState → (X → ClientState → RelayTrace) → RelayTrace
 asks_from asked value_of v next = asks_by sending_from asked value_of v next

@@ -6,6 +6,7 @@ use Rattle.af_time.specs.declared.DevTime.{DevTime}
 use Rattle.af_sample.specs.declared.sample_type.SampleType.{SampleType}
 use Rattle.af_sample.specs.SampleTypes.{frame_bytes}
 use Rattle.af_io.specs.Observed.{Appended}
+use Rattle.af_wire.specs.declared.order.Order.{Order}
 use Rattle.af_request.specs.declared.reply.DeviceInfo.{DeviceInfo}
 use Rattle.af_request.specs.Asked.{free_ac, get_time, play_run, record_run}
 use Rattle.af_request.specs.Requests.{request_bytes}
@@ -28,14 +29,15 @@ samples_of [] = []
 samples_of (b ∷ blocks) = b.samples ∷ samples_of blocks
 
 -- what is sent for these blocks on the link that is played on
-unfoldable pub play_requests : PassJob → List PassedBlock → List ℕ
-play_requests job [] = []
-play_requests job (b ∷ blocks) = request_bytes (get_time job.to_device) ++ request_bytes (play_run false 1 b.time.0 b.samples) ++ play_requests job blocks
+unfoldable pub play_requests : Order → PassJob → List PassedBlock → List ℕ
+play_requests order job [] = []
+play_requests order job (b ∷ blocks) =
+    request_bytes order (get_time job.to_device) ++ request_bytes order (play_run false 1 b.time.0 b.samples) ++ play_requests order job blocks
 
 -- n record requests, each of a block: the first records from a time on, and each other from a block later
-unfoldable pub record_requests : ℕ → RelayPace → DevTime → List ℕ
-record_requests zero pace at = []
-record_requests (suc n) pace at = request_bytes (record_run true 1 at.0 pace.size) ++ record_requests n pace (after at pace.frames)
+unfoldable pub record_requests : Order → ℕ → RelayPace → DevTime → List ℕ
+record_requests order zero pace at = []
+record_requests order (suc n) pace at = request_bytes order (record_run true 1 at.0 pace.size) ++ record_requests order n pace (after at pace.frames)
 
 -- what one more record request was answered with
 abbrev pub reply_then : Result Recorded ConnFault → List (List ℕ) → List (List ℕ)
@@ -85,8 +87,9 @@ pub record Relayed (job : PassJob) (device : DeviceInfo) (v w : ClientState) (se
   pub number : length blocks ≡ job.blocks
   pub bytes : samples_of blocks ≡ record_replies job.blocks (pace_from job device) start (after_reply (after_reply v))
   pub told : AreTold job (after_reply w) blocks
-  pub recorded : sends_from ≡ request_bytes (from_context job (type_from job device) device.channels) ++ request_bytes (get_time job.from_device) ++ record_requests job.blocks (pace_from job device) start ++ request_bytes (free_ac 1)
-  pub played : sends_to ≡ request_bytes (to_context job (type_from job device) device.channels) ++ play_requests job blocks ++ request_bytes (free_ac 1)
+  pub recorded : sends_from ≡ request_bytes v.order (from_context job (type_from job device) device.channels) ++ request_bytes v.order (get_time job.from_device)
+      ++ record_requests v.order job.blocks (pace_from job device) start ++ request_bytes v.order (free_ac 1)
+  pub played : sends_to ≡ request_bytes w.order (to_context job (type_from job device) device.channels) ++ play_requests w.order job blocks ++ request_bytes w.order (free_ac 1)
   pub resynced : ℕ
   pub wrote : output ≡ passed_text job.blocks resynced
   pub moved : resynced ≡ moves (pace_from job device).frames None blocks

@@ -5,6 +5,7 @@ use Rattle.std.specs.declared.option.Option.{Option}
 use Rattle.std.specs.declared.option.Option.TheVariants.{None, Some}
 use Rattle.af_io.specs.Observed.{Appended}
 use Rattle.af_io.specs.Flow.{AppendedPrefix}
+use Rattle.af_wire.specs.declared.order.Order.{Order}
 use Rattle.af_request.specs.Asked.{Asked}
 use Rattle.af_request.specs.Answer.{Answer}
 use Rattle.af_request.specs.Requests.{request_bytes}
@@ -14,7 +15,7 @@ use Rattle.af_lib.specs.Ring.{RingState}
 use Rattle.af_lib.specs.Calls.{Called, ConnState, Sends, following}
 use Rattle.af_tool.specs.declared.end.ToolEnd.{ToolEnd}
 use Rattle.af_tool.specs.declared.end.ToolEnd.TheVariants as end
-use Rattle.af_tool.specs.Trace.{Trace, ClientState, answer_on, answered_by, asks, after_reply, tool_end, ends, fault_end, next_message, refused, sending}
+use Rattle.af_tool.specs.Trace.{Trace, ClientState, answer_on, answered_by, asks, after_reply, begun, tool_end, ends, fault_end, next_message, refused, sending}
 use Rattle.af_tool.specs.Ends.{PartMatches, MatchesTrace, ObservedPart, TracePart, PartCompletes, is_outer, client_of}
 use Rattle.af_io.proofs.AppendedLemmas.{appended_none, appended_on}
 use Rattle.af_lib.proofs.LinkByteLemmas.{told_both}
@@ -90,11 +91,12 @@ goes_on first second x r left left' wire wire' s s' s'' h h' h'' g rest =
     }
 
 -- a client behind an answer
-wire_behind : {L : Type 0} (old new : ConnState L) (input a : List ℕ) → new.sequence ≡ following old.sequence → new.ring ≡ (next_message (client_of old input)).ring → a ≡ (next_message (client_of old input)).rest →
+wire_behind : {L : Type 0} (old new : ConnState L) (input a : List ℕ) → new.order ≡ old.order → new.sequence ≡ following old.sequence → new.ring ≡ (next_message (client_of old input)).ring → a ≡ (next_message (client_of old input)).rest →
     client_of new a ≡ after_reply (client_of old input)
-wire_behind old new input a sequence ring rest =
-    ap₂ (λ (s : ℕ) (r : RingState). (let w : ClientState = record { sequence = s; ring = r; input = a } in w)) sequence ring
-    ∙ ap (λ (i : List ℕ). (let w : ClientState = record { sequence = following old.sequence; ring = (next_message (client_of old input)).ring; input = i } in w)) rest
+wire_behind old new input a order sequence ring rest =
+    ap (λ (o : Order). (let w : ClientState = record { order = o; sequence = new.sequence; ring = new.ring; input = a } in w)) order
+    ∙ ap₂ (λ (s : ℕ) (r : RingState). (let w : ClientState = record { order = old.order; sequence = s; ring = r; input = a } in w)) sequence ring
+    ∙ ap (λ (i : List ℕ). (let w : ClientState = record { order = old.order; sequence = following old.sequence; ring = (next_message (client_of old input)).ring; input = i } in w)) rest
 
 -- what is known of an answer, if the link did not fail
 abbrev pub Known : {X : Type 0} → Result X ConnFault → ClientState → Option (List ℕ) → (List ℕ → ClientState) → Result X ConnFault → Type 0
@@ -160,7 +162,7 @@ module _ {X : Type 0} (part : TracePart X) (bytes : List ℕ) (answer : Result X
   exchange_goes (Err fault.EventFlood) sends known = refused_by fault.EventFlood sends known (λ e. cc e)
   exchange_goes (Err (fault.Spent first)) sends known = refused_by (fault.Spent first) sends known (λ e. cc e)
 
-asks_is : {X : Type 0} (asked : Asked) (value_of : Answer → Option X) (w : ClientState) (next : X → ClientState → Trace) → asks asked value_of w next ≡ sending (request_bytes asked) (answered_by (answer_on asked value_of w) (after_reply w) next)
+asks_is : {X : Type 0} (asked : Asked) (value_of : Answer → Option X) (w : ClientState) (next : X → ClientState → Trace) → asks asked value_of w next ≡ sending (request_bytes w.order asked) (answered_by (answer_on asked value_of w) (after_reply w) next)
 unfolding asks
 asks_is asked value_of w next = refl
 
@@ -171,7 +173,7 @@ asked_known left sent faults asked value_of old new input result called usable t
     let both = told_both (left old.link) (left new.link) input _ told called.tells (called.answers usable sound) in
     let facts = both.2 in
     let kept = called.keeps usable in
-    (both.0, both.1, facts.0, wire_behind old new input both.0 (ap (λ (c : ConnState _). c.sequence) kept) facts.1 facts.2)
+    (both.0, both.1, facts.0, wire_behind old new input both.0 (ap (λ (c : ConnState _). c.order) kept) (ap (λ (c : ConnState _). c.sequence) kept) facts.1 facts.2)
 
 -- a request and its answer are a part of a tool
 pub asked_goes : {L X : Type 0} (left sent : L → Option (List ℕ)) (faults : L → ℕ) (asked : Asked) (value_of : Answer → Option X) (old new : ConnState L) (input : List ℕ) (held : Option (List ℕ)) (result : Result X ConnFault) →
@@ -179,5 +181,10 @@ pub asked_goes : {L X : Type 0} (left sent : L → Option (List ℕ)) (faults : 
     ObservedPart {X = X} (asks asked value_of (client_of old input)) (ended result) (left new.link) (client_of new) (sent old.link) (sent new.link) held held
 asked_goes left sent faults asked value_of old new input held result called usable told =
     let w = client_of old input in
-    exchange_goes (asks asked value_of w) (request_bytes asked) (answer_on asked value_of w) (after_reply w) (asks_is asked value_of w) (left new.link) (client_of new) (sent old.link) (sent new.link) held result (called.sends usable)
+    exchange_goes (asks asked value_of w) (request_bytes w.order asked) (answer_on asked value_of w) (after_reply w) (asks_is asked value_of w) (left new.link) (client_of new) (sent old.link) (sent new.link) held result (called.sends usable)
     (asked_known left sent faults asked value_of old new input result called usable told)
+
+-- a connection that has sent no request
+pub client_begun : {L : Type 0} (order : Order) (conn : ConnState L) (input : List ℕ) → conn.order ≡ order → conn.sequence ≡ 0 → client_of conn input ≡ begun order conn.ring input
+client_begun order conn input same first =
+    ap₂ (λ (o : Order) (n : ℕ). (let w : ClientState = record { order = o; sequence = n; ring = conn.ring; input = input } in w)) same first

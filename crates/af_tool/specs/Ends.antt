@@ -41,7 +41,7 @@ Reports held text how sink sink' = (sent : Option (List ℕ)) → ObservedTrace 
 
 -- a connection whose link gives these bytes
 abbrev pub client_of : {L : Type 0} → ConnState L → List ℕ → ClientState
-client_of conn input = record { sequence = conn.sequence; ring = conn.ring; input = input }
+client_of conn input = record { order = conn.order; sequence = conn.sequence; ring = conn.ring; input = input }
 
 -- the faults of a reply: it is cut off, an error, none, or does not come
 abbrev pub is_of_reply : ToolEnd → Bool

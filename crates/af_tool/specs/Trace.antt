@@ -12,6 +12,7 @@ use Rattle.af_lib.specs.declared.fault.ConnFault.{ConnFault}
 use Rattle.af_lib.specs.declared.fault.ConnFault.TheVariants as fault
 use Rattle.af_lib.specs.Ring.{RingState}
 use Rattle.af_lib.specs.Incoming.{Awaited, awaited}
+use Rattle.af_wire.specs.declared.order.Order.{Order}
 use Rattle.af_wire.specs.Front.{setup_bytes}
 use Rattle.af_lib.specs.Calls.{answered, as_devices, as_done, as_time, following, opcode_of}
 use Rattle.af_io.specs.Dial.{ToldLink}
@@ -19,9 +20,10 @@ use Rattle.af_sound.specs.declared.head.SoundFault.{SoundFault}
 use Rattle.af_tool.specs.declared.end.ToolEnd.{ToolEnd}
 use Rattle.af_tool.specs.declared.end.ToolEnd.TheVariants as end
 
--- how far a client has come with what its link gives: the number of its last request, its ring of events, and the bytes that
+-- the order of a client's bytes, and how far it has come with what its link gives: the number of its last request, its ring of events, and the bytes that
 -- it has not taken
 pub record ClientState : Type 0 where
+  pub order : Order
   pub sequence : ℕ
   pub ring : RingState
   pub input : List ℕ
@@ -66,19 +68,19 @@ answered_by (Err fault) w next = ends (refused fault)
 
 -- the message that a client awaits next
 abbrev pub next_message : ClientState → Awaited
-next_message w = awaited 4096 w.ring w.input
+next_message w = awaited w.order 4096 w.ring w.input
 
 -- a client that has sent a request and taken its answer
 abbrev pub after_reply : ClientState → ClientState
-after_reply w = record { sequence = following w.sequence; ring = (next_message w).ring; input = (next_message w).rest }
+after_reply w = record { order = w.order; sequence = following w.sequence; ring = (next_message w).ring; input = (next_message w).rest }
 
 -- what the link answers to a request
 abbrev pub answer_on : {X : Type 0} → Asked → (Answer → Option X) → ClientState → Result X ConnFault
-answer_on asked value_of w = answered value_of (opcode_of asked) (following w.sequence) (next_message w).found
+answer_on asked value_of w = answered w.order value_of (opcode_of asked) (following w.sequence) (next_message w).found
 
 -- a request is sent, and what follows goes by its answer
 unfoldable pub asks : {X : Type 0} → Asked → (Answer → Option X) → ClientState → (X → ClientState → Trace) → Trace
-asks asked value_of w next = sending (request_bytes asked) (answered_by (answer_on asked value_of w) (after_reply w) next)
+asks asked value_of w next = sending (request_bytes w.order asked) (answered_by (answer_on asked value_of w) (after_reply w) next)
 
 -- a context is made, and the time of its device asked
 abbrev pub begins : Asked → ℕ → ClientState → (DevTime → ClientState → Trace) → Trace
@@ -92,23 +94,30 @@ on_device None devices next = ends (no_device devices)
 abbrev pub with_job_device : ℕ → List DeviceInfo → (DeviceInfo → Trace) → Trace
 with_job_device number devices next = on_device (slice_get devices number) (length devices) next
 
+-- a client of an order that has sent no request
+abbrev pub begun : Order → RingState → List ℕ → ClientState
+begun order ring input = record { order = order; sequence = 0; ring = ring; input = input }
+
 -- a client whose link gives these bytes, before its setup
-abbrev pub unused : List ℕ → ClientState
-unused input = record { sequence = 0; ring = record { events = []; lost = 0 }; input = input }
+abbrev pub unused : Order → List ℕ → ClientState
+unused order input = begun order (record { events = []; lost = 0 }) input
 
 -- a client that has taken the answer to its setup
-abbrev pub set_up : List ℕ → ClientState
-set_up input = record { sequence = 0; ring = (next_message (unused input)).ring; input = (next_message (unused input)).rest }
+abbrev pub set_up : Order → List ℕ → ClientState
+set_up order input = begun order (next_message (unused order input)).ring (next_message (unused order input)).rest
 
--- the setup is sent, and what follows goes by the devices of its answer
-unfoldable pub connects : List ℕ → (List DeviceInfo → ClientState → Trace) → Trace
-connects input next =
-    sending setup_bytes (answered_by (answered as_devices 0 0 (next_message (unused input)).found) (set_up input) next)
+-- what the link answers to the setup
+abbrev pub setup_answer : Order → List ℕ → Result (List DeviceInfo) ConnFault
+setup_answer order input = answered order as_devices 0 0 (next_message (unused order input)).found
 
--- the first link that a dial gives is set up
-abbrev pub dials : List ToldLink → (List DeviceInfo → ClientState → Trace) → Trace
-dials [] next = ends not_dialled
-dials (link ∷ links) next = connects link.gives next
+-- the setup of an order is sent, and what follows goes by the devices of its answer
+unfoldable pub connects : Order → List ℕ → (List DeviceInfo → ClientState → Trace) → Trace
+connects order input next = sending (setup_bytes order) (answered_by (setup_answer order input) (set_up order input) next)
+
+-- the first link that a dial gives is set up in an order
+abbrev pub dials : Order → List ToldLink → (List DeviceInfo → ClientState → Trace) → Trace
+dials order [] next = ends not_dialled
+dials order (link ∷ links) next = connects order link.gives next
 
 -- how a tool ends at a fault of its connection
 abbrev pub fault_end : ConnFault → ToolEnd

@@ -5,6 +5,7 @@ use Rattle.std.proofs.lemmas.Option.{slice_get_cases}
 use Rattle.std.specs.declared.option.Option.{Option}
 use Rattle.std.specs.declared.option.Option.TheVariants.{None, Some}
 use Rattle.af_request.specs.declared.reply.DeviceInfo.{DeviceInfo}
+use Rattle.af_request.specs.Replies.{IsDeviceInfo}
 use Rattle.af_tool.specs.declared.end.ToolEnd.{ToolEnd}
 use Rattle.af_tool.specs.declared.end.ToolEnd.TheVariants as end
 use Rattle.af_options.specs.declared.job.PlayJob.{PlayJob}
@@ -54,6 +55,16 @@ is_missing devices number how is =
       | inl within ↦ absurd (some_none within.0 (sym within.2 ∙ get.0))
       | inr beyond ↦ record { get = get.0; beyond = beyond.0; way = get.1 }
     ]
+
+-- the device with a number is one that may be stated
+pub stated_at : (devices : List DeviceInfo) (number : ℕ) (device : DeviceInfo) → slice_get devices number ≡ Some device → IsDeviceInfo device → (d : DeviceInfo) → slice_get devices number ≡ Some d → IsDeviceInfo d
+stated_at devices number device there stated d get =
+    let both : Some device ≡ Some d = sym there ∙ get in
+    let same : device ≡ d = cc in
+    subst IsDeviceInfo same stated
+
+pub missing_at : (devices : List DeviceInfo) (number : ℕ) → slice_get devices number ≡ None → (d : DeviceInfo) → slice_get devices number ≡ Some d → IsDeviceInfo d
+missing_at devices number none d get = absurd (some_none d (sym get ∙ none))
 
 module _ (devices : List DeviceInfo) (w : ClientState) where
   pub aplay_there : (job : PlayJob) (bytes : List ℕ) (device : DeviceInfo) → slice_get devices job.device ≡ Some device →

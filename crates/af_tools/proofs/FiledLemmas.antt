@@ -13,9 +13,11 @@ use Rattle.af_sound.specs.declared.head.Coding.TheVariants as coding
 use Rattle.af_sound.specs.declared.head.SoundForm.{SoundForm}
 use Rattle.af_sound.specs.declared.head.SoundForm.TheVariants.{Au, Wave}
 use Rattle.af_sound.proofs.SwappedLemmas.{swapped_append}
+use Rattle.af_wire.specs.declared.order.Order.{Order}
 use Rattle.af_request.specs.declared.reply.DeviceInfo.{DeviceInfo}
 use Rattle.af_request.specs.Asked.{Asked, free_ac, get_time, record_run}
 use Rattle.af_request.specs.Answer.{Answer, controls, phone, plain, played, recorded, setup, time}
+use Rattle.af_wire.specs.declared.order.Order.{Order}
 use Rattle.af_request.specs.Requests.{request_bytes}
 use Rattle.af_lib.specs.declared.fault.ConnFault.{ConnFault}
 use Rattle.af_lib.specs.Answers.{and_then, answer_to, value_or_bad}
@@ -89,12 +91,12 @@ stated_size size bytes (Some (controls c)) r is = absurd cc
 stated_size size bytes (Some (phone p)) r is = absurd cc
 stated_size size bytes None r is = absurd cc
 
-found_size : (size opcode : ℕ) (found : Result (List ℕ) ConnFault) (r : Recorded) → and_then (value_in (as_recorded true size) opcode) found ≡ Ok r → length r.samples ≡ size
-found_size size opcode (Ok bytes) r is = stated_size size bytes _ r is
-found_size size opcode (Err fault) r is = absurd cc
+found_size : (order : Order) (size opcode : ℕ) (found : Result (List ℕ) ConnFault) (r : Recorded) → and_then (value_in order (as_recorded true size) opcode) found ≡ Ok r → length r.samples ≡ size
+found_size order size opcode (Ok bytes) r is = stated_size size bytes _ r is
+found_size order size opcode (Err fault) r is = absurd cc
 
-answered_size : (size opcode sequence : ℕ) (found : Result (List ℕ) ConnFault) (r : Recorded) → answered (as_recorded true size) opcode sequence found ≡ Ok r → length r.samples ≡ size
-answered_size size opcode sequence found r is = found_size size opcode (and_then (answer_to opcode sequence) found) r is
+answered_size : (order : Order) (size opcode sequence : ℕ) (found : Result (List ℕ) ConnFault) (r : Recorded) → answered order (as_recorded true size) opcode sequence found ≡ Ok r → length r.samples ≡ size
+answered_size order size opcode sequence found r is = found_size order size opcode (and_then (answer_to order opcode sequence) found) r is
 
 module _ (front : List ℕ) (form : Option SoundForm) (coding : Option Coding) (before : ℕ) where
   answered_file : {X : Type 0} (r : Result X ConnFault) (w : ClientState) (next next' : X → ClientState → Trace) → ((x : X) (v : ClientState) → r ≡ Ok x → IsFileOf front form coding before (next x v) (next' x v)) →
@@ -108,7 +110,7 @@ module _ (front : List ℕ) (form : Option SoundForm) (coding : Option Coding) (
   unfolding asks
   asked_file asked value_of w next next' more =
       let f = answered_file (answer_on asked value_of w) (after_reply w) next next' more in
-      record { sends = ap (λ (l : List ℕ). request_bytes asked ++ l) f.sends; finish = f.finish; output = f.output }
+      record { sends = ap (λ (l : List ℕ). request_bytes w.order asked ++ l) f.sends; finish = f.finish; output = f.output }
 
   if_file : (b : Bool) (c d c' d' : Trace) → IsFileOf front form coding before c c' → IsFileOf front form coding before d d' → IsFileOf front form coding before (if b then c else d) (if b then c' else d')
   if_file true c d c' d' f g = f
@@ -168,7 +170,7 @@ records_file job device sound at before peaks [] w next next' filed more = more 
 records_file job device sound at before peaks (n ∷ lengths) w next next' filed more =
     let frame = recorded_frame sound in
     asked_file [] job.form sound.coding (before * frame) (record_run true 1 at (n * frame)) (as_recorded true (n * frame)) w _ _ (λ r v is.
-    let size : length r.samples ≡ n * frame = answered_size (n * frame) (opcode_of (record_run true 1 at (n * frame))) (following w.sequence) (next_message w).found r is in
+    let size : length r.samples ≡ n * frame = answered_size w.order (n * frame) (opcode_of (record_run true 1 at (n * frame))) (following w.sequence) (next_message w).found r is in
     let sum : (before + n) * frame ≡ before * frame + length r.samples = add-mul before n frame ∙ ap (λ (m : ℕ). before * frame + m) (sym size) in
     block_file job.form sound.coding (before * frame) r.samples _ _ (whole_frames sound n (length r.samples) filed size)
     (subst (λ (m : ℕ). IsFileOf [] job.form sound.coding m

@@ -5,6 +5,7 @@ use Rattle.std.proofs.lemmas.Option.{slice_get_cases}
 use Rattle.std.specs.declared.option.Option.{Option}
 use Rattle.std.specs.declared.option.Option.TheVariants.{None, Some}
 use Rattle.af_request.specs.declared.reply.DeviceInfo.{DeviceInfo}
+use Rattle.af_request.specs.Replies.{IsDeviceInfo}
 use Rattle.af_tool.specs.declared.end.ToolEnd.{ToolEnd}
 use Rattle.af_tool.specs.Trace.{Trace, ClientState, done, ends, on_device, too_long, with_job_device, writing}
 use Rattle.af_tool.specs.Ends.{ObservedTrace}
@@ -54,12 +55,12 @@ sound_read form job device bytes next ty samples s few =
     let len : length bytes ≡ length s.front + length s.rest = ap length s.is ∙ length-append s.front s.rest in
     let left : length (drop size bytes) ≡ length bytes - size = length-drop size bytes in
     let test : nat_lt most_bytes size ≡ false = grind (arith, nat_tests) in (
-      file_sound s.head size,
+      file_sound device s.head size,
       drop size bytes,
       omega arith,
-      ap (λ (f : Front). reads_front f (λ head. at_one_shape head device (next (file_sound head f.size) (drop f.size bytes)))) said
-          ∙ fits_front (nat_lt most_bytes size) (at_one_shape s.head device (next (file_sound s.head size) (drop size bytes))) test
-          ∙ one_shape (s.head.rate == device.rate) (s.head.channels == device.channels) (next (file_sound s.head size) (drop size bytes)) _ _ (equal_number s.head.rate device.rate s.one_rate) (equal_number s.head.channels device.channels s.one_shape),
+      ap (λ (f : Front). reads_front f (λ head. at_one_shape head device (next (file_sound device head f.size) (drop f.size bytes)))) said
+          ∙ fits_front (nat_lt most_bytes size) (at_one_shape s.head device (next (file_sound device s.head size) (drop size bytes))) test
+          ∙ one_shape (s.head.rate == device.rate) (s.head.channels == device.channels) (next (file_sound device s.head size) (drop size bytes)) _ _ (equal_number s.head.rate device.rate s.one_rate) (equal_number s.head.channels device.channels s.one_shape),
     )
 
 playable_finish : (form : Option SoundForm) (job : PlayJob) (device : DeviceInfo) (bytes : List ℕ) (w : ClientState) (ty : SampleType) (samples : List ℕ) → GivesSamples form job device bytes ty samples → length bytes ≤ most_bytes →
@@ -109,10 +110,10 @@ module _ (trace : Trace) (number : ℕ) (devices : List DeviceInfo) (each : Devi
   there_ran device how s s' h h' d f = followed_ran how s s' h h' (followed_same (each device) trace how s s' h h' (chosen (Some device) d.get) f)
 
 pub aplay_ran : (job : PlayJob) (devices : List DeviceInfo) (bytes : List ℕ) (w : ClientState) (how : ToolEnd) (s s' h h' : Option (List ℕ)) → 1 ≤ job.block →
-    ObservedTrace (aplay_trace job devices bytes w) how s s' h h' → AplayRan job devices bytes w how s s' h h'
-aplay_ran job devices bytes w how s s' h h' some f = record {
+    ((d : DeviceInfo) → slice_get devices job.device ≡ Some d → IsDeviceInfo d) → ObservedTrace (aplay_trace job devices bytes w) how s s' h h' → AplayRan job devices bytes w how s s' h h'
+aplay_ran job devices bytes w how s s' h h' some stated f = record {
   followed = f;
-  heard = λ way. is_played job devices bytes w how s s' h h' f way (omega arith);
+  heard = λ way. is_played job devices bytes w how s s' h h' f way some stated;
   reply = ends_by_reply (aplay_trace job devices bytes w) how s s' h h' f;
   sound = ends_by_sound (aplay_trace job devices bytes w) how f.sends f.output f.ended;
   complete = λ device there playable few answered. done_where_answered (aplay_trace job devices bytes w) how f.sends f.output f.ended (aplay_finish job devices bytes w device there playable few) answered;

@@ -18,6 +18,7 @@ pub mod PlayedBlockLemmas
 pub mod OutcomeLemmas
 pub mod HavingRun
 pub mod ServedBlockLemmas
+pub mod SourceFrameLemmas
 pub mod HeadReadLemmas
 pub mod SoundEndLemmas
 pub mod SoundFitLemmas

@@ -6,15 +6,15 @@ use Rattle.std.specs.declared.option.Option.{Option}
 use Rattle.std.specs.declared.option.Option.TheVariants.{None, Some}
 use Rattle.af_io.specs.Observed.{Appended}
 use Rattle.af_io.specs.Dial.{AppendedBack, IsFirstOf, ToldLink}
+use Rattle.af_wire.specs.declared.order.Order.{Order}
 use Rattle.af_request.specs.declared.reply.DeviceInfo.{DeviceInfo}
 use Rattle.af_lib.specs.declared.fault.ConnFault.{ConnFault}
 use Rattle.af_lib.specs.declared.fault.ConnFault.TheVariants as fault
-use Rattle.af_lib.specs.Calls.{answered, as_devices}
 use Rattle.af_tool.specs.declared.end.ToolEnd.{ToolEnd}
 use Rattle.af_tool.specs.declared.end.ToolEnd.TheVariants as end
 use Rattle.af_options.specs.declared.job.Task.{Task}
 use Rattle.af_options.specs.declared.job.Task.TheVariants as task
-use Rattle.af_tool.specs.Trace.{Trace, Finish, ClientState, answered_by, bad_sound, channel_mismatch, connects, dials, done, tool_end, ends, mismatch, no_device, not_dialled, on_device, next_message, refused, set_up, sound_cut, too_long, unused, writing}
+use Rattle.af_tool.specs.Trace.{Trace, Finish, ClientState, answered_by, bad_sound, channel_mismatch, connects, dials, done, tool_end, ends, mismatch, no_device, not_dialled, on_device, refused, set_up, setup_answer, sound_cut, too_long, writing}
 use Rattle.af_sound.specs.declared.head.HeadStep.{HeadStep}
 use Rattle.af_sound.specs.declared.head.HeadStep.TheVariants as step
 use Rattle.af_sound.specs.declared.head.SoundFault.{SoundFault}
@@ -56,9 +56,9 @@ appended_nothing before after first sends is appended same =
     let len = ap length whole in
     none_of sends (omega (arith, length-append first sends))
 
-module _ (next : List DeviceInfo → ClientState → Trace) (how : ToolEnd) (links' links'' : Option (List ToldLink)) (before after held held' : Option (List ℕ)) (back back' back'' : Option (List (List ℕ))) where
-  first_ran : (link : ToldLink) (rest : List ToldLink) → before ≡ Some link.sent → links' ≡ Some rest → ObservedTrace (connects link.gives next) how before after held held' → back' ≡ back → AppendedBack back' after back'' → links'' ≡ links' → (how ≡ end.OutOfMemory → after ≡ before) →
-      RanOne (dials (link ∷ rest) next) how (link ∷ rest) links'' held held' back back''
+module _ (order : Order) (next : List DeviceInfo → ClientState → Trace) (how : ToolEnd) (links' links'' : Option (List ToldLink)) (before after held held' : Option (List ℕ)) (back back' back'' : Option (List (List ℕ))) where
+  first_ran : (link : ToldLink) (rest : List ToldLink) → before ≡ Some link.sent → links' ≡ Some rest → ObservedTrace (connects order link.gives next) how before after held held' → back' ≡ back → AppendedBack back' after back'' → links'' ≡ links' → (how ≡ end.OutOfMemory → after ≡ before) →
+      RanOne (dials order (link ∷ rest) next) how (link ∷ rest) links'' held held' back back''
   first_ran link rest is_sent is_rest f is_back entry is_links memory = record {
     sends = f.sends;
     output = f.output;
@@ -70,8 +70,8 @@ module _ (next : List DeviceInfo → ClientState → Trace) (how : ToolEnd) (lin
 
   -- the first link was dialled, used, and given back
   pub ran_over : {F : Type 0} (left_of sent_of : F → Option (List ℕ)) (far : F) (links : List ToldLink) → IsFirstOf left_of sent_of far (Some links) links' → sent_of far ≡ before →
-      ((input : List ℕ) → left_of far ≡ Some input → ObservedTrace (connects input next) how before after held held') → back' ≡ back → AppendedBack back' after back'' → links'' ≡ links' → (how ≡ end.OutOfMemory → after ≡ before) →
-      RanOne (dials links next) how links links'' held held' back back''
+      ((input : List ℕ) → left_of far ≡ Some input → ObservedTrace (connects order input next) how before after held held') → back' ≡ back → AppendedBack back' after back'' → links'' ≡ links' → (how ≡ end.OutOfMemory → after ≡ before) →
+      RanOne (dials order links next) how links links'' held held' back back''
   ran_over left_of sent_of far [] first sent follows is_back entry is_links memory = absurd first
   ran_over left_of sent_of far (link ∷ rest) first sent follows is_back entry is_links memory = first_ran link rest (sym sent ∙ first.1) first.2 (follows link.gives first.0) is_back entry is_links memory
 
@@ -126,8 +126,8 @@ sound_short (Some form) job device bytes next few more =
     let within = front_within form bytes in
     let test : nat_lt most_bytes f.size ≡ false = grind (arith, nat_tests) in
     let left : length (drop f.size bytes) ≡ length bytes - f.size = length-drop f.size bytes in
-    few_short (nat_lt most_bytes f.size) (behind_front f.says (λ head. at_one_shape head device (next (file_sound head f.size) (drop f.size bytes)))) test
-    (front_short f.says _ (λ head. shape_short (head.rate == device.rate) (head.channels == device.channels) (next (file_sound head f.size) (drop f.size bytes)) _ _ _ _ (more (file_sound head f.size) (drop f.size bytes) (omega arith))))
+    few_short (nat_lt most_bytes f.size) (behind_front f.says (λ head. at_one_shape head device (next (file_sound device head f.size) (drop f.size bytes)))) test
+    (front_short f.says _ (λ head. shape_short (head.rate == device.rate) (head.channels == device.channels) (next (file_sound device head f.size) (drop f.size bytes)) _ _ _ _ (more (file_sound device head f.size) (drop f.size bytes) (omega arith))))
 
 task_short : (t : Task) (devices : List DeviceInfo) (bytes : List ℕ) (w : ClientState) → length bytes ≤ most_bytes → IsShort (task_trace t devices bytes w).finish
 unfolding aplay_trace arecord_trace aset_trace
@@ -143,10 +143,10 @@ setup_short : (r : Result (List DeviceInfo) ConnFault) (w : ClientState) (next :
 setup_short (Ok devices) w next more = more devices w
 setup_short (Err f) w next more = λ e. cc
 
-pub one_short : (t : Task) (links : List ToldLink) (bytes : List ℕ) → length bytes ≤ most_bytes → IsShort (one_trace t links bytes).finish
+pub one_short : (order : Order) (t : Task) (links : List ToldLink) (bytes : List ℕ) → length bytes ≤ most_bytes → IsShort (one_trace order t links bytes).finish
 unfolding connects
-one_short t [] bytes few = λ e. cc
-one_short t (link ∷ links) bytes few = setup_short (answered as_devices 0 0 (next_message (unused link.gives)).found) (set_up link.gives) _ (λ devices v. task_short t devices bytes v few)
+one_short order t [] bytes few = λ e. cc
+one_short order t (link ∷ links) bytes few = setup_short (setup_answer order link.gives) (set_up order link.gives) _ (λ devices v. task_short t devices bytes v few)
 
 pub served_done : (finish : Finish) → ((n : ℕ) → finish ≢ no_device n) → ((a b : ℕ) → finish ≢ mismatch a b) → ((a b : ℕ) → finish ≢ channel_mismatch a b) → ((f : SoundFault) → finish ≢ bad_sound f) → finish ≢ sound_cut → ((f : ConnFault) → finish ≢ refused f) → IsShort finish → (finish ≡ done) ⊎ (finish ≡ not_dialled)
 served_done done there even shape good whole answered short = inl refl

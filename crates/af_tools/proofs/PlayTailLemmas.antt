@@ -11,37 +11,38 @@ use Rattle.af_tool.specs.Trace.{Trace, ClientState, asks, begins}
 use Rattle.af_tool.specs.Ends.{ObservedPart, TracePart}
 use Rattle.af_tool.proofs.TracePartLemmas.{goes_on, goes_stop}
 use Rattle.af_tools.specs.declared.player.Played.{Played}
-use Rattle.af_sound.specs.declared.head.Coding.{Coding}
-use Rattle.af_tools.specs.Play.{blocks, plays}
+use Rattle.af_tools.specs.declared.sound.SourceSound.{SourceSound}
+use Rattle.af_tools.specs.Play.{plays_sound}
 use Rattle.af_tools.proofs.PartProgressLemmas.{goes_value}
 
 -- the blocks are played, and the context is freed
-abbrev pub tail : (coding : Option Coding) (head start width size : ℕ) (bytes : List ℕ) (w : ClientState) → TracePart Played
-tail coding head start width size bytes w = λ next. plays coding width start 0 head (blocks size bytes) w (λ frames w. asks (free_ac 1) as_done w (λ _ w. next (record { frames = frames; start = record { 0 = start } }) w))
+abbrev pub tail : (sound : SourceSound) (block start : ℕ) (bytes : List ℕ) (w : ClientState) → TracePart Played
+tail sound block start bytes w = λ next. plays_sound sound block start bytes w (λ frames w. asks (free_ac 1) as_done w (λ _ w. next (record { frames = frames; start = record { 0 = start } }) w))
 
 -- the same from another start, and in blocks of another name
-pub tail_named : (coding : Option Coding) (head start start' width size : ℕ) (bytes : List ℕ) (w : ClientState) (r : Result Played ToolEnd) (left : Option (List ℕ)) (wire : List ℕ → ClientState) (s s' h h' : Option (List ℕ)) →
-    start ≡ start' → ObservedPart (tail coding head start width size bytes w) r left wire s s' h h' → ObservedPart (tail coding head start' width size bytes w) r left wire s s' h h'
-tail_named coding head start start' width size bytes w r left wire s s' h h' e g = subst (λ (x : ℕ). ObservedPart (tail coding head x width size bytes w) r left wire s s' h h') e g
+pub tail_named : (sound : SourceSound) (block block' start start' : ℕ) (bytes : List ℕ) (w : ClientState) (r : Result Played ToolEnd) (left : Option (List ℕ)) (wire : List ℕ → ClientState) (s s' h h' : Option (List ℕ)) →
+    block ≡ block' → start ≡ start' → ObservedPart (tail sound block start bytes w) r left wire s s' h h' → ObservedPart (tail sound block' start' bytes w) r left wire s s' h h'
+tail_named sound block block' start start' bytes w r left wire s s' h h' same e g =
+    subst (λ (n : ℕ). ObservedPart (tail sound n start' bytes w) r left wire s s' h h') same (subst (λ (x : ℕ). ObservedPart (tail sound block x bytes w) r left wire s s' h h') e g)
 
-pub tail_stop : (coding : Option Coding) (head start width size : ℕ) (bytes : List ℕ) (w : ClientState) (left : Option (List ℕ)) (wire : List ℕ → ClientState) (s s' h : Option (List ℕ)) (how : ToolEnd) →
-    ObservedPart {X = ℕ} (plays coding width start 0 head (blocks size bytes) w) (Err how) left wire s s' h h → ObservedPart {X = Played} (tail coding head start width size bytes w) (Err how) left wire s s' h h
-tail_stop coding head start width size bytes w left wire s s' h how g =
-    goes_stop (plays coding width start 0 head (blocks size bytes) w) (λ frames w. λ (next : Played → ClientState → Trace). asks (free_ac 1) as_done w (λ _ w. next (record { frames = frames; start = record { 0 = start } }) w)) how left left wire wire s s' h h g
+pub tail_stop : (sound : SourceSound) (block start : ℕ) (bytes : List ℕ) (w : ClientState) (left : Option (List ℕ)) (wire : List ℕ → ClientState) (s s' h : Option (List ℕ)) (how : ToolEnd) →
+    ObservedPart {X = ℕ} (plays_sound sound block start bytes w) (Err how) left wire s s' h h → ObservedPart {X = Played} (tail sound block start bytes w) (Err how) left wire s s' h h
+tail_stop sound block start bytes w left wire s s' h how g =
+    goes_stop (plays_sound sound block start bytes w) (λ frames w. λ (next : Played → ClientState → Trace). asks (free_ac 1) as_done w (λ _ w. next (record { frames = frames; start = record { 0 = start } }) w)) how left left wire wire s s' h h g
 
-module _ (coding : Option Coding) (head start width size : ℕ) (bytes : List ℕ) (w : ClientState) (left left' : Option (List ℕ)) (wire wire' : List ℕ → ClientState) (s s' s'' h : Option (List ℕ)) where
-  pub tail_unfreed : (frames : ℕ) (how : ToolEnd) → ObservedPart (plays coding width start 0 head (blocks size bytes) w) (Ok frames) left wire s s' h h →
-      ((input : List ℕ) → left ≡ Some input → ObservedPart {X = Unit {0}} (asks (free_ac 1) as_done (wire input)) (Err how) left' wire' s' s'' h h) → ObservedPart {X = Played} (tail coding head start width size bytes w) (Err how) left' wire' s s'' h h
+module _ (sound : SourceSound) (block start : ℕ) (bytes : List ℕ) (w : ClientState) (left left' : Option (List ℕ)) (wire wire' : List ℕ → ClientState) (s s' s'' h : Option (List ℕ)) where
+  pub tail_unfreed : (frames : ℕ) (how : ToolEnd) → ObservedPart (plays_sound sound block start bytes w) (Ok frames) left wire s s' h h →
+      ((input : List ℕ) → left ≡ Some input → ObservedPart {X = Unit {0}} (asks (free_ac 1) as_done (wire input)) (Err how) left' wire' s' s'' h h) → ObservedPart {X = Played} (tail sound block start bytes w) (Err how) left' wire' s s'' h h
   tail_unfreed frames how g free =
-      goes_on (plays coding width start 0 head (blocks size bytes) w) (λ frames w. λ (next : Played → ClientState → Trace). asks (free_ac 1) as_done w (λ _ w. next (record { frames = frames; start = record { 0 = start } }) w)) frames (Err how) left left' wire wire' s s' s'' h h h g
+      goes_on (plays_sound sound block start bytes w) (λ frames w. λ (next : Played → ClientState → Trace). asks (free_ac 1) as_done w (λ _ w. next (record { frames = frames; start = record { 0 = start } }) w)) frames (Err how) left left' wire wire' s s' s'' h h h g
       (λ i t. goes_stop (asks (free_ac 1) as_done (wire i)) (λ _ w. λ (next : Played → ClientState → Trace). next (record { frames = frames; start = record { 0 = start } }) w) how left' left' wire' wire' s' s'' h h (free i t))
 
-  pub tail_freed : (frames : ℕ) → ObservedPart (plays coding width start 0 head (blocks size bytes) w) (Ok frames) left wire s s' h h →
+  pub tail_freed : (frames : ℕ) → ObservedPart (plays_sound sound block start bytes w) (Ok frames) left wire s s' h h →
       ((input : List ℕ) → left ≡ Some input → ObservedPart {X = Unit {0}} (asks (free_ac 1) as_done (wire input)) (Ok tt) left' wire' s' s'' h h) →
-      ObservedPart (tail coding head start width size bytes w) (let played : Played = record { frames = frames; start = record { 0 = start } } in Ok played) left' wire' s s'' h h
+      ObservedPart (tail sound block start bytes w) (let played : Played = record { frames = frames; start = record { 0 = start } } in Ok played) left' wire' s s'' h h
   tail_freed frames g free =
       let played : Played = record { frames = frames; start = record { 0 = start } } in
-      goes_on (plays coding width start 0 head (blocks size bytes) w) (λ frames w. λ (next : Played → ClientState → Trace). asks (free_ac 1) as_done w (λ _ w. next (record { frames = frames; start = record { 0 = start } }) w)) frames (Ok played) left left' wire wire' s s' s'' h h h g
+      goes_on (plays_sound sound block start bytes w) (λ frames w. λ (next : Played → ClientState → Trace). asks (free_ac 1) as_done w (λ _ w. next (record { frames = frames; start = record { 0 = start } }) w)) frames (Ok played) left left' wire wire' s s' s'' h h h g
       (λ i t. goes_on (asks (free_ac 1) as_done (wire i)) (λ _ w. λ (next : Played → ClientState → Trace). next played w) tt (Ok played) left' left' wire' wire' s' s'' s'' h h h (free i t)
       (λ i' t'. goes_value (λ (next : Played → ClientState → Trace). next played (wire' i')) played i' left' wire' s'' h t' (λ next. refl)))
 

@@ -1,5 +1,5 @@
 -- Where aplay is done, each block was played.
-use Rattle.std.proofs.Common.{◌≡◌, ◌==◌, ℕ, Bool, true, nat_lt, if◌then◌else◌, ap₂, take, drop, ◌+◌, ◌*◌, ◌/◌, ◌%◌, ◌^◌, ◌<◌, false, List, [], ◌∷◌, ◌++◌, length, slice_get, sym, ap, ◌∙◌, append_assoc, append-nil, subst, refl, arith, inl, inr}
+use Rattle.std.proofs.Common.{◌≡◌, ◌==◌, ℕ, Bool, true, nat_lt, if◌then◌else◌, ap₂, take, drop, ◌+◌, ◌*◌, ◌/◌, ◌%◌, ◌^◌, ◌<◌, ◌≤◌, false, List, [], ◌∷◌, ◌++◌, length, slice_get, sym, ap, ◌∙◌, append_assoc, append-nil, subst, refl, arith, inl, inr}
 use Rattle.std.specs.Prelude.{Result, Ok, Err}
 use Rattle.std.specs.List.{flat_map}
 use Rattle.std.specs.declared.option.Option.{Option}
@@ -9,12 +9,16 @@ use Rattle.std.proofs.lemmas.List.{take-append-drop}
 use Rattle.std.proofs.lemmas.Bool.Decides.{nat_tests}
 use Rattle.af_time.specs.DeviceTime.{frames_lasting}
 use Rattle.af_time.specs.declared.DevTime.{DevTime}
-use Rattle.af_sample.specs.SampleTypes.{width_of}
+use Rattle.af_sample.specs.Channels.{IsChannelCount}
+use Rattle.af_sample.specs.SampleTypes.{frame_bytes}
+use Rattle.af_request.specs.Replies.{IsDeviceInfo}
+use Rattle.af_options.proofs.FrameSizeLemmas.{frame_size, some_frames}
 use Rattle.af_io.specs.Observed.{Appended}
 use Rattle.af_request.specs.declared.reply.DeviceInfo.{DeviceInfo}
 use Rattle.af_request.specs.Asked.{Asked, free_ac, get_time, play_run}
 use Rattle.af_request.specs.Answer.{Answer}
 use Rattle.af_request.specs.Requests.{request_bytes}
+use Rattle.af_wire.specs.declared.order.Order.{Order}
 use Rattle.af_lib.specs.declared.fault.ConnFault.{ConnFault}
 use Rattle.af_lib.specs.Calls.{as_done, as_time}
 use Rattle.af_tool.specs.declared.end.ToolEnd.{ToolEnd}
@@ -32,10 +36,10 @@ use Rattle.af_sound.proofs.FrontLemmas.{front, front_is_head}
 use Rattle.af_tools.specs.declared.sound.SourceSound.{SourceSound}
 use Rattle.af_tools.specs.Most.{most_bytes}
 use Rattle.af_tools.specs.Sounds.{as_served, at_one_shape, behind_front, file_sound, raw_sound, reads_sound, source_width, stated_part, GivesSamples, IsServedAs}
-use Rattle.af_tools.specs.Play.{aplay_trace, blocks, frames_in, play_context, played, played_on, plays, start_at, whole_frames}
+use Rattle.af_tools.specs.Play.{aplay_trace, blocks, frames_in, play_context, played, played_frames, played_on, plays, plays_sound, start_at, whole_frames}
 use Rattle.af_tool.specs.Ends.{ObservedTrace, is_outer}
-use Rattle.af_tools.specs.Blocks.{sent_blocks, Block}
-use Rattle.af_tools.specs.Intent.{play_of, played_whole, IsPlayed}
+use Rattle.af_tools.specs.Blocks.{Block}
+use Rattle.af_tools.specs.Intent.{blocks_sent, play_of, played_whole, IsPlayed}
 use Rattle.af_tools.proofs.PlayBlockLemmas.{plays_block, plays_last, plays_long, plays_none}
 use Rattle.af_tools.proofs.SentBlockLemmas.{frames_sent, sent_more, sent_no_more, sent_none}
 use Rattle.af_tools.proofs.ServedBlockLemmas.{frames_converted, sent_converted, sent_served, served_first, served_last}
@@ -47,11 +51,11 @@ answered_done (Ok x) w next is = (x, refl, refl)
 answered_done (Err fault) w next is = absurd (cc)
 
 asks_done : {X : Type 0} (asked : Asked) (value_of : Answer → Option X) (w : ClientState) (next : X → ClientState → Trace) → (asks asked value_of w next).finish ≡ done →
-    (x : X) × (answer_on asked value_of w ≡ Ok x) × (asks asked value_of w next ≡ sending (request_bytes asked) (next x (after_reply w))) × ((next x (after_reply w)).finish ≡ done)
+    (x : X) × (answer_on asked value_of w ≡ Ok x) × (asks asked value_of w next ≡ sending (request_bytes w.order asked) (next x (after_reply w))) × ((next x (after_reply w)).finish ≡ done)
 unfolding asks
 asks_done asked value_of w next is =
     let r = answered_done (answer_on asked value_of w) (after_reply w) next is in
-    (r.0, r.1, ap (sending (request_bytes asked)) r.2, ap (λ (c : Trace). c.finish) (sym r.2) ∙ is)
+    (r.0, r.1, ap (sending (request_bytes w.order asked)) r.2, ap (λ (c : Trace). c.finish) (sym r.2) ∙ is)
 
 sending_twice : (a b : List ℕ) (c : Trace) → sending a (sending b c) ≡ sending (a ++ b) c
 sending_twice a b c = ap (λ (s : List ℕ). (let d : Trace = record { sends = s; output = c.output; finish = c.finish } in d)) (sym (append_assoc a b c.sends))
@@ -60,14 +64,14 @@ pub ended_long : (c : Trace) → c ≡ ends too_long → c.finish ≡ done → �
 ended_long c is way = let bad : too_long ≡ done = sym (ap (λ (x : Trace). x.finish) is) ∙ way in cc
 
 plays_done : (coding : Option Coding) (width start frames given : ℕ) (bs : List (List ℕ)) (w : ClientState) (next : ℕ → ClientState → Trace) → (plays coding width start frames given bs w next).finish ≡ done →
-    (n : ℕ) × (v : ClientState) × (n ≡ frames + frames_sent width bs) × (plays coding width start frames given bs w next ≡ sending (flat_map (play_of start) (sent_served coding width frames bs)) (next n v)) × ((next n v).finish ≡ done)
-plays_done coding width start frames given [] w next way = (frames, w, (let none = sent_none width in omega arith), plays_none coding width start frames given w next, ap (λ (c : Trace). c.finish) (sym (plays_none coding width start frames given w next)) ∙ way)
+    (n : ℕ) × (v : ClientState) × (n ≡ frames + frames_sent width bs) × (plays coding width start frames given bs w next ≡ sending (flat_map (play_of w.order start) (sent_served coding width frames bs)) (next n v)) × ((next n v).finish ≡ done) × (v.order ≡ w.order)
+plays_done coding width start frames given [] w next way = (frames, w, (let none = sent_none width in omega arith), plays_none coding width start frames given w next, ap (λ (c : Trace). c.finish) (sym (plays_none coding width start frames given w next)) ∙ way, refl)
 plays_done coding width start frames given (block ∷ more) w next way = elim (cases_lt most_bytes (given + length block)) [
   | inl long ↦ absurd (ended_long _ (plays_long coding width start frames given w next block more long) way)
   | inr fits ↦ elim (cases_lt 0 (length block / width)) [
     | inl some ↦
         let after = λ (v : ClientState). plays coding width start (frames + frames_in width block) (given + length block) more v next in
-        let first : List ℕ = request_bytes (play_run false 1 ((start + frames) % 2 ^ 32) (as_served coding (whole_frames width block))) in
+        let first : List ℕ = request_bytes w.order (play_run false 1 ((start + frames) % 2 ^ 32) (as_served coding (whole_frames width block))) in
         let others : List Block = sent_served coding width (frames + frames_in width block) more in
         let e = plays_block coding width start frames given w next block more fits some in
         let a = asks_done (play_run false 1 ((start + frames) % 2 ^ 32) (as_served coding (whole_frames width block))) as_time w (λ _ v. after v) (ap (λ (c : Trace). c.finish) (sym e) ∙ way) in
@@ -78,17 +82,19 @@ plays_done coding width start frames given (block ∷ more) w next way = elim (c
           r.1,
           omega arith,
           e ∙ a.2 ∙ ap (sending first) r.3
-              ∙ sending_twice first (flat_map (play_of start) others) (next r.0 r.1)
-              ∙ ap (λ (s : List Block). sending (flat_map (play_of start) s) (next r.0 r.1)) (sym (served_first coding width frames block more some)),
+              ∙ sending_twice first (flat_map (play_of w.order start) others) (next r.0 r.1)
+              ∙ ap (λ (s : List Block). sending (flat_map (play_of w.order start) s) (next r.0 r.1)) (sym (served_first coding width frames block more some)),
           r.4,
+          r.5,
         )
     | inr none ↦ (
       frames,
       w,
       (let here = sent_no_more width block more (omega arith) in omega arith),
       plays_last coding width start frames given w next block more fits (omega arith)
-          ∙ ap (λ (s : List Block). sending (flat_map (play_of start) s) (next frames w)) (sym (served_last coding width frames block more (omega arith))),
+          ∙ ap (λ (s : List Block). sending (flat_map (play_of w.order start) s) (next frames w)) (sym (served_last coding width frames block more (omega arith))),
       ap (λ (c : Trace). c.finish) (sym (plays_last coding width start frames given w next block more fits (omega arith))) ∙ way,
+      refl,
     )
   ]
 ]
@@ -100,39 +106,43 @@ from_none : (m n : ℕ) → m ≡ 0 + n → m ≡ n
 from_none m n is = omega arith
 
 -- a job that is done on a device
-done_on : (job : PlayJob) (sound : SourceSound) (device : DeviceInfo) (bytes : List ℕ) (w : ClientState) (next : ℕ → ℕ → ClientState → Trace) → IsServedAs sound.coding sound.ty → 0 < job.block →
+done_on : (job : PlayJob) (sound : SourceSound) (device : DeviceInfo) (bytes : List ℕ) (w : ClientState) (next : ℕ → ℕ → ClientState → Trace) → IsServedAs sound.coding sound.ty → IsChannelCount sound.channels → 1 ≤ job.block →
     (played_on job sound device bytes w next).finish ≡ done →
     (now : DevTime) × (v : ClientState) × (answer_on (get_time job.device) as_time (after_reply w) ≡ Ok now)
     × (played_on job sound device bytes w next
-    ≡ sending (played_whole job sound.ty (as_served sound.coding (stated_part sound.length bytes)) (start_at job.time now.0 (frames_lasting device.rate job.lead)))
-    (next (length (as_served sound.coding (stated_part sound.length bytes)) / width_of sound.ty) (start_at job.time now.0 (frames_lasting device.rate job.lead)) v))
-unfolding played_on
-done_on job sound device bytes w next served some way =
+    ≡ sending (played_whole w.order job sound.ty sound.channels (as_served sound.coding (stated_part sound.length bytes)) (start_at job.time now.0 (frames_lasting device.rate job.lead)))
+    (next (length (as_served sound.coding (stated_part sound.length bytes)) / frame_bytes sound.ty sound.channels) (start_at job.time now.0 (frames_lasting device.rate job.lead)) v))
+unfolding played_on plays_sound
+done_on job sound device bytes w next served channels begun way =
     let coding = sound.coding in
-    let width = source_width coding sound.ty in
+    let width = source_width coding sound.ty sound.channels in
+    let count = played_frames job sound.ty sound.channels in
+    let least : 1 ≤ count = some_frames job.block (frame_bytes sound.ty sound.channels) (frame_size sound.ty sound.channels channels) begun in
+    let some : 0 < count = omega arith in
     let part : List ℕ = stated_part sound.length bytes in
     let samples : List ℕ = as_served coding part in
-    let cut : List (List ℕ) = blocks (job.block * width) part in
+    let cut : List (List ℕ) = blocks (count * width) part in
     let start_of = λ (now : ℕ). start_at job.time now (frames_lasting device.rate job.lead) in
     let freeing = λ (start frames : ℕ) (v : ClientState). asks (free_ac 1) as_done v (λ _ u. next frames start u) in
     let playing = λ (now : DevTime) (v : ClientState). plays coding width (start_of now.0) 0 sound.head cut v (λ frames u. freeing (start_of now.0) frames u) in
-    let a = asks_done (play_context job sound.ty) as_done w (λ _ v. asks (get_time job.device) as_time v playing) way in
+    let a = asks_done (play_context job sound.ty sound.channels) as_done w (λ _ v. asks (get_time job.device) as_time v playing) way in
     let b = asks_done (get_time job.device) as_time (after_reply w) playing a.3 in
     let now : ℕ = b.0.0 in
     let p = plays_done coding width (start_of now) 0 sound.head cut (after_reply (after_reply w)) (λ frames u. freeing (start_of now) frames u) b.3 in
     let f = asks_done (free_ac 1) as_done p.1 (λ _ u. next p.0 (start_of now) u) p.4 in
-    let count : p.0 ≡ length samples / width_of sound.ty = from_none p.0 (frames_sent width cut) p.2 ∙ frames_converted coding sound.ty job.block part served some in
-    let context : List ℕ = request_bytes (play_context job sound.ty) in
-    let time : List ℕ = request_bytes (get_time job.device) in
-    let whole : List ℕ = flat_map (play_of (start_of now)) (sent_served coding width 0 cut) in
-    let known : List ℕ = flat_map (play_of (start_of now)) (sent_blocks sound.ty job.block samples) in
-    let same : whole ≡ known = ap (flat_map (play_of (start_of now))) (sent_converted coding sound.ty job.block part served some) in (
+    let all : p.0 ≡ length samples / frame_bytes sound.ty sound.channels = from_none p.0 (frames_sent width cut) p.2 ∙ frames_converted coding sound.ty sound.channels count part served channels some in
+    let context : List ℕ = request_bytes w.order (play_context job sound.ty sound.channels) in
+    let time : List ℕ = request_bytes w.order (get_time job.device) in
+    let whole : List ℕ = flat_map (play_of w.order (start_of now)) (sent_served coding width 0 cut) in
+    let known : List ℕ = flat_map (play_of w.order (start_of now)) (blocks_sent job sound.ty sound.channels samples) in
+    let same : whole ≡ known = ap (flat_map (play_of w.order (start_of now))) (sent_converted coding sound.ty sound.channels count part served channels some) in (
       b.0,
       after_reply p.1,
       b.1,
       a.2 ∙ ap (sending context) (b.2 ∙ ap (sending time) (p.3 ∙ ap (sending whole) f.2))
-          ∙ sending_all context time whole (request_bytes (free_ac 1)) (next p.0 (start_of now) (after_reply p.1))
-          ∙ ap₂ (λ (l : List ℕ) (n : ℕ). sending (context ++ (time ++ (l ++ request_bytes (free_ac 1)))) (next n (start_of now) (after_reply p.1))) same count,
+          ∙ sending_all context time whole (request_bytes p.1.order (free_ac 1)) (next p.0 (start_of now) (after_reply p.1))
+          ∙ ap₂ (λ (l : List ℕ) (n : ℕ). sending (context ++ (time ++ (l ++ request_bytes p.1.order (free_ac 1)))) (next n (start_of now) (after_reply p.1))) same all
+          ∙ ap (λ (o : Order). sending (context ++ (time ++ (known ++ request_bytes o (free_ac 1)))) (next (length samples / frame_bytes sound.ty sound.channels) (start_of now) (after_reply p.1))) p.5,
     )
 
 on_device_done : (o : Option DeviceInfo) (n : ℕ) (next : DeviceInfo → Trace) → (on_device o n next).finish ≡ done → (device : DeviceInfo) × (o ≡ Some device) × (on_device o n next ≡ next device)
@@ -152,11 +162,11 @@ same_number : (m n : ℕ) → (m == n) ≡ true → m ≡ n
 same_number m n is = grind (arith, nat_tests)
 
 said_sound : (form : SoundForm) (job : PlayJob) (device : DeviceInfo) (bytes : List ℕ) (next : SourceSound → List ℕ → Trace) (says : HeadStep) (size : ℕ) → front_of form bytes ≡ front says size →
-    (behind_front says (λ head. at_one_shape head device (next (file_sound head size) (drop size bytes)))).finish ≡ done →
+    (behind_front says (λ head. at_one_shape head device (next (file_sound device head size) (drop size bytes)))).finish ≡ done →
     (head : SoundHead) × (says ≡ step.Head head) × (head.rate ≡ device.rate) × (head.channels ≡ device.channels)
-    × (behind_front says (λ head. at_one_shape head device (next (file_sound head size) (drop size bytes))) ≡ next (file_sound head size) (drop size bytes))
+    × (behind_front says (λ head. at_one_shape head device (next (file_sound device head size) (drop size bytes))) ≡ next (file_sound device head size) (drop size bytes))
 said_sound form job device bytes next (step.Head head) size is way =
-    let s = shape_done (head.rate == device.rate) (head.channels == device.channels) (next (file_sound head size) (drop size bytes)) (channel_mismatch head.channels device.channels) (mismatch head.rate device.rate) way (λ e. cc) (λ e. cc) in
+    let s = shape_done (head.rate == device.rate) (head.channels == device.channels) (next (file_sound device head size) (drop size bytes)) (channel_mismatch head.channels device.channels) (mismatch head.rate device.rate) way (λ e. cc) (λ e. cc) in
     (head, refl, same_number head.rate device.rate s.0, same_number head.channels device.channels s.1, s.2)
 said_sound form job device bytes next (step.Bad fault) size is way = absurd cc
 said_sound form job device bytes next step.More size is way = absurd cc
@@ -166,27 +176,29 @@ long_done true next way = absurd cc
 long_done false next way = refl
 
 sound_done : (form : Option SoundForm) (job : PlayJob) (device : DeviceInfo) (bytes : List ℕ) (next : SourceSound → List ℕ → Trace) → job.form ≡ form → (reads_sound form job device bytes next).finish ≡ done →
-    (sound : SourceSound) × (rest : List ℕ) × GivesSamples form job device bytes sound.ty (as_served sound.coding (stated_part sound.length rest)) × IsServedAs sound.coding sound.ty
+    (sound : SourceSound) × (rest : List ℕ) × GivesSamples form job device bytes sound.ty (as_served sound.coding (stated_part sound.length rest)) × IsServedAs sound.coding sound.ty × (sound.channels ≡ device.channels)
     × (reads_sound form job device bytes next ≡ next sound rest)
-sound_done None job device bytes next is way = (raw_sound job device, bytes, (refl, refl), tt, refl)
+sound_done None job device bytes next is way = (raw_sound job device, bytes, (refl, refl), tt, refl, refl)
 sound_done (Some form) job device bytes next is way =
     let f = front_of form bytes in
-    let l = long_done (nat_lt most_bytes f.size) (behind_front f.says (λ head. at_one_shape head device (next (file_sound head f.size) (drop f.size bytes)))) way in
+    let l = long_done (nat_lt most_bytes f.size) (behind_front f.says (λ head. at_one_shape head device (next (file_sound device head f.size) (drop f.size bytes)))) way in
     let s = said_sound form job device bytes next f.says f.size refl (ap (λ (c : Trace). c.finish) (sym l) ∙ way) in
     let head = s.0 in
     let known : f ≡ front (step.Head head) f.size = ap (λ (said : HeadStep). front said f.size) s.1 in
     let h = front_is_head form bytes f.size head known in (
-      file_sound head f.size,
+      file_sound device head f.size,
       drop f.size bytes,
       (record { front = take f.size bytes; rest = drop f.size bytes; head = head; is = sym (take-append-drop f.size bytes); is_head = h.1; one_rate = s.2; one_shape = s.3; is_type = refl; is_samples = refl }),
+      refl,
       refl,
       l ∙ s.4,
     )
 
 pub is_played : (job : PlayJob) (devices : List DeviceInfo) (bytes : List ℕ) (w : ClientState) (how : ToolEnd) (s s' h h' : Option (List ℕ)) →
-    ObservedTrace (aplay_trace job devices bytes w) how s s' h h' → how ≡ end.Done → 0 < job.block → IsPlayed job devices bytes w s s' h h'
+    ObservedTrace (aplay_trace job devices bytes w) how s s' h h' → how ≡ end.Done → 1 ≤ job.block →
+    ((d : DeviceInfo) → slice_get devices job.device ≡ Some d → IsDeviceInfo d) → IsPlayed job devices bytes w s s' h h'
 unfolding aplay_trace
-is_played job devices bytes w how s s' h h' followed way some =
+is_played job devices bytes w how s s' h h' followed way some stated =
     let whole = followed.ended.whole (ap is_outer way) in
     let finish = finish_done (aplay_trace job devices bytes w).finish (sym whole.0 ∙ way) in
     let reporting = λ (frames start : ℕ) (v : ClientState). writing (played frames start) (ends done) in
@@ -195,9 +207,11 @@ is_played job devices bytes w how s s' h h' followed way some =
     let g = sound_done job.form job device bytes (λ sound rest. played_on job sound device rest w reporting) refl (ap (λ (c : Trace). c.finish) (sym d.2) ∙ finish) in
     let sound = g.0 in
     let samples : List ℕ = as_served sound.coding (stated_part sound.length g.1) in
-    let p = done_on job sound device g.1 w reporting g.3 some (ap (λ (c : Trace). c.finish) (sym (d.2 ∙ g.4)) ∙ finish) in
+    let count : IsChannelCount device.channels = (stated device d.1).channels in
+    let alike : sound.channels ≡ device.channels = g.4 in
+    let p = done_on job sound device g.1 w reporting g.3 (subst IsChannelCount (sym alike) count) some (ap (λ (c : Trace). c.finish) (sym (d.2 ∙ g.5)) ∙ finish) in
     let start = start_at job.time p.0.0 (frames_lasting device.rate job.lead) in
-    let is = d.2 ∙ g.4 ∙ p.3 in
+    let is = d.2 ∙ g.5 ∙ p.3 ∙ ap (λ (n : ℕ). sending (played_whole w.order job sound.ty n samples start) (reporting (length samples / frame_bytes sound.ty n) start p.1)) alike in
     record {
       device = device;
       is_there = d.1;
@@ -208,7 +222,9 @@ is_played job devices bytes w how s s' h h' followed way some =
       told = p.2;
       start = start;
       starts = refl;
-      link = subst (λ (b : List ℕ). Appended s b s') (whole_part (aplay_trace job devices bytes w).sends followed.sends followed.ended.unsent (played_whole job sound.ty samples start) followed.ended.sent whole.1 (ap (λ (c : Trace). c.sends) is)) followed.link;
-      sink = subst (λ (b : List ℕ). Appended h b h') (whole_part (aplay_trace job devices bytes w).output followed.output followed.ended.unwritten (played (length samples / width_of sound.ty) start) followed.ended.wrote whole.2 (ap (λ (c : Trace). c.output) is)) followed.sink;
-      hears = λ first accepted same a i low. heard_as_intended sound.ty job.gain job.block samples first accepted some a i low;
+      link = subst (λ (b : List ℕ). Appended s b s') (whole_part (aplay_trace job devices bytes w).sends followed.sends followed.ended.unsent (played_whole w.order job sound.ty device.channels samples start) followed.ended.sent whole.1 (ap (λ (c : Trace). c.sends) is)) followed.link;
+      sink = subst (λ (b : List ℕ). Appended h b h') (whole_part (aplay_trace job devices bytes w).output followed.output followed.ended.unwritten (played (length samples / frame_bytes sound.ty device.channels) start) followed.ended.wrote whole.2 (ap (λ (c : Trace). c.output) is)) followed.sink;
+      hears = λ first accepted same a i c low few.
+          let least : 1 ≤ played_frames job sound.ty device.channels = some_frames job.block (frame_bytes sound.ty device.channels) (frame_size sound.ty device.channels count) some in
+          heard_as_intended sound.ty device.channels job.gain (played_frames job sound.ty device.channels) samples first accepted count (omega arith) a i c low few;
     }

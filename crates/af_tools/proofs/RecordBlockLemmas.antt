@@ -1,5 +1,5 @@
 -- Blocks that are recorded, one behind the other.
-use Rattle.std.proofs.Common.{◌≡◌, ℕ, suc, ◌+◌, ◌-◌, ◌*◌, ◌/◌, ◌%◌, ◌^◌, ◌<◌, ◌≤◌, ◌==◌, min, max, nat_lt, nat_le, unsigned_abs, Bool, ℤ, map, true, false, List, [], ◌∷◌, ◌++◌, length, sym, ap, ap₂, ◌∙◌, ◌⊎◌, subst, refl, arith, inl, inr, if◌then◌else◌}
+use Rattle.std.proofs.Common.{◌≡◌, ◌≢◌, ℕ, suc, ◌+◌, ◌-◌, ◌*◌, ◌/◌, ◌%◌, ◌^◌, ◌<◌, ◌≤◌, ◌==◌, min, max, nat_lt, nat_le, unsigned_abs, Bool, ℤ, map, true, false, List, [], ◌∷◌, ◌++◌, length, sym, ap, ap₂, ◌∙◌, subst, refl, arith, inl, inr, if◌then◌else◌}
 use Rattle.std.specs.Prelude.{Result, Ok, Err}
 use Rattle.std.proofs.lemmas.Bool.Decides.{nat_tests}
 use Rattle.std.proofs.lemmas.Bool.{cases_lt}
@@ -20,7 +20,9 @@ use Rattle.af_tool.specs.Ends.{ObservedPart, TracePart}
 use Rattle.af_tool.proofs.TracePartLemmas.{doing, goes_stop}
 use Rattle.af_sound.specs.declared.head.Coding.{Coding}
 use Rattle.af_sound.specs.declared.head.Coding.TheVariants as coding
+use Rattle.af_sample.specs.Channels.{IsChannelCount}
 use Rattle.af_options.specs.Sizes.{block_frames}
+use Rattle.af_options.proofs.FrameSizeLemmas.{frame_size, some_frames}
 use Rattle.af_tools.specs.declared.record.RecordedSound.{RecordedSound}
 use Rattle.af_tools.specs.Files.{IsFiledAs}
 use Rattle.af_tools.specs.Sounds.{AreWhole}
@@ -197,20 +199,14 @@ pub all_recorded : (job : RecordJob) (sound : RecordedSound) (block block' start
     ObservedPart (left_to_record job sound block start 0 [] job.frames first) result told wire s s' h h' → ObservedPart (left_to_record job sound block' start 0 [] job.frames first) result told wire s s' h h'
 all_recorded job sound block block' start first result told wire s s' h h' is g = subst (λ (b : ℕ). ObservedPart (left_to_record job sound b start 0 [] job.frames first) result told wire s s' h h') is g
 
--- a frame has 1 to 8 bytes, and so the greatest block has some
-pub some_frames : (sound : RecordedSound) (asked : ℕ) → (sound.channels ≡ 1) ⊎ (sound.channels ≡ 2) → 1 ≤ asked → 1 ≤ block_frames asked (recorded_frame sound)
-some_frames sound asked (inl one) some = rw one (by sound.ty) where
-  by : (t : SampleType) → 1 ≤ block_frames asked (frame_bytes t 1)
-  by ty.Mu255 = omega arith
-  by ty.Alaw = omega arith
-  by ty.Lin16 = omega arith
-  by ty.Lin32 = omega arith
-some_frames sound asked (inr two) some = rw two (by sound.ty) where
-  by : (t : SampleType) → 1 ≤ block_frames asked (frame_bytes t 2)
-  by ty.Mu255 = omega arith
-  by ty.Alaw = omega arith
-  by ty.Lin16 = omega arith
-  by ty.Lin32 = omega arith
+-- a block has a frame
+pub some_recorded : (sound : RecordedSound) (asked : ℕ) → IsChannelCount sound.channels → 1 ≤ asked → 1 ≤ block_frames asked (recorded_frame sound)
+some_recorded sound asked count some = some_frames asked (recorded_frame sound) (frame_size sound.ty sound.channels count) some
+
+-- what is written is no file of 8 bits
+pub written_coding : (c : Option Coding) (t : SampleType) → IsFiledAs c t → c ≢ Some coding.U8
+written_coding (Some c) t filed is = filed.1 (let same : c ≡ coding.U8 = cc is in same)
+written_coding None t filed is = cc is
 
 -- whole frames of a file of 16 bits are whole pairs
 even_run : (n k : ℕ) → (n * (2 * k)) % 2 ≡ 0

@@ -1,5 +1,5 @@
 -- The blocks that are sent of a source's bytes: each frame stands in exactly one of them.
-use Rattle.std.proofs.Common.{◌≡◌, ℕ, zero, suc, ◌+◌, ◌-◌, ◌*◌, ◌/◌, ◌<◌, ◌≤◌, nat_lt, Bool, true, false, if◌then◌else◌, List, [], ◌∷◌, length, take, drop, slice_get, refl, sym, ap, ◌∙◌, subst, arith, inl, inr, length-take, length-take-le, length-drop}
+use Rattle.std.proofs.Common.{◌≡◌, ℕ, zero, suc, ◌+◌, ◌-◌, ◌*◌, ◌/◌, ◌<◌, ◌≤◌, nat_lt, Bool, true, false, if◌then◌else◌, List, [], ◌∷◌, length, take, drop, slice_get, slice_range, refl, sym, ap, ◌∙◌, subst, arith, inl, inr, length-take, length-take-le, length-drop}
 use Rattle.std.proofs.lemmas.Bool.Decides.{nat_tests}
 use Rattle.std.proofs.lemmas.Bool.{cases_lt}
 use Rattle.std.proofs.lemmas.List.{take-take, drop-take}
@@ -7,10 +7,7 @@ use Rattle.std.proofs.Math.Seq.{drop-nil}
 use Rattle.std.specs.declared.option.Option.{Option}
 use Rattle.std.specs.declared.option.Option.TheVariants.{None, Some}
 use Rattle.std.specs.Prelude.{min}
-use Rattle.af_sample.specs.declared.sample_type.SampleType.{SampleType}
-use Rattle.af_sample.specs.declared.sample_type.SampleType.TheVariants.{Mu255, Alaw, Lin16, Lin32}
-use Rattle.af_sample.specs.SampleTypes.{width_of}
-use Rattle.af_sample.specs.Samples.{piece}
+use Rattle.af_options.proofs.FrameSizeLemmas.{by_size, IsFrameSize}
 use Rattle.af_tools.specs.Play.{blocks, cut, frames_in, whole_frames}
 use Rattle.af_tools.specs.Blocks.{sent_behind, Block}
 
@@ -29,30 +26,22 @@ sent_last width before block more none =
     let whole : nat_lt 0 (length block / width) ≡ false = grind (arith, nat_tests) in
     rw whole refl
 
--- widths are small numbers
-whole_count : (ty : SampleType) (n : ℕ) → n / width_of ty * width_of ty / width_of ty ≡ n / width_of ty
-whole_count Mu255 n = omega arith
-whole_count Alaw n = omega arith
-whole_count Lin16 n = omega arith
-whole_count Lin32 n = omega arith
+-- the bytes of the frame at a place
+abbrev pub frame : (width : ℕ) → List ℕ → ℕ → List ℕ
+frame width bytes i = slice_range bytes (i * width) (i * width + width)
 
-whole_within : (ty : SampleType) (n : ℕ) → n / width_of ty * width_of ty ≤ n
-whole_within Mu255 n = omega arith
-whole_within Alaw n = omega arith
-whole_within Lin16 n = omega arith
-whole_within Lin32 n = omega arith
+-- frames are small
+pub whole_count : (w : ℕ) → IsFrameSize w → (n : ℕ) → n / w * w / w ≡ n / w
+whole_count w small n = by_size (λ w. n / w * w / w ≡ n / w) (omega arith) (omega arith) (omega arith) (omega arith) w small
 
-no_frames : (ty : SampleType) (n i : ℕ) → n ≤ 0 → i < n / width_of ty → ⊥
-no_frames Mu255 n i none low = omega arith
-no_frames Alaw n i none low = omega arith
-no_frames Lin16 n i none low = omega arith
-no_frames Lin32 n i none low = omega arith
+whole_within : (w : ℕ) → IsFrameSize w → (n : ℕ) → n / w * w ≤ n
+whole_within w small n = by_size (λ w. n / w * w ≤ n) (omega arith) (omega arith) (omega arith) (omega arith) w small
 
-piece_end : (ty : SampleType) (n i : ℕ) → i < n → i * width_of ty + width_of ty ≤ n * width_of ty
-piece_end Mu255 n i low = omega arith
-piece_end Alaw n i low = omega arith
-piece_end Lin16 n i low = omega arith
-piece_end Lin32 n i low = omega arith
+no_frames : (w : ℕ) → IsFrameSize w → (n i : ℕ) → n ≤ 0 → i < n / w → ⊥
+no_frames w small n i none = by_size (λ w. i < n / w → ⊥) (λ low. omega arith) (λ low. omega arith) (λ low. omega arith) (λ low. omega arith) w small
+
+frame_end : (w : ℕ) → IsFrameSize w → (n i : ℕ) → i < n → i * w + w ≤ n * w
+frame_end w small n i low = by_size (λ w. i * w + w ≤ n * w) (omega arith) (omega arith) (omega arith) (omega arith) w small
 
 -- a frame that is not in the first block: that block is full
 record IsInLaterBlock (width frames len first rest i : ℕ) : Type 0 where
@@ -62,100 +51,97 @@ record IsInLaterBlock (width frames len first rest i : ℕ) : Type 0 where
   low : i - frames < rest / width
   within : frames ≤ i
 
-is_behind : (ty : SampleType) (frames len first rest i : ℕ) → 0 < frames → first ≡ min (frames * width_of ty) len → rest ≡ len - frames * width_of ty → i < len / width_of ty → first / width_of ty ≤ i → IsInLaterBlock (width_of ty) frames len first rest i
-is_behind Mu255 frames len first rest i some f r low behind = record { full = omega arith; count = omega arith; fewer = omega arith; low = omega arith; within = omega arith }
-is_behind Alaw frames len first rest i some f r low behind = record { full = omega arith; count = omega arith; fewer = omega arith; low = omega arith; within = omega arith }
-is_behind Lin16 frames len first rest i some f r low behind = record { full = omega arith; count = omega arith; fewer = omega arith; low = omega arith; within = omega arith }
-is_behind Lin32 frames len first rest i some f r low behind = record { full = omega arith; count = omega arith; fewer = omega arith; low = omega arith; within = omega arith }
+is_behind : (w : ℕ) → IsFrameSize w → (frames len first rest i : ℕ) → 0 < frames → first ≡ min (frames * w) len → rest ≡ len - frames * w → i < len / w → first / w ≤ i → IsInLaterBlock w frames len first rest i
+is_behind w small frames len first rest i some =
+    by_size (λ w. first ≡ min (frames * w) len → rest ≡ len - frames * w → i < len / w → first / w ≤ i → IsInLaterBlock w frames len first rest i)
+    (λ f r low behind. record { full = omega arith; count = omega arith; fewer = omega arith; low = omega arith; within = omega arith })
+    (λ f r low behind. record { full = omega arith; count = omega arith; fewer = omega arith; low = omega arith; within = omega arith })
+    (λ f r low behind. record { full = omega arith; count = omega arith; fewer = omega arith; low = omega arith; within = omega arith })
+    (λ f r low behind. record { full = omega arith; count = omega arith; fewer = omega arith; low = omega arith; within = omega arith }) w small
 
-piece_place : (ty : SampleType) (n i : ℕ) → n ≤ i → n * width_of ty + (i - n) * width_of ty ≡ i * width_of ty
-piece_place Mu255 n i low = omega arith
-piece_place Alaw n i low = omega arith
-piece_place Lin16 n i low = omega arith
-piece_place Lin32 n i low = omega arith
+frame_place : (w : ℕ) → IsFrameSize w → (n i : ℕ) → n ≤ i → n * w + (i - n) * w ≡ i * w
+frame_place w small n i low = by_size (λ w. n * w + (i - n) * w ≡ i * w) (omega arith) (omega arith) (omega arith) (omega arith) w small
 
-drop_twice : (n m : ℕ) (xs : List ℕ) → drop m (drop n xs) ≡ drop (n + m) xs
+pub drop_twice : (n m : ℕ) (xs : List ℕ) → drop m (drop n xs) ≡ drop (n + m) xs
 drop_twice zero m xs = ap (λ k. drop k xs) (let e : m ≡ 0 + m = omega arith in e)
 drop_twice (suc n) m [] = drop-nil m ∙ sym (drop-nil (suc n + m))
 drop_twice (suc n) m (x ∷ xs) = drop_twice n m xs ∙ ap (λ k. drop k (x ∷ xs)) (let e : suc (n + m) ≡ suc n + m = omega arith in e)
 
--- a piece of what is behind some frames
-piece_behind : (ty : SampleType) (bytes : List ℕ) (n i : ℕ) → n ≤ i → piece ty (drop (n * width_of ty) bytes) (i - n) ≡ piece ty bytes i
-piece_behind ty bytes n i low =
-    let w = width_of ty in
+-- a frame of what is behind some frames
+frame_behind : (w : ℕ) → IsFrameSize w → (bytes : List ℕ) (n i : ℕ) → n ≤ i → frame w (drop (n * w) bytes) (i - n) ≡ frame w bytes i
+frame_behind w small bytes n i low =
     let count : (k : ℕ) → k + w - k ≡ w = λ k. omega arith in
     ap (λ k. take k (drop ((i - n) * w) (drop (n * w) bytes))) (count ((i - n) * w))
-    ∙ ap (take w) (drop_twice (n * w) ((i - n) * w) bytes ∙ ap (λ k. drop k bytes) (piece_place ty n i low))
+    ∙ ap (take w) (drop_twice (n * w) ((i - n) * w) bytes ∙ ap (λ k. drop k bytes) (frame_place w small n i low))
     ∙ ap (λ k. take k (drop (i * w) bytes)) (sym (count (i * w)))
 
-range_within : (n m k : ℕ) (xs : List ℕ) → n + m ≤ k → take m (drop n (take k xs)) ≡ take m (drop n xs)
+pub range_within : (n m k : ℕ) (xs : List ℕ) → n + m ≤ k → take m (drop n (take k xs)) ≡ take m (drop n xs)
 range_within n m k xs fits =
     sym (drop-take n m (take k xs)) ∙ ap (drop n) (take-take (n + m) k xs fits) ∙ drop-take n m xs
 
--- a piece of the first bytes
-piece_within : (ty : SampleType) (bytes : List ℕ) (i k : ℕ) → i * width_of ty + width_of ty ≤ k → piece ty (take k bytes) i ≡ piece ty bytes i
-piece_within ty bytes i k fits =
-    let w = width_of ty in
+-- a frame of the first bytes
+frame_within : (w : ℕ) (bytes : List ℕ) (i k : ℕ) → i * w + w ≤ k → frame w (take k bytes) i ≡ frame w bytes i
+frame_within w bytes i k fits =
     let count : (k : ℕ) → k + w - k ≡ w = λ k. omega arith in
     ap (λ m. take m (drop (i * w) (take k bytes))) (count (i * w))
     ∙ range_within (i * w) w k bytes fits
     ∙ ap (λ m. take m (drop (i * w) bytes)) (sym (count (i * w)))
 
 -- the block that a frame is in
-pub record IsAt (ty : SampleType) (bytes : List ℕ) (before i : ℕ) (sent : List Block) : Type 0 where
+pub record IsAt (w : ℕ) (bytes : List ℕ) (before i : ℕ) (sent : List Block) : Type 0 where
   pub k : ℕ
   pub block : Block
   pub j : ℕ
   pub get : slice_get sent k ≡ Some block
   pub place : block.before + j ≡ before + i
-  pub within : j < length block.bytes / width_of ty
-  pub same : piece ty block.bytes j ≡ piece ty bytes i
+  pub within : j < length block.bytes / w
+  pub same : frame w block.bytes j ≡ frame w bytes i
 
-head_count : (ty : SampleType) (before : ℕ) (block : List ℕ) → length (head (width_of ty) before block).bytes / width_of ty ≡ length block / width_of ty
-head_count ty before block =
-    ap (λ n. n / width_of ty) (length-take-le (length block / width_of ty * width_of ty) block (whole_within ty (length block))) ∙ whole_count ty (length block)
+head_count : (w : ℕ) → IsFrameSize w → (before : ℕ) (block : List ℕ) → length (head w before block).bytes / w ≡ length block / w
+head_count w small before block =
+    ap (λ n. n / w) (length-take-le (length block / w * w) block (whole_within w small (length block))) ∙ whole_count w small (length block)
 
-is_first : (ty : SampleType) (before size i : ℕ) (bytes : List ℕ) (more : List Block) → i < length (take size bytes) / width_of ty → IsAt ty bytes before i (head (width_of ty) before (take size bytes) ∷ more)
-is_first ty before size i bytes more low = record {
+is_first : (w : ℕ) → IsFrameSize w → (before size i : ℕ) (bytes : List ℕ) (more : List Block) → i < length (take size bytes) / w → IsAt w bytes before i (head w before (take size bytes) ∷ more)
+is_first w small before size i bytes more low = record {
   k = 0;
-  block = head (width_of ty) before (take size bytes);
+  block = head w before (take size bytes);
   j = i;
   get = refl;
   place = refl;
-  within = subst (λ (n : ℕ). i < n) (sym (head_count ty before (take size bytes))) low;
+  within = subst (λ (n : ℕ). i < n) (sym (head_count w small before (take size bytes))) low;
   same =
       let len = length-take size bytes in
-      let part = whole_within ty (length (take size bytes)) in
-      let end = piece_end ty (length (take size bytes) / width_of ty) i low in
-      piece_within ty (take size bytes) i _ end ∙ piece_within ty bytes i size (omega arith);
+      let part = whole_within w small (length (take size bytes)) in
+      let end = frame_end w small (length (take size bytes) / w) i low in
+      frame_within w (take size bytes) i _ end ∙ frame_within w bytes i size (omega arith);
 }
 
-pub find_block : (ty : SampleType) (frames n before : ℕ) (bytes : List ℕ) (i : ℕ) → 0 < frames → length bytes ≤ n → i < length bytes / width_of ty →
-    IsAt ty bytes before i (sent_behind (width_of ty) before (cut n (frames * width_of ty) bytes))
-find_block ty frames zero before bytes i some fits low = absurd (no_frames ty (length bytes) i fits low)
-find_block ty frames (suc n) before [] i some fits low = absurd (no_frames ty 0 i (omega arith) low)
-find_block ty frames (suc n) before (b ∷ bs) i some fits low =
+pub find_block : (w : ℕ) → IsFrameSize w → (frames n before : ℕ) (bytes : List ℕ) (i : ℕ) → 0 < frames → length bytes ≤ n → i < length bytes / w →
+    IsAt w bytes before i (sent_behind w before (cut n (frames * w) bytes))
+find_block w small frames zero before bytes i some fits low = absurd (no_frames w small (length bytes) i fits low)
+find_block w small frames (suc n) before [] i some fits low = absurd (no_frames w small 0 i (omega arith) low)
+find_block w small frames (suc n) before (b ∷ bs) i some fits low =
     let bytes : List ℕ = b ∷ bs in
-    let size = frames * width_of ty in
+    let size = frames * w in
     let first : List ℕ = take size bytes in
     let rest : List ℕ = drop size bytes in
-    elim (cases_lt i (length first / width_of ty)) [
-      | inl here ↦ subst (λ (s : List Block). IsAt ty bytes before i s) (sym (sent_first (width_of ty) before first (cut n size rest) (omega arith))) (is_first ty before size i bytes _ here)
+    elim (cases_lt i (length first / w)) [
+      | inl here ↦ subst (λ (s : List Block). IsAt w bytes before i s) (sym (sent_first w before first (cut n size rest) (omega arith))) (is_first w small before size i bytes _ here)
       | inr behind ↦
-          let e = is_behind ty frames (length bytes) (length first) (length rest) i some (length-take size bytes) (length-drop size bytes) low behind in
+          let e = is_behind w small frames (length bytes) (length first) (length rest) i some (length-take size bytes) (length-drop size bytes) low behind in
           let count = e.count in
           let fewer = e.fewer in
-          let r = find_block ty frames n (before + length first / width_of ty) rest (i - frames) some (omega arith) e.low in
+          let r = find_block w small frames n (before + length first / w) rest (i - frames) some (omega arith) e.low in
           let place = r.place in
           let within = e.within in
-          subst (λ (s : List Block). IsAt ty bytes before i s) (sym (sent_first (width_of ty) before first (cut n size rest) (omega arith))) (record {
+          subst (λ (s : List Block). IsAt w bytes before i s) (sym (sent_first w before first (cut n size rest) (omega arith))) (record {
             k = suc r.k;
             block = r.block;
             j = r.j;
             get = r.get;
             place = omega arith;
             within = r.within;
-            same = r.same ∙ piece_behind ty bytes frames i e.within;
+            same = r.same ∙ frame_behind w small bytes frames i e.within;
           })
     ]
 
@@ -191,27 +177,27 @@ first_or_same first more (suc k) zero b b' is is' left right later = absurd (rig
 first_or_same first more (suc k) (suc k') b b' is is' left right later = ap suc (later k k' is is')
 
 -- a frame of the first block is before those of the others
-apart : (ty : SampleType) (before : ℕ) (block : List ℕ) (more : List (List ℕ)) (c d : Block) (m l n : ℕ) → head (width_of ty) before block ≡ c → slice_get (sent_behind (width_of ty) (before + frames_in (width_of ty) block) more) n ≡ Some d →
-    m < length c.bytes / width_of ty → c.before + m ≡ d.before + l → ⊥
-apart ty before block more c d m l n is at low same =
+apart : (w : ℕ) → IsFrameSize w → (before : ℕ) (block : List ℕ) (more : List (List ℕ)) (c d : Block) (m l n : ℕ) → head w before block ≡ c → slice_get (sent_behind w (before + frames_in w block) more) n ≡ Some d →
+    m < length c.bytes / w → c.before + m ≡ d.before + l → ⊥
+apart w small before block more c d m l n is at low same =
     let from : before ≡ c.before = ap (λ (x : Block). x.before) is in
-    let count : length block / width_of ty ≡ length c.bytes / width_of ty = sym (head_count ty before block) ∙ ap (λ (x : Block). length x.bytes / width_of ty) is in
-    let later = first_before (width_of ty) (before + frames_in (width_of ty) block) more n d at in
+    let count : length block / w ≡ length c.bytes / w = sym (head_count w small before block) ∙ ap (λ (x : Block). length x.bytes / w) is in
+    let later = first_before w (before + frames_in w block) more n d at in
     omega arith
 
 -- two blocks with the same frame are one
-pub one_block : (ty : SampleType) (before : ℕ) (blocks : List (List ℕ)) (k k' : ℕ) (b b' : Block) (j j' : ℕ) → slice_get (sent_behind (width_of ty) before blocks) k ≡ Some b → slice_get (sent_behind (width_of ty) before blocks) k' ≡ Some b' →
-    j < length b.bytes / width_of ty → j' < length b'.bytes / width_of ty → b.before + j ≡ b'.before + j' → k ≡ k'
-one_block ty before [] k k' b b' j j' is is' low low' same = absurd (no_block b is)
-one_block ty before (block ∷ more) k k' b b' j j' is is' low low' same = elim (cases_lt 0 (length block / width_of ty)) [
+pub one_block : (w : ℕ) → IsFrameSize w → (before : ℕ) (blocks : List (List ℕ)) (k k' : ℕ) (b b' : Block) (j j' : ℕ) → slice_get (sent_behind w before blocks) k ≡ Some b → slice_get (sent_behind w before blocks) k' ≡ Some b' →
+    j < length b.bytes / w → j' < length b'.bytes / w → b.before + j ≡ b'.before + j' → k ≡ k'
+one_block w small before [] k k' b b' j j' is is' low low' same = absurd (no_block b is)
+one_block w small before (block ∷ more) k k' b b' j j' is is' low low' same = elim (cases_lt 0 (length block / w)) [
   | inl some ↦
-      first_or_same (head (width_of ty) before block) (sent_behind (width_of ty) (before + frames_in (width_of ty) block) more) k k' b b'
-      (subst (λ (s : List Block). slice_get s k ≡ Some b) (sent_first (width_of ty) before block more some) is)
-      (subst (λ (s : List Block). slice_get s k' ≡ Some b') (sent_first (width_of ty) before block more some) is')
-      (λ n is at. apart ty before block more b b' j j' n is at low same)
-      (λ n is at. apart ty before block more b' b j' j n is at low' (sym same))
-      (λ n n' at at'. one_block ty (before + frames_in (width_of ty) block) more n n' b b' j j' at at' low low' same)
-  | inr none ↦ absurd (no_block b (subst (λ (s : List Block). slice_get s k ≡ Some b) (sent_last (width_of ty) before block more (omega arith)) is))
+      first_or_same (head w before block) (sent_behind w (before + frames_in w block) more) k k' b b'
+      (subst (λ (s : List Block). slice_get s k ≡ Some b) (sent_first w before block more some) is)
+      (subst (λ (s : List Block). slice_get s k' ≡ Some b') (sent_first w before block more some) is')
+      (λ n is at. apart w small before block more b b' j j' n is at low same)
+      (λ n is at. apart w small before block more b' b j' j n is at low' (sym same))
+      (λ n n' at at'. one_block w small (before + frames_in w block) more n n' b b' j j' at at' low low' same)
+  | inr none ↦ absurd (no_block b (subst (λ (s : List Block). slice_get s k ≡ Some b) (sent_last w before block more (omega arith)) is))
 ]
 
 -- how many frames are sent of some blocks
@@ -235,51 +221,44 @@ sent_no_more width block more none =
     let whole : nat_lt 0 (length block / width) ≡ false = grind (arith, nat_tests) in
     ap (λ (b : Bool). if b then length block / width + frames_sent width more else 0) whole
 
-none_in : (ty : SampleType) (n : ℕ) → n ≤ 0 → 0 ≡ n / width_of ty
-none_in Mu255 n none = omega arith
-none_in Alaw n none = omega arith
-none_in Lin16 n none = omega arith
-none_in Lin32 n none = omega arith
+none_in : (w : ℕ) → IsFrameSize w → (n : ℕ) → n ≤ 0 → 0 ≡ n / w
+none_in w small n none = by_size (λ w. 0 ≡ n / w) (omega arith) (omega arith) (omega arith) (omega arith) w small
 
-in_all : (ty : SampleType) (frames len first rest : ℕ) → 0 < frames → first ≡ min (frames * width_of ty) len → rest ≡ len - frames * width_of ty → first / width_of ty + rest / width_of ty ≡ len / width_of ty
-in_all Mu255 frames len first rest some f r = omega arith
-in_all Alaw frames len first rest some f r = omega arith
-in_all Lin16 frames len first rest some f r = omega arith
-in_all Lin32 frames len first rest some f r = omega arith
+in_all : (w : ℕ) → IsFrameSize w → (frames len first rest : ℕ) → 0 < frames → first ≡ min (frames * w) len → rest ≡ len - frames * w → first / w + rest / w ≡ len / w
+in_all w small frames len first rest some =
+    by_size (λ w. first ≡ min (frames * w) len → rest ≡ len - frames * w → first / w + rest / w ≡ len / w)
+    (λ f r. omega arith) (λ f r. omega arith) (λ f r. omega arith) (λ f r. omega arith) w small
 
-in_none : (ty : SampleType) (frames len first : ℕ) → 0 < frames → first ≡ min (frames * width_of ty) len → first / width_of ty ≡ 0 → 0 ≡ len / width_of ty
-in_none Mu255 frames len first some f none = omega arith
-in_none Alaw frames len first some f none = omega arith
-in_none Lin16 frames len first some f none = omega arith
-in_none Lin32 frames len first some f none = omega arith
+in_none : (w : ℕ) → IsFrameSize w → (frames len first : ℕ) → 0 < frames → first ≡ min (frames * w) len → first / w ≡ 0 → 0 ≡ len / w
+in_none w small frames len first some =
+    by_size (λ w. first ≡ min (frames * w) len → first / w ≡ 0 → 0 ≡ len / w)
+    (λ f none. omega arith) (λ f none. omega arith) (λ f none. omega arith) (λ f none. omega arith) w small
 
-fewer : (ty : SampleType) (frames len rest n : ℕ) → 0 < frames → 0 < len → len ≤ suc n → rest ≡ len - frames * width_of ty → rest ≤ n
-fewer Mu255 frames len rest n some there most r = omega arith
-fewer Alaw frames len rest n some there most r = omega arith
-fewer Lin16 frames len rest n some there most r = omega arith
-fewer Lin32 frames len rest n some there most r = omega arith
+fewer : (w : ℕ) → IsFrameSize w → (frames len rest n : ℕ) → 0 < frames → 0 < len → len ≤ suc n → rest ≡ len - frames * w → rest ≤ n
+fewer w small frames len rest n some there most =
+    by_size (λ w. rest ≡ len - frames * w → rest ≤ n) (λ r. omega arith) (λ r. omega arith) (λ r. omega arith) (λ r. omega arith) w small
 
-frames_cut : (ty : SampleType) (frames n : ℕ) (bytes : List ℕ) → 0 < frames → length bytes ≤ n → frames_sent (width_of ty) (cut n (frames * width_of ty) bytes) ≡ length bytes / width_of ty
-frames_cut ty frames zero bytes some few = sent_none (width_of ty) ∙ none_in ty (length bytes) few
-frames_cut ty frames (suc n) [] some few = sent_none (width_of ty) ∙ none_in ty 0 (omega arith)
-frames_cut ty frames (suc n) (b ∷ bytes) some few =
+frames_cut : (w : ℕ) → IsFrameSize w → (frames n : ℕ) (bytes : List ℕ) → 0 < frames → length bytes ≤ n → frames_sent w (cut n (frames * w) bytes) ≡ length bytes / w
+frames_cut w small frames zero bytes some few = sent_none w ∙ none_in w small (length bytes) few
+frames_cut w small frames (suc n) [] some few = sent_none w ∙ none_in w small 0 (omega arith)
+frames_cut w small frames (suc n) (b ∷ bytes) some few =
     let xs : List ℕ = b ∷ bytes in
-    let size : ℕ = frames * width_of ty in
+    let size : ℕ = frames * w in
     let block : List ℕ = take size xs in
     let more = cut n size (drop size xs) in
     let first : length block ≡ min size (length xs) = length-take size xs in
     let rest : length (drop size xs) ≡ length xs - size = length-drop size xs in
-    elim (cases_lt 0 (length block / width_of ty)) [
+    elim (cases_lt 0 (length block / w)) [
       | inl whole ↦
-          sent_more (width_of ty) block more whole
-          ∙ ap (λ (m : ℕ). length block / width_of ty + m) (frames_cut ty frames n (drop size xs) some (fewer ty frames (length xs) (length (drop size xs)) n some (omega arith) few rest))
-          ∙ in_all ty frames (length xs) (length block) (length (drop size xs)) some first rest
+          sent_more w block more whole
+          ∙ ap (λ (m : ℕ). length block / w + m) (frames_cut w small frames n (drop size xs) some (fewer w small frames (length xs) (length (drop size xs)) n some (omega arith) few rest))
+          ∙ in_all w small frames (length xs) (length block) (length (drop size xs)) some first rest
       | inr none ↦
-          let zero_frames : length block / width_of ty ≡ 0 = omega arith in
-          sent_no_more (width_of ty) block more zero_frames ∙ in_none ty frames (length xs) (length block) some first zero_frames
+          let zero_frames : length block / w ≡ 0 = omega arith in
+          sent_no_more w block more zero_frames ∙ in_none w small frames (length xs) (length block) some first zero_frames
     ]
 
 -- the frames that are sent are all whole frames
-pub all_frames : (ty : SampleType) (frames : ℕ) (bytes : List ℕ) → 0 < frames → frames_sent (width_of ty) (blocks (frames * width_of ty) bytes) ≡ length bytes / width_of ty
+pub all_frames : (w : ℕ) → IsFrameSize w → (frames : ℕ) (bytes : List ℕ) → 0 < frames → frames_sent w (blocks (frames * w) bytes) ≡ length bytes / w
 unfolding blocks
-all_frames ty frames bytes some = frames_cut ty frames (length bytes) bytes some (omega arith)
+all_frames w small frames bytes some = frames_cut w small frames (length bytes) bytes some (omega arith)

@@ -5,11 +5,12 @@ use Rattle.std.specs.declared.option.Option.{Option}
 use Rattle.std.specs.declared.option.Option.TheVariants.{Some}
 use Rattle.af_lib.specs.declared.fault.ConnFault.{ConnFault}
 use Rattle.af_lib.specs.Ring.{RingState}
+use Rattle.af_wire.specs.declared.order.Order.{Order}
 use Rattle.af_wire.specs.Front.{setup_bytes}
-use Rattle.af_lib.specs.Calls.{answered, as_devices, IsSetUp}
+use Rattle.af_lib.specs.Calls.{IsSetUp}
 use Rattle.af_request.specs.declared.reply.DeviceInfo.{DeviceInfo}
 use Rattle.af_tool.specs.declared.end.ToolEnd.{ToolEnd}
-use Rattle.af_tool.specs.Trace.{Trace, ClientState, answered_by, connects, next_message, sending, set_up, unused}
+use Rattle.af_tool.specs.Trace.{Trace, ClientState, answered_by, begun, connects, sending, set_up, setup_answer}
 use Rattle.af_tool.specs.Ends.{MatchesTrace, ObservedTrace, ObservedPart, TracePart, is_outer}
 use Rattle.af_io.proofs.AppendedLemmas.{appended_none, appended_on}
 use Rattle.af_lib.proofs.LinkByteLemmas.{told_both}
@@ -42,21 +43,22 @@ followed_on part next x how left wire s s' s'' h h' h'' g rest =
       sink = appended_on h h' h'' g.output more.output g.sink more.sink;
     }
 
-connects_is : (input : List ℕ) (next : List DeviceInfo → ClientState → Trace) → connects input next ≡ sending setup_bytes (answered_by (answered as_devices 0 0 (next_message (unused input)).found) (set_up input) next)
-unfolding connects
-connects_is input next = refl
+module _ (order : Order) where
+  connects_is : (input : List ℕ) (next : List DeviceInfo → ClientState → Trace) → connects order input next ≡ sending (setup_bytes order) (answered_by (setup_answer order input) (set_up order input) next)
+  unfolding connects
+  connects_is input next = refl
 
-pub setup_known : {L : Type 0} (left sent : L → Option (List ℕ)) (faults : L → ℕ) (old new : L) (ring : RingState) (input : List ℕ) (result : Result (List DeviceInfo) ConnFault) →
-    IsSetUp left sent faults old new ring result → left old ≡ Some input → Known (answered as_devices 0 0 (next_message (unused input)).found) (set_up input) (left new) (λ i. record { sequence = 0; ring = ring; input = i }) result
-setup_known left sent faults old new ring input result is told = λ sound.
-    let both = told_both (left old) (left new) input _ told is.tells (is.answers sound) in
-    let facts = both.2 in
-    (both.0, both.1, facts.0, ap₂ (λ (r : RingState) (i : List ℕ). (let w : ClientState = record { sequence = 0; ring = r; input = i } in w)) facts.1 facts.2)
+  pub setup_known : {L : Type 0} (left sent : L → Option (List ℕ)) (faults : L → ℕ) (old new : L) (ring : RingState) (input : List ℕ) (result : Result (List DeviceInfo) ConnFault) →
+      IsSetUp order left sent faults old new ring result → left old ≡ Some input → Known (setup_answer order input) (set_up order input) (left new) (begun order ring) result
+  setup_known left sent faults old new ring input result is told = λ sound.
+      let both = told_both (left old) (left new) input _ told is.tells (is.answers sound) in
+      let facts = both.2 in
+      (both.0, both.1, facts.0, ap₂ (begun order) facts.1 facts.2)
 
--- a setup and its answer are a part of a tool
-pub setup_goes : {L : Type 0} (left sent : L → Option (List ℕ)) (faults : L → ℕ) (old new : L) (ring : RingState) (input : List ℕ) (held : Option (List ℕ)) (result : Result (List DeviceInfo) ConnFault) →
-    IsSetUp left sent faults old new ring result → left old ≡ Some input →
-    ObservedPart {X = List DeviceInfo} (connects input) (ended result) (left new) (λ i. record { sequence = 0; ring = ring; input = i }) (sent old) (sent new) held held
-setup_goes left sent faults old new ring input held result is told =
-    exchange_goes (connects input) setup_bytes (answered as_devices 0 0 (next_message (unused input)).found) (set_up input) (connects_is input) (left new) (λ i. record { sequence = 0; ring = ring; input = i }) (sent old) (sent new) held result is.sends
-    (setup_known left sent faults old new ring input result is told)
+  -- a setup and its answer are a part of a tool
+  pub setup_goes : {L : Type 0} (left sent : L → Option (List ℕ)) (faults : L → ℕ) (old new : L) (ring : RingState) (input : List ℕ) (held : Option (List ℕ)) (result : Result (List DeviceInfo) ConnFault) →
+      IsSetUp order left sent faults old new ring result → left old ≡ Some input →
+      ObservedPart {X = List DeviceInfo} (connects order input) (ended result) (left new) (begun order ring) (sent old) (sent new) held held
+  setup_goes left sent faults old new ring input held result is told =
+      exchange_goes (connects order input) (setup_bytes order) (setup_answer order input) (set_up order input) (connects_is input) (left new) (begun order ring) (sent old) (sent new) held result is.sends
+      (setup_known left sent faults old new ring input result is told)

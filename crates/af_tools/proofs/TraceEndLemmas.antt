@@ -21,7 +21,7 @@ use Rattle.af_sound.specs.declared.head.Coding.{Coding}
 use Rattle.af_tools.specs.declared.sound.SourceSound.{SourceSound}
 use Rattle.af_tools.specs.Most.{most_bytes}
 use Rattle.af_tools.specs.Sounds.{as_served, stated_part}
-use Rattle.af_tools.specs.Play.{block_time, blocks, cut, play_context, played_on, plays}
+use Rattle.af_tools.specs.Play.{block_time, blocks, cut, play_context, played_on, plays, plays_sound}
 use Rattle.af_tools.specs.declared.record.RecordedSound.{RecordedSound}
 use Rattle.af_tools.specs.Files.{recorded_sound}
 use Rattle.af_tools.specs.Record.{ends_row, peak, record_context, recorded_on, records, writes_recording}
@@ -60,9 +60,9 @@ part_few (Some n) bytes = omega (arith, length-take n bytes)
 
 pub played_finish : (job : PlayJob) (sound : SourceSound) (device : DeviceInfo) (bytes : List ℕ) (w : ClientState) (next : ℕ → ℕ → ClientState → Trace) → sound.head + length bytes ≤ most_bytes → ((frames start : ℕ) (v : ClientState) → IsDoneOrRefused (next frames start v).finish) →
     IsDoneOrRefused (played_on job sound device bytes w next).finish
-unfolding played_on blocks
+unfolding played_on plays_sound blocks
 played_finish job sound device bytes w next within more =
-    asked_finish (play_context job sound.ty) as_done w _ (λ _ v.
+    asked_finish (play_context job sound.ty sound.channels) as_done w _ (λ _ v.
     asked_finish (get_time job.device) as_time v _ (λ now v.
     plays_finish _ _ _ (length (stated_part sound.length bytes)) _ 0 sound.head (stated_part sound.length bytes) v _ (let few = part_few sound.length bytes in omega arith) (λ frames v.
     asked_finish (free_ac 1) as_done v _ (λ _ v. more frames _ v))))

@@ -1,7 +1,8 @@
 -- The blocks that aplay sends of a source's bytes, and what is heard of them.
 use Rattle.std.specs.Prelude.{◌≡◌, ℕ, ◌+◌, ◌*◌, ◌/◌, ◌<◌, ◌≤◌, nat_lt, if◌then◌else◌, true, ℤ, pos, List, [], ◌∷◌, map, length, slice_get, slice_index_or, Some}
 use Rattle.af_sample.specs.declared.sample_type.SampleType.{SampleType}
-use Rattle.af_sample.specs.SampleTypes.{width_of}
+use Rattle.af_sample.specs.Channels.{IsChannelCount}
+use Rattle.af_sample.specs.SampleTypes.{frame_bytes}
 use Rattle.af_sample.specs.Samples.{samples}
 use Rattle.af_sample.specs.Gains.{gained}
 use Rattle.af_sample.specs.Heard.{covers, heard, AcceptedPlay}
@@ -20,9 +21,9 @@ sent_behind width before (block ∷ more) =
     then (record { before = before; bytes = whole_frames width block }) ∷ sent_behind width (before + frames_in width block) more
     else []
 
--- the blocks that are sent of a source's bytes, each of n frames but for the last
-abbrev pub sent_blocks : SampleType → ℕ → List ℕ → List Block
-sent_blocks ty frames bytes = sent_behind (width_of ty) 0 (blocks (frames * width_of ty) bytes)
+-- the blocks that are sent of a source's bytes, each of n frames of so many channels but for the last
+abbrev pub sent_blocks : SampleType → (channels frames : ℕ) → List ℕ → List Block
+sent_blocks ty channels frames bytes = sent_behind (frame_bytes ty channels) 0 (blocks (frames * frame_bytes ty channels) bytes)
 
 -- the samples of bytes, converted and under a gain
 abbrev pub gained_samples : SampleType → ℤ → List ℕ → List ℤ
@@ -34,15 +35,20 @@ pub record IsEntryOf (ty : SampleType) (gain : ℤ) (start : ℕ) (block : Block
   pub its_samples : entry.samples ≡ gained_samples ty gain block.bytes
   pub in_time : entry.at ≤ entry.start
 
--- Each block has an entry in an accepted list of a device with one channel, at a place of its own, and no entry at another place
--- covers a time of the frames.
-pub record AreAccepted (ty : SampleType) (gain : ℤ) (start frames : ℕ) (sent : List Block) (accepted : List AcceptedPlay) : Type 0 where
+-- Each block has an entry in an accepted list of a device with so many channels, at a place of its own, and no entry at another
+-- place covers a time of the frames.
+pub record AreAccepted (ty : SampleType) (channels : ℕ) (gain : ℤ) (start frames : ℕ) (sent : List Block) (accepted : List AcceptedPlay) : Type 0 where
   pub place : ℕ → ℕ
   pub each : (k : ℕ) (block : Block) → slice_get sent k ≡ Some block → (entry : AcceptedPlay) × (slice_get accepted (place k) ≡ Some entry) × IsEntryOf ty gain start block entry
-  pub no_other : (j i : ℕ) (entry : AcceptedPlay) → slice_get accepted j ≡ Some entry → i < frames → covers 1 entry (start + i) ≡ true → (k : ℕ) × (k < length sent) × (j ≡ place k)
+  pub no_other : (j i : ℕ) (entry : AcceptedPlay) → slice_get accepted j ≡ Some entry → i < frames → covers channels entry (start + i) ≡ true → (k : ℕ) × (k < length sent) × (j ≡ place k)
 
--- Where the blocks of a source's bytes are accepted, what is heard is the samples of its whole frames.
+-- the sample of a channel in frame i
+abbrev pub sample_in : (channels : ℕ) → List ℤ → (i channel : ℕ) → ℤ
+sample_in channels xs i channel = slice_index_or xs (channels * i + channel) (pos 0)
+
+-- Where the blocks of a source's bytes are accepted, what is heard in each channel is the samples of its whole frames.
 abbrev pub HeardAsIntended : Type 0
-HeardAsIntended = (ty : SampleType) (gain : ℤ) (block : ℕ) (bytes : List ℕ) (start : ℕ) (accepted : List AcceptedPlay) → 0 < block →
-    AreAccepted ty gain start (length bytes / width_of ty) (sent_blocks ty block bytes) accepted →
-    (i : ℕ) → i < length bytes / width_of ty → heard 1 accepted (start + i) 0 ≡ slice_index_or (gained_samples ty gain bytes) i (pos 0)
+HeardAsIntended = (ty : SampleType) (channels : ℕ) (gain : ℤ) (block : ℕ) (bytes : List ℕ) (start : ℕ) (accepted : List AcceptedPlay) → IsChannelCount channels → 0 < block →
+    AreAccepted ty channels gain start (length bytes / frame_bytes ty channels) (sent_blocks ty channels block bytes) accepted →
+    (i channel : ℕ) → i < length bytes / frame_bytes ty channels → channel < channels →
+    heard channels accepted (start + i) channel ≡ sample_in channels (gained_samples ty gain bytes) i channel

@@ -1,37 +1,44 @@
 -- What aplay has sent and written where it is done, and what is heard of it.
-use Rattle.std.specs.Prelude.{◌≡◌, ℕ, ◌+◌, ◌/◌, ◌%◌, ◌^◌, ◌<◌, false, pos, List, ◌++◌, length, slice_get, slice_index_or, Ok}
+use Rattle.std.specs.Prelude.{◌≡◌, ℕ, ◌+◌, ◌/◌, ◌%◌, ◌^◌, ◌<◌, false, List, ◌++◌, length, slice_get, Ok}
 use Rattle.std.specs.List.{flat_map}
 use Rattle.std.specs.declared.option.Option.{Option}
 use Rattle.std.specs.declared.option.Option.TheVariants.{Some}
 use Rattle.af_time.specs.DeviceTime.{frames_lasting}
 use Rattle.af_time.specs.declared.DevTime.{DevTime}
 use Rattle.af_sample.specs.declared.sample_type.SampleType.{SampleType}
-use Rattle.af_sample.specs.SampleTypes.{width_of}
+use Rattle.af_sample.specs.SampleTypes.{frame_bytes}
 use Rattle.af_sample.specs.Heard.{heard, AcceptedPlay}
 use Rattle.af_io.specs.Observed.{Appended}
+use Rattle.af_wire.specs.declared.order.Order.{Order}
 use Rattle.af_request.specs.declared.reply.DeviceInfo.{DeviceInfo}
 use Rattle.af_request.specs.Asked.{free_ac, get_time, play_run}
 use Rattle.af_request.specs.Requests.{request_bytes}
 use Rattle.af_lib.specs.Calls.{as_time}
 use Rattle.af_options.specs.declared.job.PlayJob.{PlayJob}
 use Rattle.af_tool.specs.Trace.{ClientState, answer_on, after_reply}
-use Rattle.af_tools.specs.Play.{play_context, played, start_at}
+use Rattle.af_tools.specs.Play.{play_context, played, played_frames, start_at}
 use Rattle.af_tools.specs.Sounds.{GivesSamples}
-use Rattle.af_tools.specs.Blocks.{gained_samples, sent_blocks, AreAccepted, Block}
+use Rattle.af_tools.specs.Blocks.{gained_samples, sample_in, sent_blocks, AreAccepted, Block}
 
 -- a block is played at the start plus the frames before it
-abbrev pub play_of : ℕ → Block → List ℕ
-play_of start block = request_bytes (play_run false 1 ((start + block.before) % 2 ^ 32) block.bytes)
+abbrev pub play_of : Order → ℕ → Block → List ℕ
+play_of order start block = request_bytes order (play_run false 1 ((start + block.before) % 2 ^ 32) block.bytes)
 
--- what is sent of samples of a type: a context is made and the time asked, each block is played, and the context is freed
-abbrev pub played_whole : PlayJob → SampleType → List ℕ → ℕ → List ℕ
-played_whole job ty samples start =
-    request_bytes (play_context job ty) ++ (request_bytes (get_time job.device)
-    ++ (flat_map (play_of start) (sent_blocks ty job.block samples) ++ request_bytes (free_ac 1)))
+-- the blocks of a job that are sent of such samples
+abbrev pub blocks_sent : PlayJob → SampleType → (channels : ℕ) → List ℕ → List Block
+blocks_sent job ty channels samples = sent_blocks ty channels (played_frames job ty channels) samples
+
+-- what is sent of samples of a type, of so many channels: a context is made and the time asked, each block is played, and the context
+-- is freed
+abbrev pub played_whole : Order → PlayJob → SampleType → (channels : ℕ) → List ℕ → ℕ → List ℕ
+played_whole order job ty channels samples start =
+    request_bytes order (play_context job ty channels) ++ (request_bytes order (get_time job.device)
+    ++ (flat_map (play_of order start) (blocks_sent job ty channels samples) ++ request_bytes order (free_ac 1)))
 
 -- A job is done on the device with the samples that the source gives, raw or in a sound file, from a start on, which is stated or
--- follows the time that the device told, and which is written behind the number of whole frames. Where a device, whose one channel
--- the context names, accepts the blocks from a whole time on that is this start modulo 2^32, it plays the samples of the source.
+-- follows the time that the device told, and which is written behind the number of whole frames. Where a device with the channels
+-- that the context names accepts the blocks from a whole time on that is this start modulo 2^32, it plays the samples of the source in
+-- each of them.
 pub record IsPlayed (job : PlayJob) (devices : List DeviceInfo) (bytes : List ℕ) (w : ClientState) (sent sent' held held' : Option (List ℕ)) : Type 0 where
   pub device : DeviceInfo
   pub is_there : slice_get devices job.device ≡ Some device
@@ -42,8 +49,9 @@ pub record IsPlayed (job : PlayJob) (devices : List DeviceInfo) (bytes : List �
   pub told : answer_on (get_time job.device) as_time (after_reply w) ≡ Ok now
   pub start : ℕ
   pub starts : start ≡ start_at job.time now.0 (frames_lasting device.rate job.lead)
-  pub link : Appended sent (played_whole job ty samples start) sent'
-  pub sink : Appended held (played (length samples / width_of ty) start) held'
+  pub link : Appended sent (played_whole w.order job ty device.channels samples start) sent'
+  pub sink : Appended held (played (length samples / frame_bytes ty device.channels) start) held'
   pub hears : (whole : ℕ) (accepted : List AcceptedPlay) → whole % 2 ^ 32 ≡ start →
-      AreAccepted ty job.gain whole (length samples / width_of ty) (sent_blocks ty job.block samples) accepted →
-      (i : ℕ) → i < length samples / width_of ty → heard 1 accepted (whole + i) 0 ≡ slice_index_or (gained_samples ty job.gain samples) i (pos 0)
+      AreAccepted ty device.channels job.gain whole (length samples / frame_bytes ty device.channels) (blocks_sent job ty device.channels samples) accepted →
+      (i channel : ℕ) → i < length samples / frame_bytes ty device.channels → channel < device.channels →
+      heard device.channels accepted (whole + i) channel ≡ sample_in device.channels (gained_samples ty job.gain samples) i channel

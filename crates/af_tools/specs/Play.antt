@@ -1,16 +1,18 @@
 -- What aplay does: the bytes of its source are cut into blocks, and each block is played at its time.
-use Rattle.std.specs.Prelude.{ℕ, zero, suc, ◌+◌, ◌*◌, ◌/◌, ◌%◌, ◌^◌, nat_lt, if◌then◌else◌, pos, false, List, [], ◌∷◌, ◌++◌, length, take, drop, codes, decimal}
+use Rattle.std.specs.Prelude.{◌≤◌, ℕ, zero, suc, ◌+◌, ◌*◌, ◌/◌, ◌%◌, ◌^◌, nat_lt, if◌then◌else◌, pos, false, List, [], ◌∷◌, ◌++◌, length, take, drop, codes, decimal}
 use Rattle.std.specs.declared.option.Option.{Option}
 use Rattle.std.specs.declared.option.Option.TheVariants.{None, Some}
 use Rattle.af_time.specs.DeviceTime.{frames_lasting}
 use Rattle.af_sample.specs.declared.sample_type.SampleType.{SampleType}
-use Rattle.af_sample.specs.SampleTypes.{code_of}
+use Rattle.af_sample.specs.Channels.{IsChannelCount}
+use Rattle.af_sample.specs.SampleTypes.{code_of, frame_bytes}
 use Rattle.af_sound.specs.declared.head.Coding.{Coding}
 use Rattle.af_request.specs.declared.reply.DeviceInfo.{DeviceInfo}
 use Rattle.af_request.specs.Asked.{Asked, create_ac, free_ac, play_run}
 use Rattle.af_request.specs.Fields.{flag_byte}
 use Rattle.af_lib.specs.Calls.{as_done, as_time}
 use Rattle.af_options.specs.declared.job.PlayJob.{PlayJob}
+use Rattle.af_options.specs.Sizes.{block_frames, greatest_block}
 use Rattle.af_tool.specs.Trace.{Trace, ClientState, asks, begins, done, ends, too_long, with_job_device, writing}
 use Rattle.af_tools.specs.declared.sound.SourceSound.{SourceSound}
 use Rattle.af_tools.specs.Most.{most_bytes}
@@ -46,6 +48,18 @@ plays coding width start sent given (block ∷ more) w next =
     (λ _ v. plays coding width start (sent + frames_in width block) (given + length block) more v next)
     else next sent w
 
+-- the blocks of a sound, each of n frames, are played from a start on; the head of a file was read before
+unfoldable pub plays_sound : SourceSound → (frames start : ℕ) → List ℕ → ClientState → (ℕ → ClientState → Trace) → Trace
+plays_sound sound frames start bytes w next =
+    let width = source_width sound.coding sound.ty sound.channels in
+    plays sound.coding width start 0 sound.head (blocks (frames * width) (stated_part sound.length bytes)) w next
+
+-- a block of n frames that one Play may say: some frames, and no more bytes than the greatest block has
+pub record IsBlock (ty : SampleType) (channels frames : ℕ) : Type 0 where
+  pub count : IsChannelCount channels
+  pub some : 1 ≤ frames
+  pub fits : frames * frame_bytes ty channels ≤ greatest_block
+
 -- the start, if it is stated, or else n frames after the device's time
 abbrev pub start_at : Option ℕ → ℕ → ℕ → ℕ
 start_at (Some time) now lead = time
@@ -55,18 +69,21 @@ start_at None now lead = (now + lead) % 2 ^ 32
 unfoldable pub played : ℕ → ℕ → List ℕ
 played sent start = codes "played " ++ decimal sent ++ codes " at " ++ decimal start ++ codes "\n"
 
--- the context of a job for samples of a type
-abbrev pub play_context : PlayJob → SampleType → Asked
-play_context job ty = create_ac job.device 1 (code_of ty) 1 (flag_byte job.preempt) job.gain (pos 0)
+-- the context of a job for samples of a type, of so many channels
+abbrev pub play_context : PlayJob → SampleType → (channels : ℕ) → Asked
+play_context job ty channels = create_ac job.device 1 (code_of ty) channels (flag_byte job.preempt) job.gain (pos 0)
+
+-- the frames of a block of such samples
+abbrev pub played_frames : PlayJob → SampleType → (channels : ℕ) → ℕ
+played_frames job ty channels = block_frames job.block (frame_bytes ty channels)
 
 -- a context is made and the device's time asked, the blocks are played, and the context is freed; what follows is told how
 -- many frames these were, and from when on
 unfoldable pub played_on : PlayJob → SourceSound → DeviceInfo → List ℕ → ClientState → (ℕ → ℕ → ClientState → Trace) → Trace
 played_on job sound device bytes w next =
-    let width = source_width sound.coding sound.ty in
-    begins (play_context job sound.ty) job.device w (λ now w.
+    begins (play_context job sound.ty sound.channels) job.device w (λ now w.
     let start = start_at job.time now.0 (frames_lasting device.rate job.lead) in
-    plays sound.coding width start 0 sound.head (blocks (job.block * width) (stated_part sound.length bytes)) w (λ frames w.
+    plays_sound sound (played_frames job sound.ty sound.channels) start bytes w (λ frames w.
     asks (free_ac 1) as_done w (λ _ w. next frames start w)))
 
 -- the trace of aplay, by the devices of the server, the bytes of the source, and what the link gives: it reads a head, if the source

@@ -28,7 +28,7 @@ abbrev pub RunsTool : {L K : Type 0} → (left sent : L → Option (List ℕ)) �
 RunsTool left sent held trace device how conn conn' sink sink' = (input : List ℕ) → left conn.link ≡ Some input →
     ToolRan (trace (client_of conn input)) device conn.devices how (sent conn.link) (sent conn'.link) (held sink) (held sink')
 
--- a source that is no sound file, or of another rate or other channels than the device
+-- a source that is no sound file, or a file or a device of another rate or other channels than the device that is played to
 abbrev pub is_of_sound_finish : Finish → Bool
 is_of_sound_finish (mismatch from to) = true
 is_of_sound_finish (channel_mismatch from to) = true
@@ -36,8 +36,8 @@ is_of_sound_finish (bad_sound fault) = true
 is_of_sound_finish sound_cut = true
 is_of_sound_finish _ = false
 
--- Where a source is no sound that its device plays, the tool ends with that, unless something from outside has ended it; and it ends so
--- only there.
+-- Where a source is no sound that its device plays, or a device has what another does not play, the tool ends with that, unless
+-- something from outside has ended it; and it ends so only there.
 pub record EndsBySound (trace : Trace) (how : ToolEnd) : Type 0 where
   pub only : (finish : Finish) → is_of_sound_finish finish ≡ true → how ≡ tool_end finish → trace.finish ≡ finish
   pub always : (finish : Finish) → is_of_sound_finish finish ≡ true → trace.finish ≡ finish → (how ≡ tool_end finish) ⊎ (is_outer how ≡ true)

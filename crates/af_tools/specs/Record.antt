@@ -58,7 +58,7 @@ records_all job sound start w next =
 
 -- the context of a job on a device
 abbrev pub record_context : RecordJob → DeviceInfo → Asked
-record_context job device = create_ac job.device 1 (code_of (recorded_sound job device).ty) 1 0 (pos 0) job.gain
+record_context job device = create_ac job.device 1 (code_of (recorded_sound job device).ty) device.channels 0 (pos 0) job.gain
 
 -- the blocks are recorded from a start on; of a file the head is written before them, and behind them the byte that makes the sound of
 -- a WAVE file even

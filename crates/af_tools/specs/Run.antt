@@ -10,16 +10,17 @@ use Rattle.af_tool.specs.declared.end.ToolEnd.{ToolEnd}
 use Rattle.af_tool.specs.declared.end.ToolEnd.TheVariants as end
 use Rattle.af_options.specs.declared.job.Task.{Task}
 use Rattle.af_options.specs.declared.job.Task.TheVariants as task
-use Rattle.af_tool.specs.Trace.{Trace, ClientState, bad_sound, channel_mismatch, dials, mismatch, next_message, no_device, set_up, sound_cut, unused}
+use Rattle.af_tool.specs.Trace.{Trace, ClientState, bad_sound, channel_mismatch, dials, mismatch, no_device, set_up, setup_answer, sound_cut}
 use Rattle.af_tools.specs.Most.{most_bytes}
 use Rattle.af_tools.specs.Play.{aplay_trace}
 use Rattle.af_tools.specs.Record.{arecord_trace}
 use Rattle.af_tools.specs.Set.{aset_trace}
 use Rattle.af_options.specs.declared.job.PassJob.{PassJob}
 use Rattle.af_options.specs.declared.job.PlayJob.{PlayJob}
+use Rattle.af_wire.specs.declared.order.Order.{Order}
 use Rattle.af_options.specs.declared.job.RecordJob.{RecordJob}
 use Rattle.af_wire.specs.Front.{setup_bytes}
-use Rattle.af_lib.specs.Calls.{answered, as_devices, ConnState}
+use Rattle.af_lib.specs.Calls.{ConnState}
 use Rattle.af_relay.specs.Pass.{RelayTrace, apass_trace, on_from, on_to}
 use Rattle.af_tools.specs.Dialled.{alone, dials_to, relay_trace}
 use Rattle.af_relay.specs.Relayed.{IsRelayed}
@@ -40,14 +41,14 @@ task_trace (task.Play job) devices bytes w = aplay_trace job devices bytes w
 task_trace (task.Record job) devices bytes w = arecord_trace job devices w
 task_trace (task.Set job) devices bytes w = aset_trace job devices w
 
--- the trace of a tool with one server: it dials it, sets the link up, and does its task
-abbrev pub one_trace : Task → List ToldLink → List ℕ → Trace
-one_trace task links bytes = dials links (λ devices w. task_trace task devices bytes w)
+-- the trace of a tool with one server: it dials it, sets the link up in an order, and does its task
+abbrev pub one_trace : Order → Task → List ToldLink → List ℕ → Trace
+one_trace order task links bytes = dials order links (λ devices w. task_trace task devices bytes w)
 
 -- the trace of a tool, by its job, the links that a dial gives, and the bytes of the source
 abbrev pub run_trace : Job → List ToldLink → List ℕ → RelayTrace
-run_trace (one server task) links bytes = alone (one_trace task links bytes)
-run_trace (relay from to job) links bytes = relay_trace job links
+run_trace (one server order task) links bytes = alone (one_trace order task links bytes)
+run_trace (relay from to order job) links bytes = relay_trace order job links
 
 -- whether a tool reads its source
 abbrev pub reads_source : Task → Bool
@@ -56,8 +57,8 @@ reads_source (task.Record job) = false
 reads_source (task.Set job) = false
 
 abbrev pub job_reads : Job → Bool
-job_reads (one server task) = reads_source task
-job_reads (relay from to job) = false
+job_reads (one server order task) = reads_source task
+job_reads (relay from to order job) = false
 
 -- the form of the sound file that a tool reads, if it reads one
 abbrev pub source_form : Task → Option SoundForm
@@ -66,8 +67,8 @@ source_form (task.Record job) = None
 source_form (task.Set job) = None
 
 abbrev pub job_form : Job → Option SoundForm
-job_form (one server task) = source_form task
-job_form (relay from to job) = None
+job_form (one server order task) = source_form task
+job_form (relay from to order job) = None
 
 abbrev pub form_of : Option Job → Option SoundForm
 form_of (Some j) = job_form j
@@ -97,8 +98,8 @@ is_of_relay how = is_of_over how
 
 -- the ends of a job
 abbrev pub is_of_job : Job → ToolEnd → Bool
-is_of_job (one server task) how = is_of_one (reads_source task) how
-is_of_job (relay from to job) how = is_of_relay how
+is_of_job (one server order task) how = is_of_one (reads_source task) how
+is_of_job (relay from to order job) how = is_of_relay how
 
 -- the ends of the program: Usage, and those of the job that its words name; if they name none, want of memory
 abbrev pub is_of_named : Option Job → ToolEnd → Bool
@@ -130,12 +131,12 @@ pub record RanOne (trace : Trace) (how : ToolEnd) (links : List ToldLink) (links
 
 -- What a relay does behind the setup of its first link, which gives this and had been sent that: the second server is dialled, or
 -- not, and both links are given back in the order in which they were dialled.
-pub record RelayRanTo (job : PassJob) (from : List DeviceInfo) (v : ClientState) (how : ToolEnd) (links : List ToldLink) (links' : Option (List ToldLink)) (sent held held' : Option (List ℕ)) (back back' : Option (List (List ℕ))) : Type 0 where
+pub record RelayRanTo (order : Order) (job : PassJob) (from : List DeviceInfo) (v : ClientState) (how : ToolEnd) (links : List ToldLink) (links' : Option (List ToldLink)) (sent held held' : Option (List ℕ)) (back back' : Option (List (List ℕ))) : Type 0 where
   pub sends_from : List ℕ
   pub sends_to : List ℕ
   pub output : List ℕ
-  pub recorded : MatchesTrace (on_from (dials_to links (λ to w. apass_trace job from to v w))) how sends_from output
-  pub played : MatchesTrace (on_to (dials_to links (λ to w. apass_trace job from to v w))) how sends_to output
+  pub recorded : MatchesTrace (on_from (dials_to order links (λ to w. apass_trace job from to v w))) how sends_from output
+  pub played : MatchesTrace (on_to (dials_to order links (λ to w. apass_trace job from to v w))) how sends_to output
   pub sink : Appended held output held'
   pub after : Option (List ℕ)
   pub link : Appended sent sends_from after
@@ -154,8 +155,8 @@ ReturnedLinks links links' sends_from sends_to back back' =
 
 -- memory runs out before any request was sent, and of a tool with one server before its setup
 abbrev pub IsEarly : Job → (sends_from sends_to : List ℕ) → Type 0
-IsEarly (one server task) sends_from sends_to = (sends_from ≡ []) × (sends_to ≡ [])
-IsEarly (relay from to job) sends_from sends_to = ((sends_from ≡ []) ⊎ (sends_from ≡ setup_bytes)) × (sends_to ≡ [])
+IsEarly (one server order task) sends_from sends_to = (sends_from ≡ []) × (sends_to ≡ [])
+IsEarly (relay from to order job) sends_from sends_to = ((sends_from ≡ []) ⊎ (sends_from ≡ setup_bytes order)) × (sends_to ≡ [])
 
 -- A tool ran: what it sent on its one or two links and what it wrote are those of its trace, or prefixes where something from
 -- outside ended it, and the links were given back.
@@ -170,39 +171,39 @@ pub record JobRan (j : Job) (bytes : List ℕ) (how : ToolEnd) (links : List Tol
   pub early : how ≡ end.OutOfMemory → IsEarly j sends_from sends_to
 
 -- What a relay has passed between its two servers: its first two links were set up and then used, and given back in their order.
-pub record RelayRan (job : PassJob) (links : List ToldLink) (links' : Option (List ToldLink)) (held held' : Option (List ℕ)) (back back' : Option (List (List ℕ))) : Type 0 where
+pub record RelayRan (order : Order) (job : PassJob) (links : List ToldLink) (links' : Option (List ToldLink)) (held held' : Option (List ℕ)) (back back' : Option (List (List ℕ))) : Type 0 where
   pub first : ToldLink
   pub second : ToldLink
   pub rest : List ToldLink
   pub links_are : links ≡ first ∷ second ∷ rest
   pub from : List DeviceInfo
-  pub set : answered as_devices 0 0 (next_message (unused first.gives)).found ≡ Ok from
+  pub set : setup_answer order first.gives ≡ Ok from
   pub sends_from : List ℕ
   pub sends_to : List ℕ
-  pub relayed : IsRelayed job from (set_up first.gives) (set_up second.gives) (Some []) (Some sends_from) (Some []) (Some sends_to) held held'
-  pub link : ReturnedLinks links links' (setup_bytes ++ sends_from) (setup_bytes ++ sends_to) back back'
+  pub relayed : IsRelayed job from (set_up order first.gives) (set_up order second.gives) (Some []) (Some sends_from) (Some []) (Some sends_to) held held'
+  pub link : ReturnedLinks links links' (setup_bytes order ++ sends_from) (setup_bytes order ++ sends_to) back back'
 
 -- What aplay has played on its server: its link was set up and then used, and given back.
-pub record PlayRan (job : PlayJob) (bytes : List ℕ) (links : List ToldLink) (links' : Option (List ToldLink)) (held held' : Option (List ℕ)) (back back' : Option (List (List ℕ))) : Type 0 where
+pub record PlayRan (order : Order) (job : PlayJob) (bytes : List ℕ) (links : List ToldLink) (links' : Option (List ToldLink)) (held held' : Option (List ℕ)) (back back' : Option (List (List ℕ))) : Type 0 where
   pub first : ToldLink
   pub rest : List ToldLink
   pub links_are : links ≡ first ∷ rest
   pub devices : List DeviceInfo
-  pub set : answered as_devices 0 0 (next_message (unused first.gives)).found ≡ Ok devices
+  pub set : setup_answer order first.gives ≡ Ok devices
   pub sends : List ℕ
-  pub played : IsPlayed job devices bytes (set_up first.gives) (Some []) (Some sends) held held'
-  pub link : ReturnedLinks links links' (setup_bytes ++ sends) [] back back'
+  pub played : IsPlayed job devices bytes (set_up order first.gives) (Some []) (Some sends) held held'
+  pub link : ReturnedLinks links links' (setup_bytes order ++ sends) [] back back'
 
 -- What arecord has recorded on its server: its link was set up and then used, and given back.
-pub record RecordRan (job : RecordJob) (links : List ToldLink) (links' : Option (List ToldLink)) (held held' : Option (List ℕ)) (back back' : Option (List (List ℕ))) : Type 0 where
+pub record RecordRan (order : Order) (job : RecordJob) (links : List ToldLink) (links' : Option (List ToldLink)) (held held' : Option (List ℕ)) (back back' : Option (List (List ℕ))) : Type 0 where
   pub first : ToldLink
   pub rest : List ToldLink
   pub links_are : links ≡ first ∷ rest
   pub devices : List DeviceInfo
-  pub set : answered as_devices 0 0 (next_message (unused first.gives)).found ≡ Ok devices
+  pub set : setup_answer order first.gives ≡ Ok devices
   pub sends : List ℕ
-  pub recorded : IsRecorded job devices (set_up first.gives) (Some []) (Some sends) held held'
-  pub link : ReturnedLinks links links' (setup_bytes ++ sends) [] back back'
+  pub recorded : IsRecorded job devices (set_up order first.gives) (Some []) (Some sends) held held'
+  pub link : ReturnedLinks links links' (setup_bytes order ++ sends) [] back back'
 
 -- the same by what the links that a dial gives, a sink, and a source if the job reads it tell
 abbrev pub RunsJob : {D S K : Type 0} → (links : D → Option (List ToldLink)) → (back : D → Option (List (List ℕ))) → (gives : S → Option (List ℕ)) → (held : K → Option (List ℕ)) →
@@ -213,10 +214,10 @@ RunsJob links back gives held j how dial dial' source source' sink sink' =
 
 -- the same of a relay behind the setup of its first link
 abbrev pub RunsRelayTo : {F D K : Type 0} → (left sent : F → Option (List ℕ)) → (links : D → Option (List ToldLink)) → (back : D → Option (List (List ℕ))) → (held : K → Option (List ℕ)) →
-    PassJob → ToolEnd → ConnState F → (dial dial' : D) → (sink sink' : K) → Type 0
-RunsRelayTo left sent links back held job how conn dial dial' sink sink' =
+    Order → PassJob → ToolEnd → ConnState F → (dial dial' : D) → (sink sink' : K) → Type 0
+RunsRelayTo left sent links back held order job how conn dial dial' sink sink' =
     (v : List ℕ) (told : List ToldLink) → left conn.link ≡ Some v → links dial ≡ Some told →
-    RelayRanTo job conn.devices (client_of conn v) how told (links dial') (sent conn.link) (held sink) (held sink') (back dial) (back dial')
+    RelayRanTo order job conn.devices (client_of conn v) how told (links dial') (sent conn.link) (held sink) (held sink') (back dial) (back dial')
 
 -- where two devices have different rates, the tool ends with that, unless something from outside has ended it; and it ends so only
 -- there
@@ -232,8 +233,8 @@ pub record EndsByDevice (trace : Trace) (how : ToolEnd) : Type 0 where
 
 -- the addresses of a job, in order
 abbrev pub servers_of : Job → List Text
-servers_of (one server task) = server ∷ []
-servers_of (relay from to job) = from ∷ to ∷ []
+servers_of (one server order task) = server ∷ []
+servers_of (relay from to order job) = from ∷ to ∷ []
 
 -- The first of some addresses were asked for, in order: none only where memory ran out before, and all where the tool is done.
 pub record AskedFor (servers : List Text) (how : ToolEnd) (asked asked' : Option (List Text)) : Type 0 where
@@ -263,9 +264,9 @@ pub record JobDone (j : Job) (bytes : List ℕ) (how : ToolEnd) (links : List To
   pub device : EndsByDevice (on_from (run_trace j links bytes)) how
   pub rates : EndsByRates (on_from (run_trace j links bytes)) how
   pub sound : EndsBySound (on_from (run_trace j links bytes)) how
-  pub heard : (server : Text) (play : PlayJob) → j ≡ one server (task.Play play) → how ≡ end.Done → PlayRan play bytes links links' held held' back back'
-  pub recorded : (server : Text) (recording : RecordJob) → j ≡ one server (task.Record recording) → how ≡ end.Done → RecordRan recording links links' held held' back back'
-  pub relayed : (from to : Text) (pass : PassJob) → j ≡ relay from to pass → how ≡ end.Done → RelayRan pass links links' held held' back back'
+  pub heard : (server : Text) (order : Order) (play : PlayJob) → j ≡ one server order (task.Play play) → how ≡ end.Done → PlayRan order play bytes links links' held held' back back'
+  pub recorded : (server : Text) (order : Order) (recording : RecordJob) → j ≡ one server order (task.Record recording) → how ≡ end.Done → RecordRan order recording links links' held held' back back'
+  pub relayed : (from to : Text) (order : Order) (pass : PassJob) → j ≡ relay from to order pass → how ≡ end.Done → RelayRan order pass links links' held held' back back'
   pub complete : length bytes ≤ most_bytes → IsServed (on_from (run_trace j links bytes)) → (how ≡ end.Done) ⊎ (is_outer how ≡ true)
 
 -- the same by what the links that a dial gives, a sink, and a source if the job reads it tell

@@ -1,5 +1,5 @@
 -- What a source gives to be played: samples, or a sound file.
-use Rattle.std.specs.Prelude.{◌≡◌, ℕ, ◌-◌, ◌==◌, ◌≤◌, nat_lt, min, ⊤, if◌then◌else◌, List, ◌++◌, take, drop, unwrap_or}
+use Rattle.std.specs.Prelude.{◌≡◌, ℕ, ◌-◌, ◌*◌, ◌==◌, ◌≤◌, nat_lt, min, ⊤, if◌then◌else◌, List, ◌++◌, take, drop, unwrap_or}
 use Rattle.std.specs.declared.option.Option.{Option}
 use Rattle.std.specs.declared.option.Option.TheVariants.{None, Some}
 use Rattle.af_sample.specs.declared.sample_type.SampleType.{SampleType}
@@ -38,9 +38,13 @@ as_served (Some coding) bytes = served coding bytes
 as_served None bytes = bytes
 
 -- the bytes of a sample in the source
-abbrev pub source_width : Option Coding → SampleType → ℕ
-source_width (Some coding) ty = sample_size coding
-source_width None ty = width_of ty
+abbrev pub source_sample : Option Coding → SampleType → ℕ
+source_sample (Some coding) ty = sample_size coding
+source_sample None ty = width_of ty
+
+-- the bytes of a frame in the source, which has a sample for each channel
+abbrev pub source_width : Option Coding → SampleType → (channels : ℕ) → ℕ
+source_width coding ty channels = source_sample coding ty * channels
 
 -- A source's bytes are a file of this form whose head tells the device's rate and channels, and these are the samples of the sound
 -- behind it, as a server takes them as this type.
@@ -67,11 +71,17 @@ IsPlayable job device bytes = (ty : SampleType) × (samples : List ℕ) × Gives
 
 -- the samples of a source without a head
 abbrev pub raw_sound : PlayJob → DeviceInfo → SourceSound
-raw_sound job device = record { ty = unwrap_or job.ty device.ty; coding = None; head = 0; length = None }
+raw_sound job device = record { ty = unwrap_or job.ty device.ty; channels = device.channels; coding = None; head = 0; length = None }
 
--- the samples of a file behind a head of n bytes
-abbrev pub file_sound : SoundHead → ℕ → SourceSound
-file_sound head size = record { ty = served_type head.coding; coding = Some head.coding; head = size; length = head.length }
+-- the samples of a file behind a head of n bytes, which has the channels of its device
+abbrev pub file_sound : DeviceInfo → SoundHead → ℕ → SourceSound
+file_sound device head size = record {
+  ty = served_type head.coding;
+  channels = device.channels;
+  coding = Some head.coding;
+  head = size;
+  length = head.length;
+}
 
 -- a file is to have the rate and the channels of its device
 abbrev pub at_one_shape : SoundHead → DeviceInfo → Trace → Trace
@@ -95,7 +105,7 @@ abbrev pub reads_sound : Option SoundForm → PlayJob → DeviceInfo → List �
 reads_sound None job device bytes next = next (raw_sound job device) bytes
 reads_sound (Some form) job device bytes next =
     let front = front_of form bytes in
-    reads_front front (λ head. at_one_shape head device (next (file_sound head front.size) (drop front.size bytes)))
+    reads_front front (λ head. at_one_shape head device (next (file_sound device head front.size) (drop front.size bytes)))
 
 -- a sound of which a source can give more bytes, and what is stated behind some of them
 abbrev pub FitsStated : Option ℕ → ℕ → Type 0

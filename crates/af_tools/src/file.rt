@@ -1,5 +1,6 @@
 // arecord writes a sound file: a head, samples as the file codes them, and a byte that makes it even.
-ghost use Rattle.std.specs.Prelude.{◌≡◌, ◌<◌, length, IfErr, Err};
+ghost use Rattle.std.specs.Prelude.{◌≡◌, ◌≢◌, ◌<◌, length, Err};
+ghost use Rattle.std.specs.declared.option.Option.TheVariants.{Some};
 ghost use Rattle.af_io.specs.Observed.{CountsFault};
 ghost use Rattle.af_sound.specs.Written.{IsWritableHead};
 ghost use Rattle.af_request.specs.Replies.{IsDeviceInfo};
@@ -113,8 +114,8 @@ pub fn write_front<K: Sink>(
 }
 
 /// Turns samples into those of a file, if they are for one.
-pub fn file_samples(coding: Option<Coding>, samples: &mut [u8], ty: SampleType)
-    requires filed { IsFiledAs coding ty }
+pub fn file_samples(coding: Option<Coding>, samples: &mut [u8])
+    requires written { coding ≢ Some Coding.U8 }
     requires whole { AreWhole coding (length samples.old) }
     ensures { samples.new ≡ as_filed coding samples.old }
 {

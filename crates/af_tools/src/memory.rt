@@ -2,11 +2,9 @@
 ghost use Rattle.std.specs.Prelude.{◌≡◌, length, IfOk};
 ghost use Rattle.af_options.specs.Sizes.{greatest_block};
 
+use af_options::GREATEST_BLOCK;
 use af_time::OutOfMemory;
 use std::alloc::Global;
-
-/// The greatest block, in bytes: 4000 frames of 4 bytes.
-const GREATEST_BLOCK: usize = 16000;
 
 /// What a run takes its memory from: where each connection takes its own, and room for the greatest block.
 #[derive(Drop)]

@@ -10,8 +10,8 @@ ghost use Rattle.af_tool.specs.Trace.{asks};
 ghost use Rattle.af_tool.specs.Ends.{is_of_link, KeepsConnection, ObservedPartOver};
 ghost use Rattle.af_sound.specs.Served.{served_length};
 ghost use Rattle.af_tools.specs.Most.{most_bytes};
-ghost use Rattle.af_tools.specs.Play.{blocks, plays};
-ghost use Rattle.af_tools.specs.Sounds.{as_served, served_room, source_width, stated_part, AreWhole, IsServedAs};
+ghost use Rattle.af_tools.specs.Play.{plays_sound, IsBlock};
+ghost use Rattle.af_tools.specs.Sounds.{as_served, served_room, AreWhole, IsServedAs};
 ghost use Rattle.af_tools.specs.Ways.{is_of_blocks};
 ghost use Rattle.af_tools.specs.Fill.{ConsumedBeyond, ConsumedStated, ConsumedUpTo};
 ghost use Rattle.af_tools.specs.Reading.{ObservedPartReading};
@@ -21,6 +21,7 @@ use crate::fill::{fill_stated, left_behind};
 use crate::sound::SourceSound;
 use af_io::{Link, Source};
 use af_lib::Conn;
+use af_options::GREATEST_BLOCK;
 use af_sound::{Coding, to_server};
 use af_time::DevTime;
 use af_tool::{CONTEXT, ToolEnd, time_behind};
@@ -32,7 +33,7 @@ pub const MOST_BYTES: u64 = 1 << 40;
 #[derive(Clone, Copy)]
 pub struct Playback {
     pub sound: SourceSound,
-    /// The frames of a block, 1..4000.
+    /// The frames of a block.
     pub block: u32,
     pub start: DevTime,
 }
@@ -93,7 +94,7 @@ fn play_block<L: Link + Drop>(
 }
 
 /// Plays the sound that a source gives, in blocks, from a start on: how many frames these were. Bytes at the end that make no whole
-/// frame are dropped. In the room a block is read, and behind it converted.
+/// frame are dropped. In the room a block is read.
 pub fn play_blocks<L: Link + Drop, S: Source>(
     conn: &mut Conn<L>,
     source: &mut S,
@@ -101,12 +102,11 @@ pub fn play_blocks<L: Link + Drop, S: Source>(
     room: &mut [u8],
 ) -> Result<u64, ToolEnd>
     requires usable { conn.old.cause ≡ None }
-    requires block { (1 ≤ playback.block) × (playback.block ≤ 4000) }
+    requires block { IsBlock playback.sound.ty playback.sound.channels playback.block }
     requires sound { IsServedAs playback.sound.coding playback.sound.ty × (playback.sound.head ≤ most_bytes) }
     requires room { greatest_block ≤ length room.old }
     ensures goes { ObservedPartReading L.left L.sent S.left conn.old conn.new source.old source.new
-        (λ bytes w. plays playback.sound.coding (source_width playback.sound.coding playback.sound.ty) playback.start.0 0 playback.sound.head
-        (blocks (playback.block * source_width playback.sound.coding playback.sound.ty) (stated_part playback.sound.length bytes)) w) result }
+        (λ bytes w. plays_sound playback.sound playback.block playback.start.0 bytes w) result }
     ensures spent { IfOk result (λ _. IsSpent (S.left source.new)
         ⊎ ConsumedStated playback.sound.length (S.left source.old) (S.left source.new)) }
     ensures long { IsErrOf result ToolEnd.TooLong →
@@ -120,7 +120,8 @@ pub fn play_blocks<L: Link + Drop, S: Source>(
     let Playback { sound, start, .. } = playback;
     let width = sound.width();
     let size = playback.block as usize * width;
-    let (block, served) = room.split_at_mut(size);
+    let block = &mut room[..size];
+    let mut served = [0; GREATEST_BLOCK];
     let most = MOST_BYTES - sound.head;
     let mut left = sound.length;
     let mut frames = 0u64;
@@ -132,7 +133,7 @@ pub fn play_blocks<L: Link + Drop, S: Source>(
             return Ok(frames);
         }
         let at = time_behind(start, frames);
-        play_block(conn, sound.coding, at, &block[..count * width], served)?;
+        play_block(conn, sound.coding, at, &block[..count * width], &mut served)?;
         frames += count as u64;
         given += filled as u64;
         left = left_behind(left, filled);

@@ -1,9 +1,11 @@
 // aplay: what a source gives is played, and what was played is written to the sink.
-ghost use Rattle.std.specs.Prelude.{◌≡◌, ◌≤◌, ◌⊎◌, ◌-◌, true, length, IfErr, IfOk, IsErrOf};
+ghost use Rattle.std.specs.Prelude.{ℕ, ◌≡◌, ◌≤◌, ◌⊎◌, ◌-◌, true, length, IfErr, IfOk, IsErrOf};
 ghost use Rattle.std.specs.declared.option.Option.TheVariants.{None};
 ghost use Rattle.af_time.specs.DeviceTime.{frames_lasting};
 ghost use Rattle.af_io.specs.Observed.{CountsFault};
 ghost use Rattle.af_io.specs.Flow.{IsSpent};
+ghost use Rattle.af_sample.specs.Channels.{IsChannelCount};
+ghost use Rattle.af_lib.specs.Calls.{device_channels};
 ghost use Rattle.af_tool.specs.Talk.{creates};
 ghost use Rattle.af_tool.specs.Ends.{KeepsConnection};
 ghost use Rattle.af_tools.specs.Play.{play_context, played_on, start_at};
@@ -20,7 +22,7 @@ use crate::report::report;
 use crate::sound::{SourceSound, sound_of};
 use af_io::{Link, Sink, Source};
 use af_lib::Conn;
-use af_options::PlayJob;
+use af_options::{PlayJob, block_frames};
 use af_request::DeviceInfo;
 use af_sample::{Gain, SampleType};
 use af_time::DevTime;
@@ -45,7 +47,7 @@ fn start_of(job: &PlayJob, now: DevTime, rate: u32) -> DevTime
 
 // The context of a job for samples of a type.
 fn context_of(job: &PlayJob, ty: SampleType) -> ToolContext
-    ensures asked { creates result ≡ play_context job.now ty }
+    ensures asked { (channels : ℕ) → creates channels result ≡ play_context job.now ty channels }
     ensures device { result.device ≡ job.now.device }
 {
     ToolContext {
@@ -73,8 +75,10 @@ fn play_on<L: Link + Drop, S: Source>(
     room: &mut [u8],
 ) -> Result<Played, ToolEnd>
     requires usable { conn.old.cause ≡ None }
-    requires block { (1 ≤ plan.job.block) × (plan.job.block ≤ 4000) }
+    requires block { 1 ≤ plan.job.block }
     requires sound { IsServedAs plan.sound.coding plan.sound.ty × (plan.sound.head ≤ most_bytes) }
+    requires channels { device_channels conn.old.devices plan.job.device ≡ plan.sound.channels }
+    requires count { IsChannelCount plan.sound.channels }
     requires room { greatest_block ≤ length room.old }
     ensures goes { ObservedPartReading L.left L.sent S.left conn.old conn.new source.old source.new (λ bytes w next. played_on plan.job
         plan.sound plan.device bytes w (λ frames start. next (record { frames = frames; start = record { 0 = start } }))) result }
@@ -91,9 +95,10 @@ fn play_on<L: Link + Drop, S: Source>(
     let Plan { job, device, sound } = plan;
     let now = begin(conn, context_of(&job, sound.ty))?;
     let start = start_of(&job, now, device.rate);
+    let frame = sound.ty.frame_bytes(sound.channels);
     let playback = Playback {
         sound,
-        block: job.block,
+        block: block_frames(job.block, frame),
         start,
     };
     let frames = play_blocks(conn, source, playback, room)?;

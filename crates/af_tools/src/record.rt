@@ -1,8 +1,9 @@
 // Blocks are recorded, one behind the other, and written to the sink.
-ghost use Rattle.std.specs.Prelude.{◌≡◌, ◌<◌, ◌≤◌, ◌⊎◌, ◌+◌, ◌*◌, ◌^◌, length, nat_lt, if◌then◌else◌, true, Err, IfErr, IfOk};
+ghost use Rattle.std.specs.Prelude.{◌≡◌, ◌<◌, ◌≤◌, ◌+◌, ◌*◌, ◌^◌, length, nat_lt, if◌then◌else◌, true, Err, IfErr, IfOk};
 ghost use Rattle.std.specs.declared.option.Option.{Option};
 ghost use Rattle.std.specs.declared.option.Option.TheVariants.{None};
 ghost use Rattle.af_io.specs.Observed.{CountsFault};
+ghost use Rattle.af_sample.specs.Channels.{IsChannelCount};
 ghost use Rattle.af_tool.specs.Ends.{KeepsConnection};
 ghost use Rattle.af_tools.specs.Files.{IsFiledAs};
 ghost use Rattle.af_tools.specs.Record.{peak, recorded_frame, records_all, takes_block};
@@ -79,7 +80,7 @@ fn record_block<L: Link + Drop, K: Sink>(
 {
     conn.record_run(CONTEXT, at, true, block)?;
     let peak = peak(sound.ty, block);
-    file_samples(sound.coding, block, sound.ty);
+    file_samples(sound.coding, block);
     match sink.write(block) {
         Put::Done => Ok(peak),
         Put::Failed => Err(ToolEnd::SinkFault),
@@ -98,7 +99,7 @@ pub fn record_blocks<L: Link + Drop, K: Sink>(
 ) -> Result<u32, ToolEnd>
     requires usable { conn.old.cause ≡ None }
     requires filed { IsFiledAs sound.coding sound.ty }
-    requires shape { (sound.channels ≡ 1) ⊎ (sound.channels ≡ 2) }
+    requires channels { IsChannelCount sound.channels }
     requires block { (1 ≤ job.now.block) × (job.now.block ≤ 4000) }
     requires stop { (1 ≤ job.now.stop_blocks) × (job.now.stop_blocks ≤ 1000000) }
     requires room { greatest_block ≤ length room.old }

@@ -3,6 +3,7 @@ ghost use Rattle.std.specs.Prelude.{◌≡◌, ◌≤◌, true, length, unwrap_o
 ghost use Rattle.std.specs.declared.option.Option.TheVariants.{None};
 ghost use Rattle.af_io.specs.Observed.{CountsFault};
 ghost use Rattle.af_request.specs.Replies.{IsDeviceInfo};
+ghost use Rattle.af_lib.specs.Calls.{device_channels};
 ghost use Rattle.af_tool.specs.Talk.{creates};
 ghost use Rattle.af_tool.specs.Ends.{KeepsConnection};
 ghost use Rattle.af_tools.specs.Record.{arecord_trace, record_context, recorded_on, writes_recording};
@@ -34,7 +35,7 @@ fn start_of(job: &RecordJob, now: DevTime) -> DevTime
 
 // The context of a job on a device.
 fn context_of(job: &RecordJob, device: DeviceInfo) -> ToolContext
-    ensures asked { creates result ≡ record_context job.now device }
+    ensures asked { creates device.channels result ≡ record_context job.now device }
     ensures device { result.device ≡ job.now.device }
 {
     ToolContext {
@@ -82,6 +83,7 @@ fn record_on<L: Link + Drop, K: Sink>(
     room: &mut [u8],
 ) -> Result<(), ToolEnd>
     requires usable { conn.old.cause ≡ None }
+    requires channels { device_channels conn.old.devices job.now.device ≡ device.channels }
     requires shape { IsDeviceInfo device }
     requires block { (1 ≤ job.now.block) × (job.now.block ≤ 4000) }
     requires stop { (1 ≤ job.now.stop_blocks) × (job.now.stop_blocks ≤ 1000000) }

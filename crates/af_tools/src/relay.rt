@@ -15,9 +15,11 @@ use af_lib::Conn;
 use af_options::{PassJob, RelayCall};
 use af_relay::apass;
 use af_tool::ToolEnd;
+use af_wire::Order;
 
-// Sets the link to the other server up, and passes blocks to it. The link comes back.
+// Sets the link to the other server up in an order, and passes blocks to it. The link comes back.
 fn pass_over<L: Link + Drop, M: Link + Drop, K: Sink>(
+    order: Order,
     job: &PassJob,
     conn: &mut Conn<L>,
     far: M,
@@ -27,7 +29,7 @@ fn pass_over<L: Link + Drop, M: Link + Drop, K: Sink>(
     requires usable { conn.old.cause ≡ None }
     requires pace { IsPaced job.now }
     requires room { greatest_block ≤ length memory.old.room.items }
-    ensures followed { RelaysOver L.left L.sent M.left M.sent K.held job.now result.0
+    ensures followed { RelaysOver L.left L.sent M.left M.sent K.held order job.now result.0
         conn.old conn.new far result.1 sink.old sink.new }
     ensures memory { result.0 ≡ ToolEnd.OutOfMemory → (L.sent conn.new.link ≡ L.sent conn.old.link)
         × (M.sent result.1 ≡ M.sent far) × (sink.new ≡ sink.old) }
@@ -37,7 +39,7 @@ fn pass_over<L: Link + Drop, M: Link + Drop, K: Sink>(
     ensures from_count { L.faults conn.old.link ≤ L.faults conn.new.link }
     ensures sink { CountsFault (result.0 ≡ ToolEnd.SinkFault) (K.faults sink.old) (K.faults sink.new) }
 {
-    match Conn::connect(memory.alloc, far) {
+    match Conn::connect(memory.alloc, far, order) {
         Ok(mut to) => {
             let end = apass(job, conn, &mut to, sink, &mut memory.room);
             (end, to.into_link())
@@ -58,7 +60,7 @@ fn run_to<K: Sink, D: Dial>(
     requires to { IsAddress call.now.to.now }
     requires pace { IsPaced call.now.job }
     requires room { greatest_block ≤ length memory.old.room.items }
-    ensures ran { RunsRelayTo D.Far.Link.left D.Far.Link.sent D.links D.back K.held call.now.job result
+    ensures ran { RunsRelayTo D.Far.Link.left D.Far.Link.sent D.links D.back K.held call.now.order call.now.job result
         conn dial.old dial.new sink.old sink.new }
     ensures asked { Appended (D.asked dial.old) (call.now.to.now ∷ []) (D.asked dial.new) }
     ensures memory { result ≡ ToolEnd.OutOfMemory → sink.new ≡ sink.old }
@@ -69,7 +71,7 @@ fn run_to<K: Sink, D: Dial>(
 {
     match dial.dial(call.to) {
         Dialed::Far(far) => {
-            let (end, far) = pass_over(&call.job, &mut conn, far, sink, memory);
+            let (end, far) = pass_over(call.order, &call.job, &mut conn, far, sink, memory);
             dial.hang_up(conn.into_link());
             dial.hang_up(far);
             end
@@ -96,7 +98,7 @@ pub fn run_relay<K: Sink, D: Dial>(
     requires pace { IsPaced call.now.job }
     requires room { greatest_block ≤ length memory.old.room.items }
     ensures ran { (links : List ToldLink) (bytes : List ℕ) → D.links dial.old ≡ Some links →
-        JobRan (relay call.now.from.now call.now.to.now call.now.job) bytes result links (D.links dial.new)
+        JobRan (relay call.now.from.now call.now.to.now call.now.order call.now.job) bytes result links (D.links dial.new)
         (K.held sink.old) (K.held sink.new) (D.back dial.old) (D.back dial.new) }
     ensures asked { AskedFor (call.now.from.now ∷ call.now.to.now ∷ []) result (D.asked dial.old) (D.asked dial.new) }
     ensures memory { result ≡ ToolEnd.OutOfMemory → sink.new ≡ sink.old }
@@ -106,7 +108,7 @@ pub fn run_relay<K: Sink, D: Dial>(
     ensures sink { CountsFault (result ≡ ToolEnd.SinkFault) (K.faults sink.old) (K.faults sink.new) }
 {
     match dial.dial(call.from) {
-        Dialed::Far(far) => match Conn::connect(memory.alloc, far) {
+        Dialed::Far(far) => match Conn::connect(memory.alloc, far, call.order) {
             Ok(conn) => run_to(call, conn, sink, dial, memory),
             Err((fault, far)) => {
                 dial.hang_up(far);

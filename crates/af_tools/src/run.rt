@@ -21,6 +21,7 @@ use af_io::{Args, Dial, Dialed, Link, Sink, Source};
 use af_lib::Conn;
 use af_options::{Call, OptionsFault, Task, TaskCall, call_of};
 use af_tool::ToolEnd;
+use af_wire::Order;
 use std::alloc::Global;
 
 // Does a task on a connection that was just made.
@@ -48,8 +49,9 @@ fn perform<L: Link + Drop, S: Source, K: Sink>(
     }
 }
 
-// Sets a link up and does a task on it. The link comes back.
+// Sets a link up in an order and does a task on it. The link comes back.
 fn perform_over<L: Link + Drop, S: Source, K: Sink>(
+    order: Order,
     task: &Task,
     far: L,
     source: &mut S,
@@ -59,14 +61,14 @@ fn perform_over<L: Link + Drop, S: Source, K: Sink>(
     requires range { IsRanged task.now }
     requires room { greatest_block ≤ length memory.old.room.items }
     ensures followed { FollowsTrace L.left L.sent S.left K.held (reads_source task.now) result.0 far result.1
-        source.old source.new sink.old sink.new (λ input bytes. connects input (λ devices w. task_trace task.now devices bytes w)) }
+        source.old source.new sink.old sink.new (λ input bytes. connects order input (λ devices w. task_trace task.now devices bytes w)) }
     ensures memory { result.0 ≡ ToolEnd.OutOfMemory → (L.sent result.1 ≡ L.sent far) × (sink.new ≡ sink.old) }
     ensures end { is_of_far (reads_source task.now) result.0 ≡ true }
     ensures source { UsesSource S.left S.faults (reads_source task.now) (source_form task.now) result.0 source.old source.new }
     ensures link { result.0 ≡ ToolEnd.LinkFault → FaultCounted (L.faults far) (L.faults result.1) }
     ensures sink { CountsFault (result.0 ≡ ToolEnd.SinkFault) (K.faults sink.old) (K.faults sink.new) }
 {
-    match Conn::connect(memory.alloc, far) {
+    match Conn::connect(memory.alloc, far, order) {
         Ok(mut conn) => {
             let end = perform(task, &mut conn, source, sink, &mut memory.room);
             (end, conn.into_link())
@@ -86,7 +88,7 @@ fn run_one<S: Source, K: Sink, D: Dial>(
     requires range { IsRanged call.now.task }
     requires server { IsAddress call.now.server.now }
     requires room { greatest_block ≤ length memory.old.room.items }
-    ensures ran { RunsJob D.links D.back S.left K.held (one call.now.server.now call.now.task) result
+    ensures ran { RunsJob D.links D.back S.left K.held (one call.now.server.now call.now.order call.now.task) result
         dial.old dial.new source.old source.new sink.old sink.new }
     ensures asked { Appended (D.asked dial.old) (call.now.server.now ∷ []) (D.asked dial.new) }
     ensures memory { result ≡ ToolEnd.OutOfMemory → sink.new ≡ sink.old }
@@ -98,7 +100,7 @@ fn run_one<S: Source, K: Sink, D: Dial>(
 {
     match dial.dial(call.server) {
         Dialed::Far(far) => {
-            let (end, far) = perform_over(&call.task, far, source, sink, memory);
+            let (end, far) = perform_over(call.order, &call.task, far, source, sink, memory);
             dial.hang_up(far);
             end
         }

@@ -20,6 +20,8 @@ use af_tool::ToolEnd;
 pub struct SourceSound {
     /// The type that the device takes them as.
     pub ty: SampleType,
+    /// The channels of a frame, those of the device.
+    pub channels: u8,
     /// How a file codes them, or none where the bytes of the source are the samples.
     pub coding: Option<Coding>,
     /// The bytes of the head, which were read.
@@ -31,13 +33,14 @@ pub struct SourceSound {
 impl SourceSound {
     /// The bytes of a frame in the source.
     pub fn width(self) -> usize
-        ensures { result ≡ source_width self.coding self.ty }
+        ensures { result ≡ source_width self.coding self.ty self.channels }
     {
-        match self.coding {
+        let sample = match self.coding {
             Some(Coding::Lin16Big | Coding::Lin16Little) => 2,
             Some(Coding::Mu255 | Coding::Alaw | Coding::U8) => 1,
             None => self.ty.width(),
-        }
+        };
+        sample * usize::from(self.channels)
     }
 }
 
@@ -117,6 +120,7 @@ pub fn sound_of<S: Source>(
     ensures brings { BringsSound S.left job.now device result source.old source.new }
     ensures read { IfOk result (λ sound. ConsumedHead job.now.form sound.head sound.length (S.left source.old) (S.left source.new)) }
     ensures served { IfOk result (λ sound. IsServedAs sound.coding sound.ty) }
+    ensures channels { IfOk result (λ sound. sound.channels ≡ device.channels) }
     ensures end { IfErr result (λ how. is_of_sound how ≡ true) }
     ensures bad { (fault : SoundFault) → IsErrOf result (ToolEnd.BadSound fault) →
         ConsumedFault job.now.form fault (S.left source.old) (S.left source.new) }
@@ -128,6 +132,7 @@ pub fn sound_of<S: Source>(
     let Some(form) = job.form else {
         return Ok(SourceSound {
             ty: job.ty.unwrap_or(device.ty),
+            channels: device.channels,
             coding: None,
             head: 0,
             length: None,
@@ -137,6 +142,7 @@ pub fn sound_of<S: Source>(
     fit(head, device)?;
     Ok(SourceSound {
         ty: type_of(head.coding),
+        channels: device.channels,
         coding: Some(head.coding),
         head: size,
         length: head.length,

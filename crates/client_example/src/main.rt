@@ -5,6 +5,7 @@ use af_io::MemLink;
 use af_lib::{Conn, ConnFault};
 use af_sample::{Gain, SampleType};
 use af_time::DevTime;
+use af_wire::Order;
 use std::io;
 use std::process::ExitCode;
 
@@ -67,7 +68,7 @@ fn main(rt: HostRuntime) -> io::Result<ExitCode> {
     let Ok(link) = MemLink::new(rt.alloc(), &REPLIES, 16, 1000, &[]) else {
         return Ok(ExitCode::from(7u8));
     };
-    match Conn::connect(rt.alloc(), link) {
+    match Conn::connect(rt.alloc(), link, Order::Big) {
         Ok(mut conn) => {
             let mut recorded = [0; 4];
             let told = converse(&mut conn, &mut recorded);

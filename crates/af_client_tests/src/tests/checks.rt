@@ -7,6 +7,9 @@ use std::test::Fail;
 // The reply to the setup of a server with one device of 16-bit samples at 8000 frames a second.
 pub const SETUP_REPLY: &str = "01000000 00000005 00010000 00000001 02010000 00001f40 00007d00";
 
+// The same of a server whose device has two channels.
+pub const STEREO_REPLY: &str = "01000000 00000005 00010000 00000001 02020000 00001f40 00007d00";
+
 // The bytes that hexadecimal digits state. Blanks count for nothing.
 pub fn bytes_of(alloc: Global, text: &str) -> Result<Vec<u8>, Fail> {
     let mut bytes = Vec::new(alloc);

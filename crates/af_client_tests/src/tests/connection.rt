@@ -1,11 +1,11 @@
 // Conversations of a connection: what its link gives, what is called, what that answers, and what was sent.
-use crate::tests::checks::{SETUP_REPLY, bytes_of, holds, same_bytes};
+use crate::tests::checks::{SETUP_REPLY, STEREO_REPLY, bytes_of, holds, same_bytes};
 use af_io::MemLink;
 use af_lib::{Cause, Conn, ConnFault};
 use af_request::{Controls, DeviceInfo, Phone};
 use af_sample::{Gain, SampleType};
 use af_time::DevTime;
-use af_wire::{Event, EventKind};
+use af_wire::{Event, EventKind, Order};
 use std::alloc::Global;
 use std::process::Abort;
 use std::test::Fail;
@@ -19,10 +19,15 @@ const DIGIT: Event = Event {
 
 // A connection whose link gives these bytes behind the reply to the setup.
 fn connected(alloc: Global, replies: &[u8]) -> Result<Conn<MemLink>, Fail> {
-    let mut far = bytes_of(alloc, SETUP_REPLY)?;
+    connected_to(alloc, SETUP_REPLY, replies)
+}
+
+// The same behind this reply.
+fn connected_to(alloc: Global, setup: &str, replies: &[u8]) -> Result<Conn<MemLink>, Fail> {
+    let mut far = bytes_of(alloc, setup)?;
     far.extend_from_slice(replies)?;
     let link = MemLink::new(alloc, far.as_slice(), 7, 1000, &[])?;
-    match Conn::connect(alloc, link) {
+    match Conn::connect(alloc, link, Order::Big) {
         Ok(conn) => Ok(conn),
         Err(_) => Err(Fail::from("no connection")),
     }
@@ -61,7 +66,7 @@ fn a_connection_has_the_devices_of_the_setup_reply(rt: HostRuntime) -> Result<()
 fn fault_of(alloc: Global, far: &str) -> Result<Option<ConnFault>, Fail> {
     let far = bytes_of(alloc, far)?;
     let link = MemLink::new(alloc, far.as_slice(), 7, 1000, &[])?;
-    match Conn::connect(alloc, link) {
+    match Conn::connect(alloc, link, Order::Big) {
         Ok(_) => Ok(None),
         Err((fault, _)) => Ok(Some(fault)),
     }
@@ -157,6 +162,65 @@ fn each_request_is_answered(rt: HostRuntime) -> Result<(), Fail> {
         "03010004 00000007 01010100 0000001e 04060004 00000007 01000000 0000fffa 02010001 \
          06000005 00000007 0000000a 00000001 d5000000 05000002 00000007 08010002 0000000f \
          09010003 0a000000 0000fffa 0a010001 0b010002 00000001 0c010001",
+    )
+}
+
+// A time, an event and a refusal of a little-endian server.
+fn ask_little(rt: &impl Abort, conn: &mut Conn<MemLink>) {
+    holds(rt, "the time", conn.get_time(0) == Ok(DevTime(9)));
+    holds(rt, "an event", conn.wait_event() == Ok(DIGIT));
+    let refused = ConnFault::ServerError { code: 4, value: 5 };
+    holds(rt, "refused", conn.free_ac(5) == Err(refused));
+}
+
+#[test]
+fn a_connection_keeps_its_order(rt: HostRuntime) -> Result<(), Fail> {
+    let far = bytes_of(
+        rt.alloc(),
+        "01000000 05000000 01000000 01000000 02010000 401f0000 007d0000 \
+         01020100 01000000 09000000 02080000 03000000 00000000 00000000 35000000 \
+         00040200 02000000 05000000 05000000",
+    )?;
+    let link = MemLink::new(rt.alloc(), far.as_slice(), 7, 1000, &[])?;
+    let Ok(mut conn) = Conn::connect(rt.alloc(), link, Order::Little) else {
+        return Err(Fail::from("no connection"));
+    };
+    ask_little(&rt, &mut conn);
+    let wanted = bytes_of(rt.alloc(), "41466c00 01000000 02000100 05000200 05000000")?;
+    let link = conn.into_link();
+    same_bytes(&rt, "what was sent", link.sent(), wanted.as_slice());
+    Ok(())
+}
+
+// A context on the device that is there, and one on a device that is not.
+fn create_each(rt: &impl Abort, conn: &mut Conn<MemLink>) {
+    let none = Gain::default();
+    let refused = ConnFault::ServerError { code: 3, value: 1 };
+    holds(
+        rt,
+        "there",
+        conn.create_ac(1, 0, SampleType::Lin16, none, none, false) == Ok(()),
+    );
+    holds(
+        rt,
+        "not there",
+        conn.create_ac(2, 1, SampleType::Lin16, none, none, false) == Err(refused),
+    );
+}
+
+#[test]
+fn a_context_has_the_channels_of_its_device(rt: HostRuntime) -> Result<(), Fail> {
+    let replies = bytes_of(
+        rt.alloc(),
+        "01030001 00000000 00030002 00000002 00000001 03000000",
+    )?;
+    let mut conn = connected_to(rt.alloc(), STEREO_REPLY, replies.as_slice())?;
+    create_each(&rt, &mut conn);
+    was_sent(
+        &rt,
+        rt.alloc(),
+        conn,
+        "03000004 00000001 02020000 00000000 03010004 00000002 02010000 00000000",
     )
 }
 

@@ -1,31 +1,66 @@
 // Words of the tools, and what they ask.
 use crate::tests::checks::{holds, words_of};
-use af_options::{Call, OptionsFault, PassJob, PlayJob, RecordJob, RelayCall, Task, TaskCall, call_of};
+use af_options::{
+    Call, OptionsFault, PassJob, PlayJob, RecordJob, RelayCall, SetJob, Task, TaskCall, call_of,
+};
 use af_sample::{Gain, SampleType};
 use af_sound::SoundForm;
+use af_wire::Order;
 use std::alloc::Global;
 use std::process::Abort;
 use std::test::Fail;
 
-// These words ask one server for a task.
+// These words ask one server for a task, in Big order.
 fn ask_task(rt: &impl Abort, alloc: Global, words: &[&str], wanted: Task) -> Result<(), Fail> {
+    ask_in_order(rt, alloc, words, Order::Big, wanted)
+}
+
+// These words ask one server for a task in an order.
+fn ask_in_order(
+    rt: &impl Abort,
+    alloc: Global,
+    words: &[&str],
+    wanted_order: Order,
+    wanted: Task,
+) -> Result<(), Fail> {
     let args = words_of(alloc, words)?;
-    let Ok(Call::One(TaskCall { server, task })) = call_of(alloc, &args) else {
+    let Ok(
+        Call::One(
+            TaskCall {
+                server,
+                order,
+                task,
+            },
+        ),
+    ) = call_of(alloc, &args)
+    else {
         return Err(Fail::from("no task"));
     };
     holds(rt, "the server", server == "h:1");
+    holds(rt, "the order", order == wanted_order);
     holds(rt, "the task", task == wanted);
     Ok(())
 }
 
-// These words ask for a relay between two servers.
+// These words ask for a relay between two servers, in Little order.
 fn ask_relay(rt: &impl Abort, alloc: Global, words: &[&str], wanted: PassJob) -> Result<(), Fail> {
     let args = words_of(alloc, words)?;
-    let Ok(Call::Relay(RelayCall { from, to, job })) = call_of(alloc, &args) else {
+    let Ok(
+        Call::Relay(
+            RelayCall {
+                from,
+                to,
+                order,
+                job,
+            },
+        ),
+    ) = call_of(alloc, &args)
+    else {
         return Err(Fail::from("no relay"));
     };
     holds(rt, "the first server", from == "a:1");
     holds(rt, "the second server", to == "b:2");
+    holds(rt, "the order", order == Order::Little);
     holds(rt, "the job", job == wanted);
     Ok(())
 }
@@ -117,6 +152,20 @@ fn values_stand_behind_a_sign_or_a_blank(rt: HostRuntime) -> Result<(), Fail> {
 }
 
 #[test]
+fn an_order_is_named(rt: HostRuntime) -> Result<(), Fail> {
+    let job = SetJob {
+        device: 0,
+        input_gain: None,
+        output_gain: None,
+        input_on: None,
+        output_on: None,
+        hook_off: None,
+    };
+    let words = ["aset", "h:1", "--order=little"];
+    ask_in_order(&rt, rt.alloc(), &words, Order::Little, Task::Set(job))
+}
+
+#[test]
 fn a_relay_names_two_servers(rt: HostRuntime) -> Result<(), Fail> {
     let job = PassJob {
         from_device: 0,
@@ -128,11 +177,19 @@ fn a_relay_names_two_servers(rt: HostRuntime) -> Result<(), Fail> {
         delay: 0,
         slack: 100,
     };
-    let words = ["apass", "a:1", "b:2", "--blocks=3", "--delay=0"];
+    let words = [
+        "apass",
+        "a:1",
+        "b:2",
+        "--order=little",
+        "--blocks=3",
+        "--delay=0",
+    ];
     ask_relay(&rt, rt.alloc(), &words, job)
 }
 
 #[test]
 fn a_value_out_of_its_range_is_no_call(rt: HostRuntime) -> Result<(), Fail> {
-    ask_nothing(&rt, rt.alloc(), &["aplay", "h:1", "--block=4001"])
+    ask_nothing(&rt, rt.alloc(), &["aplay", "h:1", "--block=4001"])?;
+    ask_nothing(&rt, rt.alloc(), &["aset", "h:1", "--order=middle"])
 }

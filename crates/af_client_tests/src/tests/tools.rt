@@ -1,6 +1,6 @@
 // The tools over sources, sinks and links in memory, which give their bytes in pieces. What the tools send for which words is
 // shown by the worked runs in tests/tools.
-use crate::tests::checks::{SETUP_REPLY, bytes_of, holds, same_bytes, words_of};
+use crate::tests::checks::{SETUP_REPLY, STEREO_REPLY, bytes_of, holds, same_bytes, words_of};
 use af_io::{MemDial, MemLink, MemSink, MemSource};
 use af_tools::{ToolEnd, af_run};
 use std::alloc::Global;
@@ -176,6 +176,65 @@ fn blocks_are_played_or_what_fails_is_told(rt: HostRuntime) -> Result<(), Fail> 
 }
 
 #[test]
+fn controls_are_told_over_a_little_endian_link(rt: HostRuntime) -> Result<(), Fail> {
+    comes_to(
+        &rt,
+        rt.alloc(),
+        "an order",
+        Given {
+            words: &["aset", "h:1", "--order=little"],
+            source: &[],
+            replies: [
+                "01000000 05000000 01000000 01000000 02010000 401f0000 007d0000 \
+                 010a0100 02000000 01010000 0000faff",
+                SETUP_REPLY,
+            ],
+            failing: NOTHING,
+        },
+        Outcome {
+            end: ToolEnd::Done,
+            sent: "41466c00 01000000 0a000100",
+            held: b"input on 0\noutput on -6\n",
+        },
+    )
+}
+
+#[test]
+fn a_block_is_passed_over_little_endian_links(rt: HostRuntime) -> Result<(), Fail> {
+    comes_to(
+        &rt,
+        rt.alloc(),
+        "a relay in an order",
+        Given {
+            words: &[
+                "apass",
+                "h:1",
+                "h:2",
+                "--order=little",
+                "--blocks=1",
+                "--block=2",
+            ],
+            source: &[],
+            replies: [
+                "01000000 05000000 01000000 01000000 02010000 401f0000 007d0000 01030100 00000000 \
+                 01020200 01000000 00000000 01070300 03000000 02000000 04000000 000a000b 01050400 00000000",
+                "01000000 05000000 01000000 01000000 02010000 401f0000 007d0000 01030100 00000000 \
+                 01020200 01000000 00000000 01060300 01000000 00000000 01050400 00000000",
+            ],
+            failing: NOTHING,
+        },
+        Outcome {
+            end: ToolEnd::Done,
+            sent: "41466c00 01000000 03000400 01000000 02010000 00000000 02000100 \
+                   07010400 01000000 00000000 04000000 05000200 01000000 \
+                   41466c00 01000000 03000400 01000000 02010000 00000000 02000100 \
+                   06000500 01000000 40060000 04000000 000a000b 05000200 01000000",
+            held: b"passed 1 resynced 0\n",
+        },
+    )
+}
+
+#[test]
 fn a_block_is_passed_from_link_to_link(rt: HostRuntime) -> Result<(), Fail> {
     comes_to(
         &rt,
@@ -201,6 +260,86 @@ fn a_block_is_passed_from_link_to_link(rt: HostRuntime) -> Result<(), Fail> {
             held: b"passed 1 resynced 0\n",
         },
     )
+}
+
+#[test]
+fn frames_of_two_channels_are_played(rt: HostRuntime) -> Result<(), Fail> {
+    comes_to(
+        &rt,
+        rt.alloc(),
+        "a play of two channels",
+        Given {
+            words: &["aplay", "h:1", "--block=2"],
+            source: &[0, 1, 0, 2, 0, 3, 0, 4, 0, 5, 0, 6, 0],
+            replies: [
+                "01000000 00000005 00010000 00000001 02020000 00001f40 00007d00 01030001 00000000 \
+                 01020002 00000001 00000000 01060003 00000001 00000000 01060004 00000001 00000000 \
+                 01050005 00000000",
+                SETUP_REPLY,
+            ],
+            failing: NOTHING,
+        },
+        Outcome {
+            end: ToolEnd::Done,
+            sent: "41464200 00010000 03000004 00000001 02020000 00000000 02000001 \
+                   06000006 00000001 00000320 00000008 00010002 00030004 \
+                   06000005 00000001 00000322 00000004 00050006 05000002 00000001",
+            held: b"played 3 at 800\n",
+        },
+    )
+}
+
+// One device of two channels at 44100 frames a second.
+const FAST_STEREO_REPLY: &str = "01000000 00000005 00010000 00000001 02020000 0000ac44 0002b110";
+
+// Two devices that no relay passes between, and how it ends.
+static PAIRS: [(&str, [&str; 2], ToolEnd); 3] = [
+    (
+        "one channel and two",
+        [SETUP_REPLY, STEREO_REPLY],
+        ToolEnd::ChannelMismatch { from: 1, to: 2 },
+    ),
+    (
+        "two channels and one",
+        [STEREO_REPLY, SETUP_REPLY],
+        ToolEnd::ChannelMismatch { from: 2, to: 1 },
+    ),
+    (
+        "two rates, and one channel and two",
+        [SETUP_REPLY, FAST_STEREO_REPLY],
+        ToolEnd::RateMismatch {
+            from: 8000,
+            to: 44100,
+        },
+    ),
+];
+
+// Relays between each of these.
+fn relay_each(
+    rt: &impl Abort,
+    alloc: Global,
+    cases: &[(&str, [&str; 2], ToolEnd)],
+) -> Result<(), Fail> {
+    for (what, replies, end) in cases {
+        let given = Given {
+            words: &["apass", "h:1", "h:2", "--blocks=1"],
+            source: &[],
+            replies: *replies,
+            failing: NOTHING,
+        };
+        let wanted = Outcome {
+            end: *end,
+            sent: "41464200 00010000 41464200 00010000",
+            held: b"",
+        };
+        comes_to(rt, alloc, what, given, wanted)?;
+    }
+    Ok(())
+}
+
+#[test]
+fn devices_of_other_shapes_are_not_passed(rt: HostRuntime) -> Result<(), Fail> {
+    relay_each(&rt, rt.alloc(), &PAIRS)
 }
 
 #[test]

@@ -12,7 +12,10 @@ fn fronts_of_setups(rt: HostRuntime) {
             (b"AFB\0\0\x01\0\0", SetupFront::Setup(Order::Big)),
             (&Order::Big.setup(), SetupFront::Setup(Order::Big)),
             // a minor version of any number, and a frame behind it
-            (b"AFB\0\0\x01\0\x07\x01\0\0\x01", SetupFront::Setup(Order::Big)),
+            (
+                b"AFB\0\0\x01\0\x07\x01\0\0\x01",
+                SetupFront::Setup(Order::Big),
+            ),
             (b"AFB\0\0\x01\0", SetupFront::NeedMore),
             (b"", SetupFront::NeedMore),
             (b"AFB\0\0\x02\0\0", bad_setup(Order::Big, 2)),

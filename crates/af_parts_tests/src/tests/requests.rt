@@ -261,7 +261,14 @@ fn the_reply_to_a_setup_has_the_devices(rt: HostRuntime) {
     assert_replies(
         &rt,
         Order::Big,
-        &[(0, Reply::Setup { devices: two_devices() }, 8, &body)],
+        &[(
+            0,
+            Reply::Setup {
+                devices: two_devices(),
+            },
+            8,
+            &body,
+        )],
     );
     let body = [
         1, 0, 0, 0, 2, 0, 0, 0, 2, 1, 1, 0, 0x40, 0x1F, 0, 0, 0, 0x7D, 0, 0, 0, 2, 0, 0, 0x80,
@@ -270,7 +277,14 @@ fn the_reply_to_a_setup_has_the_devices(rt: HostRuntime) {
     assert_replies(
         &rt,
         Order::Little,
-        &[(0, Reply::Setup { devices: two_devices() }, 8, &body)],
+        &[(
+            0,
+            Reply::Setup {
+                devices: two_devices(),
+            },
+            8,
+            &body,
+        )],
     );
 }
 

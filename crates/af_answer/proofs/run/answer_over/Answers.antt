@@ -8,7 +8,7 @@ pub returns-in-Ok-clause-ran : goal.returns-in-Ok-clause-ran
 returns-in-Ok-clause-ran g c input told =
     let e = c.in-Ok.ensures in
     let same : c.into_link.result ≡ c.answer-end.new.conn.link = c.into_link.ensures in
-    rw same (inr (set_up_ran g.L.Link.left g.L.Link.sent g.L.Link.faults c.args.job.now input c.args.far c.in-Ok.conn c.answer-end.result _ _ _ _ _ e.0 e.2 told (λ i t. c.answer-end.ensures.ran i t)))
+    rw same (inr (set_up_ran g.L.Link.left g.L.Link.sent g.L.Link.faults c.args.job.now input c.args.far c.in-Ok.conn c.answer-end.result _ _ _ _ _ e.0 e.1 e.3 told (λ i t. c.answer-end.ensures.ran i t)))
 
 pub returns-in-Err-clause-ran : goal.returns-in-Err-clause-ran
 returns-in-Err-clause-ran g c input told =

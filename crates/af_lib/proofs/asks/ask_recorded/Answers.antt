@@ -7,7 +7,7 @@ use Rattle.af_lib.proofs.asks.ask_recorded.Goals as goal
 pub returns-in-Ok-clause-answers : goal.returns-in-Ok-clause-answers
 returns-in-Ok-clause-answers g c =
     let same : c.deref.result.now ≡ c.ask.new.exchange.input.items = search rules in
-    answers_value (as_recorded c.args.blocking (length c.args.into.now)) (opcode_of (request_meaning c.args.request.now)) c.opcode_of.result c.args.sequence c.in-Ok.length
+    answers_value c.args.order (as_recorded c.args.blocking (length c.args.into.now)) (opcode_of (request_meaning c.args.request.now)) c.opcode_of.result c.args.sequence c.in-Ok.length
     c.ask.new.exchange.input.items c.args.exchange.now.ring c.ask.new.exchange.ring (g.L.Link.left c.args.exchange.now.link) (g.L.Link.left c.ask.new.exchange.link)
     (recorded_in c.recorded_in.result c.recorded_in.new.into) c.in-Ok.ensures.finds c.opcode_of.ensures
-    (c.recorded_in.ensures.value ∙ ap (λ (l : List ℕ). value_in (as_recorded c.args.blocking (length c.args.into.now)) c.opcode_of.result (take c.in-Ok.length l)) same)
+    (c.recorded_in.ensures.value ∙ ap (λ (l : List ℕ). value_in c.args.order (as_recorded c.args.blocking (length c.args.into.now)) c.opcode_of.result (take c.in-Ok.length l)) same)

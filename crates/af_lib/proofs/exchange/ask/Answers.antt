@@ -9,8 +9,8 @@ use Rattle.af_lib.proofs.exchange.ask.Goals as goal
 
 pub returns-in-Done-clause-sends : goal.returns-in-Done-clause-sends
 returns-in-Done-clause-sends g c =
-    let all = sends_all c.await_answer.result (g.L.Link.sent c.args.exchange.now.link) (request_bytes (request_meaning c.args.request.now)) (g.L.Link.sent c.send.new.link) c.in-Done.ensures.written in
-    let P : Option (List ℕ) → Type 0 = λ sent. Sends c.await_answer.result (g.L.Link.sent c.args.exchange.now.link) (request_bytes (request_meaning c.args.request.now)) sent in
+    let all = sends_all c.await_answer.result (g.L.Link.sent c.args.exchange.now.link) (request_bytes c.args.order (request_meaning c.args.request.now)) (g.L.Link.sent c.send.new.link) c.in-Done.ensures.written in
+    let P : Option (List ℕ) → Type 0 = λ sent. Sends c.await_answer.result (g.L.Link.sent c.args.exchange.now.link) (request_bytes c.args.order (request_meaning c.args.request.now)) sent in
     subst P (sym c.await_answer.ensures.reads.sends) all
 
 pub returns-in-Failed-clause-gained : goal.returns-in-Failed-clause-gained

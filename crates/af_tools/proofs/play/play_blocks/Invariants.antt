@@ -14,7 +14,7 @@ invariant-loop-filled g l = record {
   link_count : g.L.Link.faults l.initial.conn.link ≤ g.L.Link.faults l.conn.link;
   count : g.S.Source.faults l.initial.source ≤ g.S.Source.faults l.source;
   block : length l.block ≡ l.size;
-  served : length l.served ≡ length l.initial.served;
+  served : length l.served ≡ 16000;
   permitted : l.given ≤ l.most;
   few : l.frames ≤ l.given;
   fits : FitsStated l.sound.length l.given;

@@ -12,6 +12,7 @@ use Rattle.af_tools.specs.Files.{as_filed}
 use Rattle.af_tools.specs.Record.{peak, takes_block}
 use Rattle.af_tool.specs.Ends.{ObservedPart, TracePart, client_of}
 use Rattle.af_tool.proofs.TracePartLemmas.{asked_goes, goes_on, goes_stop}
+use Rattle.af_tools.proofs.RecordBlockLemmas.{written_coding}
 use Rattle.af_tools.proofs.WritingLemmas.{goes_unwritten, goes_written}
 use Rattle.af_tools.proofs.record.record_block.Goals as goal
 
@@ -51,3 +52,6 @@ returns-in-Failed-clause-goes g c input told =
     goes_on (asks (record_run true 1 c.args.at.0 size) (as_recorded true size) (client_of c.args.conn.now input)) (writes_block sound) r (Err end.SinkFault) _ _ _ _ _ _ _ _ _ _ h
     (λ i t. goes_unwritten (as_filed sound.coding r.samples) (peak sound.ty r.samples) (client_of c.record_run.new.self i) _ _ _ _ _
     (subst (λ (l : List ℕ). AppendedPrefix (g.K.Sink.held c.args.sink.now) l (g.K.Sink.held c.write.new.self)) filed c.in-Failed.ensures.written))
+
+pub file_samples-requires-clause-written : goal.file_samples-requires-clause-written
+file_samples-requires-clause-written g c = written_coding c.args.sound.coding c.args.sound.ty c.requires.filed

@@ -3,7 +3,7 @@ use Rattle.std.specs.Prelude.{Err}
 use Rattle.af_tool.specs.Ends.{client_of}
 use Rattle.af_options.specs.Sizes.{block_frames}
 use Rattle.af_tools.specs.Record.{recorded_frame}
-use Rattle.af_tools.proofs.RecordBlockLemmas.{all_recorded, record_begin, record_done, record_on, record_quiet, record_stopped, some_frames, whole_frames}
+use Rattle.af_tools.proofs.RecordBlockLemmas.{all_recorded, record_begin, record_done, record_on, record_quiet, record_stopped, some_recorded, whole_frames}
 use Rattle.af_tools.proofs.record.record_blocks.Goals as goal
 
 pub loop-left-init : goal.loop-left-init
@@ -23,7 +23,7 @@ returns-in_err-peak-clause-goes g c input told =
     let r = c.loop-left.invariant.recording input told in
     let sound = c.args.sound in
     let is_block : c.block_frames-block.result ≡ block_frames c.args.job.now.block (recorded_frame sound) = c.block_frames-block.ensures.value ∙ ap (block_frames c.args.job.now.block) c.frame_bytes-frame.ensures in
-    let some : 1 ≤ c.block_frames-block.result = omega (arith, is_block, some_frames sound c.args.job.now.block c.requires.shape c.requires.block.0) in
+    let some : 1 ≤ c.block_frames-block.result = omega (arith, is_block, some_recorded sound c.args.job.now.block c.requires.channels c.requires.block.0) in
     let same : c.from_residual.result ≡ Err c.in_err-peak.field-0.0 = search rules in
     let n = c.min-count.result in
     let fits : n * c.frame_bytes-frame.result ≤ length c.loop-left.room = search rules in
@@ -35,7 +35,7 @@ returns-then-row-job-clause-goes g c input told =
     let r = c.loop-left.invariant.recording input told in
     let sound = c.args.sound in
     let is_block : c.block_frames-block.result ≡ block_frames c.args.job.now.block (recorded_frame sound) = c.block_frames-block.ensures.value ∙ ap (block_frames c.args.job.now.block) c.frame_bytes-frame.ensures in
-    let some : 1 ≤ c.block_frames-block.result = omega (arith, is_block, some_frames sound c.args.job.now.block c.requires.shape c.requires.block.0) in
+    let some : 1 ≤ c.block_frames-block.result = omega (arith, is_block, some_recorded sound c.args.job.now.block c.requires.channels c.requires.block.0) in
     let n = c.min-count.result in
     let fits : n * c.frame_bytes-frame.result ≤ length c.loop-left.room = search rules in
     let size : length (take (n * c.frame_bytes-frame.result) c.loop-left.room) ≡ n * recorded_frame sound = length-take-le _ c.loop-left.room fits ∙ ap (λ (w : ℕ). n * w) c.frame_bytes-frame.ensures in
@@ -48,7 +48,7 @@ loop-left-preserved g c =
     let e = c.in_ok-peak.ensures in
     let sound = c.args.sound in
     let is_block : c.block_frames-block.result ≡ block_frames c.args.job.now.block (recorded_frame sound) = c.block_frames-block.ensures.value ∙ ap (block_frames c.args.job.now.block) c.frame_bytes-frame.ensures in
-    let some : 1 ≤ c.block_frames-block.result = omega (arith, is_block, some_frames sound c.args.job.now.block c.requires.shape c.requires.block.0) in
+    let some : 1 ≤ c.block_frames-block.result = omega (arith, is_block, some_recorded sound c.args.job.now.block c.requires.channels c.requires.block.0) in
     let n = c.min-count.result in
     let fits : n * c.frame_bytes-frame.result ≤ length c.loop-left.room = search rules in
     let size : length (take (n * c.frame_bytes-frame.result) c.loop-left.room) ≡ n * recorded_frame sound = length-take-le _ c.loop-left.room fits ∙ ap (λ (w : ℕ). n * w) c.frame_bytes-frame.ensures in
@@ -70,5 +70,5 @@ returns-clause-goes g c input told =
     let r = c.loop-left.invariant.recording input told in
     let sound = c.args.sound in
     let is_block : c.block_frames-block.result ≡ block_frames c.args.job.now.block (recorded_frame sound) = c.block_frames-block.ensures.value ∙ ap (block_frames c.args.job.now.block) c.frame_bytes-frame.ensures in
-    let some : 1 ≤ c.block_frames-block.result = omega (arith, is_block, some_frames sound c.args.job.now.block c.requires.shape c.requires.block.0) in
+    let some : 1 ≤ c.block_frames-block.result = omega (arith, is_block, some_recorded sound c.args.job.now.block c.requires.channels c.requires.block.0) in
     all_recorded _ _ _ _ _ _ _ _ _ _ _ _ _ is_block (record_done _ _ _ _ _ _ _ _ _ _ _ _ _ _ r (omega arith) (omega arith))

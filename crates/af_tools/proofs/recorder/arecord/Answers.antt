@@ -1,5 +1,6 @@
 use Rattle.std.proofs.Common.{◌≡◌, ◌∙◌, true, false, length, ap, refl, sym}
 use Rattle.af_tool.specs.declared.end.ToolEnd.TheVariants as end
+use Rattle.af_lib.specs.Calls.{channels_or_one}
 use Rattle.af_tool.specs.Trace.{done, ends}
 use Rattle.af_tool.specs.Ends.{client_of}
 use Rattle.af_tools.specs.Record.{recorded_on}
@@ -49,3 +50,8 @@ pub returns-in-Err-record_on-clause-recorded : goal.returns-in-Err-record_on-cla
 returns-in-Err-record_on-clause-recorded g c input told way =
     let bad : true ≡ false = sym c.in-Err-record_on.ensures.end ∙ ap is_of_records way in
     absurd (cc bad)
+
+pub record_on-requires-clause-channels : goal.record_on-requires-clause-channels
+record_on-requires-clause-channels g c =
+    let there = is_there c.args.conn.now.devices c.args.job.now.device c.in-Ok.device c.in-Ok.ensures.value in
+    ap channels_or_one there.get

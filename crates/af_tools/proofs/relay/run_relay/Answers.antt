@@ -4,11 +4,12 @@ use Rattle.clap.specs.Words.{Text}
 use Rattle.af_io.specs.Observed.{Appended}
 use Rattle.af_io.specs.Dial.{AppendedBack, IsFirstOf, ToldLink}
 use Rattle.af_tool.specs.declared.end.ToolEnd.TheVariants as end
-use Rattle.af_tool.specs.Trace.{fault_end}
+use Rattle.af_tool.specs.Trace.{ClientState, fault_end}
 use Rattle.af_tools.specs.Run.{RelayRanTo}
 use Rattle.af_options.specs.Words.{relay}
 use Rattle.af_io.proofs.AppendedLemmas.{appended_on}
 use Rattle.af_tool.proofs.ToolEndLemmas.{fault_undone}
+use Rattle.af_tool.proofs.TracePartLemmas.{client_begun}
 use Rattle.af_tools.proofs.DialLemmas.{ran_none, ran_over_links, ran_refused_links, ran_unset_links}
 use Rattle.af_tools.proofs.relay.run_relay.Goals as goal
 
@@ -18,8 +19,8 @@ returns-in-Ok-clause-ran g c links bytes told =
     let s = c.in-Ok.ensures in
     let conn = c.in-Ok.conn in
     let gives = subst (λ (l : Option (List ToldLink)). IsFirstOf g.D.Far.Link.left g.D.Far.Link.sent c.in-Far.far l (g.D.Dial.links c.dial.new.self)) told e.gives in
-    ran_over_links g.D.Far.Link.left g.D.Far.Link.sent g.D.Far.Link.faults c.in-Far.far conn.link conn.ring conn.devices c.args.call.now.from.now c.args.call.now.to.now c.args.call.now.job bytes c.run_to.result links _ _ _ _ _ _ _ gives s.2 e.back
-    (λ rest a l t. subst (λ (n : ℕ). RelayRanTo c.args.call.now.job conn.devices (record { sequence = n; ring = conn.ring; input = a }) c.run_to.result rest (g.D.Dial.links c.run_to.new.dial) (g.D.Far.Link.sent conn.link) (g.K.Sink.held c.args.sink.now) (g.K.Sink.held c.run_to.new.sink) (g.D.Dial.back c.dial.new.self) (g.D.Dial.back c.run_to.new.dial)) s.0
+    ran_over_links c.args.call.now.order g.D.Far.Link.left g.D.Far.Link.sent g.D.Far.Link.faults c.in-Far.far conn.link conn.ring conn.devices c.args.call.now.from.now c.args.call.now.to.now c.args.call.now.job bytes c.run_to.result links _ _ _ _ _ _ _ gives s.3 e.back
+    (λ rest a l t. subst (λ (w : ClientState). RelayRanTo c.args.call.now.order c.args.call.now.job conn.devices w c.run_to.result rest (g.D.Dial.links c.run_to.new.dial) (g.D.Far.Link.sent conn.link) (g.K.Sink.held c.args.sink.now) (g.K.Sink.held c.run_to.new.sink) (g.D.Dial.back c.dial.new.self) (g.D.Dial.back c.run_to.new.dial)) (client_begun c.args.call.now.order conn a s.0 s.1)
     (c.run_to.ensures.ran a rest t l))
 
 pub returns-in-Ok-clause-asked : goal.returns-in-Ok-clause-asked
@@ -36,10 +37,10 @@ returns-in-Err-clause-ran g c links bytes told =
       | inl none ↦
           let way : c.from.result ≡ end.OutOfMemory = c.from.ensures ∙ ap fault_end none.0 in
           let entry = subst (λ (x : Option (List ℕ)). AppendedBack (g.D.Dial.back c.dial.new.self) x (g.D.Dial.back c.hang_up.new.self)) (ap g.D.Far.Link.sent none.1) c.hang_up.ensures.back in
-          rw way (ran_unset_links g.D.Far.Link.left g.D.Far.Link.sent c.in-Far.far c.args.call.now.from.now c.args.call.now.to.now c.args.call.now.job bytes links _ _ _ _ _ _ gives e.back entry c.hang_up.ensures.gives)
+          rw way (ran_unset_links c.args.call.now.order g.D.Far.Link.left g.D.Far.Link.sent c.in-Far.far c.args.call.now.from.now c.args.call.now.to.now c.args.call.now.job bytes links _ _ _ _ _ _ gives e.back entry c.hang_up.ensures.gives)
       | inr setup ↦
           let way : c.from.result ≡ fault_end c.in-Err.fault = c.from.ensures in
-          rw way (ran_refused_links g.D.Far.Link.left g.D.Far.Link.sent g.D.Far.Link.faults c.in-Far.far c.in-Err.far setup.0 c.in-Err.fault c.args.call.now.from.now c.args.call.now.to.now c.args.call.now.job bytes links _ _ _ _ _ _ gives setup.1 e.back c.hang_up.ensures.back c.hang_up.ensures.gives)
+          rw way (ran_refused_links c.args.call.now.order g.D.Far.Link.left g.D.Far.Link.sent g.D.Far.Link.faults c.in-Far.far c.in-Err.far setup.0 c.in-Err.fault c.args.call.now.from.now c.args.call.now.to.now c.args.call.now.job bytes links _ _ _ _ _ _ gives setup.1 e.back c.hang_up.ensures.back c.hang_up.ensures.gives)
     ]
 
 pub returns-in-Err-clause-asked : goal.returns-in-Err-clause-asked
@@ -55,13 +56,13 @@ returns-in-Err-clause-asked g c =
     }
 
 pub returns-in-Failed-clause-ran : goal.returns-in-Failed-clause-ran
-returns-in-Failed-clause-ran g c links bytes told = ran_none (relay c.args.call.now.from.now c.args.call.now.to.now c.args.call.now.job) bytes end.DialFault links _ _ _ _ refl (c.in-Failed.ensures.gives ∙ told) c.in-Failed.ensures.back
+returns-in-Failed-clause-ran g c links bytes told = ran_none (relay c.args.call.now.from.now c.args.call.now.to.now c.args.call.now.order c.args.call.now.job) bytes end.DialFault links _ _ _ _ refl (c.in-Failed.ensures.gives ∙ told) c.in-Failed.ensures.back
 
 pub returns-in-Failed-clause-asked : goal.returns-in-Failed-clause-asked
 returns-in-Failed-clause-asked g c = record { named = c.args.call.now.from.now ∷ []; others = c.args.call.now.to.now ∷ []; whole = refl; appended = c.in-Failed.ensures.asked; none = λ e. cc; all = λ e. absurd (let bad : end.DialFault ≡ end.Done = e in cc) }
 
 pub returns-in-OutOfMemory-clause-ran : goal.returns-in-OutOfMemory-clause-ran
-returns-in-OutOfMemory-clause-ran g c links bytes told = ran_none (relay c.args.call.now.from.now c.args.call.now.to.now c.args.call.now.job) bytes end.OutOfMemory links _ _ _ _ refl (c.in-OutOfMemory.ensures.gives ∙ told) c.in-OutOfMemory.ensures.back
+returns-in-OutOfMemory-clause-ran g c links bytes told = ran_none (relay c.args.call.now.from.now c.args.call.now.to.now c.args.call.now.order c.args.call.now.job) bytes end.OutOfMemory links _ _ _ _ refl (c.in-OutOfMemory.ensures.gives ∙ told) c.in-OutOfMemory.ensures.back
 
 pub returns-in-OutOfMemory-clause-asked : goal.returns-in-OutOfMemory-clause-asked
 returns-in-OutOfMemory-clause-asked g c = record { named = c.args.call.now.from.now ∷ []; others = c.args.call.now.to.now ∷ []; whole = refl; appended = c.in-OutOfMemory.ensures.asked; none = λ e. cc; all = λ e. absurd (let bad : end.OutOfMemory ≡ end.Done = e in cc) }

@@ -12,16 +12,16 @@ pub returns-in-Far-clause-ran : goal.returns-in-Far-clause-ran
 returns-in-Far-clause-ran g c links bytes told tells =
     let e = c.in-Far.ensures in
     let first = subst (λ (l : Option (List ToldLink)). IsFirstOf g.D.Far.Link.left g.D.Far.Link.sent c.in-Far.far l (g.D.Dial.links c.dial.new.self)) told e.gives in
-    ran_one c.args.call.now.server.now c.args.call.now.task bytes c.perform_over-end.result.0 links _ _ _ _ _
-    (ran_over (λ devices w. task_trace c.args.call.now.task devices bytes w) c.perform_over-end.result.0 (g.D.Dial.links c.dial.new.self) (g.D.Dial.links c.hang_up.new.self) _ _ _ _ _ _ _
+    ran_one c.args.call.now.order c.args.call.now.server.now c.args.call.now.task bytes c.perform_over-end.result.0 links _ _ _ _ _
+    (ran_over c.args.call.now.order (λ devices w. task_trace c.args.call.now.task devices bytes w) c.perform_over-end.result.0 (g.D.Dial.links c.dial.new.self) (g.D.Dial.links c.hang_up.new.self) _ _ _ _ _ _ _
     g.D.Far.Link.left g.D.Far.Link.sent c.in-Far.far links first refl (λ input t. c.perform_over-end.ensures.followed input bytes t tells) e.back c.hang_up.ensures.back c.hang_up.ensures.gives (λ none. (c.perform_over-end.ensures.memory none).0))
 
 pub returns-in-Failed-clause-ran : goal.returns-in-Failed-clause-ran
 returns-in-Failed-clause-ran g c links bytes told tells =
     let e = c.in-Failed.ensures in
-    ran_none (one c.args.call.now.server.now c.args.call.now.task) bytes end.DialFault links _ _ _ _ refl (e.gives ∙ told) e.back
+    ran_none (one c.args.call.now.server.now c.args.call.now.order c.args.call.now.task) bytes end.DialFault links _ _ _ _ refl (e.gives ∙ told) e.back
 
 pub returns-in-OutOfMemory-clause-ran : goal.returns-in-OutOfMemory-clause-ran
 returns-in-OutOfMemory-clause-ran g c links bytes told tells =
     let e = c.in-OutOfMemory.ensures in
-    ran_none (one c.args.call.now.server.now c.args.call.now.task) bytes end.OutOfMemory links _ _ _ _ refl (e.gives ∙ told) e.back
+    ran_none (one c.args.call.now.server.now c.args.call.now.order c.args.call.now.task) bytes end.OutOfMemory links _ _ _ _ refl (e.gives ∙ told) e.back

@@ -1,0 +1,92 @@
+-- Blocks of a source's frames, and of the frames as a server takes them, have room.
+use Rattle.std.proofs.Common.{◌≡◌, ℕ, ◌*◌, ◌/◌, ◌%◌, ◌<◌, ◌≤◌, sym, ap, subst, arith, inl, inr}
+use Rattle.std.proofs.lemmas.Nat.{mul-le}
+use Rattle.std.specs.declared.option.Option.{Option}
+use Rattle.std.specs.declared.option.Option.TheVariants.{None, Some}
+use Rattle.af_sample.specs.declared.sample_type.SampleType.{SampleType}
+use Rattle.af_sample.specs.declared.sample_type.SampleType.TheVariants as ty
+use Rattle.af_sample.specs.Channels.{IsChannelCount}
+use Rattle.af_sample.specs.SampleTypes.{frame_bytes, width_of}
+use Rattle.af_sample.proofs.FrameLemmas.{one_or_two}
+use Rattle.af_sound.specs.declared.head.Coding.{Coding}
+use Rattle.af_sound.specs.declared.head.Coding.TheVariants as coding
+use Rattle.af_sound.specs.Served.{served_length}
+use Rattle.af_sound.specs.Written.{sample_size}
+use Rattle.af_options.specs.Sizes.{greatest_block}
+use Rattle.af_tools.specs.Play.{IsBlock}
+use Rattle.af_tools.specs.Sounds.{served_room, served_type, source_sample, source_width, AreWhole, IsServedAs}
+use Rattle.af_tools.proofs.ServedBlockLemmas.{some_size, source_size}
+
+-- a sample has no more bytes in the source than as a server takes it
+least_sample : (c : Coding) → sample_size c ≤ width_of (served_type c)
+least_sample coding.Mu255 = omega arith
+least_sample coding.Alaw = omega arith
+least_sample coding.Lin16Big = omega arith
+least_sample coding.Lin16Little = omega arith
+least_sample coding.U8 = omega arith
+
+source_least : (c : Option Coding) (to : SampleType) → IsServedAs c to → source_sample c to ≤ width_of to
+source_least None to is = omega arith
+source_least (Some c) to is = subst (λ (t : SampleType). sample_size c ≤ width_of t) (sym is) (least_sample c)
+
+-- a block of the source has a frame, and room
+pub wide_of : (frames width : ℕ) → 1 ≤ frames → width ≤ frames * width
+wide_of frames width some = let one : 1 * width ≤ frames * width = mul-le 1 width frames width some (omega arith) in omega arith
+
+pub some_size_of : (c : Option Coding) (to : SampleType) (channels frames width : ℕ) → IsChannelCount channels → 1 ≤ frames → width ≡ source_width c to channels → 0 < frames * width
+some_size_of c to channels frames width count some is =
+    subst (λ (n : ℕ). 0 < frames * n) (sym is) (some_size (source_width c to channels) (source_size c to channels count) frames (omega arith))
+
+pub size_fits : (c : Option Coding) (to : SampleType) (channels frames width : ℕ) → IsServedAs c to → IsBlock to channels frames → width ≡ source_width c to channels → frames * width ≤ greatest_block
+size_fits c to channels frames width is b same =
+    let sample = source_least c to is in
+    let frame : source_sample c to * channels ≤ width_of to * channels = mul-le (source_sample c to) channels (width_of to) channels sample (omega arith) in
+    let all : frames * (source_sample c to * channels) ≤ frames * (width_of to * channels) = mul-le frames (source_sample c to * channels) frames (width_of to * channels) (omega arith) frame in
+    let most = b.fits in
+    subst (λ (n : ℕ). frames * n ≤ greatest_block) (sym same) (omega arith)
+
+-- as a server takes it, too
+twice_as_many : (channels frames n : ℕ) → IsChannelCount channels → n ≤ frames * (1 * channels) → frames * (2 * channels) ≤ greatest_block → n * 2 ≤ greatest_block
+twice_as_many channels frames n count few most = elim (one_or_two channels count) [
+  | inl one ↦
+      let here : n ≤ frames * (1 * 1) = subst (λ (k : ℕ). n ≤ frames * (1 * k)) one few in
+      let bound : frames * (2 * 1) ≤ greatest_block = subst (λ (k : ℕ). frames * (2 * k) ≤ greatest_block) one most in
+      omega arith
+  | inr two ↦
+      let here : n ≤ frames * (1 * 2) = subst (λ (k : ℕ). n ≤ frames * (1 * k)) two few in
+      let bound : frames * (2 * 2) ≤ greatest_block = subst (λ (k : ℕ). frames * (2 * k) ≤ greatest_block) two most in
+      omega arith
+]
+
+room_for : (c : Coding) (channels frames n : ℕ) → IsBlock (served_type c) channels frames → n ≤ frames * (sample_size c * channels) → n ≤ greatest_block → served_length c n ≤ greatest_block
+room_for coding.Mu255 channels frames n b few most = most
+room_for coding.Alaw channels frames n b few most = most
+room_for coding.Lin16Big channels frames n b few most = most
+room_for coding.Lin16Little channels frames n b few most = most
+room_for coding.U8 channels frames n b few most = twice_as_many channels frames n b.count few b.fits
+
+pub served_fits : (c : Option Coding) (to : SampleType) (channels frames width n : ℕ) → IsServedAs c to → IsBlock to channels frames → width ≡ source_width c to channels → n ≤ frames * width → served_room c n ≤ greatest_block
+served_fits None to channels frames width n is b same few = omega arith
+served_fits (Some c) to channels frames width n is b same few =
+    let most = size_fits (Some c) to channels frames width is b same in
+    let low : n ≤ greatest_block = omega arith in
+    let within : n ≤ frames * (sample_size c * channels) = subst (λ (k : ℕ). n ≤ frames * k) same few in
+    room_for c channels frames n (subst (λ (t : SampleType). IsBlock t channels frames) is b) within low
+
+-- whole frames are whole samples
+even_frames : (channels n : ℕ) → IsChannelCount channels → n / (2 * channels) * (2 * channels) % 2 ≡ 0
+even_frames channels n count = elim (one_or_two channels count) [
+  | inl one ↦ subst (λ (k : ℕ). n / (2 * k) * (2 * k) % 2 ≡ 0) (sym one) (omega arith)
+  | inr two ↦ subst (λ (k : ℕ). n / (2 * k) * (2 * k) % 2 ≡ 0) (sym two) (omega arith)
+]
+
+are_whole : (c : Option Coding) (to : SampleType) (channels n : ℕ) → IsChannelCount channels → AreWhole c (n / source_width c to channels * source_width c to channels)
+are_whole None to channels n count = tt
+are_whole (Some coding.Mu255) to channels n count = tt
+are_whole (Some coding.Alaw) to channels n count = tt
+are_whole (Some coding.Lin16Big) to channels n count = even_frames channels n count
+are_whole (Some coding.Lin16Little) to channels n count = even_frames channels n count
+are_whole (Some coding.U8) to channels n count = tt
+
+pub whole_samples : (c : Option Coding) (to : SampleType) (channels width n : ℕ) → IsChannelCount channels → width ≡ source_width c to channels → AreWhole c (n / width * width)
+whole_samples c to channels width n count same = subst (λ (k : ℕ). AreWhole c (n / k * k)) (sym same) (are_whole c to channels n count)

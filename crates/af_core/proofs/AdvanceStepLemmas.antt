@@ -1,5 +1,5 @@
 -- What was taken off is one step of all.
-use Rattle.std.proofs.Common.{◌≡◌, ℕ, Bool, true, false, cond, subst, List, ◌++◌, map, refl, sym, ◌∙◌, ap}
+use Rattle.std.proofs.Common.{◌≡◌, ℕ, Bool, true, false, cond, subst, length, List, ◌++◌, map, refl, sym, ◌∙◌, ap}
 use Rattle.std.specs.declared.option.Option.{Option}
 use Rattle.std.specs.declared.option.Option.TheVariants.{None, Some}
 use Rattle.af_wire.specs.declared.order.Order.{Order}
@@ -10,7 +10,7 @@ use Rattle.af_request.specs.Answer.{setup}
 use Rattle.af_model.specs.State.{OpenLink, EnvironmentState, LinkState, open_link}
 use Rattle.af_model.specs.Waiting.{has_deferral}
 use Rattle.af_model.specs.Reply.{reply_message}
-use Rattle.af_model.specs.Advance.{advance, advance_step, after_front, after_setup, takes_more, without_front}
+use Rattle.af_model.specs.Advance.{advance, advance_by, advance_step, after_front, after_setup, takes_more, without_front}
 use Rattle.af_model.proofs.AdvanceLemmas.{advance-some, advance-none}
 use Rattle.af_state.proofs.DeviceLemmas.{same_infos}
 use Rattle.af_state.specs.Kept.{KeptDevice, kept_info}
@@ -34,6 +34,11 @@ ends_at k p env l (Some q) e s = absurd s
 
 pub ends : (k : ℕ) (p : OpenLink) (env : KeptEnvironment) (l : LinkState) → AdvancesTo false (advance_step k p) env l → advance k p ≡ p
 ends k p env l s = ends_at k p env l (advance_step k p) refl s
+
+-- a link with no input keeps as it is
+pub nothing_there : (k : ℕ) (p : OpenLink) → length p.link.rest ≡ 0 → advance k p ≡ p
+unfolding advance
+nothing_there k p none = ap (λ n. advance_by n k p) none
 
 -- a good setup is taken off and replied to
 pub setup_replied : (env : KeptEnvironment) (order : Order) (l l1 l2 : LinkState) → setup_front l.rest ≡ front.Setup order →

@@ -171,6 +171,23 @@ fn advance_once(
     }
 }
 
+// Takes off and answers what is there, one after the other.
+fn advance_all(
+    number: u8,
+    environment: &mut Environment,
+    link: &mut ServedLink,
+    scratch: &mut Scratch,
+)
+    requires number { number < 32 }
+    requires room { IsTrue (has_waiting environment.old.waits number) → length link.old.pending ≤ event_limit }
+    ensures step { StepsLink (advance number) environment.old link.old environment.new link.new }
+    ensures settled { IsSettled (has_waiting environment.new.waits number) link.new }
+    ensures answered { (link.new ≡ link.old) ⊎ (length link.new.rest < length link.old.rest) }
+    ensures only_queues { OnlyQueues number environment.old.waits environment.new.waits }
+{
+    while advance_once(number, environment, link, scratch) {}
+}
+
 /// Takes off and answers what is there, as far as the link takes more.
 pub fn advance(
     number: u8,
@@ -185,5 +202,8 @@ pub fn advance(
     ensures answered { (link.new ≡ link.old) ⊎ (length link.new.rest < length link.old.rest) }
     ensures only_queues { OnlyQueues number environment.old.waits environment.new.waits }
 {
-    while advance_once(number, environment, link, scratch) {}
+    // mostly nothing is there any more once a link took its replies
+    if link.has_input() {
+        advance_all(number, environment, link, scratch);
+    }
 }

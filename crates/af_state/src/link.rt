@@ -3,7 +3,7 @@
 // same number uses it again. The 16 contexts are in order of creation. The masks of the events that it selects stand by the
 // numbers of the devices. That it waits with a request is not noted here, but in the list of those that wait, so `wants_read` and
 // `takes_more` are told. Contracts see the link of the abstract server, field by field.
-ghost use Rattle.std.specs.Prelude.{◌≡◌, ◌+◌, ◌≤◌, nat_le, [], ◌∷◌, ◌++◌, length, drop, take, slice_set, true, false, IfOk, IfSome, OnOk, OnErr};
+ghost use Rattle.std.specs.Prelude.{◌≡◌, ◌+◌, ◌==◌, ◌≤◌, nat_le, not, [], ◌∷◌, ◌++◌, length, drop, take, slice_set, true, false, IfOk, IfSome, OnOk, OnErr};
 ghost use Rattle.std.specs.declared.option.Option.TheVariants.{Some};
 ghost use Rattle.std.specs.Borrow.{sem};
 ghost use Rattle.af_context.specs.Contexts.{context_of, creation, is_in_use, reference, with_changed, with_settings, without_context};
@@ -106,6 +106,14 @@ impl ServedLink {
         ensures bound { length self.now.rest ≤ 32768 }
     {
         self.session.rest()
+    }
+
+    /// Whether it has input that was not read yet.
+    pub fn has_input(&self) -> bool
+        ensures input { result ≡ not (length self.now.rest == 0) }
+        ensures bounds { IsBounded self.now }
+    {
+        !self.session.rest().is_empty()
     }
 
     /// The session: the input that was not read yet, and the output that was not sent yet.

@@ -3,7 +3,7 @@ use Rattle.af_model.specs.State.{EnvironmentState, open_link}
 use Rattle.af_model.specs.Advance.{advance}
 use Rattle.af_state.specs.Deferrals.{has_waiting, OnlyQueues}
 use Rattle.af_state.specs.Environment.{StandsForEnvironment}
-use Rattle.af_core.proofs.advance.advance.Given as goal
+use Rattle.af_core.proofs.advance.advance_all.Given as goal
 use Rattle.af_model.specs.Sizes.{event_limit}
 
 abbrev pub invariant-loop : goal.invariant-loop

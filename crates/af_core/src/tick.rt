@@ -133,7 +133,9 @@ fn tick_device<W: World>(
     }
 }
 
-/// The sample periods of a device go by, and the requests that are due then complete.
+/// The sample periods of a device go by, and the requests that are due then complete. It is kept out of the code of a turn, most of
+/// which tick no device.
+#[inline(never)]
 pub fn tick<W: World>(
     tick: DeviceTick,
     environment: &mut Environment,

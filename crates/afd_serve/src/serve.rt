@@ -30,7 +30,9 @@ fn take_turn<W: World>(core: &mut Core, wake: Wake, world: &mut W)
     core.turn(wake, world);
 }
 
-/// Waits and takes turns until a wait gives Stop or fails, or n waits had theirs. There is at least one.
+/// Waits and takes turns until a wait gives Stop or fails, or n waits had theirs. There is at least one. It is kept out of the code of
+/// what is done once, so that the loop has all registers.
+#[inline(never)]
 pub(crate) fn serve<W: Live>(core: &mut Core, waits: u64, world: &mut W) -> LiveEnd
     requires { 1 ≤ waits }
     ensures served { (config : List DeviceSpec) → Stands core.old (opening config) →

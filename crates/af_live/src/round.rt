@@ -62,15 +62,15 @@ impl Round {
         ensures { GoesOn nanos self.old result self.new }
     {
         self.reading = Some(nanos);
-        while self.next < MOST_DEVICES {
-            let device = self.next;
-            self.next += 1;
+        for device in self.next..MOST_DEVICES {
             let frames = due(&mut self.paces[device], nanos);
             if frames > 0 {
+                self.next = device + 1;
                 self.ticked = true;
                 return Some((device as u8, frames));
             }
         }
+        self.next = self.next.max(MOST_DEVICES);
         None
     }
 

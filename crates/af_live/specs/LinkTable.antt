@@ -82,7 +82,7 @@ GivesFirst old (Some w) new = GivesOf old (link_of_wake w) w new
 
 -- a link that is new
 abbrev pub new_link : ℕ → LinkEntry
-new_link key = record { key = key; opened = true; readable = false; writable = false }
+new_link key = record { key = key; opened = true; readable = false; writable = false; drained = false; hides = false }
 
 -- a new link is held under the least number that is free, or none is
 abbrev pub TakesIn : List (Option LinkEntry) → List (Option LinkEntry) → Type 0
@@ -120,7 +120,13 @@ abbrev pub to_read : Option LinkEntry → Option LinkEntry
 to_read None = None
 to_read (Some link) = Some (record link { readable = true })
 
+-- Behind a read that gave something all that had come may be read; nothing else changes.
+abbrev pub to_drain : Option LinkEntry → Option LinkEntry
+to_drain None = None
+to_drain (Some link) = Some (record link { drained = true })
+
 abbrev pub AfterRead : ℕ → LinkGot → List (Option LinkEntry) → List (Option LinkEntry) → Type 0
+AfterRead k (got.Bytes n) old new = (new ≡ old) ⊎ (new ≡ slice_set old k (to_drain (link_at old k)))
 AfterRead k got.NotYet old new = (new ≡ old) ⊎ (new ≡ slice_set old k (to_read (link_at old k)))
 AfterRead k _ old new = new ≡ old
 

@@ -2,10 +2,10 @@
 // ends there, and there is none where nothing is ready.
 ghost use Rattle.std.specs.Prelude.{◌≡◌, length, replicate, slice_set, IfSome};
 ghost use Rattle.std.specs.declared.option.Option.TheVariants.{Some};
-ghost use Rattle.af_live.specs.LinkTable.{free_entry, link_at, new_link, to_read, to_write, IsLeastFree, GivesFirst, KeepsOpen, LinkWakeFits, Opens};
+ghost use Rattle.af_live.specs.LinkTable.{free_entry, link_at, new_link, to_drain, to_read, to_write, IsLeastFree, GivesFirst, KeepsOpen, LinkWakeFits, Opens};
 
 use crate::link_table::{
-    LinkEntry, first_ready, free_number, held_at, least_free, note_ready, take_first,
+    LinkEntry, Told, first_ready, free_number, held_at, least_free, note_told, take_first,
 };
 use af_world::Wake;
 use std::marker::Model;
@@ -73,12 +73,12 @@ impl HeldLinks {
         free_number(&mut self.entries, number);
     }
 
-    /// A link may have something to read, or may take something.
-    pub fn note(&mut self, number: usize, may_read: bool, may_write: bool)
+    /// Notes what an event tells of a link.
+    pub fn note(&mut self, number: usize, told: Told)
         ensures { KeepsOpen self.old self.new }
     {
         if number < self.entries.len() {
-            note_ready(&mut self.entries[number], may_read, may_write);
+            note_told(&mut self.entries[number], told);
             self.ready_below = self.ready_below.max(number + 1);
         }
     }
@@ -91,6 +91,16 @@ impl HeldLinks {
         if number < self.entries.len() {
             set_readable(&mut self.entries[number]);
             self.ready_below = self.ready_below.max(number + 1);
+        }
+    }
+
+    /// All that had come of a link that is held was read.
+    pub fn set_drained(&mut self, number: u8)
+        ensures { self.new ≡ slice_set self.old number (to_drain (link_at self.old number)) }
+    {
+        let number = usize::from(number);
+        if number < self.entries.len() {
+            set_drained(&mut self.entries[number]);
         }
     }
 
@@ -128,6 +138,15 @@ fn set_readable(link: &mut Option<LinkEntry>)
 {
     if let Some(held) = link {
         held.readable = true;
+    }
+}
+
+/// Notes of a link that all that had come was read.
+fn set_drained(link: &mut Option<LinkEntry>)
+    ensures { link.new ≡ to_drain link.old }
+{
+    if let Some(held) = link {
+        held.drained = true;
     }
 }
 

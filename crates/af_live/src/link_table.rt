@@ -1,29 +1,34 @@
 // The links that a world holds, by number, and what is ready of each and was not given yet.
 ghost use Rattle.std.specs.Prelude.{◌≡◌, ◌≤◌, length, slice_set, slice_index_or, true, false};
-ghost use Rattle.af_live.specs.LinkTable.{free_entry, is_open, something_ready, wake_at, without_first_ready, IsLeastFree, IsFirstReady, NothingReadyFrom};
+ghost use Rattle.af_live.specs.LinkTable.{free_entry, is_open, new_link, something_ready, wake_at, without_first_ready, IsLeastFree, IsFirstReady, NothingReadyFrom};
 
 use af_world::Wake;
 
-/// A link that is held: the key of its stream, and what was not given yet: that it is new, that it may have something to read, and
-/// that it may take something.
+/// A link that is held: the key of its stream; what was not given yet: that it is new, that it may have something to read, and
+/// that it may take something; whether all that had come was read, so that an event tells when there is more; and whether a read that
+/// gives little may hide more, as the end, which no event tells again.
 #[derive(Clone, Copy)]
 pub(crate) struct LinkEntry {
     pub key: usize,
     pub opened: bool,
     pub readable: bool,
     pub writable: bool,
+    pub drained: bool,
+    pub hides: bool,
 }
 
 impl LinkEntry {
     /// A link that is new.
     pub fn new(key: usize) -> LinkEntry
-        ensures { result ≡ record { key = key; opened = true; readable = false; writable = false } }
+        ensures { result ≡ new_link key }
     {
         LinkEntry {
             key,
             opened: true,
             readable: false,
             writable: false,
+            drained: false,
+            hides: false,
         }
     }
 }
@@ -106,12 +111,23 @@ pub(crate) fn take_first(link: &mut Option<LinkEntry>, number: u8) -> Wake
     }
 }
 
-/// Notes of a link that is held that it may have something to read, or may take something.
-pub(crate) fn note_ready(link: &mut Option<LinkEntry>, may_read: bool, may_write: bool)
+/// What an event tells of a link: that it may have something to read, that it may take something, and that a read that gives little
+/// may hide more from now on.
+#[derive(Clone, Copy)]
+pub(crate) struct Told {
+    pub may_read: bool,
+    pub may_write: bool,
+    pub hides: bool,
+}
+
+/// Notes what an event tells of a link that is held.
+pub(crate) fn note_told(link: &mut Option<LinkEntry>, told: Told)
     ensures { is_open link.new ≡ is_open link.old }
 {
     if let Some(held) = link {
-        held.readable |= may_read;
-        held.writable |= may_write;
+        held.readable |= told.may_read;
+        held.writable |= told.may_write;
+        held.drained &= !told.may_read;
+        held.hides |= told.hides;
     }
 }

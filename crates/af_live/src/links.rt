@@ -8,7 +8,8 @@ use crate::sockets::Sockets;
 use af_world::{LinkGot, LinkTook};
 use std::io::ErrorKind;
 
-/// Reads what has come by a link. A read that was interrupted gave nothing so far, and is to be made again: the link stays
+/// Reads what has come by a link. A read that gave less than there was room for gave all, unless it may hide more, and the system is
+/// not asked again before it tells of more. A read that was interrupted gave nothing so far, and is to be made again: the link stays
 /// ready.
 pub(crate) fn read_link(
     sockets: &mut Option<Sockets>,
@@ -25,9 +26,17 @@ pub(crate) fn read_link(
     let (Some(sockets), Some(held)) = (sockets, links.get(link)) else {
         return LinkGot::Failed;
     };
+    if held.drained {
+        return LinkGot::NotYet;
+    }
     match sockets.read(held.key, into) {
         Ok(0) => LinkGot::Ended,
-        Ok(count) => LinkGot::Bytes(count),
+        Ok(count) => {
+            if count < into.len() && !held.hides {
+                links.set_drained(link);
+            }
+            LinkGot::Bytes(count)
+        }
         Err(e) => match e.kind() {
             ErrorKind::WouldBlock => LinkGot::NotYet,
             ErrorKind::Interrupted => {

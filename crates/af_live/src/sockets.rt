@@ -4,6 +4,7 @@ ghost use Rattle.std.specs.Io.{ReadsAtMost, WritesAtMost};
 ghost use Rattle.af_live.specs.LinkTable.{TakesIn, KeepsOpen};
 
 use crate::held_links::HeldLinks;
+use crate::link_table::Told;
 use mio::net::{TcpListener, TcpStream};
 use mio::{Events, Interest, Poll, Token};
 use slab::Slab;
@@ -105,11 +106,11 @@ impl Sockets {
         }
         // An answer is to leave at once. Where the system refuses that, it leaves later.
         let _ = stream.set_nodelay(true);
-        let both = Interest::READABLE | Interest::WRITABLE;
+        let all = Interest::READABLE | Interest::WRITABLE | Interest::PRIORITY;
         if self
             .poll
             .registry()
-            .register(&mut stream, Token(number), both)
+            .register(&mut stream, Token(number), all)
             .is_err()
         {
             return;
@@ -166,12 +167,17 @@ fn note_events(events: &Events<Global>, links: &mut HeldLinks) -> bool
     let mut waiting = false;
     for event in events {
         let Token(number) = event.token();
-        let may_read = event.is_readable() || event.is_read_closed() || event.is_error();
-        let may_write = event.is_writable() || event.is_write_closed() || event.is_error();
+        let ends = event.is_read_closed() || event.is_error();
+        let told = Told {
+            may_read: event.is_readable() || ends,
+            may_write: event.is_writable() || event.is_write_closed() || event.is_error(),
+            // the end and a fault come behind the last bytes, and a read stops at an urgent byte
+            hides: ends || event.is_priority(),
+        };
         if event.token() == LISTENER {
             waiting = true;
         } else {
-            links.note(number, may_read, may_write);
+            links.note(number, told);
         }
     }
     waiting

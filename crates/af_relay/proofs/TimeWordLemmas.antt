@@ -5,6 +5,7 @@ use Rattle.std.specs.Prelude.{Result, Ok, Err, IfOk, option_and_then}
 use Rattle.std.specs.declared.option.Option.{Option}
 use Rattle.std.specs.declared.option.Option.TheVariants.{None, Some}
 use Rattle.af_time.specs.declared.DevTime.{DevTime}
+use Rattle.af_wire.specs.declared.order.Order.{Order}
 use Rattle.af_request.specs.Asked.{Asked}
 use Rattle.af_request.specs.Answer.{Answer}
 use Rattle.af_request.specs.Replies.{answer_in}
@@ -35,9 +36,9 @@ unfolding as_word
 by_answer bytes None r word is = is
 by_answer bytes (Some a) r word is = by_value bytes (as_time a) r word is
 
-by_message : (opcode : ℕ) (m : Result (List ℕ) ConnFault) (r : Result DevTime ConnFault) → IsWord r → r ≡ and_then (value_in as_time opcode) m → r ≡ and_then (value_in as_word opcode) m
-by_message opcode (Ok bytes) r word is = by_answer bytes (answer_in opcode (drop 8 bytes)) r word is
-by_message opcode (Err f) r word is = is
+by_message : (order : Order) (opcode : ℕ) (m : Result (List ℕ) ConnFault) (r : Result DevTime ConnFault) → IsWord r → r ≡ and_then (value_in order as_time opcode) m → r ≡ and_then (value_in order as_word opcode) m
+by_message order opcode (Ok bytes) r word is = by_answer bytes (answer_in order opcode (drop 8 bytes)) r word is
+by_message order opcode (Err f) r word is = is
 
 both_told : (before after : Option (List ℕ)) (P Q : List ℕ → List ℕ → Type 0) → ((b a : List ℕ) → P b a → Q b a) → BothTold before after P → BothTold before after Q
 both_told before None P Q more told = tt
@@ -51,7 +52,7 @@ called_word left sent faults asked old new result word c = record {
   spent = c.spent;
   untouched = c.untouched;
   sends = c.sends;
-  answers = λ usable sound. both_told (left old.link) (left new.link) _ _ (λ b a told. (by_message (opcode_of asked) _ result word told.0, told.1, told.2)) (c.answers usable sound);
+  answers = λ usable sound. both_told (left old.link) (left new.link) _ _ (λ b a told. (by_message old.order (opcode_of asked) _ result word told.0, told.1, told.2)) (c.answers usable sound);
   gained = c.gained;
   fresh = c.fresh;
   tells = c.tells;
@@ -76,10 +77,10 @@ unfolding as_word
 answer_low bytes None t is = cc
 answer_low bytes (Some a) t is = value_low bytes (as_time a) t is
 
-message_low : (opcode : ℕ) (m : Result (List ℕ) ConnFault) (t : DevTime) → and_then (value_in as_word opcode) m ≡ Ok t → t.0 < 2 ^ 32
-message_low opcode (Ok bytes) t is = answer_low bytes (answer_in opcode (drop 8 bytes)) t is
-message_low opcode (Err f) t is = cc
+message_low : (order : Order) (opcode : ℕ) (m : Result (List ℕ) ConnFault) (t : DevTime) → and_then (value_in order as_word opcode) m ≡ Ok t → t.0 < 2 ^ 32
+message_low order opcode (Ok bytes) t is = answer_low bytes (answer_in order opcode (drop 8 bytes)) t is
+message_low order opcode (Err f) t is = cc
 
 -- a time that was told is a word
 pub told_low : (asked : Asked) (w : ClientState) (t : DevTime) → answer_on asked as_word w ≡ Ok t → t.0 < 2 ^ 32
-told_low asked w t is = message_low (opcode_of asked) (and_then (answer_to (opcode_of asked) (following w.sequence)) (next_message w).found) t is
+told_low asked w t is = message_low w.order (opcode_of asked) (and_then (answer_to w.order (opcode_of asked) (following w.sequence)) (next_message w).found) t is

@@ -2,7 +2,8 @@
 // How it lies: three blocks, taken once. Input stands in a vector whose first bytes may be used already (`unread.rt`): they go
 // only when room is needed, so what is unread is one piece, and read in place. Output is a ring, which takes bytes at its back
 // and gives up at its front those that went, moves none, and may wrap; as a world is offered one piece, what wraps is copied into
-// the third block. Contracts see two lists, the rest and what is pending, and of no byte where it lies.
+// the third block, once for as long as nothing is pushed. Contracts see two lists, the rest and what is pending, and of no byte where
+// it lies.
 ghost use Rattle.std.specs.Prelude.{◌≡◌, ◌+◌, ◌≤◌, [], ◌++◌, length, drop, vec_capacity, IfOk, IfSome};
 ghost use Rattle.std.specs.Borrow.{sem};
 ghost use Rattle.af_session.specs.Flows.{no_flow, IsFlow};
@@ -22,19 +23,22 @@ pub const MOST_PENDING: usize = 65536;
 pub struct Session {
     input: Unread,
     output: HeapCircularBuffer<u8>,
-    // what is pending, in one piece
+    // what was pending when it was copied, in one piece
     piece: Vec<u8>,
+    // how many bytes of the piece went since, if the rest of it is what is pending
+    gone: Option<usize>,
 }
 
 impl Model for Session {
-    ghost use Rattle.std.specs.Prelude.{◌≡◌, ◌≤◌, vec_capacity};
+    ghost use Rattle.std.specs.Prelude.{◌≡◌, ◌≤◌, drop, length, vec_capacity, IfSome};
     ghost use Rattle.af_session.specs.Flows.{flow, Flow, IsFlow};
 
     ghost Value = { Flow };
 
     ghost view = { λ s. flow s.input s.output.items };
 
-    ghost invariant = { λ s. IsFlow (flow s.input s.output.items) × (s.output.capacity ≡ 65536) × (65536 ≤ vec_capacity s.piece) };
+    ghost invariant = { λ s. IsFlow (flow s.input s.output.items) × (s.output.capacity ≡ 65536) × (65536 ≤ vec_capacity s.piece)
+        × IfSome s.gone (λ gone. (gone ≤ length s.piece.items) × (drop gone s.piece.items ≡ s.output.items)) };
 }
 
 impl Session {
@@ -51,6 +55,7 @@ impl Session {
             input,
             output,
             piece,
+            gone: None,
         })
     }
 
@@ -87,6 +92,7 @@ impl Session {
         ensures bounds { IsFlow self.new }
     {
         self.output.fill_from_slice(bytes);
+        self.gone = None;
     }
 
     /// How many bytes are to go out.
@@ -106,14 +112,22 @@ impl Session {
         if second.is_empty() { Some(first) } else { None }
     }
 
-    /// The bytes that are to go out, in one piece. It copies them, and changes nothing.
+    /// The bytes that are to go out, in one piece. It copies them, unless it did so already and none were pushed since, and changes
+    /// nothing.
     pub fn pending(&mut self) -> &[u8]
         ensures* kept { sem 𝓛 (keeps self.entry) }
         ensures pending { result.now ≡ self.old.pending }
         ensures bounds { IsFlow self.old }
     {
-        copy_all(&self.output, &mut self.piece);
-        self.piece.as_slice()
+        let gone = match self.gone {
+            Some(gone) => gone,
+            None => {
+                copy_all(&self.output, &mut self.piece);
+                self.gone = Some(0);
+                0
+            }
+        };
+        &self.piece[gone..]
     }
 
     /// The first n of the bytes that are to go out went.
@@ -124,6 +138,10 @@ impl Session {
     {
         let left = self.output.len() - n;
         self.output.truncate_front(left);
+        self.gone = match self.gone {
+            Some(gone) => Some(gone + n),
+            None => None,
+        };
     }
 
     /// No bytes any more, as of a link that is dropped or opened again.
@@ -132,6 +150,7 @@ impl Session {
     {
         self.input.clear();
         self.output.clear();
+        self.gone = None;
     }
 }
 

@@ -26,11 +26,11 @@ use Rattle.af_options.specs.Sizes.{block_frames}
 use Rattle.af_options.specs.declared.job.RecordJob.{RecordJob}
 use Rattle.af_tool.specs.declared.end.ToolEnd.{ToolEnd}
 use Rattle.af_tool.specs.declared.end.ToolEnd.TheVariants as end
-use Rattle.af_tool.specs.Trace.{Trace, ClientState, after_reply, answer_on, answered_by, asks, done, ends, next_message, on_device, refused, sending, writing}
+use Rattle.af_tool.specs.Trace.{Trace, ClientState, after_reply, answer_on, answered_by, asks, done, ends, next_message, on_device, writing}
 use Rattle.af_tool.specs.Ends.{ObservedTrace, is_outer}
 use Rattle.af_tool.proofs.ToolEndLemmas.{finish_done}
 use Rattle.af_tools.specs.declared.record.RecordedSound.{RecordedSound}
-use Rattle.af_tools.specs.Files.{as_filed, as_raw, coding_in, front_of_recording, pad_behind, recorded_sound, recorded_type, recording_of, IsFiledAs}
+use Rattle.af_tools.specs.Files.{as_filed, as_raw, coding_in, front_of_recording, pad_behind, recorded_sound, recorded_type, IsFiledAs}
 use Rattle.af_tools.specs.Record.{arecord_trace, block_lengths, ends_row, peak, record_context, recorded_frame, recorded_on, records, records_all, writes_recording}
 use Rattle.af_tools.specs.Recorded.{IsRecorded}
 use Rattle.af_tools.specs.Sounds.{AreWhole}

@@ -1,12 +1,11 @@
 -- Blocks of a source's frames, and of the frames as a server takes them, have room.
-use Rattle.std.proofs.Common.{◌≡◌, ℕ, ◌*◌, ◌/◌, ◌%◌, ◌<◌, ◌≤◌, sym, ap, subst, arith, inl, inr}
+use Rattle.std.proofs.Common.{◌≡◌, ℕ, ◌*◌, ◌/◌, ◌%◌, ◌<◌, ◌≤◌, sym, subst, arith, inl, inr}
 use Rattle.std.proofs.lemmas.Nat.{mul-le}
 use Rattle.std.specs.declared.option.Option.{Option}
 use Rattle.std.specs.declared.option.Option.TheVariants.{None, Some}
 use Rattle.af_sample.specs.declared.sample_type.SampleType.{SampleType}
-use Rattle.af_sample.specs.declared.sample_type.SampleType.TheVariants as ty
 use Rattle.af_sample.specs.Channels.{IsChannelCount}
-use Rattle.af_sample.specs.SampleTypes.{frame_bytes, width_of}
+use Rattle.af_sample.specs.SampleTypes.{width_of}
 use Rattle.af_sample.proofs.FrameLemmas.{one_or_two}
 use Rattle.af_sound.specs.declared.head.Coding.{Coding}
 use Rattle.af_sound.specs.declared.head.Coding.TheVariants as coding

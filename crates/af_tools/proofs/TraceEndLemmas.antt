@@ -4,7 +4,6 @@ use Rattle.std.specs.Prelude.{Result, Ok, Err}
 use Rattle.std.proofs.lemmas.Bool.Decides.{nat_tests}
 use Rattle.std.specs.declared.option.Option.{Option}
 use Rattle.std.specs.declared.option.Option.TheVariants.{None, Some}
-use Rattle.af_sample.specs.declared.sample_type.SampleType.{SampleType}
 use Rattle.af_request.specs.declared.reply.DeviceInfo.{DeviceInfo}
 use Rattle.af_request.specs.declared.reply.Phone.{Phone}
 use Rattle.af_request.specs.Asked.{Asked, free_ac, get_time, play_run, query_controls}

@@ -13,7 +13,7 @@ use Rattle.af_tools.proofs.PlayBlockLemmas.{IsPlaying}
 use Rattle.af_tools.proofs.PlayStepLemmas.{is_read, play_begin, play_ended, play_on, play_over, play_refused, play_stopped, play_too_long, playing_on, plays_named, samples_of}
 use Rattle.af_options.proofs.FrameSizeLemmas.{some_bytes}
 use Rattle.af_tools.proofs.ServedBlockLemmas.{source_size}
-use Rattle.af_tools.proofs.SourceFrameLemmas.{served_fits, size_fits, some_size_of, whole_samples, wide_of}
+use Rattle.af_tools.proofs.SourceFrameLemmas.{size_fits, some_size_of, wide_of}
 use Rattle.af_tools.proofs.SourceCountLemmas.{fault_cases, fits_begin, fits_on, given_on, given_too_much, given_up_to, given_within, rest_begin, rest_on, spent_or_all, short_of, whole_of}
 use Rattle.af_tools.proofs.play.play_blocks.Goals as goal
 

@@ -3,7 +3,7 @@ use Rattle.std.specs.Prelude.{Err}
 use Rattle.af_tool.specs.Ends.{client_of}
 use Rattle.af_options.specs.Sizes.{block_frames}
 use Rattle.af_tools.specs.Record.{recorded_frame}
-use Rattle.af_tools.proofs.RecordBlockLemmas.{all_recorded, record_begin, record_done, record_on, record_quiet, record_stopped, some_recorded, whole_frames}
+use Rattle.af_tools.proofs.RecordBlockLemmas.{all_recorded, record_begin, record_done, record_on, record_quiet, record_stopped, some_recorded}
 use Rattle.af_tools.proofs.record.record_blocks.Goals as goal
 
 pub loop-left-init : goal.loop-left-init

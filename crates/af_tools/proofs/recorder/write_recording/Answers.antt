@@ -1,10 +1,10 @@
-use Rattle.std.proofs.Common.{rules, ◌≡◌, ◌*◌, ◌∙◌, ℕ, List, ap, ap₂, refl, sym, subst}
+use Rattle.std.proofs.Common.{rules, ◌≡◌, ◌*◌, ◌∙◌, ℕ, ap, ap₂, subst}
 use Rattle.std.specs.Prelude.{Ok, Err}
 use Rattle.af_tool.specs.Ends.{client_of, ObservedPart}
 use Rattle.af_tool.specs.Trace.{writing}
 use Rattle.af_tools.specs.declared.record.RecordedSound.{RecordedSound}
-use Rattle.af_tools.specs.Files.{pad_behind, recorded_sound, front_of_recording, Writes}
-use Rattle.af_tools.specs.Record.{recorded_frame, records_all, writes_recording}
+use Rattle.af_tools.specs.Files.{pad_behind, recorded_sound, front_of_recording}
+use Rattle.af_tools.specs.Record.{recorded_frame, records_all}
 use Rattle.af_tools.proofs.RecordTailLemmas.{front_on, front_stop, sound_on, sound_stop}
 use Rattle.af_tools.proofs.WritingLemmas.{goes_writing}
 use Rattle.af_tools.proofs.recorder.write_recording.Goals as goal

@@ -1,6 +1,6 @@
 -- The script that an exercise makes of a seed and a number of turns.
 use Rattle.std.specs.Prelude.{ℕ, zero, suc, ◌+◌, ◌-◌, ◌/◌, ◌%◌, ◌^◌, nat_lt, ◌==◌, pos, ◌-ℤ◌, true, false, List, [], ◌∷◌, ◌++◌, map, Some, None, if◌then◌else◌}
-use Rattle.std.specs.Int.{w16, to_be_bytes}
+use Rattle.std.specs.Int.{w16, to_be_bytes, cast_unsigned}
 use Rattle.rand_core.specs.Pcg32Seed.{pcg32_seed}
 use Rattle.rand_pcg.specs.Lcg.{Lcg}
 use Rattle.rand_pcg.specs.Pcg.{pcg32, pcg32_of_seed}
@@ -8,7 +8,6 @@ use Rattle.af_sample.specs.declared.sample_type.SampleType.TheVariants.{Lin16}
 use Rattle.af_wire.specs.declared.order.Order.TheVariants.{Big}
 use Rattle.af_wire.specs.Front.{setup_bytes}
 use Rattle.af_request.specs.Asked.{Asked, get_time, create_ac, play_run, record_run, select_events}
-use Rattle.af_request.specs.Fields.{i16_bytes}
 use Rattle.af_request.specs.Requests.{request_bytes}
 use Rattle.af_phone.specs.declared.line.LineChange.TheVariants as change
 use Rattle.af_world.specs.declared.script.DeviceSpec.{DeviceSpec}
@@ -61,7 +60,7 @@ tick_drawn y = step.Tick 0 (tick_frames y) (Some (repeated (tick_frames y) (to_b
 
 -- the bytes of a sample between -10000 and 10000
 abbrev pub sample_bytes : ℕ → List ℕ
-sample_bytes y = i16_bytes (pos (y % 20001) -ℤ pos 10000)
+sample_bytes y = to_be_bytes w16 (cast_unsigned w16 (pos (y % 20001) -ℤ pos 10000))
 
 -- a Play with a reply, of 100 equal samples, that begins 2000 frames before the device's time or up to 35999 frames later
 unfoldable pub play_drawn : ℕ → ℕ → Asked

@@ -187,20 +187,6 @@ fn assert_no_requests(rt: &impl Abort, frames: &[&[u8]]) {
 #[test]
 fn replies_are_written_and_read(rt: HostRuntime) {
     let time = DevTime(0x0102_0304);
-    let samples = &[5, 6, 7, 8, 9];
-    let controls = Controls {
-        input_on: true,
-        output_on: false,
-        input_gain: Gain::new(-30).unwrap_or_default(),
-        output_gain: Gain::new(5).unwrap_or_default(),
-    };
-    let phone = Phone {
-        wanted_off: true,
-        given_off: false,
-        ringing: false,
-        current: true,
-        dead: true,
-    };
     assert_replies(
         &rt,
         Order::Big,
@@ -209,7 +195,7 @@ fn replies_are_written_and_read(rt: HostRuntime) {
             (6, Reply::Played { time }, 1, &[1, 2, 3, 4]),
             (
                 7,
-                Reply::Recorded { time, samples },
+                recorded_answer(time),
                 4,
                 &[1, 2, 3, 4, 0, 0, 0, 5, 5, 6, 7, 8, 9, 0, 0, 0],
             ),
@@ -219,13 +205,8 @@ fn replies_are_written_and_read(rt: HostRuntime) {
             (8, Reply::Plain, 0, &[]),
             (9, Reply::Plain, 0, &[]),
             (11, Reply::Plain, 0, &[]),
-            (
-                10,
-                Reply::Controls { controls },
-                2,
-                &[1, 0, 0, 0, 0xFF, 0xE2, 0, 5],
-            ),
-            (12, Reply::Phone { phone }, 2, &[1, 0, 0, 1, 1, 0, 0, 0]),
+            (10, controls_answer(), 2, &[1, 0, 0, 0, 0xFF, 0xE2, 0, 5]),
+            (12, phone_answer(), 2, &[1, 0, 0, 1, 1, 0, 0, 0]),
         ],
     );
     // samples are in no order
@@ -236,20 +217,45 @@ fn replies_are_written_and_read(rt: HostRuntime) {
             (2, Reply::Time { time }, 1, &[4, 3, 2, 1]),
             (
                 7,
-                Reply::Recorded { time, samples },
+                recorded_answer(time),
                 4,
                 &[4, 3, 2, 1, 5, 0, 0, 0, 5, 6, 7, 8, 9, 0, 0, 0],
             ),
             (3, Reply::Plain, 0, &[]),
-            (
-                10,
-                Reply::Controls { controls },
-                2,
-                &[1, 0, 0, 0, 0xE2, 0xFF, 5, 0],
-            ),
-            (12, Reply::Phone { phone }, 2, &[1, 0, 0, 1, 1, 0, 0, 0]),
+            (10, controls_answer(), 2, &[1, 0, 0, 0, 0xE2, 0xFF, 5, 0]),
+            (12, phone_answer(), 2, &[1, 0, 0, 1, 1, 0, 0, 0]),
         ],
     );
+}
+
+fn recorded_answer(time: DevTime) -> Reply<'static> {
+    Reply::Recorded {
+        time,
+        samples: &[5, 6, 7, 8, 9],
+    }
+}
+
+fn controls_answer() -> Reply<'static> {
+    Reply::Controls {
+        controls: Controls {
+            input_on: true,
+            output_on: false,
+            input_gain: Gain::new(-30).unwrap_or_default(),
+            output_gain: Gain::new(5).unwrap_or_default(),
+        },
+    }
+}
+
+fn phone_answer() -> Reply<'static> {
+    Reply::Phone {
+        phone: Phone {
+            wanted_off: true,
+            given_off: false,
+            ringing: false,
+            current: true,
+            dead: true,
+        },
+    }
 }
 
 #[test]

@@ -90,14 +90,14 @@ fn words_of(reply: &Reply<'_>) -> u32
 }
 
 // The head of a reply.
+#[tactic(auto, unfolding(af_wire::specs::Message::head))]
 fn put_head(order: Order, out: &mut [u8], opcode: u8, sequence: u16, words: u32) -> usize
     requires { 8 ≤ length out.old }
     ensures end { result ≡ 8 }
     ensures bytes { take result out.new ≡ head order 1 opcode sequence words }
 {
-    let mut bytes = [0; 8];
-    write_head(order, 1, opcode, sequence, words, &mut bytes);
-    put(out, 0, &bytes)
+    write_head(order, 1, opcode, sequence, words, &mut out[..8]);
+    8
 }
 
 // The version, the count of the devices, and each of them.

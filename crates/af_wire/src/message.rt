@@ -16,8 +16,9 @@ pub fn write_head(order: Order, kind: u8, detail: u8, sequence: u16, words: u32,
         IsOneMessage order kind detail sequence (out.new ++ body) }
 {
     let [s0, s1] = order.u16_bytes(sequence);
-    let [w0, w1, w2, w3] = order.u32_bytes(words);
-    out.copy_from_slice(&[kind, detail, s0, s1, w0, w1, w2, w3]);
+    let (front, back) = out.split_at_mut(4);
+    front.copy_from_slice(&[kind, detail, s0, s1]);
+    back.copy_from_slice(&order.u32_bytes(words));
 }
 
 /// Writes an error: its code, the value that was refused, the opcode of the request (0 for a setup) and its sequence

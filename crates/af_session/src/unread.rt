@@ -1,5 +1,5 @@
 // Bytes that come in at the back and are used from the front, with room for 32768 that is taken once.
-ghost use Rattle.std.specs.Prelude.{◌≡◌, ◌+◌, ◌≤◌, [], ◌++◌, length, drop, IfOk};
+ghost use Rattle.std.specs.Prelude.{◌≡◌, ◌+◌, ◌≤◌, [], ◌++◌, length, drop, vec_capacity, IfOk};
 
 use af_time::OutOfMemory;
 use std::alloc::Global;
@@ -45,8 +45,7 @@ impl Unread {
         ensures { self.new ≡ self.old ++ more.now }
     {
         if self.bytes.len() + more.len() > MOST_UNREAD {
-            self.bytes.drain(..self.start);
-            self.start = 0;
+            make_room(&mut self.bytes, &mut self.start);
         }
         let _ = self.bytes.extend_from_slice(more);
     }
@@ -64,4 +63,16 @@ impl Unread {
         self.bytes.clear();
         self.start = 0;
     }
+}
+
+// What is unread comes to stand at the front. It is kept out of the code of an append, which mostly finds room.
+#[inline(never)]
+fn make_room(bytes: &mut Vec<u8>, start: &mut usize)
+    requires { start.old ≤ length bytes.old.items }
+    ensures unread { bytes.new.items ≡ drop start.old bytes.old.items }
+    ensures start { start.new ≡ 0 }
+    ensures capacity { vec_capacity bytes.old ≤ vec_capacity bytes.new }
+{
+    bytes.drain(..*start);
+    *start = 0;
 }

@@ -1,5 +1,5 @@
 -- The requests that wait: a list in the order in which they began to wait, in which each link stands once.
-use Rattle.std.specs.Prelude.{◌≢◌, ℕ, ◌-◌, ◌==◌, ◌<◌, Bool, not, ◌&&◌, if◌then◌else◌, Option, Some, None, List, [], ◌∷◌, filter, find, AllPairs}
+use Rattle.std.specs.Prelude.{◌≡◌, ◌≢◌, ℕ, ◌-◌, ◌==◌, ◌<◌, Bool, false, not, ◌&&◌, if◌then◌else◌, Option, Some, None, List, [], ◌∷◌, filter, find, get_or, length, AllPairs}
 use Rattle.std.specs.List.{list_any, All}
 use Rattle.af_wait.specs.declared.Wait.{Wait}
 
@@ -11,6 +11,11 @@ is_waiting waits link = list_any (λ w. w.link == link) waits
 pub record AreWaits (waits : List Wait) : Type 0 where
   pub distinct : AllPairs (λ a b. a.link ≢ b.link) waits
   pub links : All (λ w. w.link < 32) waits
+
+-- of each of 32 links whether it waits, and no link beyond them does
+pub record AreFlags (flags : List Bool) (waits : List Wait) : Type 0 where
+  pub count : length flags ≡ 32
+  pub fits : (link : ℕ) → get_or flags link false ≡ is_waiting waits link
 
 -- a wait when n frames of a device have passed: one for another device stays, and no less than 0 frames are left
 abbrev pub passed : ℕ → ℕ → Wait → Wait

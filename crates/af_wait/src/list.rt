@@ -1,5 +1,5 @@
 // The list of requests that wait.
-ghost use Rattle.std.specs.Prelude.{◌≡◌, ◌↔◌, ◌<◌, false, [], ◌∷◌, ◌++◌, length, map, option_map, IfSome, IsNone};
+ghost use Rattle.std.specs.Prelude.{◌≡◌, ◌↔◌, ◌<◌, false, [], ◌∷◌, ◌++◌, length, map, option_map, slice_set, IfSome, IsNone};
 ghost use Rattle.std.specs.List.{All};
 ghost use Rattle.af_wait.specs.Waits.{first_due, is_due, is_waiting, passed, without_first, without_link, without_taken, AreWaits};
 
@@ -11,18 +11,20 @@ use std::marker::Model;
 #[derive(Drop)]
 pub struct Waiting {
     waits: ArrayVec<Wait, 32>,
+    // of each link whether it waits, since that is asked of every link in every turn
+    is_waiting: [bool; 32],
 }
 
 impl Model for Waiting {
     ghost use Rattle.std.specs.Prelude.{List};
     ghost use Rattle.af_wait.specs.declared.Wait.{Wait};
-    ghost use Rattle.af_wait.specs.Waits.{AreWaits};
+    ghost use Rattle.af_wait.specs.Waits.{AreFlags, AreWaits};
 
     ghost Value = { List Wait };
 
     ghost view = { λ w. w.waits.items };
 
-    ghost invariant = { λ w. AreWaits w.waits.items };
+    ghost invariant = { λ w. AreWaits w.waits.items × AreFlags w.is_waiting w.waits.items };
 }
 
 impl Waiting {
@@ -32,6 +34,7 @@ impl Waiting {
     {
         Waiting {
             waits: ArrayVec::new(),
+            is_waiting: [false; 32],
         }
     }
 
@@ -46,7 +49,10 @@ impl Waiting {
     pub fn is_waiting(&self, link: u8) -> bool
         ensures { result ≡ is_waiting self.now link }
     {
-        self.waits.iter().any(|wait| wait.link == link)
+        self.is_waiting
+            .get(usize::from(link))
+            .copied()
+            .unwrap_or(false)
     }
 
     /// A link, 0..31, begins to wait until `left` frames of a device have passed, at least 1. It may not wait already.
@@ -58,6 +64,7 @@ impl Waiting {
         ensures list { AreWaits self.new }
     {
         self.waits.push(Wait { link, device, left });
+        self.is_waiting[usize::from(link)] = true;
     }
 
     /// A link waits no more.
@@ -66,6 +73,7 @@ impl Waiting {
         ensures list { AreWaits self.new }
     {
         self.waits.retain(|wait| wait.link != link);
+        clear_flag(&mut self.is_waiting, link);
     }
 
     /// n frames of a device have passed.
@@ -96,6 +104,16 @@ impl Waiting {
         let link = first_due_link(&self.waits, device)?;
         self.drop_link(link);
         Some(link)
+    }
+}
+
+// A link waits no more. One that has no flag never waited.
+fn clear_flag(flags: &mut [bool], link: u8)
+    ensures { flags.new ≡ slice_set flags.old link false }
+{
+    let place = usize::from(link);
+    if place < flags.len() {
+        flags[place] = false;
     }
 }
 

@@ -5,4 +5,4 @@ use Rattle.af_wait.proofs.WaitLemmas.{find-below}
 use Rattle.af_wait.proofs.list.Waiting.first_due.Goals as goal
 
 pub returns-clause-bound : goal.returns-clause-bound
-returns-clause-bound c = subst (λ o. IfSome o (λ link. link < 32)) (sym (c.first_due_link.ensures.earliest ∙ ap (λ (ws : List Wait). option_map (λ (w : Wait). w.link) (first_due c.args.device ws)) c.deref.ensures.0)) (find-below (is_due c.args.device) c.self.inside.waits.items c.self.invariant.links)
+returns-clause-bound c = subst (λ o. IfSome o (λ link. link < 32)) (sym (c.first_due_link.ensures.earliest ∙ ap (λ (ws : List Wait). option_map (λ (w : Wait). w.link) (first_due c.args.device ws)) c.deref.ensures.0)) (find-below (is_due c.args.device) c.self.inside.waits.items c.self.invariant.0.links)

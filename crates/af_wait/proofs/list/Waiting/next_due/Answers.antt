@@ -10,7 +10,7 @@ returns-in_err-link-clause-first c =
     let nothing : None ≡ option_map (λ (w : Wait). w.link) (first_due c.args.device items) =
     c.in_err-link.ensures.earliest ∙ ap (λ (ws : List Wait). option_map (λ (w : Wait). w.link) (first_due c.args.device ws)) c.deref.ensures.0 in
     subst (λ (ws : List Wait). ws ≡ without_first (is_due c.args.device) ws) c.self.view_is
-    (ap (without_taken items) nothing ∙ without_taken-find (is_due c.args.device) items c.self.invariant.distinct)
+    (ap (without_taken items) nothing ∙ without_taken-find (is_due c.args.device) items c.self.invariant.0.distinct)
 
 pub returns-clause-first : goal.returns-clause-first
 returns-clause-first c =
@@ -19,4 +19,4 @@ returns-clause-first c =
     c.in_ok-link.ensures.earliest ∙ ap (λ (ws : List Wait). option_map (λ (w : Wait). w.link) (first_due c.args.device ws)) c.deref.ensures.0 in
     c.drop_link.ensures.rest
     ∙ subst (λ (ws : List Wait). without_taken ws (Some c.in_ok-link.link) ≡ without_first (is_due c.args.device) ws) c.self.view_is
-    (ap (without_taken items) link ∙ without_taken-find (is_due c.args.device) items c.self.invariant.distinct)
+    (ap (without_taken items) link ∙ without_taken-find (is_due c.args.device) items c.self.invariant.0.distinct)

@@ -3,7 +3,8 @@ use Rattle.std.specs.List.{refill}
 use Rattle.std.proofs.lemmas.List.{length-map}
 use Rattle.arrayvec.proofs.ArrayVecLemmas.{items-with_items}
 use Rattle.af_wait.specs.declared.Wait.{Wait}
-use Rattle.af_wait.specs.Waits.{passed, AreWaits}
+use Rattle.af_wait.specs.Waits.{passed, AreFlags, AreWaits}
+use Rattle.af_wait.proofs.FlagLemmas.{AreFlags-passed}
 use Rattle.af_wait.proofs.WaitLemmas.{AreWaits-passed}
 use Rattle.af_wait.proofs.list.Waiting.pass.Goals as goal
 
@@ -17,10 +18,10 @@ passed_list c =
     ∙ all
 
 waits : (c : goal.After-self-1) → AreWaits (refill (length c.self.inside.waits.items) c.self.inside.waits.items c.pass_all.new.waits)
-waits c = subst AreWaits (sym (passed_list c)) (AreWaits-passed _ _ _ c.self.invariant)
+waits c = subst AreWaits (sym (passed_list c)) (AreWaits-passed _ _ _ c.self.invariant.0)
 
 pub invariant_of-self : goal.invariant_of-self
-invariant_of-self c = waits c
+invariant_of-self c = (waits c, subst (AreFlags _) (sym (passed_list c)) (AreFlags-passed _ _ _ _ c.self.invariant.1))
 
 pub returns-clause-list : goal.returns-clause-list
 returns-clause-list c = waits c

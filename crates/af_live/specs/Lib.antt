@@ -1,6 +1,5 @@
-pub mod Pacing
 pub mod LinkTable
-pub mod Rounds
+pub mod Readings
 pub mod FileBytes
 pub mod CodecUse
 pub mod Behind

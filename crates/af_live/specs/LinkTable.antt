@@ -58,6 +58,10 @@ abbrev pub IsFirstReady : List (Option LinkEntry) → Option ℕ → Type 0
 IsFirstReady links None = (k : ℕ) → k < length links → something_ready (link_at links k) ≡ false
 IsFirstReady links (Some n) = (n < length links) × (something_ready (link_at links n) ≡ true) × ((k : ℕ) → k < n → something_ready (link_at links k) ≡ false)
 
+-- nothing is ready of a link below this number
+abbrev pub NothingReadyBelow : ℕ → List (Option LinkEntry) → Type 0
+NothingReadyBelow n links = (k : ℕ) → k < n → something_ready (link_at links k) ≡ false
+
 -- nothing is ready of a link at this number or above it
 abbrev pub NothingReadyFrom : ℕ → List (Option LinkEntry) → Type 0
 NothingReadyFrom n links = (k : ℕ) → n ≤ k → k < length links → something_ready (link_at links k) ≡ false

@@ -12,11 +12,12 @@ use Rattle.af_world.specs.declared.live.Ready.TheVariants as ready
 use Rattle.af_world.specs.declared.live.Waited.{Waited}
 use Rattle.af_world.specs.declared.live.Waited.TheVariants as answer
 use Rattle.af_live.specs.declared.link_table.LinkEntry.{LinkEntry}
-use Rattle.af_live.specs.declared.round.Round.{Round}
 use Rattle.af_live.specs.LinkTable.{free_entry, LinkWakeFits, GivesFirst}
 use Rattle.af_live.specs.Behind.{BehindState, none_attached, all_without_bytes}
 use Rattle.af_live.specs.CodecUse.{CodecUse, begun_codec}
-use Rattle.af_live.specs.Rounds.{new_round, is_paced, round_begun, IsReadingBy, GoesOn}
+use Rattle.af_live.specs.Readings.{IsReadingBy}
+use Rattle.af_pace.specs.Pacing.{begun}
+use Rattle.af_pace.specs.Rounds.{RoundState, new_round, is_paced, round_begun, round_with, GoesOn}
 
 -- Whether it listens; the links that it holds; what stands behind each device that is attached; its codec; its round over the
 -- devices; and how often each kind of call has failed.
@@ -25,7 +26,7 @@ pub record RealState : Type 0 where
   pub links : List (Option LinkEntry)
   pub behind : List (Option BehindState)
   pub codec : CodecUse
-  pub round : Round
+  pub round : RoundState
   pub link_faults : ℕ
   pub device_faults : ℕ
   pub listen_faults : ℕ
@@ -62,21 +63,26 @@ RealLeadsTo-trans a b c p q = record {
 }
 
 -- A wake opens a link that is not open, names one that is, or ticks a device that is attached by 1 to 4096 frames.
-abbrev pub WakeFits : List (Option LinkEntry) → Round → Wake → Type 0
+abbrev pub WakeFits : List (Option LinkEntry) → RoundState → Wake → Type 0
 WakeFits links round (wake.Ticked d n) = (is_paced round d ≡ true) × (1 ≤ n) × (n ≤ 4096)
 WakeFits links round w = LinkWakeFits links w
 
 -- What is ready first is given, and the round stays where it is.
-abbrev pub GivesKept : Option Wake → List (Option LinkEntry) → Round → List (Option LinkEntry) → Round → Type 0
+abbrev pub GivesKept : Option Wake → List (Option LinkEntry) → RoundState → List (Option LinkEntry) → RoundState → Type 0
 GivesKept None links round links' round' = ⊥
 GivesKept (Some w) links round links' round' = GivesFirst links (Some w) links' × (round' ≡ round)
 
 -- A tick is that of the next device of the round of which frames are due, at the one reading of the round. Any other wake leaves the
 -- round where it is, or comes behind the last of the devices, of which none has a frame due then, and begins a new round.
-abbrev pub LeadsRound : Wake → Round → Round → Type 0
+abbrev pub LeadsRound : Wake → RoundState → RoundState → Type 0
 LeadsRound (wake.Ticked d n) old new = (nanos : ℕ) × IsReadingBy old.reading nanos × GoesOn nanos old (Some (d, n)) new
 LeadsRound _ old new =
-    (new ≡ old) ⊎ ((nanos : ℕ) × (past : Round) × IsReadingBy old.reading nanos × GoesOn nanos old None past × (new ≡ round_begun past))
+    (new ≡ old) ⊎ ((nanos : ℕ) × (past : RoundState) × IsReadingBy old.reading nanos × GoesOn nanos old None past × (new ≡ round_begun past))
+
+-- the round behind an attach: where that was done, the device goes on at this rate
+abbrev pub round_after : Ready → RoundState → ℕ → ℕ → RoundState
+round_after ready.Done r d rate = round_with r d (begun rate)
+round_after _ r d rate = r
 
 -- whether it listens behind a listen
 abbrev pub listens_behind : Ready → Bool → Bool

@@ -4,13 +4,14 @@ ghost use Rattle.std.specs.declared.option.Option.TheVariants.{Some};
 ghost use Rattle.af_codec.specs.Codec.{TellsThese};
 ghost use Rattle.af_live.specs.Behind.{none_attached, CapturesBy, CapturesAt, EmitsBy, EmitsAt, AttachesAt};
 ghost use Rattle.af_live.specs.CodecUse.{begun_codec, codec_allows, codec_behind};
-ghost use Rattle.af_live.specs.Rounds.{new_round, is_paced, round_after};
+ghost use Rattle.af_live.specs.RealWorld.{round_after};
+ghost use Rattle.af_pace.specs.Rounds.{new_round, is_paced};
 
 use crate::attached_device::AttachedDevice;
 use crate::codec_device::CodecDevice;
-use crate::round::Round;
 use af_child::Spawner;
 use af_io::Put;
+use af_pace::Round;
 use af_sample::SampleType;
 use af_world::{Kind, Ready};
 use std::alloc::Global;

@@ -1,6 +1,6 @@
-// The links that a world holds, by number, with a bound on the numbers of which something may be ready: a search for what is ready
-// ends there, and there is none where nothing is ready.
-ghost use Rattle.std.specs.Prelude.{◌≡◌, length, replicate, slice_set, IfSome};
+// The links that a world holds, by number, with bounds on the numbers of which something may be ready: a search for what is ready
+// goes from the one to the other, and there is none where nothing is ready.
+ghost use Rattle.std.specs.Prelude.{◌≡◌, ◌<◌, ◌+◌, min, max, length, replicate, slice_set, IfSome};
 ghost use Rattle.std.specs.declared.option.Option.TheVariants.{Some};
 ghost use Rattle.af_live.specs.LinkTable.{free_entry, link_at, new_link, to_drain, to_read, to_write, IsLeastFree, GivesFirst, KeepsOpen, LinkWakeFits, Opens};
 
@@ -10,25 +10,46 @@ use crate::link_table::{
 use af_world::Wake;
 use std::marker::Model;
 
+/// The numbers between which all links are of which something may be ready.
+#[derive(Clone, Copy)]
+struct ReadySpan {
+    from: usize,
+    below: usize,
+}
+
+/// Nothing is ready of any link.
+const NONE_READY: ReadySpan = ReadySpan { from: 32, below: 0 };
+
+impl ReadySpan {
+    /// Something may be ready of this link too.
+    fn include(&mut self, number: usize)
+        requires { number < 32 }
+        ensures { self.new ≡ record { from = min self.old.from number; below = max self.old.below (number + 1) } }
+    {
+        self.from = self.from.min(number);
+        self.below = self.below.max(number + 1);
+    }
+}
+
 /// The links that are held. Clauses see a place for each of 32 numbers.
 #[derive(Drop)]
 pub(crate) struct HeldLinks {
     entries: [Option<LinkEntry>; 32],
-    // nothing is ready of a link at this number or above it
-    ready_below: usize,
+    ready: ReadySpan,
 }
 
 impl Model for HeldLinks {
     ghost use Rattle.std.specs.Prelude.{◌≡◌, ◌≤◌, List, length};
     ghost use Rattle.std.specs.declared.option.Option.{Option};
     ghost use Rattle.af_live.specs.declared.link_table.LinkEntry.{LinkEntry};
-    ghost use Rattle.af_live.specs.LinkTable.{NothingReadyFrom};
+    ghost use Rattle.af_live.specs.LinkTable.{NothingReadyBelow, NothingReadyFrom};
 
     ghost Value = { List (Option LinkEntry) };
 
     ghost view = { λ h. h.entries };
 
-    ghost invariant = { λ h. (length h.entries ≡ 32) × (h.ready_below ≤ 32) × NothingReadyFrom h.ready_below h.entries };
+    ghost invariant = { λ h. (length h.entries ≡ 32) × (h.ready.below ≤ 32)
+        × NothingReadyBelow h.ready.from h.entries × NothingReadyFrom h.ready.below h.entries };
 }
 
 impl HeldLinks {
@@ -38,7 +59,7 @@ impl HeldLinks {
     {
         HeldLinks {
             entries: [None; 32],
-            ready_below: 0,
+            ready: NONE_READY,
         }
     }
 
@@ -62,7 +83,7 @@ impl HeldLinks {
     {
         if number < self.entries.len() {
             self.entries[number] = Some(LinkEntry::new(key));
-            self.ready_below = self.ready_below.max(number + 1);
+            self.ready.include(number);
         }
     }
 
@@ -79,7 +100,7 @@ impl HeldLinks {
     {
         if number < self.entries.len() {
             note_told(&mut self.entries[number], told);
-            self.ready_below = self.ready_below.max(number + 1);
+            self.ready.include(number);
         }
     }
 
@@ -90,7 +111,7 @@ impl HeldLinks {
         let number = usize::from(number);
         if number < self.entries.len() {
             set_readable(&mut self.entries[number]);
-            self.ready_below = self.ready_below.max(number + 1);
+            self.ready.include(number);
         }
     }
 
@@ -111,7 +132,7 @@ impl HeldLinks {
         let number = usize::from(number);
         if number < self.entries.len() {
             set_writable(&mut self.entries[number]);
-            self.ready_below = self.ready_below.max(number + 1);
+            self.ready.include(number);
         }
     }
 
@@ -122,10 +143,13 @@ impl HeldLinks {
         ensures fits { IfSome result (λ wake. LinkWakeFits self.old wake) }
         ensures opens { IfSome result (λ wake. Opens wake self.old self.new) }
     {
-        match first_ready(&self.entries, self.ready_below) {
-            Some(number) => Some(take_first(&mut self.entries[number], number as u8)),
+        match first_ready(&self.entries, self.ready.from, self.ready.below) {
+            Some(number) => {
+                self.ready.from = number;
+                Some(take_first(&mut self.entries[number], number as u8))
+            }
             None => {
-                self.ready_below = 0;
+                self.ready = NONE_READY;
                 None
             }
         }

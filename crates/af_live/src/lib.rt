@@ -1,5 +1,5 @@
-//! The server on real time below its turns: the pace at which its devices go on, and the real world, of sockets, files, child
-//! programs and the clock of the system. The configuration that it is started with is named here again.
+//! The server on real time below its turns: the real world, of sockets, files, child programs and the clock of the system. The
+//! configuration that it is started with, and the pace of a device, are named here again.
 #![tactic(auto)]
 
 mod attached_device;
@@ -11,10 +11,8 @@ mod held_links;
 mod link_table;
 mod links;
 mod mio_world;
-mod pace;
-mod round;
 mod sockets;
 
 pub use af_config::{ConfigFault, Setting, read_config};
+pub use af_pace::Pace;
 pub use mio_world::MioWorld;
-pub use pace::Pace;

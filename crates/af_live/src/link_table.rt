@@ -1,6 +1,6 @@
 // The links that a world holds, by number, and what is ready of each and was not given yet.
 ghost use Rattle.std.specs.Prelude.{◌≡◌, ◌≤◌, length, slice_set, slice_index_or, true, false};
-ghost use Rattle.af_live.specs.LinkTable.{free_entry, is_open, new_link, something_ready, wake_at, without_first_ready, IsLeastFree, IsFirstReady, NothingReadyFrom};
+ghost use Rattle.af_live.specs.LinkTable.{free_entry, is_open, new_link, something_ready, wake_at, without_first_ready, IsLeastFree, IsFirstReady, NothingReadyBelow, NothingReadyFrom};
 
 use af_world::Wake;
 
@@ -75,13 +75,14 @@ fn is_ready(link: &Option<LinkEntry>) -> bool
     }
 }
 
-/// The number of the first link of which something is ready, where that is below a number.
-pub(crate) fn first_ready(links: &[Option<LinkEntry>], below: usize) -> Option<usize>
+/// The number of the first link of which something is ready, where that is between two numbers.
+pub(crate) fn first_ready(links: &[Option<LinkEntry>], from: usize, below: usize) -> Option<usize>
     requires bound { below ≤ length links.now }
-    requires nothing { NothingReadyFrom below links.now }
+    requires nothing_below { NothingReadyBelow from links.now }
+    requires nothing_from { NothingReadyFrom below links.now }
     ensures { IsFirstReady links.now result }
 {
-    for number in 0..below {
+    for number in from..below {
         if is_ready(&links[number]) {
             return Some(number);
         }

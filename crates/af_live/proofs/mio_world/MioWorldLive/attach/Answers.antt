@@ -4,7 +4,8 @@ use Rattle.af_world.specs.declared.live.Ready.TheVariants.{Done, Failed}
 use Rattle.af_live.specs.Behind.{AttachesAt}
 use Rattle.af_live.specs.CodecUse.{codec_allows, codec_behind}
 use Rattle.af_live.specs.Counting.{CountsOne}
-use Rattle.af_live.specs.Rounds.{is_paced, round_after}
+use Rattle.af_live.specs.RealWorld.{round_after}
+use Rattle.af_pace.specs.Rounds.{is_paced}
 use Rattle.af_live.specs.RealWorld.{RealState}
 use Rattle.af_live.proofs.mio_world.MioWorldLive.attach.Goals as goal
 

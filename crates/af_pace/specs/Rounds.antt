@@ -1,47 +1,34 @@
--- Rounds over the devices of a world.
-use Rattle.std.specs.Prelude.{◌≡◌, ℕ, ◌+◌, ◌-◌, ◌%◌, ◌≤◌, ◌<◌, Bool, ◌||◌, if◌then◌else◌, true, false, List, replicate, slice_index_or, slice_set, option_map, is_some, Option, Some, None}
-use Rattle.af_world.specs.declared.live.Ready.{Ready}
-use Rattle.af_world.specs.declared.live.Ready.TheVariants as ready
-use Rattle.af_live.specs.Pacing.{PaceState, begun, due_at, after_due}
-use Rattle.af_live.specs.declared.round.Round.{Round}
+-- Rounds over devices, each of which has a pace.
+use Rattle.std.specs.Prelude.{◌≡◌, ℕ, ◌+◌, ◌≤◌, ◌<◌, max, Bool, true, false, List, replicate, slice_index_or, slice_set, option_map, is_some, Option, Some, None}
+use Rattle.af_pace.specs.Pacing.{PaceState, due_at, after_due}
+
+-- The pace of each device that is attached, the device that the round comes to next, whether one ticked in it, and the reading of the
+-- clock that it goes by, once it has come to a device.
+pub record RoundState : Type 0 where
+  pub paces : List (Option PaceState)
+  pub next : ℕ
+  pub ticked : Bool
+  pub reading : Option ℕ
 
 -- no device is attached
-abbrev pub new_round : Round
+abbrev pub new_round : RoundState
 new_round = record { paces = replicate 8 None; next = 0; ticked = false; reading = None }
 
 -- the pace of a device, if it is attached
-abbrev pub pace_at : Round → ℕ → Option PaceState
+abbrev pub pace_at : RoundState → ℕ → Option PaceState
 pace_at r d = slice_index_or r.paces d None
 
 -- whether a device is attached
-abbrev pub is_paced : Round → ℕ → Bool
+abbrev pub is_paced : RoundState → ℕ → Bool
 is_paced r d = is_some (pace_at r d)
 
 -- a device is attached, and has this pace
-abbrev pub round_with : Round → ℕ → PaceState → Round
+abbrev pub round_with : RoundState → ℕ → PaceState → RoundState
 round_with r d pace = record r { paces = slice_set r.paces d (Some pace) }
 
--- the round behind an attach: where that was done, the device goes on at this rate
-abbrev pub round_after : Ready → Round → ℕ → ℕ → Round
-round_after ready.Done r d rate = round_with r d (begun rate)
-round_after _ r d rate = r
-
 -- a new round begins
-abbrev pub round_begun : Round → Round
+abbrev pub round_begun : RoundState → RoundState
 round_begun r = record r { next = 0; ticked = false; reading = None }
-
--- what a clock shows, in nanoseconds, rounded down to whole milliseconds
-abbrev pub whole_millis : ℕ → ℕ
-whole_millis nanos = nanos - nanos % 1000000
-
--- A round has one reading: what the clock showed as it came to its first device, rounded down. It keeps to that one.
-abbrev pub IsReadingBy : Option ℕ → ℕ → Type 0
-IsReadingBy None nanos = (shown : ℕ) × (nanos ≡ whole_millis shown)
-IsReadingBy (Some taken) nanos = nanos ≡ taken
-
--- for how many nanoseconds a poll waits at most: for none if there is more to do, or a device ticked in the round
-abbrev pub pause_of : Bool → Bool → ℕ
-pause_of more ticked = if more || ticked then 0 else 10000000
 
 -- the frames of a device that are due at a reading of the clock
 abbrev pub due_of : ℕ → Option PaceState → ℕ
@@ -62,8 +49,25 @@ pub record PacesAsked (nanos from to : ℕ) (old new : List (Option PaceState)) 
 abbrev pub NoneDue : ℕ → ℕ → ℕ → List (Option PaceState) → Type 0
 NoneDue nanos from to paces = (d : ℕ) → d < to → from ≤ d → due_of nanos (slice_index_or paces d None) ≡ 0
 
+-- The first device from one on, and before another, of which frames are due, at most 4096 of them. The devices up to it were asked, or
+-- all where it is none.
+abbrev pub FindsDue : ℕ → ℕ → ℕ → List (Option PaceState) → Option (ℕ × ℕ) → List (Option PaceState) → Type 0
+FindsDue nanos from to old None new = NoneDue nanos from (max from to) old × PacesAsked nanos from (max from to) old new
+FindsDue nanos from to old (Some (d, n)) new =
+    (from ≤ d) × (d < to) × NoneDue nanos from d old × (n ≡ due_of nanos (slice_index_or old d None)) × (1 ≤ n) × (n ≤ 4096)
+    × PacesAsked nanos from (d + 1) old new
+
+-- no device from this number on is attached
+abbrev pub NoneFrom : ℕ → List (Option PaceState) → Type 0
+NoneFrom end paces = (d : ℕ) → end ≤ d → slice_index_or paces d None ≡ None
+
+-- every device was asked at this reading, and nothing is due
+abbrev pub IsSettled : ℕ → List (Option PaceState) → Type 0
+IsSettled nanos paces = (d : ℕ) →
+    (due_of nanos (slice_index_or paces d None) ≡ 0) × (read_at nanos (slice_index_or paces d None) ≡ slice_index_or paces d None)
+
 -- the round passes over these devices, of which nothing is due
-pub record PassesOver (nanos to : ℕ) (old new : Round) : Type 0 where
+pub record PassesOver (nanos to : ℕ) (old new : RoundState) : Type 0 where
   pub next : new.next ≡ to
   pub on : old.next ≤ to
   pub none : NoneDue nanos old.next to old.paces
@@ -72,7 +76,7 @@ pub record PassesOver (nanos to : ℕ) (old new : Round) : Type 0 where
   pub reading : new.reading ≡ Some nanos
 
 -- the round passes over those before a device of which frames are due, at most 4096 of them, and this one ticks
-pub record RoundTicks (nanos d n : ℕ) (old new : Round) : Type 0 where
+pub record RoundTicks (nanos d n : ℕ) (old new : RoundState) : Type 0 where
   pub device : d < 8
   pub on : old.next ≤ d
   pub none : NoneDue nanos old.next d old.paces
@@ -85,6 +89,6 @@ pub record RoundTicks (nanos d n : ℕ) (old new : Round) : Type 0 where
   pub reading : new.reading ≡ Some nanos
 
 -- The round goes on by rising number to the next device of which a frame is due, or past the last.
-abbrev pub GoesOn : ℕ → Round → Option (ℕ × ℕ) → Round → Type 0
+abbrev pub GoesOn : ℕ → RoundState → Option (ℕ × ℕ) → RoundState → Type 0
 GoesOn nanos old None new = PassesOver nanos new.next old new × (8 ≤ new.next)
 GoesOn nanos old (Some (d, n)) new = RoundTicks nanos d n old new

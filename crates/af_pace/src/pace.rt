@@ -1,6 +1,6 @@
 // How many frames of a device are due, by the readings of a clock.
 ghost use Rattle.std.specs.Prelude.{◌≡◌};
-ghost use Rattle.af_live.specs.Pacing.{begun, due_at, after_due};
+ghost use Rattle.af_pace.specs.Pacing.{begun, due_at, after_due};
 
 use std::marker::Model;
 
@@ -19,7 +19,7 @@ pub struct Pace {
 
 impl Model for Pace {
     ghost use Rattle.std.specs.Prelude.{◌<◌, ◌^◌};
-    ghost use Rattle.af_live.specs.Pacing.{PaceState};
+    ghost use Rattle.af_pace.specs.Pacing.{PaceState};
 
     ghost Value = { PaceState };
 

@@ -8,3 +8,4 @@ pub mod CompletionLemmas
 pub mod OpenBelowLemmas
 pub mod TickSizeLemmas
 pub mod TurnLemmas
+pub mod WantsWithinLemmas

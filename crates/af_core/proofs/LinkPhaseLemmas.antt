@@ -143,7 +143,7 @@ unfolding serve_link
 serves a b c d k env env' env'' l l' l'' link read write close =
     simulates_more (simulates_then (λ p log. parse_then (write_phase k p log) (close_phase k)) read) (simulates_more (simulates_then (close_phase k) write) close)
 
-door_serves : (a b : Option Log) (k : ℕ) (env env' : KeptEnvironment) (l : LinkState) (link : Option LinkState) →
+pub door_serves : (a b : Option Log) (k : ℕ) (env env' : KeptEnvironment) (l : LinkState) (link : Option LinkState) →
     Simulates a b (StandsForLink env l) (StandsForSlot env' link) (serve_link k) parsed → Simulates a b (StandsForSlot env (Some l)) (StandsForSlot env' link) (serve_slot_link k) parsed
 door_serves a b k env env' l link d = record {
   part = d.part;

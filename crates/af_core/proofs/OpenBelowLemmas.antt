@@ -1,5 +1,5 @@
 -- Below which number all open links are, and what that leaves out of a turn.
-use Rattle.std.proofs.Common.{◌≡◌, ◌≢◌, ◌==◌, eqb-true, get_or, replicate, ℕ, zero, suc, ◌≤◌, ◌<◌, ◌+◌, Bool, true, false, not, cond, List, [], ◌∷◌, ◌++◌, length, map, drop, slice_get, slice_set, is_some, refl, sym, ap, ◌∙◌, subst, arith}
+use Rattle.std.proofs.Common.{◌≡◌, ◌≢◌, ◌==◌, eqb-true, get_or, replicate, ℕ, zero, suc, ◌≤◌, ◌<◌, ◌+◌, Bool, true, false, not, cond, List, [], ◌∷◌, ◌++◌, length, map, slice_get, slice_set, is_some, refl, sym, ap, ◌∙◌, subst, arith}
 use Rattle.std.proofs.Math.Nat.{le-max_left, le-max_right, max-le}
 use Rattle.std.proofs.lemmas.Bool.Decides.{nat_tests}
 use Rattle.std.specs.declared.option.Option.{Option}
@@ -13,18 +13,16 @@ use Rattle.af_world.specs.Log.{Log}
 use Rattle.af_model.specs.State.{State, DeviceState, LinkState, link_in_slot, opened, slot_at, with_slot}
 use Rattle.af_model.specs.Tick.{captured_samples, tick}
 use Rattle.af_model.specs.Events.{hook_given, hook_refused, line_changes}
-use Rattle.af_model.specs.More.{any_wants}
-use Rattle.af_model.specs.Turn.{Parsed, parsed, parse_then, parse_one, capture_by, after_capture, tick_phase, line_phase, wake_phase, hook_all, hook_at, hook_from, fits, is_closed_at, is_open_at, ready, writable, in_slot, serve_open, serve_slot_link, serve_from, serve_all}
+use Rattle.af_model.specs.Turn.{Parsed, parsed, parse_then, parse_one, capture_by, after_capture, tick_phase, line_phase, wake_phase, hook_all, hook_at, hook_from, fits, is_closed_at, is_open_at, ready, writable, in_slot, serve_open, serve_slot_link}
 use Rattle.af_model.proofs.BoolTestLemmas.{none_some}
 use Rattle.af_model.proofs.ListLemmas.{get-set_other}
 use Rattle.af_model.proofs.SlotLemmas.{some_link}
 use Rattle.af_model.proofs.OpenLinkLemmas.{becomes-opens, flagged, open_after, open_links, open_links-set, tick-opens}
 use Rattle.af_model.proofs.PhasePartLemmas.{Takes, hook_takes, live_takes, takes_chain, takes_nothing}
 use Rattle.af_state.specs.Environment.{KeptEnvironment}
-use Rattle.af_core.specs.Stands.{Kept, NoneOpenFrom, StandsFor, StandsForSlot, kept_of, open_below_after, outline_of}
+use Rattle.af_core.specs.Stands.{Kept, NoneOpenFrom, StandsFor, StandsForSlot, open_below_after, outline_of}
 use Rattle.af_core.specs.Simulates.{Simulates}
-use Rattle.af_core.proofs.LinkPhaseLemmas.{all_served, one_served}
-use Rattle.af_core.proofs.SimulationLemmas.{simulates_more, simulates_nothing}
+use Rattle.af_core.proofs.SimulationLemmas.{simulates_nothing}
 
 -- which links are open
 abbrev opens : List (Option LinkState) → List Bool
@@ -135,7 +133,7 @@ none_open_below n links d there closed none k from =
 
 -- Links that are not open have no part in a turn
 
-closed_here : (links : List (Option LinkState)) (k : ℕ) → is_open_at (slice_get (opens links) k) ≡ false → some_link (slice_get links k) ≡ None
+pub closed_here : (links : List (Option LinkState)) (k : ℕ) → is_open_at (slice_get (opens links) k) ≡ false → some_link (slice_get links k) ≡ None
 closed_here [] k e = refl
 closed_here (None ∷ links) zero e = refl
 closed_here (Some l ∷ links) zero e = absurd cc
@@ -146,37 +144,10 @@ set_closed [] k e = refl
 set_closed (x ∷ links) zero e = ap (λ o. o ∷ links) (sym e)
 set_closed (x ∷ links) (suc k) e = ap (λ ls. x ∷ ls) (set_closed links k e)
 
-closed_serves : (t : Option Log) (k : ℕ) (env : KeptEnvironment) → Simulates t t (StandsForSlot env None) (StandsForSlot env None) (serve_slot_link k) parsed
+pub closed_serves : (t : Option Log) (k : ℕ) (env : KeptEnvironment) → Simulates t t (StandsForSlot env None) (StandsForSlot env None) (serve_slot_link k) parsed
 closed_serves t k env =
     simulates_nothing t (StandsForSlot env None) (StandsForSlot env None) (serve_slot_link k) parsed (λ d. d) (λ d h. h)
     (λ d h log. ap (λ o. serve_open k d.environment o log) h.1 ∙ ap (λ (o : Option LinkState). parsed (link_in_slot d.environment o) log) (sym h.1))
-
-closed_served : (t : Option Log) (n k : ℕ) (kept : Kept) → NoneOpenFrom k kept.links → Simulates t t (StandsFor kept) (StandsFor kept) (serve_from (suc n) k) (serve_from n (k + 1))
-closed_served t n k kept none =
-    let env : KeptEnvironment = record { devices = kept.devices; waits = kept.waits } in
-    let here = closed_here kept.links k (none k (omega arith)) in
-    subst (λ (ls : List (Option LinkState)). Simulates t t (StandsFor kept) (StandsFor (kept_of env ls)) (serve_from (suc n) k) (serve_from n (k + 1))) (set_closed kept.links k here)
-    (one_served t t n k env env kept.links None None here (closed_serves t k env))
-
-pub rest_closed : (a b : Option Log) (n k : ℕ) (kept kept' : Kept) → NoneOpenFrom k kept'.links → Simulates a b (StandsFor kept) (StandsFor kept') (serve_from (length kept.links) 0) (serve_from n k) →
-    Simulates a b (StandsFor kept) (StandsFor kept') serve_all parsed
-rest_closed a b zero k kept kept' none d = all_served a b 0 k kept kept' refl d
-rest_closed a b (suc n) k kept kept' none d =
-    rest_closed a b n (k + 1) kept kept' (λ j from. none j (omega (arith, from))) (simulates_more d (closed_served b n k kept' none))
-
--- none of them wants one
-all_closed : (k : ℕ) (f : ℕ → Bool) (links : List (Option LinkState)) → ((j : ℕ) → is_open_at (slice_get (opens links) j) ≡ false) → any_wants k f links ≡ false
-all_closed k f [] none = refl
-all_closed k f (None ∷ links) none = all_closed (k + 1) f links (λ j. none (suc j))
-all_closed k f (Some l ∷ links) none = let here : true ≡ false = none zero in absurd cc
-
-rest_from : (k n : ℕ) (f : ℕ → Bool) (links : List (Option LinkState)) → NoneOpenFrom n links → any_wants k f (drop n links) ≡ false
-rest_from k zero f links none = all_closed k f links (λ j. none j (omega arith))
-rest_from k (suc n) f [] none = refl
-rest_from k (suc n) f (x ∷ links) none = rest_from k n f links (λ j from. none (suc j) (omega (arith, from)))
-
-pub rest_wants : (k : ℕ) (f : ℕ → Bool) (links : List (Option LinkState)) → NoneOpenFrom k links → any_wants k f (drop k links) ≡ false
-rest_wants k f links none = rest_from k k f links none
 
 -- a link that is opened has a number
 below_woken : (wake : Wake) (n : ℕ) (kept : Kept) → fits (outline_of kept) wake ≡ true → n ≤ length kept.links → open_below_after wake n ≤ length kept.links

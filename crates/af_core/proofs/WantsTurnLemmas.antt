@@ -1,6 +1,5 @@
 -- Whether any link is to be read, written or closed.
-use Rattle.std.proofs.Common.{◌≡◌, ℕ, suc, ◌+◌, ◌<◌, ◌||◌, Bool, true, false, List, [], ◌∷◌, length, drop, get_or, slice_get, option_and_then, refl, sym, ap, ◌∙◌, arith}
-use Rattle.std.proofs.Math.Seq.{drop-cons}
+use Rattle.std.proofs.Common.{◌≡◌, ℕ, ◌+◌, ◌||◌, Bool, List, [], ◌∷◌, slice_get, option_and_then, refl, sym, ap, ◌∙◌}
 use Rattle.std.specs.declared.option.Option.{Option}
 use Rattle.std.specs.declared.option.Option.TheVariants.{None, Some}
 use Rattle.af_model.specs.State.{LinkState, State}
@@ -9,20 +8,6 @@ use Rattle.af_model.specs.More.{any_wants, has_more, open_wants}
 use Rattle.af_state.specs.Deferrals.{has_waiting}
 use Rattle.af_state.proofs.DeferralLemmas.{same_waiting}
 use Rattle.af_core.specs.Stands.{Kept, StandsFor}
-
--- of the links from number k on, that link or any behind it is
-pub next_wants : (k : ℕ) (f : ℕ → Bool) (links : List (Option LinkState)) (d : Option LinkState) → k < length links →
-    any_wants k f (drop k links) ≡ (open_wants (f k) (get_or links k d) || any_wants (k + 1) f (drop (k + 1) links))
-next_wants k f links d lt =
-    ap (any_wants k f) (drop-cons links k d lt)
-    ∙ (let next : suc k ≡ k + 1 = omega arith in ap (λ n. open_wants (f k) (get_or links k d) || any_wants (k + 1) f (drop n links)) next)
-
-pub this_wants : (k : ℕ) (f : ℕ → Bool) (links : List (Option LinkState)) (d : Option LinkState) (wants : Bool) → k < length links → wants ≡ open_wants (f k) (get_or links k d) → wants ≡ true → any_wants k f (drop k links) ≡ true
-this_wants k f links d wants lt is t = next_wants k f links d lt ∙ ap (λ b. b || any_wants (k + 1) f (drop (k + 1) links)) (sym is ∙ t)
-
-pub others_want : (k : ℕ) (f : ℕ → Bool) (links : List (Option LinkState)) (d : Option LinkState) (wants : Bool) → k < length links → wants ≡ open_wants (f k) (get_or links k d) → wants ≡ false →
-    any_wants k f (drop k links) ≡ any_wants (k + 1) f (drop (k + 1) links)
-others_want k f links d wants lt is t = next_wants k f links d lt ∙ ap (λ b. b || any_wants (k + 1) f (drop (k + 1) links)) (sym is ∙ t)
 
 want_same : (k : ℕ) (f g : ℕ → Bool) (links : List (Option LinkState)) → ((n : ℕ) → f n ≡ g n) → any_wants k f links ≡ any_wants k g links
 want_same k f g [] same = refl

@@ -1,5 +1,5 @@
 -- What the core keeps, and the states of the abstract server that it stands for.
-use Rattle.std.specs.Prelude.{◌≡◌, ◌⊎◌, ℕ, ◌+◌, ◌<◌, ◌≤◌, Bool, true, false, IsTrue, List, [], ◌∷◌, find, length, map, is_some, slice_get, option_and_then, max, IsSomeAnd, if◌then◌else◌}
+use Rattle.std.specs.Prelude.{◌≡◌, ◌≢◌, ◌⊎◌, ℕ, ◌+◌, ◌<◌, ◌≤◌, Bool, true, false, IsTrue, List, [], ◌∷◌, find, length, map, is_some, slice_get, option_and_then, max, min, IsSomeAnd, if◌then◌else◌}
 use Rattle.std.specs.declared.option.Option.{Option}
 use Rattle.std.specs.declared.option.Option.TheVariants.{None, Some}
 use Rattle.af_wait.specs.declared.Wait.{Wait}
@@ -13,9 +13,11 @@ use Rattle.af_model.specs.State.{State, EnvironmentState, DeviceState, LinkState
 use Rattle.af_model.specs.Reply.{horizon_of}
 use Rattle.af_model.specs.Waiting.{due, falls_due, AreDueLater}
 use Rattle.af_model.specs.Advance.{takes_more}
+use Rattle.af_model.specs.More.{open_wants}
 use Rattle.af_model.specs.Turn.{IsTurn, is_open_at, wants_write}
 use Rattle.af_model.specs.Run.{wakes}
 use Rattle.af_model.specs.NoLoss.{StateLosesNone}
+use Rattle.af_core.specs.declared.bounds.Bounds.{Bounds}
 use Rattle.af_state.specs.Kept.{KeptDevice, StandForDevices, IsBounded}
 use Rattle.af_state.specs.Deferrals.{KeptDeferral, has_waiting, kept_without, AreLater, AreLaterBut, StandForDeferrals, LeavesOthers}
 use Rattle.af_state.specs.Environment.{StandsForLink, KeptEnvironment, StandsForEnvironment}
@@ -105,6 +107,55 @@ open_below_after (Ticked d m) n = n
 open_below_after (Line d change) n = n
 open_below_after Idle n = n
 open_below_after Stop n = n
+
+-- whether the link that is open at a number, if one is, is to be read, written or closed
+abbrev pub wants_at : List KeptDeferral → List (Option LinkState) → ℕ → Bool
+wants_at ks links k = open_wants (has_waiting ks k) (option_and_then (λ link. link) (slice_get links k))
+
+-- each link that is to be read, written or closed has one of these numbers: the first or one above it, and below the second
+pub record WantsWithin (from below : ℕ) (ks : List KeptDeferral) (links : List (Option LinkState)) : Type 0 where
+  pub before : (k : ℕ) → k < from → wants_at ks links k ≡ false
+  pub behind : (k : ℕ) → below ≤ k → wants_at ks links k ≡ false
+
+-- what is known of the numbers of links holds of these
+pub record AreBounds (b : Bounds) (ks : List KeptDeferral) (links : List (Option LinkState)) : Type 0 where
+  pub most : b.open_below ≤ 32
+  pub none_open : NoneOpenFrom b.open_below links
+  pub from : b.wants_from ≤ 32
+  pub within : b.wants_below ≤ b.open_below
+  pub wants : WantsWithin b.wants_from b.wants_below ks links
+
+-- and if there is a number among them, the first is that of a link that is to be read, written or closed
+abbrev pub AreExact : Bounds → List KeptDeferral → List (Option LinkState) → Type 0
+AreExact b ks links = b.wants_from < b.wants_below → wants_at ks links b.wants_from ≡ true
+
+-- one more link may want something
+abbrev pub bounds_with : ℕ → Bounds → Bounds
+bounds_with k b = record b { wants_from = min b.wants_from k; wants_below = max b.wants_below (k + 1) }
+
+-- any link that is open may
+abbrev pub bounds_of_all : Bounds → Bounds
+bounds_of_all b = record b { wants_from = 0; wants_below = b.open_below }
+
+-- what is known behind a wake
+abbrev pub bounds_after : Wake → Bounds → Bounds
+bounds_after (Opened k) b = bounds_with k (record b { open_below = max b.open_below (k + 1) })
+bounds_after (Readable k) b = bounds_with k b
+bounds_after (Writable k) b = bounds_with k b
+bounds_after (Ticked d n) b = bounds_of_all b
+bounds_after (Line d change) b = bounds_of_all b
+bounds_after Idle b = b
+bounds_after Stop b = b
+
+-- A wake that is about a link leaves it alone what the others want, and one of nothing what all do.
+abbrev pub WakesOnly : Wake → List KeptDeferral → List (Option LinkState) → List KeptDeferral → List (Option LinkState) → Type 0
+WakesOnly (Opened k) ks links ks' links' = (j : ℕ) → j ≢ k → wants_at ks' links' j ≡ wants_at ks links j
+WakesOnly (Readable k) ks links ks' links' = (j : ℕ) → j ≢ k → wants_at ks' links' j ≡ wants_at ks links j
+WakesOnly (Writable k) ks links ks' links' = (j : ℕ) → j ≢ k → wants_at ks' links' j ≡ wants_at ks links j
+WakesOnly (Ticked d n) ks links ks' links' = Unit {0}
+WakesOnly (Line d change) ks links ks' links' = Unit {0}
+WakesOnly Idle ks links ks' links' = (j : ℕ) → wants_at ks' links' j ≡ wants_at ks links j
+WakesOnly Stop ks links ks' links' = (j : ℕ) → wants_at ks' links' j ≡ wants_at ks links j
 
 -- what all links share, and the links
 abbrev pub kept_of : KeptEnvironment → List (Option LinkState) → Kept

@@ -83,7 +83,9 @@ fn setup_once(environment: &Environment, link: &mut ServedLink, work: &mut Work)
     }
 }
 
-// The first frame, as long as `frame`, is taken off and performed. It comes to stand there.
+// The first frame, as long as `frame`, is taken off and performed. It comes to stand there. It is kept out of the code that looks for
+// frames, which mostly finds none.
+#[inline(never)]
 fn perform_front(
     number: u8,
     environment: &mut Environment,
@@ -171,24 +173,7 @@ fn advance_once(
     }
 }
 
-// Takes off and answers what is there, one after the other.
-fn advance_all(
-    number: u8,
-    environment: &mut Environment,
-    link: &mut ServedLink,
-    scratch: &mut Scratch,
-)
-    requires number { number < 32 }
-    requires room { IsTrue (has_waiting environment.old.waits number) → length link.old.pending ≤ event_limit }
-    ensures step { StepsLink (advance number) environment.old link.old environment.new link.new }
-    ensures settled { IsSettled (has_waiting environment.new.waits number) link.new }
-    ensures answered { (link.new ≡ link.old) ⊎ (length link.new.rest < length link.old.rest) }
-    ensures only_queues { OnlyQueues number environment.old.waits environment.new.waits }
-{
-    while advance_once(number, environment, link, scratch) {}
-}
-
-/// Takes off and answers what is there, as far as the link takes more.
+/// Takes off and answers what is there, one after the other, as far as the link takes more.
 pub fn advance(
     number: u8,
     environment: &mut Environment,
@@ -203,7 +188,9 @@ pub fn advance(
     ensures only_queues { OnlyQueues number environment.old.waits environment.new.waits }
 {
     // mostly nothing is there any more once a link took its replies
-    if link.has_input() {
-        advance_all(number, environment, link, scratch);
+    while link.has_input() {
+        if !advance_once(number, environment, link, scratch) {
+            return;
+        }
     }
 }

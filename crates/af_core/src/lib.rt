@@ -2,6 +2,7 @@
 #![tactic(auto)]
 
 mod advance;
+mod bounds;
 mod complete;
 mod events;
 mod lines;

@@ -1,5 +1,5 @@
 // Telephone lines: they change, and their hooks are given.
-ghost use Rattle.std.specs.Prelude.{◌≡◌, ◌<◌, [], ◌∷◌, length, option_and_then, option_map, slice_get, IsTrue};
+ghost use Rattle.std.specs.Prelude.{◌≡◌, ◌<◌, [], ◌∷◌, length, option_and_then, option_map, slice_get, IsTrue, IsFalse};
 ghost use Rattle.std.specs.declared.option.Option.{Option};
 ghost use Rattle.std.specs.declared.option.Option.TheVariants.{Some};
 ghost use Rattle.af_world.specs.declared.happening.Happening.TheVariants.{Hooked};
@@ -110,30 +110,47 @@ fn give_wanted<W: World>(
     }
 }
 
-// The hook of a device's line is given, if it is live and wanted to have another than it was given.
-fn give_hook<W: World>(number: u8, environment: &mut Environment, slots: &mut [Slot], world: &mut W)
+// The hook of a device's line is given, if it is live and wanted to have another than it was given. The answer is whether it was.
+fn give_hook<W: World>(
+    number: u8,
+    environment: &mut Environment,
+    slots: &mut [Slot],
+    world: &mut W,
+) -> bool
     requires there { number < length environment.old.devices }
     requires kept { IsBetweenPhases (kept_of environment.old slots.old) }
     ensures simulates { Simulates (W.log world.old) (W.log world.new) (StandsFor (kept_of environment.old slots.old))
         (StandsFor (kept_of environment.new slots.new)) (λ s log. hook_at number (slice_get s.devices number) s log) parsed }
     ensures kept { IsBetweenPhases (kept_of environment.new slots.new) }
     ensures count { length environment.new.devices ≡ length environment.old.devices }
+    ensures same { IsFalse result → (environment.new ≡ environment.old) × (slots.new ≡ slots.old) }
     ensures leads { W.leads_to world.old world.new }
 {
-    if let Some(off) = hook_wanted(&environment.devices[number as usize]) {
-        give_wanted(number, off, environment, slots, world);
-    }
+    let Some(off) = hook_wanted(&environment.devices[number as usize]) else {
+        return false;
+    };
+    give_wanted(number, off, environment, slots, world);
+    true
 }
 
-/// The hooks of all devices, by rising number.
-pub fn give_hooks<W: World>(environment: &mut Environment, slots: &mut [Slot], world: &mut W)
+/// The hooks of all devices, by rising number. The answer is whether any was to be given, of which links may be told.
+pub fn give_hooks<W: World>(
+    environment: &mut Environment,
+    slots: &mut [Slot],
+    world: &mut W,
+) -> bool
     requires kept { IsBetweenPhases (kept_of environment.old slots.old) }
     ensures simulates { Simulates (W.log world.old) (W.log world.new) (StandsFor (kept_of environment.old slots.old))
         (StandsFor (kept_of environment.new slots.new)) hook_all parsed }
     ensures kept { IsBetweenPhases (kept_of environment.new slots.new) }
+    ensures same { IsFalse result → (environment.new ≡ environment.old) × (slots.new ≡ slots.old) }
     ensures leads { W.leads_to world.old world.new }
 {
+    let mut any = false;
     for number in 0..environment.devices.len() {
-        give_hook(number as u8, environment, slots, world);
+        if give_hook(number as u8, environment, slots, world) {
+            any = true;
+        }
     }
+    any
 }

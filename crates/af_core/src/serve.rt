@@ -31,7 +31,7 @@ fn read_link<W: World>(
     ensures link { LinkServed number environment.old.waits environment.new.waits link.new }
     ensures leads { W.leads_to world.old world.new }
 {
-    if !link.wants_read(environment.waits.is_waiting(number)) {
+    if !link.wants_read(number, &environment.waits) {
         return;
     }
     let (input, _) = scratch.input.split_at_mut(LONGEST_READ);

@@ -11,10 +11,11 @@ ghost use Rattle.af_model.specs.Turn.{parsed, fits, wake_phase};
 ghost use Rattle.af_core.specs.Simulates.{Simulates};
 ghost use Rattle.af_state.specs.Deferrals.{has_waiting, waits_of};
 ghost use Rattle.af_state.specs.Kept.{IsBounded, StandForDevices};
-ghost use Rattle.af_core.specs.Stands.{IsBetweenPhases, Stands, StandsFor, StandForWaiting, NoneOpenFrom, Turns, kept_lines, kept_of, link_kept, open_below_after, outline_of};
+ghost use Rattle.af_core.specs.Stands.{AreBounds, AreExact, IsBetweenPhases, Stands, StandsFor, StandForWaiting, Turns, WakesOnly, kept_lines, kept_of, link_kept, outline_of};
 
+use crate::bounds::{Bounds, NO_LINKS};
 use crate::lines::{change_line, give_hooks};
-use crate::slot::{Slot, any_wants, open_end, serve_slots};
+use crate::slot::{Slot, serve_slots};
 use crate::tick::{DeviceTick, TICK_FRAMES, tick};
 use af_buffers::{PlayBuffer, RecordBuffer};
 use af_context::Contexts;
@@ -32,21 +33,20 @@ use std::marker::Model;
 pub struct Core {
     environment: Environment,
     slots: Vec<Slot>,
-    // all links that are open are below this number
-    open_below: usize,
+    bounds: Bounds,
     scratch: Scratch,
 }
 
 impl Model for Core {
     ghost use Rattle.std.specs.Prelude.{◌≤◌};
-    ghost use Rattle.af_core.specs.Stands.{IsBetweenPhases, Kept, NoneOpenFrom, kept_of};
+    ghost use Rattle.af_core.specs.Stands.{AreBounds, AreExact, IsBetweenPhases, Kept, kept_of};
 
     ghost Value = { Kept };
 
     ghost view = { λ a. kept_of a.environment a.slots.items };
 
     ghost invariant = { λ a. IsBetweenPhases (kept_of a.environment a.slots.items)
-        × (NoneOpenFrom a.open_below a.slots.items × (a.open_below ≤ 32)) };
+        × (AreBounds a.bounds a.environment.waits a.slots.items × AreExact a.bounds a.environment.waits a.slots.items) };
 }
 
 // The devices at their starts.
@@ -113,6 +113,7 @@ fn wake_up<W: World>(
     ensures simulates { Simulates (W.log world.old) (W.log world.new) (StandsFor (kept_of environment.old slots.old))
         (StandsFor (kept_of environment.new slots.new)) (wake_phase wake) parsed }
     ensures kept { IsBetweenPhases (kept_of environment.new slots.new) }
+    ensures only { WakesOnly wake environment.old.waits slots.old environment.new.waits slots.new }
     ensures leads { W.leads_to world.old world.new }
 {
     match wake {
@@ -128,42 +129,33 @@ fn wake_up<W: World>(
     }
 }
 
-// Below which number all open links are behind a wake, which may open one.
-fn open_below_after(wake: Wake, open_below: usize) -> usize
-    ensures { result ≡ open_below_after wake open_below }
-{
-    match wake {
-        Wake::Opened(number) => open_below.max(usize::from(number) + 1),
-        _ => open_below,
-    }
-}
-
-// A turn, over the parts of a core, where all links that are open are below this number. The answer is below which they are then.
+// A turn, over the parts of a core.
 fn turn_parts<W: World>(
     wake: Wake,
-    open_below: usize,
+    bounds: &mut Bounds,
     environment: &mut Environment,
     slots: &mut [Slot],
     scratch: &mut Scratch,
     world: &mut W,
-) -> usize
+)
     requires fits { IsTrue (fits (outline_of (kept_of environment.old slots.old)) wake) }
     requires kept { IsBetweenPhases (kept_of environment.old slots.old) }
-    requires bound { open_below ≤ 32 }
-    requires none_open { NoneOpenFrom open_below slots.old }
+    requires bounds { AreBounds bounds.old environment.old.waits slots.old }
     ensures turns { Turns (W.log world.old) (W.log world.new) wake
         (kept_of environment.old slots.old) (kept_of environment.new slots.new) }
     ensures kept { IsBetweenPhases (kept_of environment.new slots.new) }
-    ensures bound { result ≤ 32 }
-    ensures none_open { NoneOpenFrom result slots.new }
+    ensures bounds { AreBounds bounds.new environment.new.waits slots.new }
+    ensures exact { AreExact bounds.new environment.new.waits slots.new }
     ensures leads { W.leads_to world.old world.new }
 {
     world.woke(wake);
     wake_up(wake, environment, slots, scratch, world);
-    let open_below = open_below_after(wake, open_below);
-    serve_slots(open_below, environment, slots, scratch, world);
-    give_hooks(environment, slots, world);
-    open_end(slots, open_below)
+    bounds.wake(wake, slots);
+    serve_slots(bounds, environment, slots, scratch, world);
+    if give_hooks(environment, slots, world) {
+        bounds.include_all(slots);
+    }
+    bounds.narrow(&environment.waits, slots);
 }
 
 impl Core {
@@ -181,7 +173,7 @@ impl Core {
         Ok(Core {
             environment: Environment { devices, waits },
             slots,
-            open_below: 0,
+            bounds: NO_LINKS,
             scratch,
         })
     }
@@ -211,7 +203,7 @@ impl Core {
         ensures kept { result ≡ any_wants 0 (has_waiting self.now.waits) self.now.links }
         ensures shows { (s : State) → Stands self.now s → result ≡ has_more s }
     {
-        any_wants(&self.environment.waits, &self.slots, self.open_below)
+        self.bounds.wants_from < self.bounds.wants_below
     }
 
     /// The frames next of a device, which is there: what is heard of all accepted plays from its time on.
@@ -280,9 +272,9 @@ impl Core {
         ensures bounds { (k : ℕ) (l : LinkState) → link_kept self.new k ≡ Some l → IsBounded l }
         ensures leads { W.leads_to world.old world.new }
     {
-        self.open_below = turn_parts(
+        turn_parts(
             wake,
-            self.open_below,
+            &mut self.bounds,
             &mut self.environment,
             &mut self.slots,
             &mut self.scratch,

@@ -1,17 +1,18 @@
 // A number for a link, which keeps its memory while no link is open there.
-ghost use Rattle.std.specs.Prelude.{◌≡◌, ◌≤◌, ◌<◌, find, length, option_map, slice_get, IfOk, IsSomeAnd, MatchOption, is_some};
+ghost use Rattle.std.specs.Prelude.{◌≡◌, ◌≤◌, ◌<◌, ℕ, max, true, false, find, length, option_map, slice_get, IfOk, IsSomeAnd, MatchOption, is_some};
 ghost use Rattle.std.specs.declared.option.Option.TheVariants.{None, Some};
 ghost use Rattle.af_wait.specs.Waits.{without_first};
 ghost use Rattle.af_model.specs.State.{EnvironmentState, LinkState, opened};
 ghost use Rattle.af_model.specs.Tick.{complete_at};
 ghost use Rattle.af_model.specs.Events.{tell_open};
-ghost use Rattle.af_model.specs.More.{any_wants, open_wants};
+ghost use Rattle.af_model.specs.More.{open_wants};
 ghost use Rattle.af_model.specs.Turn.{parsed, serve_slot_link, serve_all, ready, writable, in_open};
 ghost use Rattle.af_state.specs.Deferrals.{has_waiting, kept_due, OnlyQueues, LeavesOthers};
 ghost use Rattle.af_state.specs.Environment.{StandsForEnvironment};
 ghost use Rattle.af_core.specs.Simulates.{Simulates};
-ghost use Rattle.af_core.specs.Stands.{StandsForSlot, IsBetweenPhases, IsSettledSlot, NoneOpenFrom, OfFirstDue, OnlyDrops, StandsFor, kept_of};
+ghost use Rattle.af_core.specs.Stands.{AreBounds, StandsForSlot, IsBetweenPhases, IsSettledSlot, NoneOpenFrom, OfFirstDue, OnlyDrops, StandsFor, WantsWithin, kept_of, wants_at};
 
+use crate::bounds::Bounds;
 use crate::complete::complete_link;
 use crate::events::tell_link;
 use crate::serve::serve_link;
@@ -77,7 +78,7 @@ impl Slot {
     pub fn wants_turn(&self, number: u8, waits: &DeferredRequests) -> bool
         ensures { result ≡ open_wants (has_waiting waits.now number) self.now }
     {
-        self.is_open && self.link.wants_turn(waits.is_waiting(number))
+        self.is_open && self.link.wants_turn(number, waits)
     }
 
     /// A link is open here from now on.
@@ -179,39 +180,56 @@ pub fn open_end(slots: &[Slot], below: usize) -> usize
     end
 }
 
-/// Whether any link is to be read, written or closed, where all that are open are below this number.
-pub fn any_wants(waits: &DeferredRequests, slots: &[Slot], open_below: usize) -> bool
+/// The first link from a number on, and below another, that is to be read, written or closed, or else the second number or one above
+/// it.
+pub fn first_wanting(waits: &DeferredRequests, slots: &[Slot], from: usize, below: usize) -> usize
     requires count { length slots.now ≤ 32 }
-    requires bound { open_below ≤ length slots.now }
-    requires none_open { NoneOpenFrom open_below slots.now }
-    ensures { result ≡ any_wants 0 (has_waiting waits.now) slots.now }
+    requires bound { below ≤ length slots.now }
+    ensures none { (k : ℕ) → from ≤ k → k < result → wants_at waits.now slots.now k ≡ false }
+    ensures wants { result < below → wants_at waits.now slots.now result ≡ true }
+    ensures bound { (from ≤ result) × (result ≤ max from below) }
 {
-    for number in 0..open_below {
+    for number in from..below {
         if slots[number].wants_turn(number as u8, waits) {
-            return true;
+            return number;
         }
     }
-    false
+    from.max(below)
 }
 
-/// The part of a turn of all links, by rising number, where all that are open are below this one.
+/// The number behind the last link below a number that is to be read, written or closed, or behind a lower one.
+pub fn last_wanting(waits: &DeferredRequests, slots: &[Slot], from: usize, below: usize) -> usize
+    requires count { length slots.now ≤ 32 }
+    requires bound { below ≤ length slots.now }
+    requires some { from < below }
+    ensures none { (k : ℕ) → result ≤ k → k < below → wants_at waits.now slots.now k ≡ false }
+    ensures bound { (from < result) × (result ≤ below) }
+{
+    let mut end = below;
+    while end > from + 1 && !slots[end - 1].wants_turn((end - 1) as u8, waits) {
+        end -= 1;
+    }
+    end
+}
+
+/// The part of a turn of all links, by rising number: of those between which all are that want any.
 pub fn serve_slots<W: World>(
-    open_below: usize,
+    bounds: &Bounds,
     environment: &mut Environment,
     slots: &mut [Slot],
     scratch: &mut Scratch,
     world: &mut W,
 )
     requires kept { IsBetweenPhases (kept_of environment.old slots.old) }
-    requires bound { open_below ≤ length slots.old }
-    requires none_open { NoneOpenFrom open_below slots.old }
+    requires bounds { AreBounds bounds.now environment.old.waits slots.old }
     ensures simulates { Simulates (W.log world.old) (W.log world.new) (StandsFor (kept_of environment.old slots.old))
         (StandsFor (kept_of environment.new slots.new)) serve_all parsed }
     ensures kept { IsBetweenPhases (kept_of environment.new slots.new) }
-    ensures none_open { NoneOpenFrom open_below slots.new }
+    ensures none_open { NoneOpenFrom bounds.now.open_below slots.new }
+    ensures wants { WantsWithin bounds.now.wants_from bounds.now.wants_below environment.new.waits slots.new }
     ensures leads { W.leads_to world.old world.new }
 {
-    for number in 0..open_below {
+    for number in bounds.wants_from..bounds.wants_below {
         let slot = &mut slots[number];
         slot.serve(number as u8, environment, scratch, world);
     }

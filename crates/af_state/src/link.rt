@@ -2,7 +2,7 @@
 // How it lies: the bytes are a session, whose memory is taken once; all else lies in the struct itself, and the next link of the
 // same number uses it again. The 16 contexts are in order of creation. The masks of the events that it selects stand by the
 // numbers of the devices. That it waits with a request is not noted here, but in the list of those that wait, so `wants_read` and
-// `takes_more` are told. Contracts see the link of the abstract server, field by field.
+// `takes_more` are told of it. Contracts see the link of the abstract server, field by field.
 ghost use Rattle.std.specs.Prelude.{◌≡◌, ◌+◌, ◌==◌, ◌≤◌, nat_le, not, [], ◌∷◌, ◌++◌, length, drop, take, slice_set, true, false, IfOk, IfSome, OnOk, OnErr};
 ghost use Rattle.std.specs.declared.option.Option.TheVariants.{Some};
 ghost use Rattle.std.specs.Borrow.{sem};
@@ -19,11 +19,13 @@ ghost use Rattle.af_model.specs.Perform.{request_counted};
 ghost use Rattle.af_model.specs.Advance.{takes_more, without_front};
 ghost use Rattle.af_model.specs.More.{wants_turn};
 ghost use Rattle.af_model.specs.Turn.{wants_read, wants_write, close_due, ready, sent, writable};
+ghost use Rattle.af_state.specs.Deferrals.{has_waiting};
 ghost use Rattle.af_state.specs.Kept.{IsBounded};
 ghost use Rattle.af_sample.specs.Sizes.{longest_record};
 ghost use Rattle.af_wire.specs.Sizes.{longest_message};
 ghost use Rattle.af_model.specs.Sizes.{event_limit};
 
+use crate::DeferredRequests;
 use af_context::{Context, ContextFault, Contexts};
 use af_model::Refusal;
 use af_phone::event_for;
@@ -123,11 +125,11 @@ impl ServedLink {
         &self.session
     }
 
-    /// Whether it is to be read, where it waits or not.
-    pub fn wants_read(&self, waits: bool) -> bool
-        ensures { result ≡ wants_read waits self.now }
+    /// Whether it is to be read, as the link of this number, which may wait. That is looked up of a link that is ready alone.
+    pub fn wants_read(&self, number: u8, waits: &DeferredRequests) -> bool
+        ensures { result ≡ wants_read (has_waiting waits.now number) self.now }
     {
-        self.is_ready && self.takes_more(waits)
+        self.is_ready && self.takes_more(waits.is_waiting(number))
     }
 
     pub fn wants_write(&self) -> bool
@@ -156,11 +158,11 @@ impl ServedLink {
         }
     }
 
-    /// Whether it is to be read, written or closed.
-    pub fn wants_turn(&self, waits: bool) -> bool
-        ensures { result ≡ wants_turn waits self.now }
+    /// Whether it is to be read, written or closed, as the link of this number.
+    pub fn wants_turn(&self, number: u8, waits: &DeferredRequests) -> bool
+        ensures { result ≡ wants_turn (has_waiting waits.now number) self.now }
     {
-        self.wants_read(waits) || self.wants_write() || self.close_due().is_some()
+        self.wants_read(number, waits) || self.wants_write() || self.close_due().is_some()
     }
 
     /// The link is to be closed.

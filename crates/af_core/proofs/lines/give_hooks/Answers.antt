@@ -1,4 +1,4 @@
-use Rattle.std.proofs.Common.{◌-◌, ◌∙◌, ap, length, refl, arith}
+use Rattle.std.proofs.Common.{◌-◌, ◌∙◌, ap, length, refl, arith, rules}
 use Rattle.af_state.specs.Environment.{KeptEnvironment}
 use Rattle.af_core.proofs.EventLemmas.{next_hooked, none_hooked, all_hooked}
 use Rattle.af_core.proofs.lines.give_hooks.Goals as goal
@@ -7,6 +7,7 @@ pub loop-number-init : goal.loop-number-init
 loop-number-init g c = record {
   kept = c.requires.kept;
   count = refl;
+  same = λ none. (refl, refl);
   leads = g.met.W.World.leads_to_itself _;
   simulates = none_hooked _ _ _ _ (omega arith);
 }
@@ -16,6 +17,7 @@ loop-number-preserved g c =
     let size = ap (λ (e : KeptEnvironment). length e.devices) c.environment.view_is in record {
       kept = c.give_hook.ensures.kept;
       count = c.give_hook.ensures.count ∙ c.loop-number.invariant.count;
+      same = search rules;
       leads = g.met.W.World.leads_on _ _ _ c.loop-number.invariant.leads c.give_hook.ensures.leads;
       simulates = next_hooked _ _ _ _ _ c.loop-number.number _ _ _ (omega (arith, size)) c.loop-number.invariant.simulates c.give_hook.ensures.simulates;
     }

@@ -1,4 +1,4 @@
-use Rattle.std.proofs.Common.{◌≡◌, ◌-◌, length}
+use Rattle.std.proofs.Common.{◌≡◌, ◌-◌, length, IsFalse}
 use Rattle.af_model.specs.Turn.{hook_from}
 use Rattle.af_core.specs.Stands.{IsBetweenPhases, StandsFor, kept_of}
 use Rattle.af_core.specs.Simulates.{Simulates}
@@ -8,6 +8,7 @@ abbrev pub invariant-loop-number : goal.invariant-loop-number
 invariant-loop-number g l = record {
   kept : IsBetweenPhases (kept_of l.environment l.slots);
   count : length l.environment.devices ≡ length l.initial.environment.devices;
+  same : IsFalse l.any → (l.environment ≡ l.initial.environment) × (l.slots ≡ l.initial.slots);
   leads : g.W.World.leads_to l.initial.world l.world;
   simulates : Simulates (g.W.World.log l.initial.world) (g.W.World.log l.world) (StandsFor (kept_of l.initial.environment l.initial.slots)) (StandsFor (kept_of l.environment l.slots)) (hook_from (length l.initial.environment.devices) 0) (hook_from (length l.initial.environment.devices - l.number) l.number);
 }

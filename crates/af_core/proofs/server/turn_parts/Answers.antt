@@ -1,35 +1,53 @@
-use Rattle.std.proofs.Common.{arith, subst, sym}
-use Rattle.af_model.specs.Turn.{hook_all, wake_phase}
-use Rattle.af_model.proofs.OpenLinkLemmas.{open_after}
-use Rattle.af_core.specs.Stands.{NoneOpenFrom, kept_of}
-use Rattle.af_core.proofs.OpenBelowLemmas.{hooks_open, kept_opens, none_open_same, none_open_woken, wake_opens, woken_within}
+use Rattle.std.proofs.Common.{arith, ap, subst, sym, List, ◌∙◌}
+use Rattle.std.specs.declared.option.Option.{Option}
+use Rattle.af_model.specs.State.{LinkState}
+use Rattle.af_model.specs.Turn.{hook_all}
+use Rattle.af_state.specs.Environment.{KeptEnvironment}
+use Rattle.af_core.specs.declared.bounds.Bounds.{Bounds}
+use Rattle.af_core.specs.Stands.{AreBounds, kept_of}
+use Rattle.af_core.proofs.OpenBelowLemmas.{hooks_open, kept_opens, none_open_same}
 use Rattle.af_core.proofs.SimulationLemmas.{simulates_more, simulates_then}
 use Rattle.af_core.proofs.TurnLemmas.{turns}
+use Rattle.af_core.proofs.WantsWithinLemmas.{all_bounds, known_woken, none_woken, served_bounds}
 use Rattle.af_core.proofs.server.turn_parts.Goals as goal
+use Rattle.af_core.proofs.server.turn_parts.Goals.{then-give_hooks, else-give_hooks}
 
-pub serve_slots-requires-clause-bound : goal.serve_slots-requires-clause-bound
-serve_slots-requires-clause-bound g c =
-    woken_within c.args.wake c.args.open_below _ (kept_of c.args.environment.now c.args.slots.now) c.wake_up.new.slots c.open_below_after-open_below.ensures c.requires.fits c.requires.bound c.requires.kept.orderly.links c.wake_up.ensures.kept.orderly.links
+pub wake-requires-clause-none_open : goal.wake-requires-clause-none_open
+wake-requires-clause-none_open g c = none_woken c.args.wake c.args.bounds.now (kept_of c.args.environment.now c.args.slots.now) (kept_of _ c.wake_up.new.slots) c.requires.kept c.requires.bounds.none_open c.wake_up.ensures.simulates
 
-pub serve_slots-requires-clause-none_open : goal.serve_slots-requires-clause-none_open
-serve_slots-requires-clause-none_open g c =
-    subst (λ n. NoneOpenFrom n c.wake_up.new.slots) (sym c.open_below_after-open_below.ensures)
-    (none_open_woken c.args.wake c.args.open_below c.args.slots.now c.wake_up.new.slots (kept_opens _ _ (wake_phase c.args.wake) (λ w. open_after w c.args.wake) (wake_opens c.args.wake) c.requires.kept.stands c.wake_up.ensures.simulates) c.requires.none_open)
+pub serve_slots-requires-clause-bounds : goal.serve_slots-requires-clause-bounds
+serve_slots-requires-clause-bounds g c =
+    known_woken c.args.wake c.args.bounds.now _ (kept_of c.args.environment.now c.args.slots.now) (kept_of _ c.wake_up.new.slots) c.requires.fits c.requires.kept c.requires.bounds c.wake_up.ensures.only c.wake_up.ensures.kept c.wake_up.ensures.simulates c.wake.ensures
 
-pub open_end-requires-clause-bound : goal.open_end-requires-clause-bound
-open_end-requires-clause-bound g c =
-    woken_within c.args.wake c.args.open_below _ (kept_of c.args.environment.now c.args.slots.now) c.give_hooks.new.slots c.open_below_after-open_below.ensures c.requires.fits c.requires.bound c.requires.kept.orderly.links c.give_hooks.ensures.kept.orderly.links
+pub include_all-requires-clause-most : goal.include_all-requires-clause-most
+include_all-requires-clause-most g c =
+    let woken = known_woken c.args.wake c.args.bounds.now c.wake.new.self (kept_of c.args.environment.now c.args.slots.now) (kept_of _ c.wake_up.new.slots) c.requires.fits c.requires.kept c.requires.bounds c.wake_up.ensures.only c.wake_up.ensures.kept c.wake_up.ensures.simulates c.wake.ensures in
+    let most = woken.most in
+    let size = c.give_hooks.ensures.kept.orderly.links in
+    omega (arith, most, size)
 
-pub open_end-requires-clause-none_open : goal.open_end-requires-clause-none_open
-open_end-requires-clause-none_open g c =
+pub include_all-requires-clause-none_open : goal.include_all-requires-clause-none_open
+include_all-requires-clause-none_open g c =
     none_open_same _ c.serve_slots.new.slots c.give_hooks.new.slots (kept_opens _ _ hook_all (λ w. w) hooks_open c.serve_slots.ensures.kept.stands c.give_hooks.ensures.simulates) c.serve_slots.ensures.none_open
 
-pub returns-clause-bound : goal.returns-clause-bound
-returns-clause-bound g c =
-    let low = woken_within c.args.wake c.args.open_below _ (kept_of c.args.environment.now c.args.slots.now) c.give_hooks.new.slots c.open_below_after-open_below.ensures c.requires.fits c.requires.bound c.requires.kept.orderly.links c.give_hooks.ensures.kept.orderly.links in
-    let size = c.give_hooks.ensures.kept.orderly.links in
-    let end = c.open_end.ensures.bound in
-    omega (arith, low, size, end)
+pub narrow-requires-clause-bounds : goal.narrow-requires-clause-bounds
+narrow-requires-clause-bounds g c =
+    let woken = known_woken c.args.wake c.args.bounds.now c.wake.new.self (kept_of c.args.environment.now c.args.slots.now) (kept_of _ c.wake_up.new.slots) c.requires.fits c.requires.kept c.requires.bounds c.wake_up.ensures.only c.wake_up.ensures.kept c.wake_up.ensures.simulates c.wake.ensures in
+    let waits = ap (λ (e : KeptEnvironment). e.waits) c.environment.view_is in
+    subst (λ ks. AreBounds c.if-give_hooks.bounds ks c.give_hooks.new.slots) (sym waits)
+    (elim c.if-give_hooks.branch [
+      | then-give_hooks w ↦
+          let fewer = w.include_all.ensures.bound in
+          let most = woken.most in
+          subst (λ (b : Bounds). AreBounds b c.give_hooks.new.environment.waits c.give_hooks.new.slots) (sym (w.bounds-is ∙ w.include_all.ensures.all))
+          (all_bounds (record c.wake.new.self { open_below = w.include_all.new.self.open_below }) _ _ (omega (arith, fewer, most)) w.include_all.ensures.none_open)
+      | else-give_hooks w ↦
+          let same = c.give_hooks.ensures.same w.if-give_hooks.false in
+          let served = served_bounds c.wake.new.self _ c.serve_slots.new.environment.waits _ c.serve_slots.new.slots woken c.serve_slots.ensures.none_open c.serve_slots.ensures.wants in
+          subst (λ (b : Bounds). AreBounds b c.give_hooks.new.environment.waits c.give_hooks.new.slots) (sym w.bounds-is)
+          (subst (λ (e : KeptEnvironment). AreBounds c.wake.new.self e.waits c.give_hooks.new.slots) (sym same.0)
+          (subst (λ (xs : List (Option LinkState)). AreBounds c.wake.new.self c.serve_slots.new.environment.waits xs) (sym same.1) served))
+    ])
 
 pub returns-clause-turns : goal.returns-clause-turns
 returns-clause-turns g c =

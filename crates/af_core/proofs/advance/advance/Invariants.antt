@@ -3,11 +3,11 @@ use Rattle.af_model.specs.State.{EnvironmentState, open_link}
 use Rattle.af_model.specs.Advance.{advance}
 use Rattle.af_state.specs.Deferrals.{has_waiting, OnlyQueues}
 use Rattle.af_state.specs.Environment.{StandsForEnvironment}
-use Rattle.af_core.proofs.advance.advance_all.Given as goal
+use Rattle.af_core.proofs.advance.advance.Given as goal
 use Rattle.af_model.specs.Sizes.{event_limit}
 
-abbrev pub invariant-loop : goal.invariant-loop
-invariant-loop l = record {
+abbrev pub invariant-loop-environment : goal.invariant-loop-environment
+invariant-loop-environment l = record {
   number : l.number < 32;
   answered : (l.link ≡ l.initial.link) ⊎ (length l.link.rest < length l.initial.link.rest);
   room : IsTrue (has_waiting l.environment.waits l.number) → length l.link.pending ≤ event_limit;
@@ -16,5 +16,5 @@ invariant-loop l = record {
       (now : EnvironmentState) × StandsForEnvironment l.environment now × (advance l.number (open_link now l.link) ≡ advance l.number (open_link a l.initial.link));
 }
 
-abbrev pub decreases-loop : goal.decreases-loop
-decreases-loop l = length l.link.rest
+abbrev pub decreases-loop-environment : goal.decreases-loop-environment
+decreases-loop-environment l = length l.link.rest

@@ -66,6 +66,7 @@ fn run_to<K: Sink, D: Dial>(
     ensures memory { result ≡ ToolEnd.OutOfMemory → sink.new ≡ sink.old }
     ensures end { is_of_relay result ≡ true }
     ensures dialled { CountsFault (result ≡ ToolEnd.DialFault) (D.faults dial.old) (D.faults dial.new) }
+    ensures undialled { result ≡ ToolEnd.DialFault → sink.new ≡ sink.old }
     ensures link { CountsFault (result ≡ ToolEnd.LinkFault) (D.hurt dial.old) (D.hurt dial.new) }
     ensures sink { CountsFault (result ≡ ToolEnd.SinkFault) (K.faults sink.old) (K.faults sink.new) }
 {
@@ -104,6 +105,7 @@ pub fn run_relay<K: Sink, D: Dial>(
     ensures memory { result ≡ ToolEnd.OutOfMemory → sink.new ≡ sink.old }
     ensures end { is_of_relay result ≡ true }
     ensures dialled { CountsFault (result ≡ ToolEnd.DialFault) (D.faults dial.old) (D.faults dial.new) }
+    ensures undialled { result ≡ ToolEnd.DialFault → sink.new ≡ sink.old }
     ensures link { CountsFault (result ≡ ToolEnd.LinkFault) (D.hurt dial.old) (D.hurt dial.new) }
     ensures sink { CountsFault (result ≡ ToolEnd.SinkFault) (K.faults sink.old) (K.faults sink.new) }
 {

@@ -95,6 +95,7 @@ fn run_one<S: Source, K: Sink, D: Dial>(
     ensures end { is_of_one (reads_source call.now.task) result ≡ true }
     ensures source { UsesSource S.left S.faults (reads_source call.now.task) (source_form call.now.task) result source.old source.new }
     ensures dialled { CountsFault (result ≡ ToolEnd.DialFault) (D.faults dial.old) (D.faults dial.new) }
+    ensures undialled { result ≡ ToolEnd.DialFault → (source.new ≡ source.old) × (sink.new ≡ sink.old) }
     ensures link { CountsFault (result ≡ ToolEnd.LinkFault) (D.hurt dial.old) (D.hurt dial.new) }
     ensures sink { CountsFault (result ≡ ToolEnd.SinkFault) (K.faults sink.old) (K.faults sink.new) }
 {
@@ -125,6 +126,7 @@ fn run_call<S: Source, K: Sink, D: Dial>(
     ensures end { is_of_job (job_of_call call.now) result ≡ true }
     ensures source { UsesSource S.left S.faults (job_reads (job_of_call call.now)) (job_form (job_of_call call.now)) result source.old source.new }
     ensures dialled { CountsFault (result ≡ ToolEnd.DialFault) (D.faults dial.old) (D.faults dial.new) }
+    ensures undialled { result ≡ ToolEnd.DialFault → (source.new ≡ source.old) × (sink.new ≡ sink.old) }
     ensures link { CountsFault (result ≡ ToolEnd.LinkFault) (D.hurt dial.old) (D.hurt dial.new) }
     ensures sink { CountsFault (result ≡ ToolEnd.SinkFault) (K.faults sink.old) (K.faults sink.new) }
 {
@@ -164,6 +166,7 @@ pub fn af_run<S: Source, K: Sink, D: Dial>(
     ensures memory { result ≡ ToolEnd.OutOfMemory → sink.new ≡ sink.old }
     ensures source { UsesSource S.left S.faults (reads_of (job words.now)) (form_of (job words.now)) result source.old source.new }
     ensures dialled { CountsFault (result ≡ ToolEnd.DialFault) (D.faults dial.old) (D.faults dial.new) }
+    ensures undialled { result ≡ ToolEnd.DialFault → (source.new ≡ source.old) × (sink.new ≡ sink.old) }
     ensures link { CountsFault (result ≡ ToolEnd.LinkFault) (D.hurt dial.old) (D.hurt dial.new) }
     ensures sink { CountsFault (result ≡ ToolEnd.SinkFault) (K.faults sink.old) (K.faults sink.new) }
 {

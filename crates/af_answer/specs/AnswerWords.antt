@@ -1,7 +1,8 @@
 -- The words of an answering machine: they are one simple command of clap, and what they ask is that of the matches that clap
 -- defines.
-use Rattle.std.specs.Prelude.{ℕ, ◌&&◌, Bool, false, nat_le, List, [], ◌∷◌, length, Option, Some, None, codes, is_some, option_and_then, option_map, if◌then◌else◌}
+use Rattle.std.specs.Prelude.{◌-◌, ℕ, ◌&&◌, Bool, false, nat_le, List, [], ◌∷◌, length, Option, Some, None, codes, is_some, option_and_then, option_map, if◌then◌else◌}
 use Rattle.std.specs.Str.{bytes_eq}
+use Rattle.af_limits.specs.Limits.{most_devices}
 use Rattle.clap.specs.Words.{App, Row, Text, first_of, matches_of, new_app, takes}
 use Rattle.af_options.specs.declared.command.ArgumentKind.TheVariants.{Place, NeededOption, FreeOption}
 use Rattle.af_options.specs.Numbers.{number_in}
@@ -55,7 +56,7 @@ words_in rows =
     (shell_text_at (codes "greeting") rows))
     (option_and_then (number_in 1 1000) (first_of (codes "calls") rows)))
     (number_at (codes "rings") 2 1 20 rows))
-    (number_at (codes "device") 0 0 7 rows))
+    (number_at (codes "device") 0 0 (most_devices - 1) rows))
     (address_at (codes "SERVER") rows)
 
 -- the first word names the machine

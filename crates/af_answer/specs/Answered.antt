@@ -2,6 +2,7 @@
 use Rattle.std.specs.Prelude.{◌≡◌, ◌≢◌, ◌≤◌, ◌↔◌, ◌⊎◌, ℕ, Bool, true, false, List, [], ◌∷◌, ◌++◌, map, drop, length, slice_get, Result, Ok, Err}
 use Rattle.std.specs.declared.option.Option.{Option}
 use Rattle.std.specs.declared.option.Option.TheVariants.{None, Some}
+use Rattle.af_limits.specs.Limits.{most_devices}
 use Rattle.af_io.specs.Observed.{Appended}
 use Rattle.af_wire.specs.declared.order.Order.{Order}
 use Rattle.af_child.specs.Acts.{Told}
@@ -22,7 +23,7 @@ use Rattle.af_answer.specs.Children.{ChildRun, run_end, run_told, shell_words}
 
 -- the values of a job are in their ranges
 pub record IsAnswerJob (job : AnswerJob) : Type 0 where
-  pub device : job.device ≤ 7
+  pub device : job.device < most_devices
   pub rings : (1 ≤ job.rings) × (job.rings ≤ 20)
   pub calls : (1 ≤ job.calls) × (job.calls ≤ 1000)
   pub greeting : (1 ≤ length job.greeting.bytes) × (length job.greeting.bytes ≤ 200)

@@ -9,6 +9,7 @@ ghost use Rattle.af_answer.specs.AnswerWords.{answer_app, answer_words, words_in
 
 use crate::job::AnswerJob;
 use af_io::Args;
+use af_limits::MOST_DEVICES;
 use af_options::{
     ArgumentKind, OptionsFault, Word, address_at, matches_for, number_at, number_in, text_of,
 };
@@ -69,7 +70,7 @@ fn call_in<'a>(matches: &ArgMatches<'a>) -> Option<AnswerCall<'a>>
     ensures range { IfSome result (λ call. IsAnswerJob call.job × IsAddress call.server.now) }
 {
     let server = address_at(matches, "SERVER")?;
-    let device = number_at(matches, "device", 0, 0, 7)?;
+    let device = number_at(matches, "device", 0, 0, MOST_DEVICES as u32 - 1)?;
     let rings = number_at(matches, "rings", 2, 1, 20)?;
     let calls = number_in(1, 1000, text_of(matches, "calls")?.as_bytes())?;
     let greeting = shell_text_at(matches, "greeting")?;

@@ -5,6 +5,7 @@ use Rattle.std.proofs.lemmas.Bool.{cases_lt}
 use Rattle.std.proofs.lemmas.List.FromFn.{length-map-range_with_len, get_or-map-range_with_len}
 use Rattle.std.proofs.lemmas.Nat.{mul-le}
 use Rattle.std.proofs.Math.Nat.{mod-mod}
+use Rattle.af_limits.specs.Limits.{longest_tick}
 use Rattle.af_time.specs.DeviceTime.{unwrap}
 use Rattle.af_sample.specs.Channels.{AreWholeFrames, frame_count}
 use Rattle.af_sample.specs.Heard.{AcceptedPlay, blended, with_entry}
@@ -139,7 +140,7 @@ ring_of_play channels old new t n play ring whole within laid =
     }
 
 -- no more is given than is next
-given_few : (channels n : ℕ) (old given : List ℤ) (t : ℕ) → IsRingOf old t channels n → frame_count channels given ≤ 4096 → AreWholeFrames channels given → length given ≤ channels * n
+given_few : (channels n : ℕ) (old given : List ℤ) (t : ℕ) → IsRingOf old t channels n → frame_count channels given ≤ longest_tick → AreWholeFrames channels given → length given ≤ channels * n
 given_few channels n old given t ring count whole =
     let bounds : (32000 ≤ n) × (n ≤ 192000) = horizon_within n ring.horizon in
     let few : channels * frame_count channels given ≤ channels * n = mul-le channels (frame_count channels given) channels n (omega arith) (omega arith) in
@@ -189,7 +190,7 @@ length-rest channels old given t n few =
     ∙ ap (λ m. length (drop (length given) (next_of old t channels n).next) + m) (length-replicate (length given) (pos 0))
     ∙ ap (λ m. m + length given) (length-drop (length given) (next_of old t channels n).next) ∙ omega arith
 
-pub hands_out : (channels : ℕ) (old new given : List ℤ) (t n : ℕ) → IsRingOf old t channels n → frame_count channels given ≤ 4096 → AreWholeFrames channels given → IsRunAt given old (channels * t % 2 ^ 32) →
+pub hands_out : (channels : ℕ) (old new given : List ℤ) (t n : ℕ) → IsRingOf old t channels n → frame_count channels given ≤ longest_tick → AreWholeFrames channels given → IsRunAt given old (channels * t % 2 ^ 32) →
     ChangesRun old new (channels * t % 2 ^ 32) (length given) (λ _ _. pos 0) → HandsOut (next_of old t channels n) (next_of new ((t + frame_count channels given) % 2 ^ 32) channels n) given
 hands_out channels old new given t n ring count whole same run =
     let few : length given ≤ channels * n = given_few channels n old given t ring count whole in
@@ -209,7 +210,7 @@ hands_out channels old new given t n ring count whole same run =
           (λ j low. get_or-next_of new ((t + frame_count channels given) % 2 ^ 32) channels n j (omega arith) ∙ handed channels old new given t n ring few whole run j (omega arith));
     }
 
-pub ring_of_hand_out : (channels : ℕ) (old new given : List ℤ) (t n : ℕ) → IsRingOf old t channels n → frame_count channels given ≤ 4096 → AreWholeFrames channels given → ChangesRun old new (channels * t % 2 ^ 32) (length given) (λ _ _. pos 0) →
+pub ring_of_hand_out : (channels : ℕ) (old new given : List ℤ) (t n : ℕ) → IsRingOf old t channels n → frame_count channels given ≤ longest_tick → AreWholeFrames channels given → ChangesRun old new (channels * t % 2 ^ 32) (length given) (λ _ _. pos 0) →
     IsRingOf new ((t + frame_count channels given) % 2 ^ 32) channels n
 ring_of_hand_out channels old new given t n ring count whole run =
     let few : length given ≤ channels * n = given_few channels n old given t ring count whole in

@@ -4,6 +4,7 @@ use Rattle.std.specs.List.{range_with_len}
 use Rattle.std.proofs.lemmas.Bool.{cases_lt, le-leb, lt-leb, lt-ltb, le-ltb}
 use Rattle.std.proofs.lemmas.List.{get_or-replicate, length-replicate, ext_get_or, get_or_append_left, get_or-append_right}
 use Rattle.std.proofs.lemmas.List.FromFn.{length-map-range_with_len, get_or-map-range_with_len}
+use Rattle.af_limits.specs.Limits.{longest_tick}
 use Rattle.af_time.specs.DeviceTime.{unwrap, IsMeant}
 use Rattle.af_time.proofs.WholeTimeLemmas.{unwrap_meant}
 use Rattle.af_sample.specs.Channels.{IsChannelCount, AreWholeFrames, frame_count}
@@ -89,7 +90,7 @@ first_place_later t channels n frames count few =
 fewer : (channels frames n : ℕ) → IsChannelCount channels → frames ≤ n → channels * frames ≤ channels * n
 fewer channels frames n count few = by_count (λ ch. ch * frames ≤ ch * n) (omega arith) (omega arith) channels count
 
-pub captures : (old new samples : List ℤ) (t channels n : ℕ) → IsRoomOf old channels n → frame_count channels samples ≤ 4096 → AreWholeFrames channels samples →
+pub captures : (old new samples : List ℤ) (t channels n : ℕ) → IsRoomOf old channels n → frame_count channels samples ≤ longest_tick → AreWholeFrames channels samples →
     ChangesRun old new (channels * t % 2 ^ 32) (length samples) (λ k _. get_or samples k (pos 0)) →
     Captures (last_of old t channels n) (last_of new ((t + frame_count channels samples) % 2 ^ 32) channels n) samples
 captures old new samples t channels n room few whole run =

@@ -1,8 +1,8 @@
 // The next frames of a device.
 ghost use Rattle.std.specs.Prelude.{◌≡◌, ◌≤◌, ◌*◌, ◌%◌, ◌^◌, length, IfOk, pos, replicate};
+ghost use Rattle.af_limits.specs.Limits.{longest_tick, longest_play};
 ghost use Rattle.af_ring.specs.Cells.{ClearsRun, IsRunAt};
 ghost use Rattle.af_sample.specs.Channels.{AreWholeFrames, IsChannelCount, frame_count};
-ghost use Rattle.af_sample.specs.Sizes.{longest_play};
 ghost use Rattle.af_buffers.specs.Horizons.{IsHorizon};
 ghost use Rattle.af_buffers.specs.PlayBuffer.{accepted_by, frames_beyond, frames_within, ChangesCovered, EndsWithin, HandsOut, HoldsNext, OverlaysRun, Plays};
 
@@ -131,7 +131,7 @@ impl PlayBuffer {
 
     /// Gives the next frames, at most 4096, and moves now behind them. The room is for whole frames.
     pub fn hand_out(&mut self, out: &mut [i16])
-        requires count { frame_count self.old.channels out.old ≤ 4096 }
+        requires count { frame_count self.old.channels out.old ≤ longest_tick }
         requires whole { AreWholeFrames self.old.channels out.old }
         ensures next { HandsOut self.old self.new out.new }
         ensures ring { ClearsRun self.old.ring self.new.ring (self.old.channels * self.old.time % 2 ^ 32) (length out.new) }

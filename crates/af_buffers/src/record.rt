@@ -1,8 +1,8 @@
 // The last frames of a device.
 ghost use Rattle.std.specs.Prelude.{◌≡◌, ◌≤◌, ◌*◌, ◌%◌, ◌^◌, length, IfOk, pos, replicate};
+ghost use Rattle.af_limits.specs.Limits.{longest_tick, longest_record};
 ghost use Rattle.af_ring.specs.Cells.{PutsRun};
 ghost use Rattle.af_sample.specs.Channels.{AreWholeFrames, IsChannelCount, frame_count};
-ghost use Rattle.af_sample.specs.Sizes.{longest_record};
 ghost use Rattle.af_buffers.specs.Horizons.{IsHorizon};
 ghost use Rattle.af_buffers.specs.RecordBuffer.{frames_before, frames_until_past, Captures, HoldsLast, samples_from};
 
@@ -90,7 +90,7 @@ impl RecordBuffer {
 
     /// Appends frames, at most 4096, and moves the time behind them.
     pub fn capture(&mut self, samples: &[i16])
-        requires count { frame_count self.old.channels samples.now ≤ 4096 }
+        requires count { frame_count self.old.channels samples.now ≤ longest_tick }
         requires whole { AreWholeFrames self.old.channels samples.now }
         ensures last { Captures self.old self.new samples.now }
         ensures ring { PutsRun self.old.ring self.new.ring (self.old.channels * self.old.time % 2 ^ 32) samples.now }

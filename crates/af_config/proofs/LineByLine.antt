@@ -1,15 +1,16 @@
 -- A text that is read line by line gives the configuration that it is.
-use Rattle.std.proofs.Common.{◌≡◌, ◌≤◌, ℕ, zero, suc, ◌+◌, Bool, true, false, ◌&&◌, ◌||◌, cond, List, [], ◌∷◌, ◌++◌, length, map, refl, sym, ap, ◌∙◌, arith, append_assoc, append-nil, length-append}
+use Rattle.std.proofs.Common.{◌≡◌, ◌≤◌, ℕ, zero, suc, ◌+◌, ◌-◌, Bool, true, false, ◌&&◌, ◌||◌, cond, List, [], ◌∷◌, ◌++◌, length, map, refl, sym, ap, ◌∙◌, arith, append_assoc, append-nil, length-append}
 use Rattle.std.specs.Prelude.{Option, Some, None, option_map, unwrap_or, Result, Ok, Err, nat_lt}
 use Rattle.std.proofs.lemmas.Bool.Decides.{nat_tests}
 use Rattle.std.proofs.lemmas.List.Sums.{fold-append}
+use Rattle.af_limits.specs.Limits.{most_devices}
 use Rattle.af_world.specs.declared.script.DeviceSpec.{DeviceSpec}
 use Rattle.af_world.specs.declared.outer.Backing.{Backing}
 use Rattle.af_text.specs.Lines.{is_nil, lines, with_first}
 use Rattle.af_text.specs.Reading.{go_on, read_on}
 use Rattle.af_text.proofs.LineByLine.{entry, entries_over, entries_read}
 use Rattle.af_config.specs.Stating.{Settings, Configured, has_program, is_program}
-use Rattle.af_config.specs.Configuration.{is_idle, config_entries, placed_of, states_program, placed_behind, placed_within, most_configured, settings_of, settings_by, config_of}
+use Rattle.af_config.specs.Configuration.{is_idle, config_entries, placed_of, states_program, placed_behind, placed_within, settings_of, settings_by, config_of}
 use Rattle.af_config.specs.Reading.{with_configured, with_config_line, lacks_configured}
 
 -- a configuration so far, and the lines from this number on
@@ -22,16 +23,16 @@ abbrev placing : Settings → List ℕ → Option Settings
 placing s line = option_map (with_configured s) (placed_behind (has_program s.kinds) line)
 
 line_over : (s : Settings) (line : List ℕ) → is_idle line ≡ true → with_config_line s line ≡ Some s
-line_over s line over = ap (λ t. cond t (Some s) (cond (nat_lt (length s.config) most_configured) (placing s line) None)) over
+line_over s line over = ap (λ t. cond t (Some s) (cond (nat_lt (length s.config) most_devices) (placing s line) None)) over
 
-line_placed : (s : Settings) (line : List ℕ) → is_idle line ≡ false → nat_lt (length s.config) most_configured ≡ true → with_config_line s line ≡ placing s line
+line_placed : (s : Settings) (line : List ℕ) → is_idle line ≡ false → nat_lt (length s.config) most_devices ≡ true → with_config_line s line ≡ placing s line
 line_placed s line read room =
-    ap (λ t. cond t (Some s) (cond (nat_lt (length s.config) most_configured) (placing s line) None)) read
+    ap (λ t. cond t (Some s) (cond (nat_lt (length s.config) most_devices) (placing s line) None)) read
     ∙ ap (λ t. cond t (placing s line) None) room
 
-line_refused : (s : Settings) (line : List ℕ) → is_idle line ≡ false → nat_lt (length s.config) most_configured ≡ false → with_config_line s line ≡ None
+line_refused : (s : Settings) (line : List ℕ) → is_idle line ≡ false → nat_lt (length s.config) most_devices ≡ false → with_config_line s line ≡ None
 line_refused s line read full =
-    ap (λ t. cond t (Some s) (cond (nat_lt (length s.config) most_configured) (placing s line) None)) read
+    ap (λ t. cond t (Some s) (cond (nat_lt (length s.config) most_devices) (placing s line) None)) read
     ∙ ap (λ t. cond t (placing s line) None) full
 
 over : (n : ℕ) (line : List ℕ) (rest : List (List ℕ)) → is_idle line ≡ true → config_entries n (line ∷ rest) ≡ config_entries (suc n) rest
@@ -89,7 +90,7 @@ some_more s d = nil_push s.config
     nil_push (x ∷ xs) = refl
 
 -- behind the first device
-devices_too : (s : Settings) (room n : ℕ) (has : Bool) (ls : List (List ℕ)) → is_nil s.config ≡ false → length s.config + room ≡ most_configured → has_program s.kinds ≡ has → read_from s n ls ≡ behind s (placed_within room has (config_entries n ls))
+devices_too : (s : Settings) (room n : ℕ) (has : Bool) (ls : List (List ℕ)) → is_nil s.config ≡ false → length s.config + room ≡ most_devices → has_program s.kinds ≡ has → read_from s n ls ≡ behind s (placed_within room has (config_entries n ls))
 devices_too s room n has [] some count had =
     ap (λ t. cond t (Err n) (Ok s)) some ∙ no_more s ∙ ap (behind s) (sym (none_left room has))
 devices_too s zero n has (line ∷ rest) some count had =
@@ -141,11 +142,11 @@ read_all n (line ∷ rest) =
           ∙ read_all (suc n) rest ∙ ap (settings_by es) one ∙ ap (λ xs. settings_by xs last) (sym (over n line rest idle))
       | false ↦ λ states.
           ap (go_on (λ t. read_from t (suc n) rest) n) (line_placed no_settings line states refl)
-          ∙ elim (placed_behind false line) as (λ o. placed_behind false line ≡ o → go_on (λ t. read_from t (suc n) rest) n (option_map (with_configured no_settings) o) ≡ settings_of (with_first n o (placed_within 7 (states_program line) es))) [
+          ∙ elim (placed_behind false line) as (λ o. placed_behind false line ≡ o → go_on (λ t. read_from t (suc n) rest) n (option_map (with_configured no_settings) o) ≡ settings_of (with_first n o (placed_within (most_devices - 1) (states_program line) es))) [
             | None ↦ λ none. refl
             | Some d ↦ λ is.
-                devices_too (with_configured no_settings d) 7 (suc n) (states_program line) rest refl refl (one_more no_settings d false (states_program line) refl (placed_alone false line d is))
-                ∙ first_device d n (placed_within 7 (states_program line) es)
+                devices_too (with_configured no_settings d) (most_devices - 1) (suc n) (states_program line) rest refl refl (one_more no_settings d false (states_program line) refl (placed_alone false line d is))
+                ∙ first_device d n (placed_within (most_devices - 1) (states_program line) es)
           ] refl
           ∙ ap (λ xs. settings_by xs last) (sym (read n line rest states))
     ] refl

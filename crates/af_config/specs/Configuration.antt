@@ -1,6 +1,7 @@
 -- The configuration that a text is, or the line of its first fault.
 use Rattle.std.specs.Prelude.{◌≡◌, ℕ, zero, suc, ◌+◌, Bool, false, ◌&&◌, ◌||◌, List, [], ◌∷◌, length, map, Option, None, option_map, unwrap_or, Result, Ok, Err, if◌then◌else◌}
 use Rattle.std.specs.Str.{is_utf8}
+use Rattle.af_limits.specs.Limits.{most_devices}
 use Rattle.af_text.specs.Lines.{lines, words, is_passed_over, with_first}
 use Rattle.af_text.specs.Reading.{Entry, entries_of}
 use Rattle.af_config.specs.declared.fault.ConfigFault.{ConfigFault}
@@ -33,10 +34,6 @@ placed_within most has [] = Ok []
 placed_within zero has (e ∷ es) = Err e.number
 placed_within (suc most) has (e ∷ es) = with_first e.number (placed_behind has e.said) (placed_within most (has || states_program e.said) es)
 
--- how many devices a configuration may have
-abbrev pub most_configured : ℕ
-most_configured = 8
-
 -- the devices on their own, and what stands behind them
 abbrev pub settings_of : Result (List Configured) ℕ → Result Settings ℕ
 settings_of (Ok devices) = Ok (record { config = map (λ d. d.spec) devices; kinds = map (λ d. d.kind) devices })
@@ -45,7 +42,7 @@ settings_of (Err n) = Err n
 -- at least one device, or the number behind that of the last line
 abbrev pub settings_by : List (Entry (List ℕ)) → ℕ → Result Settings ℕ
 settings_by [] behind = Err behind
-settings_by (e ∷ es) behind = settings_of (placed_within most_configured false (e ∷ es))
+settings_by (e ∷ es) behind = settings_of (placed_within most_devices false (e ∷ es))
 
 -- the configuration that a text is, or the number of the first line that may not stand where it stands
 unfoldable pub config_of : List ℕ → Result Settings ℕ

@@ -1,10 +1,11 @@
 -- A configuration that is read line by line.
 use Rattle.std.specs.Prelude.{◌≡◌, ℕ, ◌≤◌, nat_lt, Bool, List, [], ◌∷◌, ◌++◌, length, All, Option, Some, None, option_map, if◌then◌else◌}
+use Rattle.af_limits.specs.Limits.{most_devices}
 use Rattle.af_sample.specs.Channels.{IsChannelCount}
 use Rattle.af_sample.specs.Rates.{IsListedRate}
 use Rattle.af_text.specs.Lines.{is_nil}
 use Rattle.af_config.specs.Stating.{Settings, Configured, has_program}
-use Rattle.af_config.specs.Configuration.{is_idle, placed_behind, most_configured}
+use Rattle.af_config.specs.Configuration.{is_idle, placed_behind}
 
 -- the configuration so far with one more device
 abbrev pub with_configured : Settings → Configured → Settings
@@ -14,7 +15,7 @@ with_configured s device = record { config = s.config ++ device.spec ∷ []; kin
 abbrev pub with_config_line : Settings → List ℕ → Option Settings
 with_config_line s line =
     if is_idle line then Some s
-    else if nat_lt (length s.config) most_configured then option_map (with_configured s) (placed_behind (has_program s.kinds) line)
+    else if nat_lt (length s.config) most_devices then option_map (with_configured s) (placed_behind (has_program s.kinds) line)
     else None
 
 -- a configuration has at least one device
@@ -23,7 +24,7 @@ lacks_configured s = is_nil s.config
 
 -- there are no more devices than there may be, of listed rates and of one or two channels, and as many kinds
 pub record IsSound (s : Settings) : Type 0 where
-  pub few : length s.config ≤ most_configured
+  pub few : length s.config ≤ most_devices
   pub kinds : length s.kinds ≡ length s.config
   pub rates : All (λ device. IsListedRate device.rate) s.config
   pub channels : All (λ device. IsChannelCount device.channels) s.config

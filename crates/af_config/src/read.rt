@@ -1,27 +1,26 @@
 // A text is read as a configuration, line by line.
 ghost use Rattle.std.specs.Prelude.{◌≡◌, ◌≤◌, ◌⊎◌, ℕ, length, All, IfOk, IfErr};
+ghost use Rattle.af_limits.specs.Limits.{most_devices, longest_config};
 ghost use Rattle.af_sample.specs.Channels.{IsChannelCount};
 ghost use Rattle.af_sample.specs.Rates.{IsListedRate};
 ghost use Rattle.af_config.specs.Configuration.{config_of, IsConfigFault};
 
 use crate::device::{device_stated, is_text};
 use crate::{ConfigFault, Setting};
+use af_limits::MOST_DEVICES;
 use af_text::{ByLine, LineFault, passes_over, read_lines};
 use af_time::OutOfMemory;
 use std::alloc::Global;
 
-/// How many devices a configuration may have.
-const MOST_DEVICES: usize = 8;
-
 /// Reads the configuration that a text is. If the text is none, the fault has the number of its first line that may not
 /// stand where it stands; want of memory can come in the place of any answer. The text has at most 65536 bytes.
 pub fn read_config(alloc: Global, text: &[u8]) -> Result<Setting, ConfigFault>
-    requires { length text.now ≤ 65536 }
+    requires { length text.now ≤ longest_config }
     ensures setting { IfOk result (λ s. config_of text.now ≡ Ok s) }
     ensures fault { IfErr result (λ e. IsConfigFault text.now e) }
     ensures found { (n : ℕ) → config_of text.now ≡ Err n →
         (result ≡ Err (ConfigFault.Line n)) ⊎ (result ≡ Err ConfigFault.OutOfMemory) }
-    ensures devices { IfOk result (λ s. (1 ≤ length s.config) × (length s.config ≤ 8)) }
+    ensures devices { IfOk result (λ s. (1 ≤ length s.config) × (length s.config ≤ most_devices)) }
     ensures kinds { IfOk result (λ s. length s.kinds ≡ length s.config) }
     ensures rates { IfOk result (λ s. All (λ device. IsListedRate device.rate) s.config) }
     ensures channels { IfOk result (λ s. All (λ device. IsChannelCount device.channels) s.config) }

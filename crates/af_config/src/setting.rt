@@ -1,5 +1,6 @@
 // What a server is started with: its devices, and what stands behind each.
 ghost use Rattle.std.specs.Prelude.{◌≡◌, ◌<◌, [], length, slice_get, Some, IsTrue, nat_eq, OnOk};
+ghost use Rattle.af_limits.specs.Limits.{most_devices};
 ghost use Rattle.af_world.specs.Kinds.{backing_of};
 ghost use Rattle.af_config.specs.Stating.{has_program};
 ghost use Rattle.af_config.specs.Kept.{placed};
@@ -47,7 +48,7 @@ impl Setting {
 
     /// Adds a device at the end, of which there may be 8. Where memory runs out nothing is promised of the setting.
     pub(crate) fn add(&mut self, device: ConfiguredDevice) -> Result<(), OutOfMemory>
-        requires { length self.old.config < 8 }
+        requires { length self.old.config < most_devices }
         ensures { OnOk result (self.new ≡ with_configured self.old (placed device)) }
     {
         let is_codec = device.kind.is_codec();

@@ -1,6 +1,7 @@
 -- The contexts of a link: a list in order of creation, in which each number stands once.
 use Rattle.std.specs.Prelude.{◌≡◌, ◌≢◌, ℕ, ◌==◌, ◌<◌, ◌≤◌, nat_lt, Bool, true, false, not, if◌then◌else◌, ℤ, Option, None, unwrap_or, Result, Ok, Err, List, length, map, filter, find, slice_get, AllPairs}
 use Rattle.std.specs.List.{list_any}
+use Rattle.af_limits.specs.Limits.{most_contexts}
 use Rattle.af_context.specs.declared.Context.{Context}
 use Rattle.af_context.specs.declared.ContextFault.{ContextFault}
 use Rattle.af_context.specs.declared.ContextFault.TheVariants.{BadAc, BadIdChoice, TooMany}
@@ -16,7 +17,7 @@ context_of contexts ac = find (λ c. c.ac == ac) contexts
 -- no two contexts have one number, and a link has 16 at most
 pub record AreContexts (contexts : List Context) : Type 0 where
   pub distinct : AllPairs (λ a b. a.ac ≢ b.ac) contexts
-  pub few : length contexts ≤ 16
+  pub few : length contexts ≤ most_contexts
 
 -- what the creation of a context with this number answers: the number is looked at before the room
 abbrev pub creation : List Context → ℕ → Result Unit ContextFault

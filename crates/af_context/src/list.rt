@@ -1,8 +1,10 @@
 // The list of a link's contexts.
 ghost use Rattle.std.specs.Prelude.{◌≡◌, ◌==◌, ◌↔◌, ◌<◌, false, true, [], ◌∷◌, ◌++◌, length, Err, IsOk, IsTrue, IsSome, IfSome, OnOk, OnErr, Contains, position};
+ghost use Rattle.af_limits.specs.Limits.{most_contexts};
 ghost use Rattle.af_context.specs.Contexts.{context_of, creation, is_in_use, reference, with_changed, with_settings, without_context, AreContexts, IsPlaceOf};
 
 use crate::{Context, ContextFault};
+use af_limits::MOST_CONTEXTS;
 use af_sample::Gain;
 use arrayvec::ArrayVec;
 use std::marker::Model;
@@ -10,7 +12,7 @@ use std::marker::Model;
 /// The contexts of a link, 16 at most, in order of creation. Clauses see the list of them.
 #[derive(Drop)]
 pub struct Contexts {
-    contexts: ArrayVec<Context, 16>,
+    contexts: ArrayVec<Context, MOST_CONTEXTS>,
 }
 
 impl Model for Contexts {
@@ -46,8 +48,8 @@ impl Contexts {
     pub fn create(&mut self, context: Context) -> Result<(), ContextFault>
         ensures answer { result ≡ creation self.old context.ac }
         ensures bad_id_choice { (result ≡ Err ContextFault.BadIdChoice) ↔ IsTrue (is_in_use self.old context.ac) }
-        ensures too_many { (result ≡ Err ContextFault.TooMany) ↔ ((is_in_use self.old context.ac ≡ false) × (length self.old ≡ 16)) }
-        ensures ok { IsOk result ↔ ((is_in_use self.old context.ac ≡ false) × (length self.old < 16)) }
+        ensures too_many { (result ≡ Err ContextFault.TooMany) ↔ ((is_in_use self.old context.ac ≡ false) × (length self.old ≡ most_contexts)) }
+        ensures ok { IsOk result ↔ ((is_in_use self.old context.ac ≡ false) × (length self.old < most_contexts)) }
         ensures created { OnOk result (self.new ≡ self.old ++ context ∷ []) }
         ensures refused { OnErr result (self.new ≡ self.old) }
         ensures list { AreContexts self.new }

@@ -2,6 +2,7 @@
 use Rattle.std.proofs.Common.{◌≡◌, ◌≢◌, ⊎_elim, ℕ, suc, ◌+◌, ◌-◌, ◌%◌, ◌^◌, ◌<◌, nat_le, Bool, true, false, cond, List, [], ◌∷◌, ◌++◌, length, slice_get, slice_set, option_map, option_and_then, refl, sym, ap, ◌∙◌, subst}
 use Rattle.std.specs.declared.option.Option.{Option}
 use Rattle.std.specs.declared.option.Option.TheVariants.{None, Some}
+use Rattle.af_limits.specs.Limits.{event_limit}
 use Rattle.af_wire.specs.declared.event.Event.{Event}
 use Rattle.af_wire.specs.Event.{event_bytes}
 use Rattle.af_request.specs.declared.reply.Phone.{Phone}
@@ -28,7 +29,6 @@ use Rattle.af_core.specs.Stands.{StandsForSlot, Kept, OnlyDrops, StandsFor, kept
 use Rattle.af_core.specs.Simulates.{Simulates}
 use Rattle.af_io.proofs.AppendedLemmas.{appended_none}
 use Rattle.af_core.proofs.SimulationLemmas.{simulates_nothing, simulates_more}
-use Rattle.af_model.specs.Sizes.{event_limit}
 
 -- a link is dropped
 pub drops_at : (env : KeptEnvironment) (ks' : List KeptDeferral) (k : ℕ) (cause : Why) (a : EnvironmentState) (l l' : LinkState) → ks' ≡ kept_without k env.waits →

@@ -5,6 +5,7 @@ use Rattle.std.proofs.lemmas.Option.{slice_get-get_or}
 use Rattle.std.proofs.lemmas.Bool.Decides.{nat_tests}
 use Rattle.std.specs.declared.option.Option.{Option}
 use Rattle.std.specs.declared.option.Option.TheVariants.{None, Some}
+use Rattle.af_limits.specs.Limits.{longest_read, most_to_send}
 use Rattle.af_world.specs.declared.happening.Happening.TheVariants.{Read, Wrote, Closed}
 use Rattle.af_world.specs.declared.happening.ReadGot.{ReadGot}
 use Rattle.af_world.specs.declared.happening.ReadGot.TheVariants.{Given}
@@ -25,8 +26,6 @@ use Rattle.af_state.proofs.DeferralLemmas.{same_waiting}
 use Rattle.af_core.specs.Stands.{AreSettled, StandsForSlot, IsSettled, IsSettledSlot, Kept, StandsFor, kept_of, writes_left}
 use Rattle.af_core.specs.Simulates.{Simulates}
 use Rattle.af_core.proofs.SimulationLemmas.{simulates_nothing, simulates_one, simulates_more, simulates_then}
-use Rattle.af_world.specs.Sizes.{longest_read}
-use Rattle.af_model.specs.Sizes.{most_to_send}
 
 -- what holds of a link in whatever environment holds of each open link
 pub at_open_link : (env env' : KeptEnvironment) (l l' : LinkState) (f : OpenLink → OpenLink) → ((a : EnvironmentState) → StandsForEnvironment env a → StandsForLink env' l' (f (open_link a l))) → (p : OpenLink) → StandsForLink env l p → StandsForLink env' l' (f p)

@@ -4,6 +4,7 @@ use Rattle.std.proofs.Math.Nat.{le-max_left, le-max_right, max-le}
 use Rattle.std.proofs.lemmas.Bool.Decides.{nat_tests}
 use Rattle.std.specs.declared.option.Option.{Option}
 use Rattle.std.specs.declared.option.Option.TheVariants.{None, Some}
+use Rattle.af_limits.specs.Limits.{most_links}
 use Rattle.af_phone.specs.declared.line.LineChange.{LineChange}
 use Rattle.af_phone.specs.Lines.{changed, event_kind_of, flag_value, hooked, value_of}
 use Rattle.af_wire.specs.declared.event.EventKind.TheVariants as kind
@@ -110,8 +111,8 @@ none_open_set n j links link below none k from =
     subst (λ w. is_open_at (slice_get w k) ≡ false) (sym (map-set links j link)) (subst (λ o. is_open_at o ≡ false) (sym (get-set_other (opens links) j k (is_some link) apart)) (none k from))
 
 -- none is open at all
-pub none_open_starts : (links : List (Option LinkState)) → links ≡ replicate 32 None → NoneOpenFrom 0 links
-none_open_starts links e k from = subst (λ (ls : List (Option LinkState)). is_open_at (slice_get (opens ls) k) ≡ false) (sym e) (none_at 32 k)
+pub none_open_starts : (links : List (Option LinkState)) → links ≡ replicate most_links None → NoneOpenFrom 0 links
+none_open_starts links e k from = subst (λ (ls : List (Option LinkState)). is_open_at (slice_get (opens ls) k) ≡ false) (sym e) (none_at most_links k)
   where
     none_at : (n k : ℕ) → is_open_at (slice_get (opens (replicate n None)) k) ≡ false
     none_at zero k = refl
@@ -164,7 +165,7 @@ below_woken (Line d change) n kept fit bound = bound
 below_woken Idle n kept fit bound = bound
 below_woken Stop n kept fit bound = bound
 
-pub woken_within : (wake : Wake) (n below : ℕ) (kept : Kept) (links : List (Option LinkState)) → below ≡ open_below_after wake n → fits (outline_of kept) wake ≡ true → n ≤ 32 → length kept.links ≡ 32 → length links ≡ 32 → below ≤ length links
+pub woken_within : (wake : Wake) (n below : ℕ) (kept : Kept) (links : List (Option LinkState)) → below ≡ open_below_after wake n → fits (outline_of kept) wake ≡ true → n ≤ most_links → length kept.links ≡ most_links → length links ≡ most_links → below ≤ length links
 woken_within wake n below kept links is fit bound before after =
     let low = below_woken wake n kept fit (subst (λ m. n ≤ m) (sym before) bound) in
     subst (λ m. m ≤ length links) (sym is) (subst (λ m. open_below_after wake n ≤ m) (before ∙ sym after) low)

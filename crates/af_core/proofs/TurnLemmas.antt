@@ -6,6 +6,7 @@ use Rattle.std.proofs.Math.Nat.{mul_comm}
 use Rattle.std.specs.List.{All}
 use Rattle.std.specs.declared.option.Option.{Option}
 use Rattle.std.specs.declared.option.Option.TheVariants.{None, Some}
+use Rattle.af_limits.specs.Limits.{most_links, longest_tick}
 use Rattle.af_world.specs.declared.happening.Happening.TheVariants.{Woke, Captured, Emitted}
 use Rattle.af_world.specs.declared.happening.Wake.{Wake}
 use Rattle.af_world.specs.declared.happening.Wake.TheVariants.{Opened, Readable, Writable, Ticked, Idle, Stop}
@@ -73,10 +74,10 @@ none_open (suc n) zero l e = cc
 none_open (suc n) (suc k) l e = none_open n k l e
 
 -- a core at its start
-starts_settled : (ks : List KeptDeferral) (links : List (Option LinkState)) → links ≡ replicate 32 None → AreSettled ks links
-starts_settled ks links e k l is = absurd (none_open 32 k l (subst (λ (xs : List (Option LinkState)). slice_get xs k ≡ Some (Some l)) e is))
+starts_settled : (ks : List KeptDeferral) (links : List (Option LinkState)) → links ≡ replicate most_links None → AreSettled ks links
+starts_settled ks links e k l is = absurd (none_open most_links k l (subst (λ (xs : List (Option LinkState)). slice_get xs k ≡ Some (Some l)) e is))
 
-pub starts : (kept : Kept) (config : List DeviceSpec) → StandForDevices kept.devices (opening config).devices → kept.waits ≡ [] → kept.links ≡ replicate 32 None → IsBetweenPhases kept
+pub starts : (kept : Kept) (config : List DeviceSpec) → StandForDevices kept.devices (opening config).devices → kept.waits ≡ [] → kept.links ≡ replicate most_links None → IsBetweenPhases kept
 starts kept config h waits e = record {
   orderly = record { links = ap length e; settled = starts_settled kept.waits kept.links e; later = subst AreLater (sym waits) tt };
   stands = (opening config, record { devices = h; waiting = subst (λ (qs : List KeptDeferral). StandForDeferrals (opening config).devices qs []) (sym waits) tt; links = sym e });
@@ -240,7 +241,7 @@ record Passed (k n : ℕ) (kept : Kept) (d' : KeptDevice) (part : Log) (s : Stat
   same : (more : Log) → wake_phase (Ticked k n) s (part ++ more) ≡ parsed (tick k n captured is_dead s) more
 
 -- a device has passed over sample periods, and those that wait for it have
-passed_on : (k n : ℕ) (kept : Kept) (d d' : KeptDevice) (s : State) (captured : List ℤ) (is_dead : Bool) (device : DeviceState) → n ≤ 4096 → AreLater kept.waits → StandsFor kept s →
+passed_on : (k n : ℕ) (kept : Kept) (d d' : KeptDevice) (s : State) (captured : List ℤ) (is_dead : Bool) (device : DeviceState) → n ≤ longest_tick → AreLater kept.waits → StandsFor kept s →
     slice_get s.devices k ≡ Some device → StandsForDevice d device → StandsForDevice d' (later n captured is_dead device) →
     StandsFor (passed_kept k n d' kept) (record s { devices = with_device k (later n captured is_dead) s.devices })
 passed_on k n kept d d' s captured is_dead device few l h here stands one = record {
@@ -251,7 +252,7 @@ passed_on k n kept d d' s captured is_dead device few l h here stands one = reco
 }
 
 -- a dead device
-passes_dead : (k n : ℕ) (kept : Kept) (d d' : KeptDevice) (given : List ℕ) → n ≤ 4096 → AreLater kept.waits → slice_get kept.devices k ≡ Some d → d.is_dead ≡ true →
+passes_dead : (k n : ℕ) (kept : Kept) (d d' : KeptDevice) (given : List ℕ) → n ≤ longest_tick → AreLater kept.waits → slice_get kept.devices k ≡ Some d → d.is_dead ≡ true →
     Passes d d' n None given → (s : State) → StandsFor kept s → Passed k n kept d' [] s
 unfolding wake_phase
 passes_dead k n kept d d' given few l here dead p s h =
@@ -268,7 +269,7 @@ passes_dead k n kept d d' given few l here dead p s h =
     }
 
 -- a live device
-passes_live : (a b : Option Log) (k n : ℕ) (kept : Kept) (d d' : KeptDevice) → n ≤ 4096 → AreLater kept.waits → slice_get kept.devices k ≡ Some d → d.is_dead ≡ false →
+passes_live : (a b : Option Log) (k n : ℕ) (kept : Kept) (d d' : KeptDevice) → n ≤ longest_tick → AreLater kept.waits → slice_get kept.devices k ≡ Some d → d.is_dead ≡ false →
     (t : TicksLive k n d d' a b) → (s : State) → StandsFor kept s → Passed k n kept d' t.part s
 unfolding wake_phase
 passes_live a b k n kept d d' few l here live t s h =
@@ -290,7 +291,7 @@ record PassesAll (a b : Option Log) (k n : ℕ) (kept : Kept) (d' : KeptDevice) 
   quiet : wakes part ≡ 0
   each : (s : State) → StandsFor kept s → Passed k n kept d' part s
 
-passes_all : (a b : Option Log) (k n : ℕ) (kept : Kept) (d d' : KeptDevice) → n ≤ 4096 → AreLater kept.waits → slice_get kept.devices k ≡ Some d → Ticks d.is_dead k n d d' a b → PassesAll a b k n kept d'
+passes_all : (a b : Option Log) (k n : ℕ) (kept : Kept) (d d' : KeptDevice) → n ≤ longest_tick → AreLater kept.waits → slice_get kept.devices k ≡ Some d → Ticks d.is_dead k n d d' a b → PassesAll a b k n kept d'
 passes_all a b k n kept d d' few l here t =
     elim d.is_dead as (λ dead. d.is_dead ≡ dead → Ticks dead k n d d' a b → PassesAll a b k n kept d') [
       | true ↦ λ e t. subst (λ y. PassesAll a y k n kept d') t.2 (record { part = []; told = appended_none a; quiet = refl; each = passes_dead k n kept d d' t.0 few l here e t.1 })
@@ -298,13 +299,13 @@ passes_all a b k n kept d d' few l here t =
     ] refl t
 
 -- the state that is stood for before requests complete
-pub passed_state : (a b : Option Log) (k n : ℕ) (kept : Kept) (d d' : KeptDevice) → n ≤ 4096 → AreLater kept.waits → slice_get kept.devices k ≡ Some d → Ticks d.is_dead k n d d' a b →
+pub passed_state : (a b : Option Log) (k n : ℕ) (kept : Kept) (d d' : KeptDevice) → n ≤ longest_tick → AreLater kept.waits → slice_get kept.devices k ≡ Some d → Ticks d.is_dead k n d d' a b →
     ((s : State) × StandsFor kept s) → (s : State) × StandsFor (passed_kept k n d' kept) s
 passed_state a b k n kept d d' few l here t h =
     let p = (passes_all a b k n kept d d' few l here t).each h.0 h.1 in (record h.0 { devices = with_device k (later n p.captured p.is_dead) h.0.devices }, p.stands)
 
 -- a tick, behind which requests complete
-pub ticks : (a b : Option Log) (k n : ℕ) (kept kept' : Kept) (d d' : KeptDevice) → n ≤ 4096 → AreLater kept.waits → slice_get kept.devices k ≡ Some d → Ticks d.is_dead k n d d' a b →
+pub ticks : (a b : Option Log) (k n : ℕ) (kept kept' : Kept) (d d' : KeptDevice) → n ≤ longest_tick → AreLater kept.waits → slice_get kept.devices k ≡ Some d → Ticks d.is_dead k n d d' a b →
     ((s : State) → StandsFor (passed_kept k n d' kept) s → StandsFor kept' (complete_due k s)) → Simulates a b (StandsFor kept) (StandsFor kept') (wake_phase (Ticked k n)) parsed
 ticks a b k n kept kept' d d' few l here t complete =
     let all = passes_all a b k n kept d d' few l here t in

@@ -4,6 +4,7 @@ use Rattle.std.proofs.Math.Nat.{le_refl, le-max_left}
 use Rattle.std.proofs.lemmas.Bool.{cases_lt, le-ltb, lt-ltb}
 use Rattle.std.specs.declared.option.Option.{Option}
 use Rattle.std.specs.declared.option.Option.TheVariants.{None, Some}
+use Rattle.af_limits.specs.Limits.{most_links}
 use Rattle.af_world.specs.declared.happening.Wake.{Wake}
 use Rattle.af_world.specs.declared.happening.Wake.TheVariants.{Opened, Readable, Writable, Ticked, Line, Idle, Stop}
 use Rattle.af_world.specs.declared.happening.Why.{Why}
@@ -121,11 +122,11 @@ with_wants k b ks ks' links links' only h = record {
 all_wants : (n : ℕ) (ks : List KeptDeferral) (links : List (Option LinkState)) → NoneOpenFrom n links → WantsWithin 0 n ks links
 all_wants n ks links none = record { before = λ j less. absurd (omega (arith, less)); behind = λ j more. closed_wants n ks links none j more }
 
-pub all_bounds : (b : Bounds) (ks : List KeptDeferral) (links : List (Option LinkState)) → b.open_below ≤ 32 → NoneOpenFrom b.open_below links → AreBounds (bounds_of_all b) ks links
+pub all_bounds : (b : Bounds) (ks : List KeptDeferral) (links : List (Option LinkState)) → b.open_below ≤ most_links → NoneOpenFrom b.open_below links → AreBounds (bounds_of_all b) ks links
 all_bounds b ks links most none = record { most = most; none_open = none; from = omega arith; within = omega arith; wants = all_wants b.open_below ks links none }
 
 pub woken_bounds : (wake : Wake) (b : Bounds) (kept : Kept) (ks' : List KeptDeferral) (links' : List (Option LinkState)) → fits (outline_of kept) wake ≡ true → AreBounds b kept.waits kept.links →
-    WakesOnly wake kept.waits kept.links ks' links' → open_below_after wake b.open_below ≤ 32 → NoneOpenFrom (open_below_after wake b.open_below) links' → AreBounds (bounds_after wake b) ks' links'
+    WakesOnly wake kept.waits kept.links ks' links' → open_below_after wake b.open_below ≤ most_links → NoneOpenFrom (open_below_after wake b.open_below) links' → AreBounds (bounds_after wake b) ks' links'
 woken_bounds (Opened k) b kept ks' links' fit h only most none = record {
   most = most;
   none_open = none;
@@ -229,7 +230,7 @@ pub served_bounds : (b : Bounds) (ks ks' : List KeptDeferral) (links links' : Li
 served_bounds b ks ks' links links' h none wants = record { most = h.most; none_open = none; from = h.from; within = h.within; wants = wants }
 
 -- where no link is open
-pub starts_bounds : (b : Bounds) (ks : List KeptDeferral) (links : List (Option LinkState)) → b ≡ record { open_below = 0; wants_from = 32; wants_below = 0 } → links ≡ replicate 32 None → AreBounds b ks links
+pub starts_bounds : (b : Bounds) (ks : List KeptDeferral) (links : List (Option LinkState)) → b ≡ record { open_below = 0; wants_from = most_links; wants_below = 0 } → links ≡ replicate most_links None → AreBounds b ks links
 starts_bounds b ks links is e = subst (λ (x : Bounds). AreBounds x ks links) (sym is) (record {
   most = omega arith;
   none_open = none_open_starts links e;

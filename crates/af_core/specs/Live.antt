@@ -2,6 +2,7 @@
 use Rattle.std.specs.Prelude.{◌≡◌, ◌≤◌, ℕ, Bool, List, ◌++◌, true, false}
 use Rattle.std.specs.declared.option.Option.{Option}
 use Rattle.std.specs.declared.option.Option.TheVariants.{None}
+use Rattle.af_limits.specs.Limits.{longest_tick}
 use Rattle.af_io.specs.Observed.{Appended}
 use Rattle.af_world.specs.Log.{Log}
 use Rattle.af_model.specs.State.{State, DeviceState}
@@ -13,7 +14,7 @@ use Rattle.af_core.specs.declared.tick.DeviceTick.{DeviceTick}
 
 -- a tick has 1 to 4096 frames
 abbrev pub IsTick : DeviceTick → Type 0
-IsTick t = (1 ≤ t.frames) × (t.frames ≤ 4096)
+IsTick t = (1 ≤ t.frames) × (t.frames ≤ longest_tick)
 
 -- n sample periods of a device went by in which these bytes came, or none, and this sound is handed out
 pub record Passes (old new : KeptDevice) (n : ℕ) (came : Option (List ℕ)) (given : List ℕ) : Type 0 where

@@ -2,6 +2,7 @@
 use Rattle.std.specs.Prelude.{◌≡◌, ◌≢◌, ◌⊎◌, ℕ, ◌+◌, ◌<◌, ◌≤◌, Bool, true, false, IsTrue, List, [], ◌∷◌, find, length, map, is_some, slice_get, option_and_then, max, min, IsSomeAnd, if◌then◌else◌}
 use Rattle.std.specs.declared.option.Option.{Option}
 use Rattle.std.specs.declared.option.Option.TheVariants.{None, Some}
+use Rattle.af_limits.specs.Limits.{most_links, longest_frame, event_limit}
 use Rattle.af_wait.specs.declared.Wait.{Wait}
 use Rattle.af_world.specs.declared.happening.Happening.TheVariants.{Woke}
 use Rattle.af_world.specs.declared.happening.Wake.{Wake}
@@ -21,8 +22,6 @@ use Rattle.af_core.specs.declared.bounds.Bounds.{Bounds}
 use Rattle.af_state.specs.Kept.{KeptDevice, StandForDevices, IsBounded}
 use Rattle.af_state.specs.Deferrals.{KeptDeferral, has_waiting, kept_without, AreLater, AreLaterBut, StandForDeferrals, LeavesOthers}
 use Rattle.af_state.specs.Environment.{StandsForLink, KeptEnvironment, StandsForEnvironment}
-use Rattle.af_wire.specs.Sizes.{longest_frame}
-use Rattle.af_model.specs.Sizes.{event_limit}
 
 -- a slot, open or not, with its environment
 abbrev pub StandsForSlot : KeptEnvironment → Option LinkState → SlotLink → Type 0
@@ -69,7 +68,7 @@ OnlyDrops link old new = (new ≡ old) ⊎ (new ≡ record old { waits = kept_wi
 
 -- A link is in turn: it has a number, and is settled.
 pub record IsInTurn (k : ℕ) (waits : List KeptDeferral) (l : LinkState) : Type 0 where
-  pub number : k < 32
+  pub number : k < most_links
   pub settled : IsSettled (has_waiting waits k) l
 
 -- A link had some of its part of a turn: it is settled, and of those that wait it changed no other.
@@ -119,9 +118,9 @@ pub record WantsWithin (from below : ℕ) (ks : List KeptDeferral) (links : List
 
 -- what is known of the numbers of links holds of these
 pub record AreBounds (b : Bounds) (ks : List KeptDeferral) (links : List (Option LinkState)) : Type 0 where
-  pub most : b.open_below ≤ 32
+  pub most : b.open_below ≤ most_links
   pub none_open : NoneOpenFrom b.open_below links
-  pub from : b.wants_from ≤ 32
+  pub from : b.wants_from ≤ most_links
   pub within : b.wants_below ≤ b.open_below
   pub wants : WantsWithin b.wants_from b.wants_below ks links
 
@@ -181,9 +180,9 @@ StepsAll f kept kept' = (s : State) → StandsFor kept s → StandsFor kept' (f 
 abbrev pub OfDevice : ℕ → Kept → (DeviceState → State → Type 0) → Type 0
 OfDevice number kept Holds = (s : State) (device : DeviceState) → StandsFor kept s → slice_get s.devices number ≡ Some device → Holds device s
 
--- There are numbers for 32 links. Each link that is open is settled, and each request that waits does so for a frame or more.
+-- There is a number for each link that there may be. Each link that is open is settled, and each request that waits does so for a frame or more.
 pub record AreOrderly (ks : List KeptDeferral) (ls : List (Option LinkState)) : Type 0 where
-  pub links : length ls ≡ 32
+  pub links : length ls ≡ most_links
   pub settled : AreSettled ks ls
   pub later : AreLater ks
 
@@ -194,7 +193,7 @@ pub record IsBetweenPhases (kept : Kept) : Type 0 where
 
 -- what it keeps while the requests that are due of a device complete: some wait no more frame, but none of another device
 pub record IsCompleting (device : ℕ) (kept : Kept) : Type 0 where
-  pub links : length kept.links ≡ 32
+  pub links : length kept.links ≡ most_links
   pub settled : AreSettled kept.waits kept.links
   pub later : AreLaterBut device kept.waits
   pub stands : (s : State) × StandsFor kept s

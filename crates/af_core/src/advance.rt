@@ -1,5 +1,6 @@
 // Advancing a link: what stands whole at the front of its input is taken off and answered.
 ghost use Rattle.std.specs.Prelude.{◌≡◌, ◌⊎◌, ◌≤◌, ◌<◌, ◌++◌, length, map, IsTrue, IsFalse, true};
+ghost use Rattle.af_limits.specs.Limits.{most_links, most_devices, longest_capture, longest_frame, longest_message, most_to_send, event_limit};
 ghost use Rattle.af_world.specs.declared.happening.Why.TheVariants as why;
 ghost use Rattle.af_wire.specs.declared.front.Front.TheVariants.{Frame};
 ghost use Rattle.af_wire.specs.Front.{setup_front, frame_front};
@@ -12,9 +13,6 @@ ghost use Rattle.af_state.specs.Kept.{kept_info, IsBounded};
 ghost use Rattle.af_state.specs.Deferrals.{has_waiting, OnlyQueues};
 ghost use Rattle.af_state.specs.Environment.{StepsLink, MayAsk};
 ghost use Rattle.af_core.specs.Stands.{IsSettled, Advances};
-ghost use Rattle.af_wire.specs.Sizes.{longest_frame, longest_message};
-ghost use Rattle.af_state.specs.Sizes.{longest_capture};
-ghost use Rattle.af_model.specs.Sizes.{most_to_send, event_limit};
 
 use af_perform::perform;
 use af_request::{Devices, Reply, read_request, write_reply};
@@ -26,7 +24,7 @@ const BAD_SETUP: u8 = 1;
 
 // What the reply to a setup says of the devices.
 fn infos_of(devices: &[Device]) -> Devices
-    requires { length devices.now ≤ 8 }
+    requires { length devices.now ≤ most_devices }
     ensures { result.items ≡ map kept_info devices.now }
 {
     let mut infos = Devices::new();
@@ -38,7 +36,7 @@ fn infos_of(devices: &[Device]) -> Devices
 
 // The reply to a setup, in the order of the link.
 fn reply_setup(devices: &[Device], link: &mut ServedLink, message: &mut [u8])
-    requires count { length devices.now ≤ 8 }
+    requires count { length devices.now ≤ most_devices }
     requires room { length link.old.pending ≤ most_to_send }
     requires size { length message.old ≡ longest_message }
     ensures { link.new ≡ record link.old { pending = link.old.pending ++ reply_message link.old.order 0 (setup (map kept_info devices.now)) 0 } }
@@ -147,7 +145,7 @@ fn advance_once(
     link: &mut ServedLink,
     scratch: &mut Scratch,
 ) -> bool
-    requires number { number < 32 }
+    requires number { number < most_links }
     ensures step { Advances result (advance_step number) environment.old link.old environment.new link.new }
     ensures same { IsFalse result → (environment.new ≡ environment.old) × (link.new ≡ link.old) }
     ensures shorter { IsTrue result → length link.new.rest < length link.old.rest }
@@ -180,7 +178,7 @@ pub fn advance(
     link: &mut ServedLink,
     scratch: &mut Scratch,
 )
-    requires number { number < 32 }
+    requires number { number < most_links }
     requires room { IsTrue (has_waiting environment.old.waits number) → length link.old.pending ≤ event_limit }
     ensures step { StepsLink (advance number) environment.old link.old environment.new link.new }
     ensures settled { IsSettled (has_waiting environment.new.waits number) link.new }

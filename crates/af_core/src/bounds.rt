@@ -1,9 +1,11 @@
 // What is known of the numbers of links, so that a turn does not look at each of them.
 ghost use Rattle.std.specs.Prelude.{◌≡◌, ◌≤◌, length, List};
+ghost use Rattle.af_limits.specs.Limits.{most_links};
 ghost use Rattle.af_state.specs.Deferrals.{KeptDeferral};
 ghost use Rattle.af_core.specs.Stands.{AreBounds, AreExact, NoneOpenFrom, bounds_after, bounds_of_all, bounds_with};
 
 use crate::slot::{Slot, first_wanting, last_wanting, open_end};
+use af_limits::MOST_LINKS;
 use af_state::DeferredRequests;
 use af_world::Wake;
 
@@ -19,7 +21,7 @@ pub struct Bounds {
 /// No link is open.
 pub const NO_LINKS: Bounds = Bounds {
     open_below: 0,
-    wants_from: 32,
+    wants_from: MOST_LINKS,
     wants_below: 0,
 };
 
@@ -65,7 +67,7 @@ impl Bounds {
 
     /// The bounds are moved together as far as links want nothing.
     pub fn narrow(&mut self, waits: &DeferredRequests, slots: &[Slot])
-        requires count { length slots.now ≡ 32 }
+        requires count { length slots.now ≡ most_links }
         requires bounds { AreBounds self.old waits.now slots.now }
         ensures bounds { AreBounds self.new waits.now slots.now }
         ensures exact { AreExact self.new waits.now slots.now }
@@ -75,7 +77,7 @@ impl Bounds {
             self.wants_below = last_wanting(waits, slots, from, self.wants_below);
             self.wants_from = from;
         } else {
-            self.wants_from = 32;
+            self.wants_from = MOST_LINKS;
             self.wants_below = 0;
         }
     }

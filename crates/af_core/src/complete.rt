@@ -1,6 +1,7 @@
 // Requests that waited for a device complete, in the order in which they began to.
 ghost use Rattle.std.specs.Prelude.{◌≡◌, ◌≤◌, ◌<◌, suc, find, length, option_map, slice_get, IsTrue, IsFalse};
 ghost use Rattle.std.specs.declared.option.Option.TheVariants.{None, Some};
+ghost use Rattle.af_limits.specs.Limits.{most_links, event_limit};
 ghost use Rattle.af_wait.specs.Waits.{without_first};
 ghost use Rattle.af_model.specs.State.{EnvironmentState, State, open_link};
 ghost use Rattle.af_model.specs.Tick.{complete_due, complete_for, complete_step};
@@ -8,7 +9,6 @@ ghost use Rattle.af_state.specs.Deferrals.{has_waiting, kept_due, OnlyQueues};
 ghost use Rattle.af_state.proofs.DeferralLemmas.{dues};
 ghost use Rattle.af_state.specs.Environment.{StandsForLink, StandsForEnvironment};
 ghost use Rattle.af_core.specs.Stands.{CompletesTo, IsBetweenPhases, IsCompleting, IsSettled, StepsAll, OfFirstDue, StandsFor, kept_of};
-ghost use Rattle.af_model.specs.Sizes.{event_limit};
 
 use crate::advance::advance;
 use crate::slot::Slot;
@@ -23,7 +23,7 @@ pub fn complete_link(
     link: &mut ServedLink,
     scratch: &mut Scratch,
 )
-    requires number { number < 32 }
+    requires number { number < most_links }
     requires due { option_map (λ k. k.wait.link) (find (kept_due device) environment.old.waits) ≡ Some number }
     requires room { length link.old.pending ≤ event_limit }
     requires stands { (a : EnvironmentState) × StandsForEnvironment environment.old a }

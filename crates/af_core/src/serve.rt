@@ -1,6 +1,7 @@
 // A link is served: a read, writes, and a close.
 ghost use Rattle.std.specs.Prelude.{◌≡◌, ◌<◌, ◌≤◌, IsTrue, if◌then◌else◌, length, [], ◌∷◌};
 ghost use Rattle.std.specs.declared.option.Option.TheVariants.{None, Some};
+ghost use Rattle.af_limits.specs.Limits.{output_room};
 ghost use Rattle.af_io.specs.Observed.{Appended};
 ghost use Rattle.af_world.specs.World.{took_of, TookFits};
 ghost use Rattle.af_world.specs.declared.happening.Happening.TheVariants.{Wrote};
@@ -11,11 +12,9 @@ ghost use Rattle.af_core.specs.Stands.{StandsForSlot, IsInTurn, LinkServed, writ
 
 use crate::advance::advance;
 use crate::events::drop_link;
+use af_limits::LONGEST_READ;
 use af_state::{Environment, Scratch, ServedLink};
 use af_world::{LinkGot, LinkTook, Why, World};
-
-// As much as one read of a link gives, in bytes.
-const LONGEST_READ: usize = 16384;
 
 // One read, if the link is to be read.
 fn read_link<W: World>(
@@ -52,7 +51,7 @@ fn read_link<W: World>(
 // All that waits to be sent is offered: where it lies, if that is in one piece, and else copied into one.
 fn offer<W: World>(number: u8, link: &mut ServedLink, world: &mut W) -> LinkTook
     requires some { 0 < length link.old.pending }
-    requires bound { length link.old.pending ≤ 65536 }
+    requires bound { length link.old.pending ≤ output_room }
     ensures log { Appended (W.log world.old)
         (Wrote number (length link.old.pending) (took_of result link.old.pending) ∷ []) (W.log world.new) }
     ensures bound { TookFits result (length link.old.pending) }

@@ -1,6 +1,7 @@
 // The core: all that the server keeps, and one turn.
 ghost use Rattle.std.specs.Prelude.{◌≡◌, ◌≤◌, ◌<◌, ◌↔◌, ℕ, List, length, map, slice_get, All, IfOk, IsNone, IsTrue, IsSomeAnd, MatchOption, is_some, replicate};
 ghost use Rattle.std.specs.declared.option.Option.TheVariants.{None, Some};
+ghost use Rattle.af_limits.specs.Limits.{most_links};
 ghost use Rattle.af_sample.specs.Channels.{IsChannelCount};
 ghost use Rattle.af_sample.specs.Rates.{IsListedRate};
 ghost use Rattle.af_buffers.specs.PlayBuffer.{Next, Hears};
@@ -16,9 +17,10 @@ ghost use Rattle.af_core.specs.Stands.{AreBounds, AreExact, IsBetweenPhases, Sta
 use crate::bounds::{Bounds, NO_LINKS};
 use crate::lines::{change_line, give_hooks};
 use crate::slot::{Slot, serve_slots};
-use crate::tick::{DeviceTick, TICK_FRAMES, tick};
+use crate::tick::{DeviceTick, tick};
 use af_buffers::{PlayBuffer, RecordBuffer};
 use af_context::Contexts;
+use af_limits::{LONGEST_TICK, MOST_LINKS};
 use af_phone::Line;
 use af_session::Session;
 use af_state::{DeferredRequests, Device, Environment, Scratch};
@@ -64,11 +66,11 @@ fn start_devices(alloc: Global, config: &[DeviceSpec]) -> Result<Vec<Device>, Ou
     Ok(devices)
 }
 
-// Numbers for 32 links, none of which is open.
+// A number for each link that there may be, none of which is open.
 fn make_slots(alloc: Global) -> Result<Vec<Slot>, OutOfMemory>
-    ensures { IfOk result (λ slots. slots.items ≡ replicate 32 None) }
+    ensures { IfOk result (λ slots. slots.items ≡ replicate most_links None) }
 {
-    let mut slots = Vec::with_capacity(alloc, 32)?;
+    let mut slots = Vec::with_capacity(alloc, MOST_LINKS)?;
     for _number in 0..32u8 {
         let slot = Slot::new(alloc)?;
         slots.push(slot)?;
@@ -90,7 +92,7 @@ fn fits_now(devices: &[Device], slots: &[Slot], wake: &Wake) -> bool
             None => false,
         },
         Wake::Ticked(number, frames) => {
-            (number as usize) < devices.len() && frames >= 1 && frames <= TICK_FRAMES
+            (number as usize) < devices.len() && frames >= 1 && frames <= LONGEST_TICK
         }
         Wake::Line(number, change) => match devices.get(number as usize) {
             Some(device) => device.line().is_some() && change.is_possible(),

@@ -1,6 +1,7 @@
 // A number for a link, which keeps its memory while no link is open there.
 ghost use Rattle.std.specs.Prelude.{◌≡◌, ◌≤◌, ◌<◌, ℕ, max, true, false, find, length, option_map, slice_get, IfOk, IsSomeAnd, MatchOption, is_some};
 ghost use Rattle.std.specs.declared.option.Option.TheVariants.{None, Some};
+ghost use Rattle.af_limits.specs.Limits.{most_links};
 ghost use Rattle.af_wait.specs.Waits.{without_first};
 ghost use Rattle.af_model.specs.State.{EnvironmentState, LinkState, opened};
 ghost use Rattle.af_model.specs.Tick.{complete_at};
@@ -115,7 +116,7 @@ impl Slot {
         environment: &mut Environment,
         scratch: &mut Scratch,
     )
-        requires number { number < 32 }
+        requires number { number < most_links }
         requires due { option_map (λ k. k.wait.link) (find (kept_due device) environment.old.waits) ≡ Some number }
         requires settled { IsSettledSlot (has_waiting environment.old.waits number) self.old }
         requires stands { (a : EnvironmentState) × StandsForEnvironment environment.old a }
@@ -151,7 +152,7 @@ impl Slot {
         scratch: &mut Scratch,
         world: &mut W,
     )
-        requires number { number < 32 }
+        requires number { number < most_links }
         requires settled { IsSettledSlot (has_waiting environment.old.waits number) self.old }
         ensures simulates { Simulates (W.log world.old) (W.log world.new) (StandsForSlot environment.old self.old)
             (StandsForSlot environment.new self.new) (serve_slot_link number) parsed }
@@ -183,7 +184,7 @@ pub fn open_end(slots: &[Slot], below: usize) -> usize
 /// The first link from a number on, and below another, that is to be read, written or closed, or else the second number or one above
 /// it.
 pub fn first_wanting(waits: &DeferredRequests, slots: &[Slot], from: usize, below: usize) -> usize
-    requires count { length slots.now ≤ 32 }
+    requires count { length slots.now ≤ most_links }
     requires bound { below ≤ length slots.now }
     ensures none { (k : ℕ) → from ≤ k → k < result → wants_at waits.now slots.now k ≡ false }
     ensures wants { result < below → wants_at waits.now slots.now result ≡ true }
@@ -199,7 +200,7 @@ pub fn first_wanting(waits: &DeferredRequests, slots: &[Slot], from: usize, belo
 
 /// The number behind the last link below a number that is to be read, written or closed, or behind a lower one.
 pub fn last_wanting(waits: &DeferredRequests, slots: &[Slot], from: usize, below: usize) -> usize
-    requires count { length slots.now ≤ 32 }
+    requires count { length slots.now ≤ most_links }
     requires bound { below ≤ length slots.now }
     requires some { from < below }
     ensures none { (k : ℕ) → result ≤ k → k < below → wants_at waits.now slots.now k ≡ false }

@@ -1,6 +1,7 @@
 // Sample periods of a device go by: it captures, hands its sound out, and its time rises.
 ghost use Rattle.std.specs.Prelude.{◌≡◌, ◌≤◌, ◌<◌, ◌*◌, [], ◌∷◌, List, length, pos, replicate, if◌then◌else◌, false};
 ghost use Rattle.std.specs.declared.option.Option.TheVariants.{None, Some};
+ghost use Rattle.af_limits.specs.Limits.{longest_tick, longest_capture};
 ghost use Rattle.af_sample.specs.SampleTypes.{frame_bytes, width_of};
 ghost use Rattle.af_sample.specs.Samples.{samples as samples_of};
 ghost use Rattle.af_world.specs.declared.happening.Happening.TheVariants.{Captured, Emitted};
@@ -10,20 +11,14 @@ ghost use Rattle.af_model.specs.Turn.{parsed, wake_phase};
 ghost use Rattle.af_core.specs.Simulates.{Simulates};
 ghost use Rattle.af_core.specs.Live.{IsTick, Passes, Ticks, TicksLive};
 ghost use Rattle.af_core.specs.Stands.{IsBetweenPhases, StandsFor, kept_of};
-ghost use Rattle.af_state.specs.Sizes.{longest_capture};
 
 use crate::complete::complete_due;
 use crate::slot::Slot;
 use af_io::Put;
+use af_limits::MOST_TICK_SAMPLES;
 use af_sample::{SampleType, convert_in, convert_out};
 use af_state::{Device, Environment, Scratch, Work, silence};
 use af_world::World;
-
-/// How many frames a tick may have.
-pub const TICK_FRAMES: u32 = 4096;
-
-// How many samples these are of a device with two channels.
-const MOST_SAMPLES: usize = 8192;
 
 /// A tick of a device, by its number: so many sample periods go by.
 #[derive(Clone, Copy, Debug)]
@@ -71,13 +66,13 @@ fn emit<W: World>(number: u8, sound: &[u8], world: &mut W) -> bool
 
 // The sample periods of a device go by. It captured what came, and its sound comes to stand in the bytes.
 fn pass(came: bool, frames: u32, device: &mut Device, bytes: &mut [u8], work: &mut Work)
-    requires bound { frames ≤ 4096 }
+    requires bound { frames ≤ longest_tick }
     requires size { length bytes.old ≡ frames * frame_bytes device.old.ty device.old.next.channels }
     ensures passes { Passes device.old device.new frames (if came then Some bytes.old else None) bytes.new }
 {
     let ty = device.ty();
     let count = frames as usize * usize::from(device.channels());
-    let (before, after) = work.samples.split_at_mut(MOST_SAMPLES);
+    let (before, after) = work.samples.split_at_mut(MOST_TICK_SAMPLES);
     let samples = &mut before[..count];
     let sound = &mut after[..count];
     captured(came, ty, bytes, samples);
@@ -95,7 +90,7 @@ fn tick_live<W: World>(
 )
     requires some { 0 < length bytes.old }
     requires size { length bytes.old ≡ tick.frames * frame_bytes device.old.ty device.old.next.channels }
-    requires few { tick.frames ≤ 4096 }
+    requires few { tick.frames ≤ longest_tick }
     requires alive { device.old.is_dead ≡ false }
     ensures ticks { TicksLive tick.device tick.frames device.old device.new (W.log world.old) (W.log world.new) }
     ensures leads { W.leads_to world.old world.new }

@@ -7,6 +7,7 @@ use Rattle.af_world.specs.Outside.{IsStep}
 use Rattle.std.specs.Prelude.{All}
 use Rattle.af_request.specs.Asked.{play_run}
 use Rattle.std.proofs.lemmas.List.Elements.{All-nil, All-cons, All-push}
+use Rattle.af_limits.specs.Limits.{most_links}
 use Rattle.af_exercise.specs.Exercise.{time_about, sample_bytes, play_drawn, exercised, greeting, first_steps, repeated, turn_step, frames_ticked, drawn, moved_on, step_drawn, steps_drawn, seeded, start_time, generated}
 use Rattle.af_script.specs.Script.{StatedScript}
 use Rattle.af_world.specs.declared.script.DeviceSpec.{DeviceSpec}
@@ -40,14 +41,14 @@ pub words_drawn : (s : Step) (x y : ℕ) (g g1 : Lcg) (time : ℕ) → s ≡ tur
 words_drawn s x y g g1 time is first second moved =
     is ∙ ap (λ a. turn_step a y time) first ∙ ap (λ b. turn_step (drawn g) b time) (second ∙ ap drawn moved)
 
-greets : (k : ℕ) (bytes : List ℕ) → k < 32 → length bytes ≡ 32 → IsStep exercised (step.Send k bytes)
+greets : (k : ℕ) (bytes : List ℕ) → k < most_links → length bytes ≡ 32 → IsStep exercised (step.Send k bytes)
 greets k bytes few size = (few, omega arith, omega arith)
 
 -- the steps of a script with one more in front
 fit_first : (s : Step) (rest : List Step) → IsStep exercised s → All (IsStep exercised) rest → All (IsStep exercised) (s ∷ rest)
 fit_first s rest one all = All-cons (IsStep exercised) s rest one all
 
-opens : (k : ℕ) → k < 32 → IsStep exercised (step.Open k)
+opens : (k : ℕ) → k < most_links → IsStep exercised (step.Open k)
 opens k few = few
 
 greeted : ℕ → Step
@@ -65,7 +66,7 @@ first_fit =
     let o3 : List Step = step.Open 3 ∷ g0 in
     let o2 : List Step = step.Open 2 ∷ o3 in
     let o1 : List Step = step.Open 1 ∷ o2 in
-    let few : (k : ℕ) → k < 4 → k < 32 = λ k h. omega arith in
+    let few : (k : ℕ) → k < 4 → k < most_links = λ k h. omega arith in
     fit_first (step.Open 0) o1 (opens 0 (few 0 (omega arith)))
     (fit_first (step.Open 1) o2 (opens 1 (few 1 (omega arith)))
     (fit_first (step.Open 2) o3 (opens 2 (few 2 (omega arith)))

@@ -1,5 +1,6 @@
 // The script of an exercise is made of the words that a generator draws.
 ghost use Rattle.std.specs.Prelude.{◌≡◌, ◌≤◌, ◌<◌, ◌*◌, ◌++◌, ℕ, length, All, IfOk, OnOk};
+ghost use Rattle.af_limits.specs.Limits.{most_devices, longest_frame, longest_play};
 ghost use Rattle.af_sample.specs.Channels.{IsChannelCount};
 ghost use Rattle.af_sample.specs.Rates.{IsListedRate};
 ghost use Rattle.af_request.specs.Asked.{request_meaning};
@@ -7,10 +8,9 @@ ghost use Rattle.af_request.specs.Requests.{request_bytes, FitsFrame};
 ghost use Rattle.af_wire.specs.declared.order.Order.TheVariants.{Big};
 ghost use Rattle.af_world.specs.Outside.{IsStep};
 ghost use Rattle.af_exercise.specs.Exercise.{generated, exercised, first_steps, greeting, repeated, preempts, seeded, steps_drawn, start_time, sample_bytes, drawn, moved_on, turn_step, tick_drawn, play_drawn, record_drawn, sends, digit_drawn, room_drawn, frames_ticked};
-ghost use Rattle.af_sample.specs.Sizes.{longest_play};
-ghost use Rattle.af_wire.specs.Sizes.{longest_frame};
 
 use af_io::Bytes;
+use af_limits::LONGEST_FRAME;
 use af_phone::LineChange;
 use af_request::{Request, write_request};
 use af_sample::SampleType;
@@ -30,15 +30,12 @@ const START_TIME: u32 = 4294960000;
 /// The links of an exercise.
 const LINKS: [u8; 4] = [0, 1, 2, 3];
 
-/// How many bytes the longest frame has.
-const LONGEST_FRAME: usize = 16384;
-
 /// Makes the script of an exercise: four links that greet, and then a step for each of n turns, 1 to 10000, each of
 /// which is drawn by a generator of this seed.
 pub fn make_script(alloc: Global, seed: u64, turns: u32) -> Result<Script, OutOfMemory>
     requires { (1 ≤ turns) × (turns ≤ 10000) }
     ensures script { IfOk result (λ s. generated seed turns ≡ record { config = s.config.items; steps = s.steps }) }
-    ensures devices { IfOk result (λ s. (1 ≤ length s.config.items) × (length s.config.items ≤ 8)) }
+    ensures devices { IfOk result (λ s. (1 ≤ length s.config.items) × (length s.config.items ≤ most_devices)) }
     ensures rates { IfOk result (λ s. All (λ device. IsListedRate device.rate) s.config.items) }
     ensures channels { IfOk result (λ s. All (λ device. IsChannelCount device.channels) s.config.items) }
     ensures steps { IfOk result (λ s. All (IsStep s.config.items) s.steps) }

@@ -1,6 +1,7 @@
 // Dialling a server.
 ghost use Rattle.std.specs.Prelude.{◌≡◌, ◌≤◌, ℕ, List, [], ◌∷◌, length};
 ghost use Rattle.std.specs.declared.option.Option.{Option};
+ghost use Rattle.af_limits.specs.Limits.{longest_address};
 
 use crate::Link;
 
@@ -36,7 +37,7 @@ pub trait Dial {
 
     /// Dials an address of 1 to 64 bytes. The link has not failed yet.
     fn dial(&mut self, address: &str) -> Dialed<Self::Far>
-        requires { (1 ≤ length address.now) × (length address.now ≤ 64) }
+        requires { (1 ≤ length address.now) × (length address.now ≤ longest_address) }
         ensures count { faults self.old ≤ faults self.new }
         ensures cause { result ≡ Dialed.Failed → FaultCounted (faults self.old) (faults self.new) }
         ensures fresh { IsUnhurt Self.Far.Link.faults result }

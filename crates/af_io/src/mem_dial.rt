@@ -1,6 +1,7 @@
 // A dial in memory, which gives links in memory.
 ghost use Rattle.std.specs.Prelude.{◌≡◌, ◌≢◌, ◌≤◌, ◌<◌, ◌+◌, ◌↔◌, ℕ, [], ◌∷◌, ◌++◌, length, map, option_map, slice_get, true, false, Bool, IfSome, IsSome, IsTrue};
 ghost use Rattle.std.specs.declared.option.Option.TheVariants.{Some, None};
+ghost use Rattle.af_limits.specs.Limits.{longest_address};
 ghost use Rattle.af_io.specs.Observed.{Appended, CountsOneFault, counted};
 ghost use Rattle.af_io.specs.Link.{MemLinkState};
 ghost use Rattle.af_io.specs.Dial.{CountsHurt, GivesNext, AppendedBack, IsUnhurt};
@@ -8,6 +9,7 @@ ghost use Rattle.af_io.specs.MemDial.{back_of, both_of, hurt_by, told_if, told_l
 
 use crate::faults::faults_after;
 use crate::{Dial, Dialed, Link, MemLink};
+use af_limits::LONGEST_ADDRESS;
 use arrayvec::{ArrayString, ArrayVec};
 use std::marker::Model;
 
@@ -19,7 +21,7 @@ use std::marker::Model;
 pub struct MemDial {
     first: Option<MemLink>,
     second: Option<MemLink>,
-    addresses: ArrayVec<ArrayString<64>, 2>,
+    addresses: ArrayVec<ArrayString<LONGEST_ADDRESS>, 2>,
     tells_asked: bool,
     kept: Option<MemLink>,
     kept_later: Option<MemLink>,
@@ -93,7 +95,7 @@ impl Dial for MemDial {
     ghost links = { λ dial. Some (map told_link dial.links) };
 
     fn dial(&mut self, address: &str) -> Dialed<MemLink>
-        requires { (1 ≤ length address.now) × (length address.now ≤ 64) }
+        requires { (1 ≤ length address.now) × (length address.now ≤ longest_address) }
         ensures faults { CountsOneFault (result ≡ Dialed.Failed) self.old.faults self.new.faults }
         ensures fresh { IsUnhurt (λ (link : MemLinkState). link.faults) result }
         ensures hurt { self.new.hurt ≡ self.old.hurt }
@@ -133,8 +135,12 @@ impl Dial for MemDial {
 }
 
 // Notes an address, as long as there is room: whether all are noted so far.
-fn note(addresses: &mut ArrayVec<ArrayString<64>, 2>, tells: bool, address: &str) -> bool
-    requires { length address.now ≤ 64 }
+fn note(
+    addresses: &mut ArrayVec<ArrayString<LONGEST_ADDRESS>, 2>,
+    tells: bool,
+    address: &str,
+) -> bool
+    requires { length address.now ≤ longest_address }
     ensures appended { Appended (told_if tells (map (λ a. a.bytes) addresses.old.items)) (address.now ∷ []) (told_if result (map (λ a. a.bytes) addresses.new.items)) }
     ensures tells { IsTrue tells → length addresses.old.items < 2 → IsTrue result }
 {

@@ -1,6 +1,7 @@
 // Links over TCP, which tell no content, pass on what their streams give and take, and count their faults.
 ghost use Rattle.std.specs.Prelude.{◌≡◌, ◌≤◌, ◌<◌, ℕ, ◌∷◌, [], length, IsSome};
 ghost use Rattle.std.specs.declared.option.Option.TheVariants.{None};
+ghost use Rattle.af_limits.specs.Limits.{longest_address};
 ghost use Rattle.af_io.specs.Observed.{Consumed, Appended, CountsOneFault, counted};
 ghost use Rattle.af_io.specs.Flow.{given_of, GotFits, Written};
 ghost use Rattle.af_io.specs.Real.{ReadsOn, WritesOn};
@@ -102,7 +103,7 @@ impl<R: Net + Drop> Dial for TcpDial<R> {
     ghost links = { λ _. None };
 
     fn dial(&mut self, address: &str) -> Dialed<TcpLink<R::Stream>>
-        requires { (1 ≤ length address.now) × (length address.now ≤ 64) }
+        requires { (1 ≤ length address.now) × (length address.now ≤ longest_address) }
         ensures faults { CountsOneFault (result ≡ Dialed.Failed) self.old.faults self.new.faults }
         ensures fresh { IsUnhurt (λ link. link.faults) result }
         ensures hurt { self.new.hurt ≡ self.old.hurt }

@@ -5,6 +5,7 @@ use Rattle.std.proofs.lemmas.Option.{slice_get-map}
 use Rattle.std.proofs.lemmas.List.Elements.{filter-append}
 use Rattle.std.specs.declared.option.Option.{Option}
 use Rattle.std.specs.declared.option.Option.TheVariants.{None, Some}
+use Rattle.af_limits.specs.Limits.{event_limit}
 use Rattle.af_time.specs.DeviceTime.{unwrap}
 use Rattle.af_context.specs.declared.Context.{Context}
 use Rattle.af_context.specs.Contexts.{creation, reference, context_of, without_context}
@@ -25,7 +26,6 @@ use Rattle.af_world.specs.declared.happening.ReadGot.TheVariants.{Given, NotYet,
 use Rattle.af_world.specs.declared.happening.Why.{Why}
 use Rattle.af_world.specs.declared.happening.Why.TheVariants as why
 use Rattle.af_model.specs.declared.refusal.Refusal.{Refusal}
-use Rattle.af_model.specs.Sizes.{event_limit}
 use Rattle.af_model.specs.State.{DeviceState, Deferral, EnvironmentState, OpenLink, open_link, SlotLink, link_in_slot, say, Deferred, deferred_play, deferred_record, Completion, device_set, with_device}
 use Rattle.af_model.specs.Waiting.{has_deferral, wait}
 use Rattle.af_model.specs.Reply.{infos_of, info_of, replied, reply_message}

@@ -2,6 +2,7 @@
 use Rattle.std.proofs.Common.{◌≡◌, ℕ, zero, suc, ◌+◌, ◌==◌, ◌||◌, ◌⊎◌, inl, inr, Bool, true, false, not, cond, nat_le, List, [], ◌∷◌, ◌++◌, length, map, filter, slice_get, slice_set, is_none, take, append_assoc, eqb-true, refl, sym, ap, ◌∙◌, subst}
 use Rattle.std.specs.declared.option.Option.{Option}
 use Rattle.std.specs.declared.option.Option.TheVariants.{None, Some}
+use Rattle.af_limits.specs.Limits.{event_limit}
 use Rattle.af_world.specs.declared.happening.Why.{Why}
 use Rattle.af_world.specs.declared.happening.Why.TheVariants as why
 use Rattle.af_world.specs.declared.happening.ReadGot.{ReadGot}
@@ -13,7 +14,6 @@ use Rattle.af_world.specs.Log.{Log}
 use Rattle.af_phone.specs.Lines.{selects}
 use Rattle.af_wire.specs.declared.event.Event.{Event}
 use Rattle.af_wire.specs.Event.{event_bytes}
-use Rattle.af_model.specs.Sizes.{event_limit}
 use Rattle.af_model.specs.State.{Completion, DeviceState, Deferral, Deferred, deferred_play, deferred_record, EnvironmentState, LinkState, OpenLink, open_link, say, SlotLink, device_set, with_device, has_acted}
 use Rattle.af_model.specs.Waiting.{wait}
 use Rattle.af_model.specs.Tick.{complete_for, completing}

@@ -3,6 +3,7 @@ use Rattle.std.proofs.Common.{◌≡◌, ◌≢◌, ℕ, zero, suc, ◌+◌, ◌
 use Rattle.std.proofs.lemmas.Bool.{eqb-false}
 use Rattle.std.specs.declared.option.Option.{Option}
 use Rattle.std.specs.declared.option.Option.TheVariants.{None, Some}
+use Rattle.af_limits.specs.Limits.{longest_tick}
 use Rattle.af_phone.specs.Lines.{changed, event_kind_of, flag_value, hooked, is_change, value_of}
 use Rattle.af_phone.specs.declared.LineChange.{LineChange}
 use Rattle.af_wire.specs.declared.event.EventKind.TheVariants as kind
@@ -208,7 +209,7 @@ pub fits_without : (k : ℕ) (w : Wake) (s : State) → fits (outline s) w ≡ t
 fits_without k (wake.Opened j) s fit = named_fits k j (wake.Opened j) s is_closed_at (λ o. refl) fit
 fits_without k (wake.Readable j) s fit = named_fits k j (wake.Readable j) s is_open_at (λ o. refl) fit
 fits_without k (wake.Writable j) s fit = named_fits k j (wake.Writable j) s is_open_at (λ o. refl) fit
-fits_without k (wake.Ticked d n) s fit = ap (λ lines. nat_lt d (length lines) && nat_le 1 n && nat_le n 4096) (lines_without k s.devices) ∙ fit
+fits_without k (wake.Ticked d n) s fit = ap (λ lines. nat_lt d (length lines) && nat_le 1 n && nat_le n longest_tick) (lines_without k s.devices) ∙ fit
 fits_without k (wake.Line d change) s fit = ap (λ lines. has_line_at (slice_get lines d) && is_change change) (lines_without k s.devices) ∙ fit
 fits_without k wake.Idle s fit = refl
 fits_without k wake.Stop s fit = refl

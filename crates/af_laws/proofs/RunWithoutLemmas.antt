@@ -2,6 +2,7 @@
 use Rattle.std.proofs.Common.{◌≡◌, ◌≢◌, ℕ, zero, suc, ◌==◌, true, false, cond, List, [], ◌∷◌, fold, length, map, replicate, slice_set, refl, sym, ap, ◌∙◌, subst, eqb-true, IfSome}
 use Rattle.std.specs.declared.option.Option.{Option}
 use Rattle.std.specs.declared.option.Option.TheVariants.{None, Some}
+use Rattle.af_limits.specs.Limits.{most_links}
 use Rattle.af_world.specs.declared.happening.Happening.{Happening}
 use Rattle.af_world.specs.declared.happening.Happening.TheVariants.{Woke, Read, Wrote, Closed, Captured, Emitted, Hooked}
 use Rattle.af_world.specs.declared.happening.Wake.TheVariants as wake
@@ -82,8 +83,8 @@ wakes_without k (Hooked d off done ∷ log) = wakes_without k log
 -- no link is there at the start
 opening_without : (config : List DeviceSpec) (k : ℕ) → state_without k (opening config) ≡ opening config
 opening_without config k =
-    ap (λ ds. record { devices = ds; slots = slice_set (replicate 32 closed_slot) k closed_slot; waiting = [] }) (devices config)
-    ∙ ap (λ slots. record { devices = map opening_device config; slots = slots; waiting = [] }) (slots 32 k)
+    ap (λ ds. record { devices = ds; slots = slice_set (replicate most_links closed_slot) k closed_slot; waiting = [] }) (devices config)
+    ∙ ap (λ slots. record { devices = map opening_device config; slots = slots; waiting = [] }) (slots most_links k)
   where
     devices : (config : List DeviceSpec) → map (device_without k) (map opening_device config) ≡ map opening_device config
     devices [] = refl

@@ -2,6 +2,7 @@
 use Rattle.std.specs.Prelude.{◌≡◌, ◌≢◌, ◌≤◌, ◌+◌, ◌%◌, ◌^◌, ◌↔◌, ◌==◌, nat_le, if◌then◌else◌, ⊤, ◌⊎◌, ℕ, ℤ, pos, Bool, List, [], length, take, drop, slice_get, is_some, option_and_then, Result, Ok, Err, IsOk, IsSome}
 use Rattle.std.specs.declared.option.Option.{Option}
 use Rattle.std.specs.declared.option.Option.TheVariants.{None, Some}
+use Rattle.af_limits.specs.Limits.{most_events}
 use Rattle.af_time.specs.declared.DevTime.{DevTime}
 use Rattle.af_io.specs.Observed.{Appended, FaultCounted}
 use Rattle.af_io.specs.Flow.{AppendedPrefix}
@@ -137,8 +138,8 @@ pub record Sends {X : Type 0} (result : Result X ConnFault) (before : Option (Li
 -- events went into the ring, and the answer is what that message says
 abbrev pub Answers : {X : Type 0} → Order → (Answer → Option X) → ℕ → ℕ → Result X ConnFault → RingState → RingState → Option (List ℕ) → Option (List ℕ) → Type 0
 Answers order value_of opcode sequence result ring ring' before after = result ≢ Err fault.LinkFault →
-    BothTold before after (λ b a. (result ≡ answered order value_of opcode sequence (awaited order 4096 ring b).found)
-    × (ring' ≡ (awaited order 4096 ring b).ring) × (a ≡ (awaited order 4096 ring b).rest))
+    BothTold before after (λ b a. (result ≡ answered order value_of opcode sequence (awaited order most_events ring b).found)
+    × (ring' ≡ (awaited order most_events ring b).ring) × (a ≡ (awaited order most_events ring b).rest))
 
 -- the same of the message itself, which stands in a buffer then
 abbrev pub held_in : {X : Type 0} → Result X ConnFault → List ℕ → Result (List ℕ) ConnFault
@@ -284,7 +285,7 @@ Connects order left sent faults link (Err e) =
 abbrev pub Succeeds : {L X : Type 0} → (L → Option (List ℕ)) → (L → ℕ) → Asked → (Answer → Option X) → ConnState L → ConnState L → Result X ConnFault → Type 0
 Succeeds left faults asked value_of old new result =
     old.cause ≡ None → ¬ (FaultCounted (faults old.link) (faults new.link)) → BothTold (left old.link) (left new.link) (λ b a.
-    IsOk (answered old.order value_of (opcode_of asked) (following old.sequence) (awaited old.order 4096 old.ring b).found) → IsOk result)
+    IsOk (answered old.order value_of (opcode_of asked) (following old.sequence) (awaited old.order most_events old.ring b).found) → IsOk result)
 
 -- each call of a connection whose reply states such a value is one of these
 abbrev pub IsOkWhereAwaited : {L X : Type 0} → (left sent : L → Option (List ℕ)) → (faults : L → ℕ) → (Answer → Option X) → Type 0

@@ -1,6 +1,7 @@
 -- What the steps of receiving a message do to the bytes of a link, if it tells them.
 use Rattle.std.specs.Prelude.{◌≡◌, ◌<◌, ◌≤◌, ⊤, ℕ, List, [], ◌++◌, length, take, Result, Ok, Err}
 use Rattle.std.specs.declared.option.Option.{Option}
+use Rattle.af_limits.specs.Limits.{longest_message, most_events}
 use Rattle.af_io.specs.Observed.{Consumed}
 use Rattle.af_wire.specs.declared.order.Order.{Order}
 use Rattle.af_wire.specs.declared.message_front.MessageFront.TheVariants.{NeedMore, Message, BadMessage}
@@ -15,7 +16,6 @@ use Rattle.af_lib.specs.declared.receive.Taken.TheVariants as taken
 use Rattle.af_lib.specs.Ring.{RingState}
 use Rattle.af_lib.specs.Incoming.{Incoming, event, other, incoming, behind_message, awaited}
 use Rattle.af_lib.specs.Observed.{BothTold}
-use Rattle.af_wire.specs.Sizes.{longest_message}
 
 -- a slice was filled; or fewer bytes than it has room for were left, and were all given
 abbrev pub Fills : Filled → List ℕ → Option (List ℕ) → Option (List ℕ) → Type 0
@@ -75,4 +75,4 @@ found_as (Err fault) into = Err fault
 -- the messages up to the first that is no event were taken, at most 4096 of them, and nothing behind them
 abbrev pub Awaits : Order → Result ℕ ConnFault → List ℕ → RingState → RingState → Option (List ℕ) → Option (List ℕ) → Type 0
 Awaits order result into ring ring' before after =
-    BothTold before after (λ b a. awaited order 4096 ring b ≡ record { found = found_as result into; ring = ring'; rest = a })
+    BothTold before after (λ b a. awaited order most_events ring b ≡ record { found = found_as result into; ring = ring'; rest = a })

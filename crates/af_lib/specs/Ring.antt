@@ -1,5 +1,6 @@
 -- The ring of events that a client has not taken yet.
 use Rattle.std.specs.Prelude.{ℕ, ◌+◌, ◌-◌, ◌^◌, min, nat_lt, if◌then◌else◌, List, [], ◌∷◌, ◌++◌, length}
+use Rattle.af_limits.specs.Limits.{most_kept_events}
 use Rattle.circular_buffer.specs.Buffer.{keep_last}
 use Rattle.af_wire.specs.declared.event.Event.{Event}
 
@@ -11,7 +12,7 @@ pub record RingState : Type 0 where
 -- a ring with one event more: a full one, of 64, loses its oldest, which is counted up to the end of the count's type
 abbrev pub with_event : Event → RingState → RingState
 with_event e r = record {
-  events = keep_last 64 (r.events ++ e ∷ []);
+  events = keep_last most_kept_events (r.events ++ e ∷ []);
   lost = if nat_lt (length r.events) 64 then r.lost else min (r.lost + 1) (2 ^ 64 - 1);
 }
 

@@ -1,6 +1,7 @@
 // Replies as the values that they state, for each kind of request.
 ghost use Rattle.std.specs.Prelude.{◌≡◌, ◌≢◌, ◌≤◌, length, option_map, Err, IfOk, IfSome, IsTrue, IsSome};
 ghost use Rattle.std.specs.declared.option.Option.{Option};
+ghost use Rattle.af_limits.specs.Limits.{longest_message};
 ghost use Rattle.af_io.specs.Observed.{CountsFault};
 ghost use Rattle.af_wire.specs.Front.{setup_bytes};
 ghost use Rattle.af_request.specs.Answer.{Answer, reply_meaning as answered_by, recorded, setup, items_of};
@@ -11,7 +12,6 @@ ghost use Rattle.af_lib.specs.Answers.{value_or_bad};
 ghost use Rattle.af_lib.specs.Exchange.{HasBuffers};
 ghost use Rattle.af_lib.specs.Ring.{Gained};
 ghost use Rattle.af_lib.specs.Calls.{as_controls, as_devices, as_done, as_phone, as_recorded, as_time, listed, opcode_of, recorded_in, stored_in, value_in, Answers, IsFresh, KeepsTail, IsStoredIn, Sends};
-ghost use Rattle.af_wire.specs.Sizes.{longest_message};
 
 use crate::exchange::{Exchange, ask, await_setup, opcode_of};
 use crate::fault::ConnFault;

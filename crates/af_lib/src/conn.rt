@@ -1,13 +1,12 @@
 // A connection to a server.
 ghost use Rattle.std.specs.Prelude.{◌≡◌, ◌≤◌, false, [], drop, length, slice_get, All, IfOk, IsTrue};
+ghost use Rattle.af_limits.specs.Limits.{most_devices, longest_frame, longest_play, longest_record, longest_message};
 ghost use Rattle.af_sample.specs.SampleTypes.{code_of};
 ghost use Rattle.af_request.specs.Fields.{flag_byte};
 ghost use Rattle.af_request.specs.Asked.{request_meaning, create_ac, free_ac, get_time, hook_switch, play_run, query_controls, query_phone, record_run, select_events};
 ghost use Rattle.af_request.specs.Requests.{FitsFrame};
 ghost use Rattle.af_request.specs.Replies.{IsDeviceInfo};
 ghost use Rattle.af_lib.specs.Calls.{as_controls, as_done, as_phone, as_recorded, as_time, bit_if, controls_changed, device_channels, flag_or_zero, gain_or_zero, recorded_in, settings_changed, Called, Connects, KeepsTail, EventAwaited};
-ghost use Rattle.af_sample.specs.Sizes.{longest_play, longest_record};
-ghost use Rattle.af_wire.specs.Sizes.{longest_frame, longest_message};
 
 use crate::asks::{Stated, ask_recorded, ask_value, set_up};
 use crate::exchange::{Exchange, cause_of};
@@ -15,6 +14,7 @@ use crate::fault::{Cause, ConnFault};
 use crate::receive::take_event;
 use crate::ring::Ring;
 use af_io::Link;
+use af_limits::{LONGEST_FRAME, LONGEST_MESSAGE};
 use af_request::{Controls, DeviceInfo, Devices, Phone, Request};
 use af_sample::{Gain, SampleType};
 use af_time::{DevTime, OutOfMemory};
@@ -79,7 +79,7 @@ impl<L: Link + Drop> Conn<L> {
     pub fn devices(&self) -> &[DeviceInfo]
         ensures value { result.now ≡ self.now.devices }
         ensures some { 1 ≤ length result.now }
-        ensures few { length result.now ≤ 8 }
+        ensures few { length result.now ≤ most_devices }
         ensures stated { All IsDeviceInfo result.now }
     {
         self.devices.as_slice()
@@ -356,12 +356,6 @@ fn bit_if(bit: u8, there: bool) -> u8
 {
     if there { bit } else { 0 }
 }
-
-/// The longest message of a server, in bytes.
-const LONGEST_MESSAGE: usize = 16016;
-
-/// The longest frame of a request, in bytes.
-const LONGEST_FRAME: usize = 16384;
 
 // A ring for events, and a buffer for one message each way.
 fn room(alloc: Global) -> Result<(Ring, Vec<u8>, Vec<u8>), OutOfMemory>

@@ -1,5 +1,6 @@
 // Sending a request, and taking its answer.
 ghost use Rattle.std.specs.Prelude.{◌≡◌, ◌≢◌, ◌≤◌, length, IfOk, Ok, Err, IsSome};
+ghost use Rattle.af_limits.specs.Limits.{longest_frame, longest_message};
 ghost use Rattle.af_io.specs.Observed.{CountsFault};
 ghost use Rattle.af_io.specs.Flow.{Written};
 ghost use Rattle.af_wire.specs.Front.{setup_bytes};
@@ -10,7 +11,6 @@ ghost use Rattle.af_lib.specs.Calls.{cause_of, held_in, opcode_of, IsFresh, Send
 ghost use Rattle.af_lib.specs.Exchange.{Finds, HasBuffers};
 ghost use Rattle.af_lib.specs.Ring.{Gained};
 ghost use Rattle.af_lib.specs.Observed.{OnlyRead};
-ghost use Rattle.af_wire.specs.Sizes.{longest_frame, longest_message};
 
 use crate::fault::{Cause, ConnFault};
 use crate::receive::{await_message, bad_reply};

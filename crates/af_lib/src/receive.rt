@@ -1,19 +1,17 @@
 // Receiving messages: bytes, one message, and the first message that is no event.
 ghost use Rattle.std.specs.Prelude.{◌≡◌, ◌≢◌, ◌≤◌, ◌<◌, length, IfOk, Ok, Err};
+ghost use Rattle.af_limits.specs.Limits.{longest_message};
 ghost use Rattle.af_lib.specs.Incoming.{bad_reply, first_bytes, message_in, behind_message};
 ghost use Rattle.af_lib.specs.Calls.{event_of, event_only, IsFresh, IsOfMessage};
 ghost use Rattle.af_lib.specs.Observed.{BothTold, OnlyRead};
 ghost use Rattle.af_lib.specs.Ring.{Gained};
 ghost use Rattle.af_lib.specs.Receive.{Fills, Frames, Takes, Awaits, taken_as, taken_of, IsFramedWithin, IsTakenWithin};
-ghost use Rattle.af_wire.specs.Sizes.{longest_message};
 
 use crate::fault::ConnFault;
 use crate::ring::Ring;
 use af_io::{Got, Link};
+use af_limits::MOST_EVENTS;
 use af_wire::{Event, MessageFront, Order, message_at, read_event};
-
-// The most events that a client lets by while it awaits a message.
-const MOST_EVENTS: u32 = 4096;
 
 /// How reading into a whole slice went.
 #[derive(Clone, Copy, Debug, PartialEq, Eq)]

@@ -3,14 +3,12 @@ ghost use Rattle.std.specs.Prelude.{◌≡◌, [], drop, slice_get, IfOk};
 ghost use Rattle.std.specs.declared.option.Option.TheVariants.{None};
 ghost use Rattle.af_lib.specs.Ring.{with_event};
 
+use af_limits::MOST_KEPT_EVENTS;
 use af_time::OutOfMemory;
 use af_wire::Event;
 use circular_buffer::HeapCircularBuffer;
 use std::alloc::Global;
 use std::marker::Model;
-
-// The most events that a ring holds.
-const MOST_EVENTS: usize = 64;
 
 /// At most 64 events, the oldest first, and a count of those that were lost since there was no room. It takes its memory
 /// when it is made.
@@ -22,20 +20,20 @@ pub struct Ring {
 
 impl Model for Ring {
     ghost use Rattle.std.specs.Prelude.{◌≡◌};
-    ghost use Rattle.af_lib.specs.Ring.{RingState};
+        ghost use Rattle.af_lib.specs.Ring.{RingState};
 
     ghost Value = { RingState };
 
     ghost view = { λ r. record { events = r.events.items; lost = r.lost } };
 
-    ghost invariant = { λ r. r.events.capacity ≡ 64 };
+    ghost invariant = { λ r. r.events.capacity ≡ most_kept_events };
 }
 
 impl Ring {
     pub fn new(alloc: Global) -> Result<Ring, OutOfMemory>
         ensures { IfOk result (λ ring. ring ≡ record { events = []; lost = 0 }) }
     {
-        let events = HeapCircularBuffer::with_capacity(alloc, MOST_EVENTS)?;
+        let events = HeapCircularBuffer::with_capacity(alloc, MOST_KEPT_EVENTS)?;
         Ok(Ring { events, lost: 0 })
     }
 
@@ -43,7 +41,7 @@ impl Ring {
     pub fn note(&mut self, event: Event)
         ensures { self.new ≡ with_event event self.old }
     {
-        if self.events.len() >= MOST_EVENTS {
+        if self.events.len() >= MOST_KEPT_EVENTS {
             self.lost = self.lost.saturating_add(1);
         }
         self.events.push_back(event);

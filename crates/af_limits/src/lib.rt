@@ -23,10 +23,10 @@ pub const MOST_TICK_SAMPLES: usize = 2 * LONGEST_TICK as usize;
 pub const LONGEST_CAPTURE: usize = 4 * MOST_TICK_SAMPLES;
 
 /// The most words of four bytes that a request has, its head among them.
-pub const MOST_WORDS: u32 = 4096;
+pub const MOST_WORDS: usize = 4096;
 
 /// The most bytes of a request, which goes over the link as one frame.
-pub const LONGEST_FRAME: usize = 4 * MOST_WORDS as usize;
+pub const LONGEST_FRAME: usize = 4 * MOST_WORDS;
 
 /// The most bytes of the samples of a Play.
 pub const LONGEST_PLAY: usize = LONGEST_FRAME - 16;

@@ -2,6 +2,7 @@
 use Rattle.std.specs.Prelude.{◌≡◌, ℕ, List, length, map, replicate, slice_index_or, slice_set, option_map}
 use Rattle.std.specs.declared.option.Option.{Option}
 use Rattle.std.specs.declared.option.Option.TheVariants.{None, Some}
+use Rattle.af_limits.specs.Limits.{most_devices}
 use Rattle.af_sample.specs.declared.sample_type.SampleType.{SampleType}
 use Rattle.af_io.specs.declared.flow.Put.{Put}
 use Rattle.af_io.specs.declared.flow.Put.TheVariants as put
@@ -30,7 +31,7 @@ behind_state (behind.Codec ty) = over_codec ty
 
 -- no device is attached
 abbrev pub none_attached : List (Option BehindState)
-none_attached = replicate 8 None
+none_attached = replicate most_devices None
 
 -- what stands behind the device with a number, if it is attached
 abbrev pub behind_at : List (Option BehindState) → ℕ → Option BehindState

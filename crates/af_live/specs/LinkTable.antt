@@ -2,6 +2,7 @@
 use Rattle.std.specs.Prelude.{◌≡◌, ◌≢◌, ◌⊎◌, ℕ, ◌≤◌, ◌<◌, Bool, true, false, ◌||◌, not, List, length, slice_index_or, slice_set, if◌then◌else◌}
 use Rattle.std.specs.declared.option.Option.{Option}
 use Rattle.std.specs.declared.option.Option.TheVariants.{None, Some}
+use Rattle.af_limits.specs.Limits.{most_links}
 use Rattle.af_world.specs.declared.happening.Wake.{Wake}
 use Rattle.af_world.specs.declared.happening.Wake.TheVariants as wake
 use Rattle.af_world.specs.declared.world.LinkGot.{LinkGot}
@@ -94,9 +95,9 @@ TakesIn old new = (new ≡ old) ⊎ ((n : ℕ) × (key : ℕ) × IsLeastFree old
 
 -- a wake of a link opens one that is not open, or names one that is
 abbrev pub LinkWakeFits : List (Option LinkEntry) → Wake → Type 0
-LinkWakeFits links (wake.Opened k) = (k < 32) × (is_open (link_at links k) ≡ false)
-LinkWakeFits links (wake.Readable k) = (k < 32) × (is_open (link_at links k) ≡ true)
-LinkWakeFits links (wake.Writable k) = (k < 32) × (is_open (link_at links k) ≡ true)
+LinkWakeFits links (wake.Opened k) = (k < most_links) × (is_open (link_at links k) ≡ false)
+LinkWakeFits links (wake.Readable k) = (k < most_links) × (is_open (link_at links k) ≡ true)
+LinkWakeFits links (wake.Writable k) = (k < most_links) × (is_open (link_at links k) ≡ true)
 LinkWakeFits links wake.Idle = Unit {0}
 LinkWakeFits links (wake.Ticked d n) = ⊥
 LinkWakeFits links (wake.Line d change) = ⊥

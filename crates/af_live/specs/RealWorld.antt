@@ -4,6 +4,7 @@ use Rattle.std.proofs.Common.{refl, ◌∙◌}
 use Rattle.std.proofs.Math.Nat.{le_refl, le_trans}
 use Rattle.std.specs.declared.option.Option.{Option}
 use Rattle.std.specs.declared.option.Option.TheVariants.{None, Some}
+use Rattle.af_limits.specs.Limits.{most_links, longest_tick}
 use Rattle.af_child.specs.Acts.{Told}
 use Rattle.af_world.specs.declared.happening.Wake.{Wake}
 use Rattle.af_world.specs.declared.happening.Wake.TheVariants as wake
@@ -34,7 +35,7 @@ pub record RealState : Type 0 where
 
 -- it was just made, over a spawner with these acts
 abbrev pub begun_world : Option (List Told) → RealState
-begun_world acts = record { listens = false; links = replicate 32 free_entry; behind = none_attached; codec = begun_codec acts; round = new_round; link_faults = 0; device_faults = 0; listen_faults = 0; wait_faults = 0 }
+begun_world acts = record { listens = false; links = replicate most_links free_entry; behind = none_attached; codec = begun_codec acts; round = new_round; link_faults = 0; device_faults = 0; listen_faults = 0; wait_faults = 0 }
 
 -- what the server's calls leave alone, and the counts that they may raise
 pub record RealLeadsTo (old new : RealState) : Type 0 where
@@ -64,7 +65,7 @@ RealLeadsTo-trans a b c p q = record {
 
 -- A wake opens a link that is not open, names one that is, or ticks a device that is attached by 1 to 4096 frames.
 abbrev pub WakeFits : List (Option LinkEntry) → RoundState → Wake → Type 0
-WakeFits links round (wake.Ticked d n) = (is_paced round d ≡ true) × (1 ≤ n) × (n ≤ 4096)
+WakeFits links round (wake.Ticked d n) = (is_paced round d ≡ true) × (1 ≤ n) × (n ≤ longest_tick)
 WakeFits links round w = LinkWakeFits links w
 
 -- What is ready first is given, and the round stays where it is.

@@ -1,6 +1,7 @@
 // The devices of a world, each at its number, and how one is attached.
 ghost use Rattle.std.specs.Prelude.{◌≡◌, ◌≢◌, ◌<◌, [], length, false, true, not, ◌&&◌, nat_lt};
 ghost use Rattle.std.specs.declared.option.Option.TheVariants.{Some};
+ghost use Rattle.af_limits.specs.Limits.{most_devices};
 ghost use Rattle.af_codec.specs.Codec.{TellsThese};
 ghost use Rattle.af_live.specs.Behind.{none_attached, CapturesBy, CapturesAt, EmitsBy, EmitsAt, AttachesAt};
 ghost use Rattle.af_live.specs.CodecUse.{begun_codec, codec_allows, codec_behind};
@@ -11,6 +12,7 @@ use crate::attached_device::AttachedDevice;
 use crate::codec_device::CodecDevice;
 use af_child::Spawner;
 use af_io::Put;
+use af_limits::MOST_DEVICES;
 use af_pace::Round;
 use af_sample::SampleType;
 use af_world::{Kind, Ready};
@@ -30,7 +32,7 @@ pub(crate) struct NewDevice<'a> {
 /// The devices that are attached, the codec, which one of them may stand over, and the round over all of them.
 #[derive(Drop)]
 pub(crate) struct Devices<F: Read + Write + Drop, S: Spawner + Drop> {
-    pub attached: [Option<AttachedDevice<F>>; 8],
+    pub attached: [Option<AttachedDevice<F>>; MOST_DEVICES],
     pub codec: CodecDevice<S>,
     pub round: Round,
 }
@@ -52,7 +54,7 @@ impl<F: Read + Write + Drop, S: Spawner + Drop> Devices<F, S> {
 
     /// Attaches a device, if it is not yet. One device alone may have the codec behind it.
     pub fn attach<R: Files<File = F>>(&mut self, rt: &R, asked: NewDevice<'_>) -> Ready
-        ensures attaches { result ≡ Ready.Done → (asked.entry.number < 8) × (is_paced self.old.round asked.entry.number ≡ false) }
+        ensures attaches { result ≡ Ready.Done → (asked.entry.number < most_devices) × (is_paced self.old.round asked.entry.number ≡ false) }
         ensures allowed { result ≡ Ready.Done → codec_allows self.old.codec asked.entry.kind ≡ true }
         ensures round { self.new.round ≡ round_after result self.old.round asked.entry.number asked.entry.rate }
         ensures attached { AttachesAt result asked.entry.kind asked.entry.number asked.entry.ty self.old.attached self.new.attached }

@@ -2,11 +2,13 @@
 // goes from the one to the other, and there is none where nothing is ready.
 ghost use Rattle.std.specs.Prelude.{◌≡◌, ◌<◌, ◌+◌, min, max, length, replicate, slice_set, IfSome};
 ghost use Rattle.std.specs.declared.option.Option.TheVariants.{Some};
+ghost use Rattle.af_limits.specs.Limits.{most_links};
 ghost use Rattle.af_live.specs.LinkTable.{free_entry, link_at, new_link, to_drain, to_read, to_write, IsLeastFree, GivesFirst, KeepsOpen, LinkWakeFits, Opens};
 
 use crate::link_table::{
     LinkEntry, Told, first_ready, free_number, held_at, least_free, note_told, take_first,
 };
+use af_limits::MOST_LINKS;
 use af_world::Wake;
 use std::marker::Model;
 
@@ -18,12 +20,12 @@ struct ReadySpan {
 }
 
 /// Nothing is ready of any link.
-const NONE_READY: ReadySpan = ReadySpan { from: 32, below: 0 };
+const NONE_READY: ReadySpan = ReadySpan { from: MOST_LINKS, below: 0 };
 
 impl ReadySpan {
     /// Something may be ready of this link too.
     fn include(&mut self, number: usize)
-        requires { number < 32 }
+        requires { number < most_links }
         ensures { self.new ≡ record { from = min self.old.from number; below = max self.old.below (number + 1) } }
     {
         self.from = self.from.min(number);
@@ -31,16 +33,17 @@ impl ReadySpan {
     }
 }
 
-/// The links that are held. Clauses see a place for each of 32 numbers.
+/// The links that are held. Clauses see a place for each number.
 #[derive(Drop)]
 pub(crate) struct HeldLinks {
-    entries: [Option<LinkEntry>; 32],
+    entries: [Option<LinkEntry>; MOST_LINKS],
     ready: ReadySpan,
 }
 
 impl Model for HeldLinks {
     ghost use Rattle.std.specs.Prelude.{◌≡◌, ◌≤◌, List, length};
     ghost use Rattle.std.specs.declared.option.Option.{Option};
+    ghost use Rattle.af_limits.specs.Limits.{most_links};
     ghost use Rattle.af_live.specs.declared.link_table.LinkEntry.{LinkEntry};
     ghost use Rattle.af_live.specs.LinkTable.{NothingReadyBelow, NothingReadyFrom};
 
@@ -48,17 +51,17 @@ impl Model for HeldLinks {
 
     ghost view = { λ h. h.entries };
 
-    ghost invariant = { λ h. (length h.entries ≡ 32) × (h.ready.below ≤ 32)
+    ghost invariant = { λ h. (length h.entries ≡ most_links) × (h.ready.below ≤ most_links)
         × NothingReadyBelow h.ready.from h.entries × NothingReadyFrom h.ready.below h.entries };
 }
 
 impl HeldLinks {
     /// No link is held.
     pub fn new() -> HeldLinks
-        ensures { result ≡ replicate 32 free_entry }
+        ensures { result ≡ replicate most_links free_entry }
     {
         HeldLinks {
-            entries: [None; 32],
+            entries: [None; MOST_LINKS],
             ready: NONE_READY,
         }
     }
@@ -138,7 +141,7 @@ impl HeldLinks {
 
     /// Gives what is ready first.
     pub fn take_ready(&mut self) -> Option<Wake>
-        ensures count { length self.old ≡ 32 }
+        ensures count { length self.old ≡ most_links }
         ensures first { GivesFirst self.old result self.new }
         ensures fits { IfSome result (λ wake. LinkWakeFits self.old wake) }
         ensures opens { IfSome result (λ wake. Opens wake self.old self.new) }

@@ -6,6 +6,7 @@
 ghost use Rattle.std.specs.Prelude.{◌≡◌, ◌≤◌, ◌<◌, ◌^◌, [], ℕ, length, not, true, false, is_some, IfSome, MatchOption};
 ghost use Rattle.std.specs.declared.option.Option.TheVariants.{None};
 ghost use Rattle.std.specs.Duration.{as_nanos};
+ghost use Rattle.af_limits.specs.Limits.{most_links, most_devices, longest_read, output_room};
 ghost use Rattle.af_io.specs.Observed.{FaultCounted};
 ghost use Rattle.af_world.specs.World.{LinkGotFits, TookFits};
 ghost use Rattle.af_live.specs.LinkTable.{is_free, link_at, something_ready, AfterRead, AfterWrite, KeepsOpen, ClosesOne, LinkWakeFits, Opens};
@@ -16,7 +17,6 @@ ghost use Rattle.af_live.specs.CodecUse.{codec_allows, codec_behind};
 ghost use Rattle.af_live.specs.Readings.{whole_millis, pause_of, IsReadingBy};
 ghost use Rattle.af_pace.specs.Rounds.{is_paced, round_begun};
 ghost use Rattle.af_live.specs.RealWorld.{RealLeadsTo, begun_world, given, listens_behind, round_after, GivesKept, LeadsRound, WakeFits};
-ghost use Rattle.af_world.specs.Sizes.{longest_read};
 
 use crate::counting::{count_got, count_put, count_ready, count_took, count_waited};
 use crate::devices::{Devices, NewDevice, refusal};
@@ -144,7 +144,7 @@ impl<R: Net + Clock + Files + Drop, S: Spawner + Drop> World for MioWorld<R, S> 
 
     fn write(&mut self, link: u8, piece: &[u8]) -> LinkTook
         requires some { 0 < length piece.now }
-        requires bound { length piece.now ≤ 65536 }
+        requires bound { length piece.now ≤ output_room }
         ensures bound { TookFits result (length piece.now) }
         ensures faults { CountsOne (result ≡ LinkTook.Failed) self.old.link_faults self.new.link_faults }
         ensures leads { RealLeadsTo self.old self.new }
@@ -230,7 +230,7 @@ impl<R: Net + Clock + Files + Drop, S: Spawner + Drop> Live for MioWorld<R, S> {
 
     fn attach(&mut self, _alloc: Global, device: u8, spec: &DeviceSpec, kind: Kind<'_>) -> Ready
         ensures faults { CountsOne (result ≡ Ready.Failed) self.old.device_faults self.new.device_faults }
-        ensures attaches { result ≡ Ready.Done → (device < 8) × (is_paced self.old.round device ≡ false) }
+        ensures attaches { result ≡ Ready.Done → (device < most_devices) × (is_paced self.old.round device ≡ false) }
         ensures round { self.new.round ≡ round_after result self.old.round device spec.now.rate }
         ensures allowed { result ≡ Ready.Done → codec_allows self.old.codec kind.entry ≡ true }
         ensures behind { AttachesAt result kind.entry device spec.now.ty self.old.behind self.new.behind }
@@ -253,7 +253,7 @@ impl<R: Net + Clock + Files + Drop, S: Spawner + Drop> Live for MioWorld<R, S> {
     fn wait(&mut self, more: bool) -> Waited
         ensures faults { CountsOne (result ≡ Waited.Failed) self.old.wait_faults self.new.wait_faults }
         ensures unlistened { self.old.listens ≡ false → result ≡ Waited.Failed }
-        ensures kept { (k : ℕ) → self.old.listens ≡ true → k < 32 → something_ready (link_at self.old.links k) ≡ true →
+        ensures kept { (k : ℕ) → self.old.listens ≡ true → k < most_links → something_ready (link_at self.old.links k) ≡ true →
             GivesKept (given result) self.old.links self.old.round self.new.links self.new.round }
         ensures fits { IfSome (given result) (λ wake. WakeFits self.old.links self.old.round wake) }
         ensures opens { MatchOption (given result) (KeepsOpen self.old.links self.new.links)
@@ -349,7 +349,7 @@ fn next_wake<R: Clock>(
 ) -> Option<Wake>
     ensures listens { is_some sockets.new ≡ is_some sockets.old }
     ensures unlistened { is_some sockets.old ≡ false → result ≡ None }
-    ensures kept { (k : ℕ) → is_some sockets.old ≡ true → k < 32 → something_ready (link_at links.old k) ≡ true →
+    ensures kept { (k : ℕ) → is_some sockets.old ≡ true → k < most_links → something_ready (link_at links.old k) ≡ true →
         GivesKept result links.old round.old links.new round.new }
     ensures fits { IfSome result (λ wake. WakeFits links.old round.old wake) }
     ensures opens { MatchOption result (KeepsOpen links.old links.new) (λ wake. Opens wake links.old links.new) }

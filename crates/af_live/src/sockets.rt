@@ -5,6 +5,7 @@ ghost use Rattle.af_live.specs.LinkTable.{TakesIn, KeepsOpen};
 
 use crate::held_links::HeldLinks;
 use crate::link_table::Told;
+use af_limits::MOST_LINKS;
 use mio::net::{TcpListener, TcpStream};
 use mio::{Events, Interest, Poll, Token};
 use slab::Slab;
@@ -12,9 +13,6 @@ use std::alloc::Global;
 use std::io::{self, ErrorKind, Read, Write};
 use std::net::{Net, ToSocketAddrs};
 use std::time::Duration;
-
-/// How many links there may be.
-pub(crate) const MOST_LINKS: usize = 32;
 
 /// The listener's token. Those of the links are their numbers.
 const LISTENER: Token = Token(MOST_LINKS);

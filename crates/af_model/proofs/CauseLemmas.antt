@@ -2,6 +2,7 @@
 use Rattle.std.proofs.Common.{◌≡◌, ℕ, ◌+◌, ◌<◌, Bool, true, false, cond, List, [], ◌++◌, length, nat_le, refl, sym, ◌∙◌, subst, arith}
 use Rattle.std.specs.declared.option.Option.{Option}
 use Rattle.std.specs.declared.option.Option.TheVariants.{None, Some}
+use Rattle.af_limits.specs.Limits.{event_limit}
 use Rattle.af_wire.specs.declared.order.Order.{Order}
 use Rattle.af_wire.specs.Front.{setup_front}
 use Rattle.af_wire.specs.declared.front.SetupFront.TheVariants as front
@@ -12,7 +13,6 @@ use Rattle.af_model.specs.LinkHistory.{LinkHistory}
 use Rattle.af_model.specs.Prefix.{is_dropped}
 use Rattle.af_model.specs.Causes.{IsCause, IsServedTo}
 use Rattle.af_model.proofs.InputLemmas.{IsInput, IsBadInput}
-use Rattle.af_model.specs.Sizes.{event_limit}
 
 -- the input of a link that nothing has ended
 pub record IsUnended (h : LinkHistory) (is_set_up : Bool) (order : Order) (rest : List ℕ) : Type 0 where

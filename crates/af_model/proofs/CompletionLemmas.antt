@@ -3,6 +3,7 @@ use Rattle.std.proofs.Common.{◌≡◌, ℕ, zero, suc, ◌+◌, ◌==◌, ◌&
 use Rattle.std.specs.List.{All}
 use Rattle.std.proofs.lemmas.List.Elements.{All-cons, All-head, All-nil, All-tail, All-weaker}
 use Rattle.std.specs.declared.option.Option.TheVariants.{None, Some}
+use Rattle.af_limits.specs.Limits.{longest_tick, longest_frame}
 use Rattle.af_wait.specs.Waits.{without_first}
 use Rattle.af_model.specs.State.{DeviceState, Deferral, Deferred, State, open_link, slot_link_at, with_device, with_slot_link}
 use Rattle.af_model.specs.Reply.{horizon_of}
@@ -14,7 +15,6 @@ use Rattle.af_model.proofs.DeviceHistoryLemmas.{AllLive, Lives, all_live_get, al
 use Rattle.af_model.proofs.DueLemmas.{IsToWait}
 use Rattle.af_model.proofs.LinkInvariantLemmas.{Keeps, complete_keeps}
 use Rattle.af_model.proofs.SafeLemmas.{AwaitedIn, IsAwaited, Safe, SafeState, SameClock, all_without_first, due_alike, loses_alike, safe_completing, safe_fewer, safe_keeps, safe_with, slack_for}
-use Rattle.af_wire.specs.Sizes.{longest_frame}
 
 -- the one that is found is among them
 pub found_all : (passes : Deferral → Bool) (ws : List Deferral) (w : Deferral) (P : Deferral → Type 0) → find passes ws ≡ Some w → All P ws → P w
@@ -37,7 +37,7 @@ completed_keeps E w s kept completes h =
 
 -- Nothing is lost
 
-pub completed_safe : (slack c : ℕ) (passes : Deferral → Bool) (s : State) (w : Deferral) → slack ≤ 4096 → find passes s.waiting ≡ Some w → SafeState slack c s → SafeState slack c (complete w (record s { waiting = without_first passes s.waiting }))
+pub completed_safe : (slack c : ℕ) (passes : Deferral → Bool) (s : State) (w : Deferral) → slack ≤ longest_tick → find passes s.waiting ≡ Some w → SafeState slack c s → SafeState slack c (complete w (record s { waiting = without_first passes s.waiting }))
 completed_safe slack c passes s w few found h =
     let fewer : State = record s { waiting = without_first passes s.waiting } in
     let one : AwaitedIn slack c s.devices w = found_all passes s.waiting w (λ v. AwaitedIn slack c s.devices v) found h.waiting in
@@ -148,7 +148,7 @@ record Completed (slack d : ℕ) (device : DeviceState) (s : State) : Type 0 whe
   safe : SafeState slack d s
   none : Few 0 d device s.devices s.waiting
 
-completes_first : (n slack d : ℕ) (device x : DeviceState) (s : State) → slack ≤ 4096 → SameClock device x → SafeState slack d s → Few (suc n) d device s.devices s.waiting →
+completes_first : (n slack d : ℕ) (device x : DeviceState) (s : State) → slack ≤ longest_tick → SameClock device x → SafeState slack d s → Few (suc n) d device s.devices s.waiting →
     ((t : State) → SafeState slack d t → Few n d device t.devices t.waiting → Completed slack d device (complete_by n d t)) → Completed slack d device (or_else s (complete_by n d) (complete_first d s x))
 completes_first n slack d device x s few same safe h more =
     elim (find (falls_due d x) s.waiting) as (λ o. find (falls_due d x) s.waiting ≡ o → Completed slack d device (or_else s (complete_by n d) (option_map (λ w. complete w (record s { waiting = without_first (falls_due d x) s.waiting })) o))) [
@@ -158,7 +158,7 @@ completes_first n slack d device x s few same safe h more =
       | Some w ↦ λ found. more _ (completed_safe slack d (falls_due d x) s w few found safe) (few_completed n d device x s w same found h)
     ] refl
 
-completes_by : (n slack d : ℕ) (device : DeviceState) (s : State) → slack ≤ 4096 → SafeState slack d s → Few n d device s.devices s.waiting → Completed slack d device (complete_by n d s)
+completes_by : (n slack d : ℕ) (device : DeviceState) (s : State) → slack ≤ longest_tick → SafeState slack d s → Few n d device s.devices s.waiting → Completed slack d device (complete_by n d s)
 completes_by zero slack d device s few safe h = record { safe = safe; none = h }
 completes_by (suc n) slack d device s few safe h =
     subst (λ o. Completed slack d device (or_else s (complete_by n d) (option_and_then (complete_first d s) o))) (sym h.there)
@@ -200,15 +200,15 @@ all_later slack d device ds (w ∷ ws) x there same none h =
 -- A tick of at most 4096 frames leaves nothing due, and loses nothing
 
 -- what waits for a device is due for as many frames as went by
-passed_awaited : (d n : ℕ) (captured : List ℤ) (is_dead : Bool) (ds : List DeviceState) (device : DeviceState) (w : Deferral) → n ≤ 4096 → slice_get ds d ≡ Some device → AwaitedIn 0 0 ds w →
-    AwaitedIn 4096 d (with_device d (later n captured is_dead) ds) w
+passed_awaited : (d n : ℕ) (captured : List ℤ) (is_dead : Bool) (ds : List DeviceState) (device : DeviceState) (w : Deferral) → n ≤ longest_tick → slice_get ds d ≡ Some device → AwaitedIn 0 0 ds w →
+    AwaitedIn longest_tick d (with_device d (later n captured is_dead) ds) w
 passed_awaited d n captured is_dead ds device w few there one x is =
-    elim (d == w.device) as (λ t. (d == w.device) ≡ t → IsAwaited (slack_for 4096 d w) x w.deferred) [
+    elim (d == w.device) as (λ t. (d == w.device) ≡ t → IsAwaited (slack_for longest_tick d w) x w.deferred) [
       | true ↦ λ same.
           let here = with_same d (later n captured is_dead) ds x (subst (λ m. slice_get (with_device d (later n captured is_dead) ds) m ≡ Some x) (sym (eqb-true d w.device same)) is) in
           let h = one here.0 (subst (λ n. slice_get ds n ≡ Some here.0) (eqb-true d w.device same) here.1) in
-          let own : slack_for 4096 d w ≡ 4096 = ap (λ n. cond (n == d) 4096 0) (sym (eqb-true d w.device same)) ∙ ap (λ t. cond t 4096 0) (same_number d) in
-          subst (λ n. IsAwaited n x w.deferred) (sym own) (subst (λ y. IsAwaited 4096 y w.deferred) here.2 (record { soon = rises here.0 h.soon; ever = h.ever; short = h.short }))
+          let own : slack_for longest_tick d w ≡ longest_tick = ap (λ n. cond (n == d) longest_tick 0) (sym (eqb-true d w.device same)) ∙ ap (λ t. cond t longest_tick 0) (same_number d) in
+          subst (λ n. IsAwaited n x w.deferred) (sym own) (subst (λ y. IsAwaited longest_tick y w.deferred) here.2 (record { soon = rises here.0 h.soon; ever = h.ever; short = h.short }))
       | false ↦ λ other.
           let h = one x (sym (with_other d (later n captured is_dead) ds w.device other) ∙ is) in
           record { soon = stays h.soon; ever = h.ever; short = h.short }
@@ -218,21 +218,21 @@ passed_awaited d n captured is_dead ds device w few there one x is =
     nothing true n = refl
     nothing false n = refl
 
-    rises : (y : DeviceState) → y.now < due y.channels (horizon_of y) w.deferred + slack_for 0 0 w → y.now + n < due y.channels (horizon_of y) w.deferred + 4096
+    rises : (y : DeviceState) → y.now < due y.channels (horizon_of y) w.deferred + slack_for 0 0 w → y.now + n < due y.channels (horizon_of y) w.deferred + longest_tick
     rises y h = let z : slack_for 0 0 w ≡ 0 = nothing (w.device == 0) 0 in omega (arith, h, z, few)
 
-    stays : x.now < due x.channels (horizon_of x) w.deferred + slack_for 0 0 w → x.now < due x.channels (horizon_of x) w.deferred + slack_for 4096 d w
+    stays : x.now < due x.channels (horizon_of x) w.deferred + slack_for 0 0 w → x.now < due x.channels (horizon_of x) w.deferred + slack_for longest_tick d w
     stays h = let z : slack_for 0 0 w ≡ 0 = nothing (w.device == 0) 0 in omega (arith, h, z)
 
-pub ticks_safe : (d n : ℕ) (captured : List ℤ) (is_dead : Bool) (s : State) (device : DeviceState) → n ≤ 4096 → slice_get s.devices d ≡ Some device → SafeState 0 0 s → SafeState 0 0 (tick d n captured is_dead s)
+pub ticks_safe : (d n : ℕ) (captured : List ℤ) (is_dead : Bool) (s : State) (device : DeviceState) → n ≤ longest_tick → slice_get s.devices d ≡ Some device → SafeState 0 0 s → SafeState 0 0 (tick d n captured is_dead s)
 unfolding complete_due
 ticks_safe d n captured is_dead s device few there h =
     let f = later n captured is_dead in
     let t : State = record s { devices = with_device d f s.devices } in
-    let safe : SafeState 4096 d t = record {
+    let safe : SafeState longest_tick d t = record {
       devices = safe_with d f s.devices (λ x is safe. loses_alike x (f x) refl refl safe) h.devices;
-      waiting = All-weaker (λ w. AwaitedIn 0 0 s.devices w) (λ w. AwaitedIn 4096 d t.devices w) (λ w one. passed_awaited d n captured is_dead s.devices device w few there one) s.waiting h.waiting;
+      waiting = All-weaker (λ w. AwaitedIn 0 0 s.devices w) (λ w. AwaitedIn longest_tick d t.devices w) (λ w one. passed_awaited d n captured is_dead s.devices device w few there one) s.waiting h.waiting;
     } in
     let first : Few (length s.waiting) d (f device) t.devices t.waiting = record { is = f device; there = with_there d f s.devices device there; clock = (refl, refl, refl); few = count_most (falls_due d (f device)) s.waiting } in
-    let c = completes_by (length s.waiting) 4096 d (f device) t (omega arith) safe first in
-    record { devices = c.safe.devices; waiting = all_later 4096 d (f device) (complete_due d t).devices (complete_due d t).waiting c.none.is c.none.there c.none.clock c.none.few c.safe.waiting }
+    let c = completes_by (length s.waiting) longest_tick d (f device) t (omega arith) safe first in
+    record { devices = c.safe.devices; waiting = all_later longest_tick d (f device) (complete_due d t).devices (complete_due d t).waiting c.none.is c.none.there c.none.clock c.none.few c.safe.waiting }

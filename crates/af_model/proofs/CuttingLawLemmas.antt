@@ -3,6 +3,7 @@ use Rattle.std.proofs.Common.{◌≡◌, ℕ, zero, suc, ◌+◌, ◌*◌, ◌�
 use Rattle.std.proofs.lemmas.List.{take-append-le, drop-append-le}
 use Rattle.std.specs.declared.option.Option.{Option}
 use Rattle.std.specs.declared.option.Option.TheVariants.{None, Some}
+use Rattle.af_limits.specs.Limits.{most_words, most_to_send}
 use Rattle.af_wire.specs.declared.order.Order.{Order}
 use Rattle.af_wire.specs.declared.order.Order.TheVariants.{Big}
 use Rattle.af_wire.specs.declared.front.Front.{Front}
@@ -23,7 +24,6 @@ use Rattle.af_model.specs.Cutting.{CutsAlike}
 use Rattle.af_model.proofs.AdvanceLemmas.{IsShorter, advance-none, advance-some, frame_within, perform_closing, setup_within, step_shorter}
 use Rattle.af_model.proofs.DueLemmas.{most_asked}
 use Rattle.af_model.proofs.RequestLemmas.{done_both, with_rest}
-use Rattle.af_model.specs.Sizes.{most_to_send}
 
 -- Fronts and more bytes: what is decided stays so
 
@@ -34,7 +34,7 @@ Unchanged Malformed g = g ≡ Malformed
 
 front_stays : (words there more : ℕ) → Unchanged (frame_with words there) (frame_with words (there + more))
 front_stays words there more =
-    elim (words == 0 || nat_lt 4096 words) as (λ t. Unchanged (cond t Malformed (cond (nat_lt there (4 * words)) NeedMore (Frame (4 * words)))) (cond t Malformed (cond (nat_lt (there + more) (4 * words)) NeedMore (Frame (4 * words))))) [
+    elim (words == 0 || nat_lt most_words words) as (λ t. Unchanged (cond t Malformed (cond (nat_lt there (4 * words)) NeedMore (Frame (4 * words)))) (cond t Malformed (cond (nat_lt (there + more) (4 * words)) NeedMore (Frame (4 * words))))) [
       | true ↦ refl
       | false ↦ grind arith
     ]

@@ -9,6 +9,7 @@ use Rattle.af_sample.specs.Samples.{decoded, piece, samples}
 use Rattle.af_sample.specs.SampleTypes.{frame_bytes, width_of}
 use Rattle.af_sample.specs.Channels.{frame_count}
 use Rattle.std.proofs.lemmas.List.FromFn.{length-map-range_with_len}
+use Rattle.af_limits.specs.Limits.{longest_record}
 use Rattle.af_context.specs.declared.Context.{Context}
 use Rattle.af_request.specs.Asked.{Asked, play_run, record_run}
 use Rattle.af_model.specs.declared.refusal.RefusalCause.TheVariants.{BadValue}
@@ -19,7 +20,6 @@ use Rattle.af_model.specs.Waiting.{due}
 use Rattle.af_model.specs.Play.{are_frames, frames_of, frames_within_horizon, sent_sound}
 use Rattle.af_model.specs.Record.{frames_before_now, is_to_wait, record_refusal}
 use Rattle.af_model.proofs.BoolTestLemmas.{both-true, none_some}
-use Rattle.af_sample.specs.Sizes.{longest_record}
 
 -- how many samples a play has that waits, and how many frames a record
 abbrev pub frames_deferred : Deferred → ℕ

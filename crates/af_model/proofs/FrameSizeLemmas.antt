@@ -3,6 +3,7 @@ use Rattle.std.proofs.Common.{◌≡◌, ℕ, ◌+◌, ◌-◌, ◌*◌, ◌≤�
 use Rattle.std.proofs.lemmas.List.{length-drop, length-take}
 use Rattle.std.specs.declared.option.Option.{Option}
 use Rattle.std.specs.declared.option.Option.TheVariants.{None, Some}
+use Rattle.af_limits.specs.Limits.{longest_frame}
 use Rattle.af_wire.specs.declared.order.Order.{Order}
 use Rattle.af_wire.specs.declared.front.Front.{Front}
 use Rattle.af_wire.specs.declared.front.Front.TheVariants.{NeedMore, Frame, Malformed}
@@ -12,7 +13,6 @@ use Rattle.af_request.specs.Fields.{u8_at, u32_at}
 use Rattle.af_request.specs.Requests.{Row, asked_by, asked_in, row_of}
 use Rattle.af_model.proofs.BoolTestLemmas.{cond-some, none_some, some_is}
 use Rattle.af_model.proofs.DueLemmas.{most_asked}
-use Rattle.af_wire.specs.Sizes.{longest_frame}
 
 abbrev AtMost : Front → Type 0
 AtMost NeedMore = Unit {0}

@@ -2,6 +2,7 @@
 use Rattle.std.proofs.Common.{◌≡◌, ℕ, zero, suc, ◌+◌, Bool, true, false, not, cond, ◌&&◌, ◌==◌, List, [], ◌∷◌, length, take, drop, option_map, slice_set, is_some, refl, sym, ap, ◌∙◌, subst, eqb-true}
 use Rattle.std.specs.declared.option.Option.{Option}
 use Rattle.std.specs.declared.option.Option.TheVariants.{None, Some}
+use Rattle.af_limits.specs.Limits.{longest_read}
 use Rattle.af_world.specs.declared.happening.Happening.{Happening}
 use Rattle.af_world.specs.declared.happening.Happening.TheVariants.{Woke, Read, Wrote, Closed, Captured, Emitted, Hooked}
 use Rattle.af_world.specs.declared.happening.ReadGot.{ReadGot}
@@ -17,7 +18,6 @@ use Rattle.af_model.specs.Script.{AnswersTo}
 use Rattle.af_model.proofs.BoolTestLemmas.{cond-some, cond-true, both-true, not_true, none_some, same_bytes-true, same_why-true}
 use Rattle.af_model.proofs.AlikeLemmas.{GoesAlike, Agreed, TakesOne, headed, go_inv, alike_then, alike_one, alike_nothing}
 use Rattle.af_model.proofs.OpenLinkLemmas.{opens, open_links, Agree, AtPlace, StandsForSlot, opens-set, set-set, opens_stay, open_links-set, open_links-same}
-use Rattle.af_world.specs.Sizes.{longest_read}
 
 -- Calls on a link
 

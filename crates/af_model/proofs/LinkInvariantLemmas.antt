@@ -2,6 +2,7 @@
 use Rattle.std.proofs.Common.{◌≡◌, ◌≤◌, ℕ, zero, suc, Bool, true, false, not, cond, ◌&&◌, nat_le, List, length, take, is_none, is_some, slice_get, refl, ap, ◌∙◌, IfSome}
 use Rattle.std.specs.declared.option.Option.{Option}
 use Rattle.std.specs.declared.option.Option.TheVariants.{None, Some}
+use Rattle.af_limits.specs.Limits.{longest_frame, most_to_send}
 use Rattle.af_world.specs.declared.happening.Why.{Why}
 use Rattle.af_world.specs.declared.happening.Why.TheVariants as why
 use Rattle.af_wire.specs.declared.front.Front.{Front}
@@ -29,8 +30,6 @@ use Rattle.af_model.proofs.DueLemmas.{IsToWait, most_asked}
 use Rattle.af_model.proofs.FrameSizeLemmas.{frame_asks}
 use Rattle.af_model.proofs.InputLemmas.{IsBadInput}
 use Rattle.af_model.proofs.RequestLemmas.{chosen, done_both}
-use Rattle.af_wire.specs.Sizes.{longest_frame}
-use Rattle.af_model.specs.Sizes.{most_to_send}
 
 -- What goes on to hold at each move of link k: something of it changes but its input and its output, and it is not closing before
 -- and behind; a request, or a setup, is taken off its input; it is to be closed for what its input begins with; something is said to

@@ -2,6 +2,7 @@
 use Rattle.std.proofs.Common.{◌≡◌, ◌≢◌, ℕ, Bool, true, false, not, cond, ◌&&◌, nat_le, [], length, take, is_none, refl, sym, ap, ◌∙◌, subst}
 use Rattle.std.specs.declared.option.Option.{Option}
 use Rattle.std.specs.declared.option.Option.TheVariants.{None, Some}
+use Rattle.af_limits.specs.Limits.{most_to_send}
 use Rattle.af_world.specs.declared.happening.Why.TheVariants as why
 use Rattle.af_world.specs.Log.{Log}
 use Rattle.af_wire.specs.declared.front.Front.{Front}
@@ -24,7 +25,6 @@ use Rattle.af_model.proofs.BoolTestLemmas.{both-true, cond-some, none-true, none
 use Rattle.af_model.proofs.PhasePartLemmas.{then_inv}
 use Rattle.af_model.proofs.ServeLemmas.{served_link}
 use Rattle.af_model.proofs.AdvanceLemmas.{perform_closing}
-use Rattle.af_model.specs.Sizes.{most_to_send}
 
 -- the environment of a link, what is queued for it, and that nothing more of its input is read
 abbrev pub ClosesAlone : OpenLink → OpenLink → Type 0

@@ -3,6 +3,7 @@ use Rattle.std.proofs.Common.{◌≡◌, ℕ, zero, suc, ◌+◌, ◌<◌, ◌==
 use Rattle.std.proofs.lemmas.Bool.{or_parts}
 use Rattle.std.specs.declared.option.Option.{Option}
 use Rattle.std.specs.declared.option.Option.TheVariants.{None, Some}
+use Rattle.af_limits.specs.Limits.{event_limit}
 use Rattle.af_wire.specs.declared.event.EventKind.{EventKind}
 use Rattle.af_wire.specs.declared.event.EventKind.TheVariants as kind
 use Rattle.af_phone.specs.Lines.{selects}
@@ -24,7 +25,6 @@ use Rattle.af_model.proofs.CauseLemmas.{IsUnended, Shows, ShowsBy, cause_alike, 
 use Rattle.af_model.proofs.DeviceHistoryLemmas.{AllLive, Lives, all_live_refl, all_live_trans, all_live_with}
 use Rattle.af_model.proofs.SafeLemmas.{SafeIn, safe_dropped, safe_keeps}
 use Rattle.af_model.proofs.LinkInvariantLemmas.{Keeps, open_undropped}
-use Rattle.af_model.specs.Sizes.{event_limit}
 
 pub not_both : {A : Type 0} (t : Bool) → t ≡ false → t ≡ true → A
 not_both true e f = absurd cc

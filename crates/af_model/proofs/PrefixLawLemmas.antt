@@ -4,6 +4,7 @@ use Rattle.std.proofs.lemmas.List.Sums.{fold-append}
 use Rattle.std.specs.List.{fold}
 use Rattle.std.specs.declared.option.Option.{Option}
 use Rattle.std.specs.declared.option.Option.TheVariants.{None, Some}
+use Rattle.af_limits.specs.Limits.{most_links}
 use Rattle.af_world.specs.declared.script.DeviceSpec.{DeviceSpec}
 use Rattle.af_world.specs.Log.{Log}
 use Rattle.af_model.specs.State.{LinkState, SlotState, State, Deferral, closed_slot, opening, slot_at, some_slot}
@@ -32,7 +33,7 @@ first_slot (suc n) zero = refl
 first_slot (suc n) (suc k) = first_slot n k
 
 pub opening_queued : (config : List DeviceSpec) (k : ℕ) → OwingAt k no_history (opening config)
-opening_queued config k = subst (λ (x : SlotState). OwingLink k no_history x.said x.link []) (sym (first_slot 32 k)) ([], refl, tt)
+opening_queued config k = subst (λ (x : SlotState). OwingLink k no_history x.said x.link []) (sym (first_slot most_links k)) ([], refl, tt)
 
 shown : (k : ℕ) (g : LinkHistory) (said : List ℕ) (link : Option LinkState) (waiting : List Deferral) → OwingLink k g said link waiting → IsFrontOf g.took said link
 shown k g said None waiting h = record { rest = h.0; whole = h.1; queued = tt }

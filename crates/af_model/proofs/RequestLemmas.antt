@@ -2,6 +2,7 @@
 use Rattle.std.proofs.Common.{◌≡◌, ℕ, ◌==◌, ◌≤◌, Bool, true, false, cond, nat_le, List, [], ◌∷◌, ◌++◌, length, slice_get, refl, inr}
 use Rattle.std.specs.declared.option.Option.{Option}
 use Rattle.std.specs.declared.option.Option.TheVariants.{None, Some}
+use Rattle.af_limits.specs.Limits.{longest_record}
 use Rattle.af_time.specs.DeviceTime.{unwrap}
 use Rattle.af_context.specs.declared.Context.{Context}
 use Rattle.af_context.specs.Contexts.{creation, reference, context_of, without_context}
@@ -20,7 +21,6 @@ use Rattle.af_model.specs.Record.{record_sound, record_refusal, start_record, gi
 use Rattle.af_model.specs.Perform.{channels_at, done, tell_time, in_context}
 use Rattle.af_model.proofs.DeviceHistoryLemmas.{Requested, acts_accepting, later_same, lives_accepting, lives_wanting, now_acted, still_acted}
 use Rattle.af_model.proofs.DueLemmas.{IsToWait, most_asked, play_waits, record_waits}
-use Rattle.af_sample.specs.Sizes.{longest_record}
 
 -- the same link with another input
 abbrev pub with_rest : List ℕ → OpenLink → OpenLink

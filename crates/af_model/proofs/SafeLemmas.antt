@@ -5,6 +5,7 @@ use Rattle.std.specs.List.{All, AllZip}
 use Rattle.std.proofs.Math.Nat.{div-le_self}
 use Rattle.std.proofs.lemmas.List.Elements.{All-cons, All-filter, All-head, All-push, All-tail, All-weaker}
 use Rattle.std.specs.declared.option.Option.TheVariants.{None, Some}
+use Rattle.af_limits.specs.Limits.{longest_tick, longest_frame}
 use Rattle.af_wait.specs.Waits.{without_first}
 use Rattle.af_model.specs.State.{DeviceState, Deferral, Deferred, deferred_play, deferred_record, EnvironmentState, State, device_set, with_device}
 use Rattle.af_model.specs.Reply.{horizon_of}
@@ -16,7 +17,6 @@ use Rattle.af_model.proofs.BoolTestLemmas.{some_is}
 use Rattle.af_model.proofs.DeviceHistoryLemmas.{zip_back, zip_with}
 use Rattle.af_model.proofs.DueLemmas.{IsToWait, frames_deferred}
 use Rattle.af_model.proofs.LinkInvariantLemmas.{Keeps}
-use Rattle.af_wire.specs.Sizes.{longest_frame}
 
 -- a device that keeps sound for long enough, and completed no request that lost a sample
 pub record IsSafe (device : DeviceState) : Type 0 where
@@ -130,11 +130,11 @@ safe_keeps k slack c = record {
 -- A request completes
 
 -- one that is due no more than 4096 frames ago loses nothing
-whole_now : (device : DeviceState) (deferred : Deferred) (slack : ℕ) → slack ≤ 4096 → 8000 ≤ device.rate → IsAwaited slack device deferred → IsWholeAt (horizon_of device) device.now deferred
+whole_now : (device : DeviceState) (deferred : Deferred) (slack : ℕ) → slack ≤ longest_tick → 8000 ≤ device.rate → IsAwaited slack device deferred → IsWholeAt (horizon_of device) device.now deferred
 whole_now device (deferred_play quiet start sound preempt) slack few rate h = omega (arith, few, rate, h.soon, h.ever, h.short, div-le_self (length sound) device.channels)
 whole_now device (deferred_record c start frames) slack few rate h = omega (arith, few, rate, h.soon, h.ever, h.short)
 
-pub safe_completing : (slack c : ℕ) (w : Deferral) (ds : List DeviceState) (ws : List Deferral) → slack ≤ 4096 → AwaitedIn slack c ds w → Safe slack c ds ws →
+pub safe_completing : (slack c : ℕ) (w : Deferral) (ds : List DeviceState) (ws : List Deferral) → slack ≤ longest_tick → AwaitedIn slack c ds w → Safe slack c ds ws →
     Safe slack c (with_device w.device (completing w.link w.deferred) ds) ws
 safe_completing slack c w ds ws few one h =
     safe_becomes slack c w.device (completing w.link w.deferred) ds ws (λ device there. (refl, refl, refl)) (λ device there safe. record {
@@ -143,7 +143,7 @@ safe_completing slack c w ds ws few one h =
           (whole_now device w.deferred (slack_for slack c w) (within (w.device == c)) safe.rate (one device there));
     }) h
   where
-    within : (b : Bool) → cond b slack 0 ≤ 4096
+    within : (b : Bool) → cond b slack 0 ≤ longest_tick
     within true = few
     within false = omega arith
 

@@ -3,6 +3,7 @@ use Rattle.std.proofs.Common.{◌≡◌, ℕ, zero, suc, ◌<◌, ◌≤◌, ◌
 use Rattle.std.proofs.lemmas.Grind.{common_steps}
 use Rattle.std.specs.declared.option.Option.{Option}
 use Rattle.std.specs.declared.option.Option.TheVariants.{None, Some}
+use Rattle.af_limits.specs.Limits.{most_links, longest_tick}
 use Rattle.af_phone.specs.Lines.{is_change}
 use Rattle.af_world.specs.declared.happening.Wake.{Wake}
 use Rattle.af_world.specs.declared.happening.Wake.TheVariants as wake
@@ -87,14 +88,14 @@ open_fits s o k w at e =
     ] (open_outside o k)
 
 -- the wake of a step that may stand in a script fits
-pub step_fits : (config : List DeviceSpec) (s : State) (o : Outside) (step : Step) → Agree s o → length o.clients ≡ 32 → lines_of s.devices ≡ map line_of config → IsStep config step → fits (outline s) (wake_of o step) ≡ true
+pub step_fits : (config : List DeviceSpec) (s : State) (o : Outside) (step : Step) → Agree s o → length o.clients ≡ most_links → lines_of s.devices ≡ map line_of config → IsStep config step → fits (outline s) (wake_of o step) ≡ true
 step_fits config s o (Open k) at l c f =
     elim (client_at o k) as (λ p. is_some p ≡ is_open_at (slice_get (opens o) k) → fits (outline s) (cond (is_some p) wake.Idle (wake.Opened k)) ≡ true) [
       | None ↦ λ e. subst (λ w. is_closed_at (slice_get w k) ≡ true) at (closed_at (opens o) k (opens_length o.clients k l f) (sym e))
       | Some client ↦ λ e. refl
     ] (open_outside o k)
   where
-    opens_length : (clients : List (Option ScriptedClient)) (k : ℕ) → length clients ≡ 32 → k < 32 → k < length (map {A = Option ScriptedClient} {B = Bool} is_some clients)
+    opens_length : (clients : List (Option ScriptedClient)) (k : ℕ) → length clients ≡ most_links → k < most_links → k < length (map {A = Option ScriptedClient} {B = Bool} is_some clients)
     opens_length clients k l f = let e : length (map {A = Option ScriptedClient} {B = Bool} is_some clients) ≡ length clients = same clients in omega arith
       where
         same : (clients : List (Option ScriptedClient)) → length (map {A = Option ScriptedClient} {B = Bool} is_some clients) ≡ length clients
@@ -116,7 +117,7 @@ step_fits config s o (Tick d n captured) at l c f =
     let all = length-lines config in
     ticks d n (length (lines_of s.devices)) (let lt = f.0 in omega (arith, lt, same, all)) f.1 f.2
   where
-    ticks : (d n devices : ℕ) → d < devices → 1 ≤ n → n ≤ 4096 → (nat_lt d devices && nat_le 1 n && nat_le n 4096) ≡ true
+    ticks : (d n devices : ℕ) → d < devices → 1 ≤ n → n ≤ longest_tick → (nat_lt d devices && nat_le 1 n && nat_le n longest_tick) ≡ true
     ticks d n devices a b c = search (rules, common_steps)
 step_fits config s o (FailCapture d) at l c f = refl
 step_fits config s o (FailEmit d) at l c f = refl

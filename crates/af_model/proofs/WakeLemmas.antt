@@ -2,6 +2,7 @@
 use Rattle.std.proofs.Common.{◌≡◌, ℕ, zero, suc, ◌+◌, ◌≤◌, ◌==◌, ◌&&◌, ◌||◌, ◌⊎◌, inl, inr, Bool, true, false, not, cond, ℤ, List, [], ◌∷◌, ◌++◌, length, map, nat_lt, find, is_some, option_map, option_and_then, slice_get, slice_set, refl, sym, ap, ◌∙◌, subst, eqb-true, arith, IfSome, nat_le}
 use Rattle.std.specs.declared.option.Option.{Option}
 use Rattle.std.specs.declared.option.Option.TheVariants.{None, Some}
+use Rattle.af_limits.specs.Limits.{longest_tick, event_limit}
 use Rattle.af_wire.specs.declared.event.Event.{Event}
 use Rattle.af_wire.specs.declared.event.EventKind.{EventKind}
 use Rattle.af_wire.specs.declared.event.EventKind.TheVariants as kind
@@ -33,7 +34,6 @@ use Rattle.af_model.proofs.LinkInvariantLemmas.{complete_keeps}
 use Rattle.af_model.proofs.OwedBytesLemmas.{Moved, Owed, moved_overrun, OwingAt, OwingLink, Owing, SameOthers, found_waits, grows_keeps, queueing_fewer, queueing_keeps, others_keep, still_waits, selects_undropped, waiting_undropped, waits_left}
 use Rattle.af_model.proofs.PhasePartLemmas.{Takes, hook_takes, live_takes, takes_chain, takes_map, takes_nothing, takes_then}
 use Rattle.af_model.proofs.ServeLemmas.{Goes, Within, goes_refl, goes_trans, inner, put_goes, same_door, served_from, slot_other, within_refl, within_trans}
-use Rattle.af_model.specs.Sizes.{event_limit}
 
 -- Devices change
 
@@ -114,7 +114,7 @@ record Ticks (d : ℕ) (is_dead : Bool) (s t : State) : Type 0 where
   queued : (k : ℕ) (g : LinkHistory) → OwingAt k g s → OwingAt k g t
   safe : SafeState 0 0 s → SafeState 0 0 t
 
-ticks : (d n : ℕ) (captured : List ℤ) (is_dead : Bool) (s : State) (device : DeviceState) → slice_get s.devices d ≡ Some device → n ≤ 4096 → Ticks d is_dead s (tick d n captured is_dead s)
+ticks : (d n : ℕ) (captured : List ℤ) (is_dead : Bool) (s : State) (device : DeviceState) → slice_get s.devices d ≡ Some device → n ≤ longest_tick → Ticks d is_dead s (tick d n captured is_dead s)
 ticks d n captured is_dead s device there few =
     let f = later n captured is_dead in
     let t : State = record s { devices = with_device d f s.devices } in
@@ -258,7 +258,7 @@ as_dead : (d : ℕ) (device : DeviceState) (s : State) (c : ℕ) (x y : Bool) �
 as_dead d device s c x y there h same = sym (h device (subst (λ n. slice_get s.devices n ≡ Some device) (eqb-true d c same) there)).0
 
 -- sample periods of a dead device
-dead_goes : (d n : ℕ) (device : DeviceState) (s : State) → n ≤ 4096 → slice_get s.devices d ≡ Some device → device.is_dead ≡ true → Goes s (Woke (Ticked d n) ∷ []) (tick d n (captured_samples device n None) true s)
+dead_goes : (d n : ℕ) (device : DeviceState) (s : State) → n ≤ longest_tick → slice_get s.devices d ≡ Some device → device.is_dead ≡ true → Goes s (Woke (Ticked d n) ∷ []) (tick d n (captured_samples device n None) true s)
 dead_goes d n device s few there dead =
     let t = tick d n (captured_samples device n None) true s in
     let g = ticks d n (captured_samples device n None) true s device there few in
@@ -274,7 +274,7 @@ dead_goes d n device s few there dead =
     stays false x h = refl
 
 -- a capture that fails
-failed_goes : (d n : ℕ) (device : DeviceState) (s : State) → n ≤ 4096 → slice_get s.devices d ≡ Some device → Goes s (Woke (Ticked d n) ∷ Captured d n None ∷ []) (tick d n (captured_samples device n None) true s)
+failed_goes : (d n : ℕ) (device : DeviceState) (s : State) → n ≤ longest_tick → slice_get s.devices d ≡ Some device → Goes s (Woke (Ticked d n) ∷ Captured d n None ∷ []) (tick d n (captured_samples device n None) true s)
 failed_goes d n device s few there =
     let t = tick d n (captured_samples device n None) true s in
     let g = ticks d n (captured_samples device n None) true s device there few in
@@ -285,7 +285,7 @@ failed_goes d n device s few there =
     either false x = refl
 
 -- a capture, and an emit that is done or fails
-sounded_goes : (d n : ℕ) (device : DeviceState) (s : State) (bytes sent : List ℕ) (done : Bool) → n ≤ 4096 → slice_get s.devices d ≡ Some device → device.is_dead ≡ false →
+sounded_goes : (d n : ℕ) (device : DeviceState) (s : State) (bytes sent : List ℕ) (done : Bool) → n ≤ longest_tick → slice_get s.devices d ≡ Some device → device.is_dead ≡ false →
     Goes s (Woke (Ticked d n) ∷ Captured d n (Some bytes) ∷ Emitted d sent done ∷ []) (tick d n (captured_samples device n (Some bytes)) (not done) s)
 sounded_goes d n device s bytes sent done few there alive =
     let t = tick d n (captured_samples device n (Some bytes)) (not done) s in
@@ -297,7 +297,7 @@ sounded_goes d n device s bytes sent done few there alive =
       safe = g.safe;
     }
 
-woken_ticked : (d n : ℕ) (o : Option DeviceState) (s : State) → n ≤ 4096 → slice_get s.devices d ≡ o → Takes (tick_phase d n o s) (Woken s (Ticked d n))
+woken_ticked : (d n : ℕ) (o : Option DeviceState) (s : State) → n ≤ longest_tick → slice_get s.devices d ≡ o → Takes (tick_phase d n o s) (Woken s (Ticked d n))
 woken_ticked d n None s few there = λ log b e. absurd (none_some e)
 woken_ticked d n (Some device) s few there =
     elim device.is_dead as (λ t. device.is_dead ≡ t → Takes (λ log. cond t (parsed (tick d n (captured_samples device n None) true s) log) (parse_then (parse_one (capture_by d n device) log) (after_capture d n device s))) (Woken s (Ticked d n))) [
@@ -374,9 +374,9 @@ woken (Readable k) s fit =
 woken (Writable k) s fit =
     woken_quiet (Writable k) s (with_slot k (in_slot writable (slot_at k s)) s) (λ k f. refl)
     (opens_goes writable k s (λ g said l waiting h. record { rest = h.rest; whole = h.whole; queued = h.queued; sends = h.sends; waits = h.waits; wants = h.wants; shows = h.shows; unclosed = h.unclosed }))
-woken (Ticked d n) s fit = woken_ticked d n (slice_get s.devices d) s (few_frames n (both-true (nat_lt d (length (outline s).lines) && nat_le 1 n) (nat_le n 4096) fit).1) refl
+woken (Ticked d n) s fit = woken_ticked d n (slice_get s.devices d) s (few_frames n (both-true (nat_lt d (length (outline s).lines) && nat_le 1 n) (nat_le n longest_tick) fit).1) refl
   where
-    few_frames : (n : ℕ) → nat_le n 4096 ≡ true → n ≤ 4096
+    few_frames : (n : ℕ) → nat_le n longest_tick ≡ true → n ≤ longest_tick
     few_frames n e = grind arith
 woken (Line d change) s fit = woken_line change d (slice_get s.devices d) s
 woken Idle s fit = woken_quiet Idle s s (λ k f. refl) (goes_refl s)

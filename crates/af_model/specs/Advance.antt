@@ -2,6 +2,7 @@
 use Rattle.std.specs.Prelude.{ℕ, zero, suc, Bool, not, true, List, ◌++◌, length, take, drop, if◌then◌else◌, ◌&&◌, nat_le, is_none}
 use Rattle.std.specs.declared.option.Option.{Option}
 use Rattle.std.specs.declared.option.Option.TheVariants.{None, Some}
+use Rattle.af_limits.specs.Limits.{most_to_send}
 use Rattle.af_world.specs.declared.happening.Why.TheVariants as why
 use Rattle.af_wire.specs.declared.front.Front.{Front}
 use Rattle.af_wire.specs.declared.front.Front.TheVariants.{NeedMore, Frame, Malformed}
@@ -16,7 +17,6 @@ use Rattle.af_model.specs.State.{LinkState, OpenLink, open_link, say, stopped}
 use Rattle.af_model.specs.Waiting.{has_deferral}
 use Rattle.af_model.specs.Reply.{reply_message, infos_of}
 use Rattle.af_model.specs.Perform.{perform}
-use Rattle.af_model.specs.Sizes.{most_to_send}
 
 -- n bytes are taken off the front of the input
 abbrev pub without_front : ℕ → LinkState → LinkState

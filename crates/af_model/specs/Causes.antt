@@ -1,5 +1,6 @@
 -- That each link is closed for the cause that the log shows.
 use Rattle.std.specs.Prelude.{◌≡◌, ℕ, ◌+◌, ◌-◌, ◌<◌, Bool, true, false, List, [], ◌∷◌, ◌++◌, length, take, drop, is_none, is_some, IfSome}
+use Rattle.af_limits.specs.Limits.{event_limit}
 use Rattle.af_wire.specs.declared.order.Order.{Order}
 use Rattle.af_wire.specs.declared.front.Front.{Front}
 use Rattle.af_wire.specs.declared.front.Front.TheVariants.{NeedMore, Frame, Malformed}
@@ -13,7 +14,6 @@ use Rattle.af_world.specs.Log.{Log}
 use Rattle.af_model.specs.State.{slot_at}
 use Rattle.af_model.specs.LinkHistory.{LinkHistory, history}
 use Rattle.af_model.specs.Run.{end_state}
-use Rattle.af_model.specs.Sizes.{event_limit}
 
 -- requests of so many bytes each are the first of these bytes, and then there is a rest
 abbrev pub AreRequests : Order → List ℕ → List ℕ → List ℕ → Type 0

@@ -2,6 +2,7 @@
 use Rattle.std.specs.Prelude.{ℕ, zero, suc, ◌+◌, ◌%◌, ◌^◌, ◌==◌, nat_le, not, Bool, true, false, List, [], length, filter, if◌then◌else◌, option_map, slice_get}
 use Rattle.std.specs.declared.option.Option.{Option}
 use Rattle.std.specs.declared.option.Option.TheVariants.{None, Some}
+use Rattle.af_limits.specs.Limits.{event_limit}
 use Rattle.af_wire.specs.declared.event.Event.{Event}
 use Rattle.af_wire.specs.declared.event.EventKind.{EventKind}
 use Rattle.af_wire.specs.declared.event.EventKind.TheVariants as kind
@@ -13,7 +14,6 @@ use Rattle.af_world.specs.declared.happening.Why.{Why}
 use Rattle.af_world.specs.declared.happening.Why.TheVariants as why
 use Rattle.af_model.specs.State.{DeviceState, LinkState, State, Deferral, EnvironmentState, OpenLink, SlotLink, open_link, link_in_slot, slot_link_at, with_slot_link, with_device, none_selected, say}
 use Rattle.af_model.specs.Tick.{enter}
-use Rattle.af_model.specs.Sizes.{event_limit}
 
 -- the links that wait, without one of them
 abbrev pub without_waiter : ℕ → List Deferral → List Deferral

@@ -1,4 +1,3 @@
-pub mod Sizes
 pub mod State
 pub mod Reply
 pub mod Checks

@@ -1,6 +1,7 @@
 -- Record: sound of a device from a time on.
 use Rattle.std.specs.Prelude.{ℕ, ◌-◌, ◌%◌, ◌^◌, min, nat_lt, not, ◌&&◌, Bool, List, [], ◌∷◌, map, if◌then◌else◌}
 use Rattle.std.specs.declared.option.Option.{Option}
+use Rattle.af_limits.specs.Limits.{longest_record}
 use Rattle.af_time.specs.DeviceTime.{unwrap}
 use Rattle.af_sample.specs.Gains.{gained}
 use Rattle.af_sample.specs.Samples.{bytes_of}
@@ -14,7 +15,6 @@ use Rattle.af_model.specs.Reply.{replied, horizon_of}
 use Rattle.af_model.specs.Checks.{check, first_refusal, refused_or}
 use Rattle.af_model.specs.Waiting.{wait}
 use Rattle.af_model.specs.Play.{frames_of, are_frames}
-use Rattle.af_sample.specs.Sizes.{longest_record}
 
 -- how many frames from a time on are before now
 abbrev pub frames_before_now : DeviceState → ℕ → ℕ

@@ -3,6 +3,7 @@ use Rattle.std.specs.Prelude.{ℕ, ◌+◌, ◌^◌, ◌==◌, ℤ, pos, Bool, t
 use Rattle.std.specs.List.{list_any}
 use Rattle.std.specs.declared.option.Option.{Option}
 use Rattle.std.specs.declared.option.Option.TheVariants.{None, Some}
+use Rattle.af_limits.specs.Limits.{most_links, most_devices}
 use Rattle.af_sample.specs.declared.sample_type.SampleType.{SampleType}
 use Rattle.af_sample.specs.Heard.{AcceptedPlay}
 use Rattle.af_context.specs.declared.Context.{Context}
@@ -113,7 +114,7 @@ with_device d f devices = device_set d f devices (slice_get devices d)
 
 -- no event is selected of any device
 abbrev pub none_selected : List ℕ
-none_selected = replicate 8 0
+none_selected = replicate most_devices 0
 
 -- a link that was just opened
 abbrev pub opened : LinkState
@@ -153,7 +154,7 @@ closed_slot = record { link = None; said = [] }
 
 -- no link is open, and each device stands at its start
 abbrev pub opening : List DeviceSpec → State
-opening config = record { devices = map opening_device config; slots = replicate 32 closed_slot; waiting = [] }
+opening config = record { devices = map opening_device config; slots = replicate most_links closed_slot; waiting = [] }
 
 -- the slot of a link's number
 abbrev pub some_slot : Option SlotState → SlotState

@@ -4,6 +4,7 @@
 use Rattle.std.specs.Prelude.{◌≡◌, ℕ, zero, suc, ◌+◌, Bool, true, false, not, List, [], ◌∷◌, ◌++◌, length, take, drop, if◌then◌else◌, ◌==◌, ◌&&◌, nat_le, nat_lt, ◌*◌, ℤ, slice_get, option_and_then}
 use Rattle.std.specs.declared.option.Option.{Option}
 use Rattle.std.specs.declared.option.Option.TheVariants.{None, Some}
+use Rattle.af_limits.specs.Limits.{longest_tick, longest_read}
 use Rattle.af_world.specs.declared.happening.Happening.{Happening}
 use Rattle.af_world.specs.declared.happening.Happening.TheVariants.{Woke, Read, Wrote, Closed, Captured, Emitted, Hooked}
 use Rattle.af_world.specs.declared.happening.ReadGot.{ReadGot}
@@ -22,7 +23,6 @@ use Rattle.af_model.specs.Waiting.{has_deferral}
 use Rattle.af_model.specs.Advance.{advance, absorb, takes_more}
 use Rattle.af_model.specs.Tick.{sound, captured_samples, tick}
 use Rattle.af_model.specs.Events.{dropped, hook_given, hook_refused, line_changes}
-use Rattle.af_world.specs.Sizes.{longest_read}
 
 -- a state, and the log that is left behind it
 pub record Parsed (S : Type 0) : Type 0 where
@@ -179,7 +179,7 @@ abbrev pub fits : Outline → Wake → Bool
 fits o (Opened k) = is_closed_at (slice_get o.links k)
 fits o (Readable k) = is_open_at (slice_get o.links k)
 fits o (Writable k) = is_open_at (slice_get o.links k)
-fits o (Ticked d n) = nat_lt d (length o.lines) && nat_le 1 n && nat_le n 4096
+fits o (Ticked d n) = nat_lt d (length o.lines) && nat_le 1 n && nat_le n longest_tick
 fits o (Line d change) = has_line_at (slice_get o.lines d) && is_change change
 fits o Idle = true
 fits o Stop = true

@@ -1,5 +1,6 @@
 -- The ranges of the values of a job.
 use Rattle.std.specs.Prelude.{◌≤◌, ⊤, length}
+use Rattle.af_limits.specs.Limits.{longest_address}
 use Rattle.clap.specs.Words.{Text}
 use Rattle.af_options.specs.declared.job.PassJob.{PassJob}
 use Rattle.af_options.specs.declared.job.Task.{Task}
@@ -17,4 +18,4 @@ IsPaced job = (1 ≤ job.block) × (job.block ≤ 4000) × (job.delay ≤ 3000)
 
 -- an address can be dialled
 abbrev pub IsAddress : Text → Type 0
-IsAddress server = (1 ≤ length server) × (length server ≤ 64)
+IsAddress server = (1 ≤ length server) × (length server ≤ longest_address)

@@ -1,7 +1,8 @@
 -- The words of the tools: each tool is one simple command of clap, and its job is that of the matches that clap defines.
-use Rattle.std.specs.Prelude.{ℕ, pos, ◌&&◌, Bool, true, false, nat_le, List, [], ◌∷◌, length, Option, Some, None, codes, is_some, map, option_and_then, option_map, if◌then◌else◌}
+use Rattle.std.specs.Prelude.{◌-◌, ℕ, pos, ◌&&◌, Bool, true, false, nat_le, List, [], ◌∷◌, length, Option, Some, None, codes, is_some, map, option_and_then, option_map, if◌then◌else◌}
 use Rattle.std.specs.Str.{bytes_eq}
 use Rattle.std.specs.Option.{option_map_or}
+use Rattle.af_limits.specs.Limits.{most_devices, longest_address}
 use Rattle.clap.specs.Words.{App, Row, Rule, Text, first_of, matches_of, new_app, new_rule, takes, with_rule}
 use Rattle.clap.specs.declared.builder.ArgAction.TheVariants.{SetTrue}
 use Rattle.af_options.specs.declared.command.ArgumentKind.{ArgumentKind}
@@ -108,7 +109,7 @@ number_at id default low high rows = or_default default (number_in low high) (fi
 
 -- the address of a server: 1 to 64 bytes
 abbrev pub address_in : Text → Option Text
-address_in text = if nat_le 1 (length text) && nat_le (length text) 64 then Some text else None
+address_in text = if nat_le 1 (length text) && nat_le (length text) longest_address then Some text else None
 
 abbrev pub address_at : Text → List Row → Option Text
 address_at id rows = option_and_then address_in (first_of id rows)
@@ -129,7 +130,7 @@ basics_of rows =
     (number_at (codes "block") 1000 1 4000 rows))
     (or_default (pos 0) gain_in (first_of (codes "gain") rows)))
     (if_there type_of (first_of (codes "type") rows)))
-    (number_at (codes "device") 0 0 7 rows)
+    (number_at (codes "device") 0 0 (most_devices - 1) rows)
 
 -- the form of a source, which is no file where a type is stated: a file says itself of which type its samples are
 abbrev pub form_beside : Option SampleType → Option SoundForm → Option (Option SoundForm)
@@ -177,7 +178,7 @@ set_job rows =
     (if_there (switch_in (codes "on") (codes "off")) (first_of (codes "input") rows)))
     (if_there gain_in (first_of (codes "output-gain") rows)))
     (if_there gain_in (first_of (codes "input-gain") rows)))
-    (number_at (codes "device") 0 0 7 rows)
+    (number_at (codes "device") 0 0 (most_devices - 1) rows)
 
 -- the job of apass
 abbrev pub pass_job : List Row → Option PassJob
@@ -196,8 +197,8 @@ pass_job rows =
     (option_and_then (number_in 1 1000000) (first_of (codes "blocks") rows)))
     (or_default (pos 0) gain_in (first_of (codes "gain") rows)))
     (if_there type_of (first_of (codes "type") rows)))
-    (number_at (codes "to-device") 0 0 7 rows))
-    (number_at (codes "from-device") 0 0 7 rows)
+    (number_at (codes "to-device") 0 0 (most_devices - 1) rows))
+    (number_at (codes "from-device") 0 0 (most_devices - 1) rows)
 
 -- what a tool is asked to do: a task with one server, or to pass blocks from one server to another; and the order of its
 -- connections

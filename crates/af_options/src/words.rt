@@ -1,5 +1,6 @@
 // The jobs of the tools, by their words.
-ghost use Rattle.std.specs.Prelude.{◌≡◌, ◌≤◌, None, codes, length, option_map, pos, IfSome};
+ghost use Rattle.std.specs.Prelude.{◌-◌, ◌≡◌, ◌≤◌, None, codes, length, option_map, pos, IfSome};
+ghost use Rattle.af_limits.specs.Limits.{most_devices, longest_address};
 ghost use Rattle.clap.specs.Words.{first_of, found_of, rows_of};
 ghost use Rattle.af_text.specs.Sound.{type_of};
 ghost use Rattle.af_options.specs.Numbers.{form_in, gain_in, if_there, number_in, or_default, order_in, switch_in};
@@ -9,6 +10,7 @@ ghost use Rattle.af_options.specs.Ranges.{IsPaced};
 use crate::command::text_of;
 use crate::job::{PassJob, PlayJob, RecordJob, SetJob};
 use crate::number::{form_in, gain_in, number_in, order_in, switch_in};
+use af_limits::{LONGEST_ADDRESS, MOST_DEVICES};
 use af_sample::{Gain, SampleType};
 use af_sound::SoundForm;
 use af_text::sample_type;
@@ -51,19 +53,19 @@ fn block_at(matches: &ArgMatches<'_>) -> Option<u32>
 
 // The number of a device.
 fn device_at(matches: &ArgMatches<'_>, name: &str) -> Option<u8>
-    ensures { result ≡ number_at name.now 0 0 7 (rows_of (found_of matches.now)) }
+    ensures { result ≡ number_at name.now 0 0 (most_devices - 1) (rows_of (found_of matches.now)) }
 {
-    let number = number_at(matches, name, 0, 0, 7)?;
+    let number = number_at(matches, name, 0, 0, MOST_DEVICES as u32 - 1)?;
     Some(number as u8)
 }
 
 /// The address of a server.
 pub fn address_at<'a>(matches: &ArgMatches<'a>, name: &str) -> Option<&'a str>
     ensures address { option_map (λ s. s.now) result ≡ address_at name.now (rows_of (found_of matches.now)) }
-    ensures size { IfSome result (λ s. (1 ≤ length s.now) × (length s.now ≤ 64)) }
+    ensures size { IfSome result (λ s. (1 ≤ length s.now) × (length s.now ≤ longest_address)) }
 {
     let address = text_of(matches, name)?;
-    if 1 <= address.len() && address.len() <= 64 {
+    if 1 <= address.len() && address.len() <= LONGEST_ADDRESS {
         Some(address)
     } else {
         None

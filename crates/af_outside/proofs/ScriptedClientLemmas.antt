@@ -2,12 +2,12 @@
 use Rattle.std.proofs.Common.{◌≡◌, ℕ, zero, suc, ◌<◌, List, [], ◌∷◌, length, take, drop, Bool, true, false, refl, sym, ap, ◌∙◌, arith, ◌==◌}
 use Rattle.std.specs.Prelude.{if◌then◌else◌, option_map}
 use Rattle.std.specs.declared.option.Option.TheVariants.{None, Some}
+use Rattle.af_limits.specs.Limits.{longest_read}
 use Rattle.af_world.specs.declared.happening.ReadGot.{ReadGot}
 use Rattle.af_world.specs.declared.happening.ReadGot.TheVariants.{Given, NotYet, Ended}
 use Rattle.af_world.specs.Outside.{ScriptedClient, client_answered, failed_from, fresh_client, given_from, read_from, same_bytes, written_to}
 use Rattle.af_outside.specs.Tape.{client_where}
 use Rattle.af_world.proofs.EqualityTestLemmas.{eq-refl, same_bytes-refl}
-use Rattle.af_world.specs.Sizes.{longest_read}
 
 drop_taken : (n : ℕ) (xs : List ℕ) → drop (length (take n xs)) xs ≡ drop n xs
 drop_taken zero xs = refl

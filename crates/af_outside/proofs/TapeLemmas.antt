@@ -8,6 +8,7 @@ use Rattle.std.specs.declared.option.Option.{Option}
 use Rattle.std.specs.declared.option.Option.TheVariants.{None, Some}
 use Rattle.std.specs.declared.result.Result.{Result}
 use Rattle.std.specs.declared.result.Result.TheVariants.{Ok, Err}
+use Rattle.af_limits.specs.Limits.{most_links}
 use Rattle.af_time.specs.declared.OutOfMemory.{OutOfMemory}
 use Rattle.af_world.specs.declared.happening.Happening.{Happening}
 use Rattle.af_world.specs.declared.happening.Wake.{Wake}
@@ -79,10 +80,10 @@ TakesStep-first old step left wake o first woken changed =
 
 -- what makes up a tape of which nothing was asked yet
 pub fresh-parts : (config config' : List DeviceSpec) (steps steps' : List Step) (log : Option Log) (links : List KeptClient) (kept : List KeptScriptedDevice) (faults : OuterFaults) (outer : OuterState) → config' ≡ config → steps' ≡ steps →
-    log ≡ Some [] → clients_of links ≡ replicate 32 None → kept ≡ map (λ d. kept_scripted_of d.ty) config → outer ≡ outer_start faults →
+    log ≡ Some [] → clients_of links ≡ replicate most_links None → kept ≡ map (λ d. kept_scripted_of d.ty) config → outer ≡ outer_start faults →
     (let tape : TapeState = record { config = config'; left = steps'; log = log; outside = outside_of links (devices_of steps' kept); link_faults = 0; device_faults = 0; outer = outer } in tape) ≡ made config steps faults
 fresh-parts config config' steps steps' log links kept faults outer given left told closed start begun =
     let devices : devices_of steps kept ≡ map (λ d. scripted_of d.ty) config = ap (devices_of steps) start ∙ devices_of-start steps config in
     rw (given, left, told, begun)
     (ap (λ clients. (let tape : TapeState = record { config = config; left = steps; log = Some []; outside = record { clients = clients; devices = devices_of steps kept }; link_faults = 0; device_faults = 0; outer = outer_start faults } in tape)) closed
-    ∙ ap (λ devices. (let tape : TapeState = record { config = config; left = steps; log = Some []; outside = record { clients = replicate 32 None; devices = devices }; link_faults = 0; device_faults = 0; outer = outer_start faults } in tape)) devices)
+    ∙ ap (λ devices. (let tape : TapeState = record { config = config; left = steps; log = Some []; outside = record { clients = replicate most_links None; devices = devices }; link_faults = 0; device_faults = 0; outer = outer_start faults } in tape)) devices)

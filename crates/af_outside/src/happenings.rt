@@ -1,5 +1,6 @@
 // What the calls of a tape are in its log: copies of the bytes that they moved, with what was answered.
 ghost use Rattle.std.specs.Prelude.{◌≡◌, ◌≤◌, length, IfOk};
+ghost use Rattle.af_limits.specs.Limits.{output_room};
 ghost use Rattle.af_world.specs.declared.happening.Happening.TheVariants.{Read, Wrote, Captured, Emitted, Hooked};
 ghost use Rattle.af_world.specs.World.{got_of, took_of, captured_of, is_done, LinkGotFits, TookFits};
 
@@ -33,7 +34,7 @@ pub(crate) fn write_of(
     took: LinkTook,
     piece: &[u8],
 ) -> Result<Happening, OutOfMemory>
-    requires bound { length piece.now ≤ 65536 }
+    requires bound { length piece.now ≤ output_room }
     requires fits { TookFits took (length piece.now) }
     ensures { IfOk result (λ happening. happening ≡ Wrote link (length piece.now) (took_of took piece.now)) }
 {

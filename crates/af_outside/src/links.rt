@@ -1,15 +1,16 @@
 // The links of a tape: what steps do to them, and what they answer.
 ghost use Rattle.std.specs.Prelude.{◌≡◌, ◌∷◌, [], List, length, replicate, sum_by, is_some, IfOk};
 ghost use Rattle.std.specs.declared.option.Option.TheVariants.{None, Some};
+ghost use Rattle.af_limits.specs.Limits.{most_links, longest_read};
 ghost use Rattle.af_world.specs.declared.happening.Happening.TheVariants.{Read, Wrote, Closed};
 ghost use Rattle.af_world.specs.declared.script.Step.{Step};
 ghost use Rattle.af_world.specs.World.{got_of, took_of, LinkGotFits, TookFits};
 ghost use Rattle.af_world.specs.Outside.{adjusted, answered_as_stated, client_at, stated_of, stepped, wake_of, wake_where_open, ScriptedDevice};
 ghost use Rattle.af_outside.specs.Tape.{HasRoomForSteps, clients_of, outside_of, sent_by, sent_in};
-ghost use Rattle.af_world.specs.Sizes.{longest_read};
 
 use crate::scripted_link::ScriptedLink;
 use crate::{LinkGot, LinkTook, Step, Wake, Why};
+use af_limits::MOST_LINKS;
 use af_time::OutOfMemory;
 use std::alloc::Global;
 
@@ -36,12 +37,12 @@ fn all_bytes_sent(steps: &[Step], link: u8) -> Result<usize, OutOfMemory>
     Ok(count)
 }
 
-/// 32 links that are not open, with memory for all that the steps send.
+/// Links that are not open, as many as there may be, with memory for all that the steps send.
 pub(crate) fn closed_links(alloc: Global, steps: &[Step]) -> Result<Vec<ScriptedLink>, OutOfMemory>
-    ensures clients { IfOk result (λ links. clients_of links.items ≡ replicate 32 None) }
+    ensures clients { IfOk result (λ links. clients_of links.items ≡ replicate most_links None) }
     ensures room { IfOk result (λ links. HasRoomForSteps links.items steps.now) }
 {
-    let mut links = Vec::with_capacity(alloc, 32)?;
+    let mut links = Vec::with_capacity(alloc, MOST_LINKS)?;
     for link in 0..32u8 {
         let room = all_bytes_sent(steps, link)?;
         links.push(ScriptedLink::new(alloc, room)?)?;

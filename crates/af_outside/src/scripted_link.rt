@@ -1,10 +1,10 @@
 // A scripted link of a tape: what it has still to give, in memory that is taken once, and what was stated of it.
 ghost use Rattle.std.specs.Prelude.{◌≡◌, ◌≤◌, ◌+◌, length, is_some, option_map, IfOk};
 ghost use Rattle.std.specs.declared.option.Option.TheVariants.{None, Some};
+ghost use Rattle.af_limits.specs.Limits.{longest_read};
 ghost use Rattle.af_world.specs.World.{got_of, took_of, LinkGotFits, TookFits};
 ghost use Rattle.af_world.specs.Outside.{client_answered, read_from, written_to, fresh_client, stated_of};
 ghost use Rattle.af_outside.specs.Tape.{sent_in};
-ghost use Rattle.af_world.specs.Sizes.{longest_read};
 
 use crate::{LinkGot, LinkTook, Step};
 use af_io::copy_first;

@@ -1,6 +1,7 @@
 // A world in memory: it plays the steps of a script, answers as the script states, and keeps a log.
 ghost use Rattle.std.specs.Prelude.{◌≡◌, ◌≢◌, ◌↔◌, ◌≤◌, ◌<◌, ◌∷◌, [], List, IsTrue, false, if◌then◌else◌, length, not, slice_get, is_some, IfOk, IfSome};
 ghost use Rattle.std.specs.declared.option.Option.TheVariants.{Some};
+ghost use Rattle.af_limits.specs.Limits.{longest_read, output_room};
 ghost use Rattle.af_world.specs.declared.happening.Happening.TheVariants.{Read, Wrote, Captured, Emitted, Hooked, Woke, Closed};
 ghost use Rattle.af_world.specs.declared.script.Step.{Step};
 ghost use Rattle.af_io.specs.Observed.{counted, faults_after, Appended, FaultCounted, Unchanged};
@@ -11,7 +12,6 @@ ghost use Rattle.af_world.specs.Outer.{attached, listened, waited};
 ghost use Rattle.af_outside.specs.TapeState.{made, TakesStep, TapeLeadsTo, left_after, outer_told, NoCountFalls, wait_answer, wait_fails, waited_outside};
 ghost use Rattle.af_outside.specs.OuterState.{is_stated, was_refused};
 ghost use Rattle.af_outside.specs.Tape.{HasRoomForSteps, outside_of, devices_of, read_failed, write_failed};
-ghost use Rattle.af_world.specs.Sizes.{longest_read};
 
 use crate::happenings::{capture_of, emit_of, hook_of, read_of, write_of};
 use crate::logbook::Logbook;
@@ -255,7 +255,7 @@ impl World for Tape {
 
     fn write(&mut self, link: u8, piece: &[u8]) -> LinkTook
         requires some { 0 < length piece.now }
-        requires bound { length piece.now ≤ 65536 }
+        requires bound { length piece.now ≤ output_room }
         ensures log { Appended self.old.log (Wrote link (length piece.now) (took_of result piece.now) ∷ []) self.new.log }
         ensures bound { TookFits result (length piece.now) }
         ensures cause { result ≡ LinkTook.Failed → FaultCounted self.old.link_faults self.new.link_faults }

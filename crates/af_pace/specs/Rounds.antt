@@ -1,5 +1,6 @@
 -- Rounds over devices, each of which has a pace.
 use Rattle.std.specs.Prelude.{◌≡◌, ℕ, ◌+◌, ◌≤◌, ◌<◌, max, Bool, true, false, List, replicate, slice_index_or, slice_set, option_map, is_some, Option, Some, None}
+use Rattle.af_limits.specs.Limits.{most_devices, longest_tick}
 use Rattle.af_pace.specs.Pacing.{PaceState, due_at, after_due}
 
 -- The pace of each device that is attached, the device that the round comes to next, whether one ticked in it, and the reading of the
@@ -12,7 +13,7 @@ pub record RoundState : Type 0 where
 
 -- no device is attached
 abbrev pub new_round : RoundState
-new_round = record { paces = replicate 8 None; next = 0; ticked = false; reading = None }
+new_round = record { paces = replicate most_devices None; next = 0; ticked = false; reading = None }
 
 -- the pace of a device, if it is attached
 abbrev pub pace_at : RoundState → ℕ → Option PaceState
@@ -54,7 +55,7 @@ NoneDue nanos from to paces = (d : ℕ) → d < to → from ≤ d → due_of nan
 abbrev pub FindsDue : ℕ → ℕ → ℕ → List (Option PaceState) → Option (ℕ × ℕ) → List (Option PaceState) → Type 0
 FindsDue nanos from to old None new = NoneDue nanos from (max from to) old × PacesAsked nanos from (max from to) old new
 FindsDue nanos from to old (Some (d, n)) new =
-    (from ≤ d) × (d < to) × NoneDue nanos from d old × (n ≡ due_of nanos (slice_index_or old d None)) × (1 ≤ n) × (n ≤ 4096)
+    (from ≤ d) × (d < to) × NoneDue nanos from d old × (n ≡ due_of nanos (slice_index_or old d None)) × (1 ≤ n) × (n ≤ longest_tick)
     × PacesAsked nanos from (d + 1) old new
 
 -- no device from this number on is attached
@@ -77,12 +78,12 @@ pub record PassesOver (nanos to : ℕ) (old new : RoundState) : Type 0 where
 
 -- the round passes over those before a device of which frames are due, at most 4096 of them, and this one ticks
 pub record RoundTicks (nanos d n : ℕ) (old new : RoundState) : Type 0 where
-  pub device : d < 8
+  pub device : d < most_devices
   pub on : old.next ≤ d
   pub none : NoneDue nanos old.next d old.paces
   pub frames : n ≡ due_of nanos (pace_at old d)
   pub some : 1 ≤ n
-  pub most : n ≤ 4096
+  pub most : n ≤ longest_tick
   pub asked : PacesAsked nanos old.next (d + 1) old.paces new.paces
   pub next : new.next ≡ d + 1
   pub ticked : new.ticked ≡ true
@@ -90,5 +91,5 @@ pub record RoundTicks (nanos d n : ℕ) (old new : RoundState) : Type 0 where
 
 -- The round goes on by rising number to the next device of which a frame is due, or past the last.
 abbrev pub GoesOn : ℕ → RoundState → Option (ℕ × ℕ) → RoundState → Type 0
-GoesOn nanos old None new = PassesOver nanos new.next old new × (8 ≤ new.next)
+GoesOn nanos old None new = PassesOver nanos new.next old new × (most_devices ≤ new.next)
 GoesOn nanos old (Some (d, n)) new = RoundTicks nanos d n old new

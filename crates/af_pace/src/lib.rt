@@ -5,4 +5,4 @@ mod pace;
 mod round;
 
 pub use pace::Pace;
-pub use round::{MOST_DEVICES, Round};
+pub use round::Round;

@@ -2,10 +2,8 @@
 ghost use Rattle.std.specs.Prelude.{◌≡◌};
 ghost use Rattle.af_pace.specs.Pacing.{begun, due_at, after_due};
 
+use af_limits::LONGEST_TICK;
 use std::marker::Model;
-
-/// How many frames a device may be asked for at once.
-const MOST_FRAMES: u128 = 4096;
 
 const NANOS_A_SECOND: u128 = 1_000_000_000;
 
@@ -49,7 +47,9 @@ impl Pace {
         let first = *self.first.get_or_insert(nanos);
         let elapsed = u128::from(nanos.saturating_sub(first));
         let gone_by = elapsed * u128::from(self.rate) / NANOS_A_SECOND;
-        let due = gone_by.saturating_sub(self.answered).min(MOST_FRAMES);
+        let due = gone_by
+            .saturating_sub(self.answered)
+            .min(u128::from(LONGEST_TICK));
         self.answered += due;
         due as u32
     }

@@ -1,19 +1,18 @@
 // A round over the devices, in which each has the frames that are due of it.
 ghost use Rattle.std.specs.Prelude.{◌≡◌, ◌≤◌, ◌<◌, length, true};
+ghost use Rattle.af_limits.specs.Limits.{most_devices};
 ghost use Rattle.af_pace.specs.Pacing.{begun};
 ghost use Rattle.af_pace.specs.Rounds.{due_of, read_at, new_round, round_with, round_begun, is_paced, FindsDue, GoesOn, IsSettled};
 
 use crate::Pace;
+use af_limits::MOST_DEVICES;
 use std::marker::Model;
-
-/// How many devices there may be.
-pub const MOST_DEVICES: usize = 8;
 
 /// The paces of the devices that are attached, the device that the round comes to next, whether one ticked in it, and the reading of
 /// the clock that it goes by, once it has come to a device.
 #[derive(Drop)]
 pub struct Round {
-    paces: [Option<Pace>; 8],
+    paces: [Option<Pace>; MOST_DEVICES],
     // no device is attached at this number or above it
     end: usize,
     next: usize,
@@ -26,13 +25,14 @@ pub struct Round {
 
 impl Model for Round {
     ghost use Rattle.std.specs.Prelude.{◌≡◌, ◌≤◌, length, IfSome};
+    ghost use Rattle.af_limits.specs.Limits.{most_devices};
     ghost use Rattle.af_pace.specs.Rounds.{RoundState, IsSettled, NoneFrom};
 
     ghost Value = { RoundState };
 
     ghost view = { λ r. record { paces = r.paces; next = r.next; ticked = r.ticked; reading = r.reading } };
 
-    ghost invariant = { λ r. (r.end ≤ 8) × NoneFrom r.end r.paces × IfSome r.settled (λ nanos. IsSettled nanos r.paces) };
+    ghost invariant = { λ r. (r.end ≤ most_devices) × NoneFrom r.end r.paces × IfSome r.settled (λ nanos. IsSettled nanos r.paces) };
 }
 
 impl Round {
@@ -62,7 +62,7 @@ impl Round {
 
     /// A device goes on at n frames a second.
     pub fn add(&mut self, device: u8, rate: u32)
-        requires { device < 8 }
+        requires { device < most_devices }
         ensures { self.new ≡ round_with self.old device (begun rate) }
     {
         let place = usize::from(device);
@@ -132,7 +132,7 @@ impl Round {
 
 /// The first device between two of which frames are due at this reading, and how many are.
 fn first_due(paces: &mut [Option<Pace>], from: usize, to: usize, nanos: u64) -> Option<(u8, u32)>
-    requires { (to ≤ 8) × (to ≤ length paces.old) }
+    requires { (to ≤ most_devices) × (to ≤ length paces.old) }
     ensures { FindsDue nanos from to paces.old result paces.new }
 {
     for device in from..to {

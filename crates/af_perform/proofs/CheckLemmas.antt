@@ -4,6 +4,7 @@ use Rattle.std.proofs.lemmas.Nat.{mul-le}
 use Rattle.std.specs.declared.option.Option.{Option}
 use Rattle.std.specs.declared.option.Option.TheVariants.{None}
 use Rattle.std.proofs.lemmas.Bool.Decides.{nat_tests}
+use Rattle.af_limits.specs.Limits.{longest_record}
 use Rattle.af_sample.specs.declared.sample_type.SampleType.{SampleType}
 use Rattle.af_sample.specs.declared.sample_type.SampleType.TheVariants.{Mu255, Alaw, Lin16, Lin32}
 use Rattle.af_sample.specs.Channels.{IsChannelCount}
@@ -17,7 +18,6 @@ use Rattle.af_model.specs.Checks.{check, first_refusal}
 use Rattle.af_model.specs.Play.{are_frames, play_refusal}
 use Rattle.af_model.specs.Record.{record_refusal}
 use Rattle.af_perform.specs.Sounds.{WholeBytes}
-use Rattle.af_sample.specs.Sizes.{longest_record}
 
 pub pass_first : (b : Bool) (cause : RefusalCause) (value : ℕ) (o : Option Refusal) (checks : List (Option Refusal)) → o ≡ check b cause value → first_refusal (o ∷ checks) ≡ None → (b ≡ false) × (first_refusal checks ≡ None)
 pass_first true cause value o checks is e = absurd (let f : first_refusal (check true cause value ∷ checks) ≡ None = subst (λ x. first_refusal (x ∷ checks) ≡ None) is e in cc)

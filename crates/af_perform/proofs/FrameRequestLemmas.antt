@@ -3,6 +3,7 @@ use Rattle.std.proofs.Common.{◌≡◌, ℕ, ℤ, ◌+◌, ◌*◌, ◌-◌, �
 use Rattle.std.proofs.lemmas.List.{length-take}
 use Rattle.std.specs.declared.option.Option.{Option}
 use Rattle.std.specs.declared.option.Option.TheVariants.{None, Some}
+use Rattle.af_limits.specs.Limits.{longest_frame, longest_play}
 use Rattle.af_time.specs.declared.DevTime.{DevTime}
 use Rattle.af_wire.specs.declared.order.Order.{Order}
 use Rattle.af_request.specs.declared.request.Request.{Request}
@@ -12,8 +13,6 @@ use Rattle.af_request.specs.Fields.{u8_at, u32_at}
 use Rattle.af_request.specs.Requests.{Row, row_of, asked_by, asked_in, FitsFrame, no_op_row, get_time_row, create_ac_row, change_ac_row, free_ac_row, play_run_row, record_run_row, select_events_row, set_controls_row, query_controls_row, hook_switch_row, query_phone_row}
 use Rattle.af_perform.specs.Asked.{is_done_at_once}
 use denote.Bor.{Bor}
-use Rattle.af_sample.specs.Sizes.{longest_play}
-use Rattle.af_wire.specs.Sizes.{longest_frame}
 
 -- a request that is no play and no record
 pub at_once : (r : Request) → ((quiet : Bool) (ac : ℕ) (time : DevTime) (samples : Bor (List ℕ)) → r ≡ code.PlayRun quiet ac time samples → ⊥) →

@@ -1,11 +1,11 @@
 -- An environment that is opened, and what a request leaves of it.
 use Rattle.std.proofs.Common.{◌≡◌, ℕ, ◌<◌, ◌≤◌, false, List, [], ◌∷◌, ◌++◌, length, refl, sym, subst}
+use Rattle.af_limits.specs.Limits.{most_to_send}
 use Rattle.af_model.specs.State.{LinkState, OpenLink, open_link}
 use Rattle.af_state.specs.Kept.{KeptDevice}
 use Rattle.af_state.specs.Deferrals.{KeptDeferral, has_waiting}
 use Rattle.af_state.specs.Environment.{StandsForLink, KeptEnvironment, StepsDevices, StepsLink, Leaves, StandsForEnvironment, kept}
 use Rattle.af_state.proofs.DeferralLemmas.{only_queues_nothing}
-use Rattle.af_model.specs.Sizes.{most_to_send}
 
 -- what touches devices alone, in an environment
 pub leads_opened : (e : KeptEnvironment) (ds lent ds' back : List KeptDevice) (ks : List KeptDeferral) (l l' : LinkState) (f : OpenLink → OpenLink) → kept ds ks ≡ e → lent ≡ ds → back ≡ ds' → StepsDevices f lent l ds' l' → StepsLink f e l (kept back ks) l'

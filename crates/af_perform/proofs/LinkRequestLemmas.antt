@@ -3,6 +3,7 @@ use Rattle.std.proofs.Common.{◌≡◌, ℕ, zero, suc, ℤ, Bool, true, false,
 use Rattle.std.proofs.lemmas.Bool.Decides.{nat_tests}
 use Rattle.std.specs.declared.option.Option.{Option}
 use Rattle.std.specs.declared.option.Option.TheVariants.{None, Some}
+use Rattle.af_limits.specs.Limits.{longest_play, longest_record}
 use Rattle.af_time.specs.DeviceTime.{unwrap}
 use Rattle.af_sample.specs.Channels.{AreWholeFrames, IsChannelCount, frame_count}
 use Rattle.af_sample.specs.SampleTypes.{frame_bytes}
@@ -36,7 +37,6 @@ use Rattle.af_state.proofs.PlayLemmas.{before-same, within-same, play_beyond-sam
 use Rattle.af_state.proofs.DeferredRequestLemmas.{play_is, record_is}
 use Rattle.af_state.proofs.DeferralLemmas.{waits_push, waits_set}
 use Rattle.af_perform.proofs.CheckLemmas.{frames_fit, pass_first, not_false}
-use Rattle.af_sample.specs.Sizes.{longest_play, longest_record}
 
 -- what leads a link, leads it at each place
 pub leads_at : (ds : List KeptDevice) (ks : List KeptDeferral) (l l' : LinkState) (f : OpenLink → OpenLink) (a : EnvironmentState) → ChangesLinkIn a f l l' → StandsForEnvironment (kept ds ks) a → StandsForLink (kept ds ks) l' (f (open_link a l))

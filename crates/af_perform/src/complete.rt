@@ -1,10 +1,10 @@
 // A request that waited completes.
 ghost use Rattle.std.specs.Prelude.{◌≡◌, ◌≤◌, ◌<◌, length};
+ghost use Rattle.af_limits.specs.Limits.{event_limit};
 ghost use Rattle.af_state.specs.Deferred.{deferred_of_record};
 ghost use Rattle.af_state.specs.Kept.{OfDeviceAt};
 ghost use Rattle.af_state.specs.Deferrals.{CanComplete};
 ghost use Rattle.af_perform.specs.Sounds.{CompletesDeferred};
-ghost use Rattle.af_model.specs.Sizes.{event_limit};
 
 use crate::play::accept;
 use crate::record::answer_record;

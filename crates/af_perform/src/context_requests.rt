@@ -1,6 +1,7 @@
 // CreateAC, ChangeAC and FreeAC: the link's contexts are created, changed and freed.
 ghost use Rattle.std.specs.Prelude.{◌≡◌, ℕ, ◌≤◌, length, pos, unwrap_or};
 ghost use Rattle.std.specs.declared.option.Option.TheVariants.{None};
+ghost use Rattle.af_limits.specs.Limits.{most_to_send};
 ghost use Rattle.af_sample.specs.Gains.{gain_of};
 ghost use Rattle.af_request.specs.Asked.{free_ac};
 ghost use Rattle.af_model.specs.ContextRequests.{creation_refusal, described, create, change_refusal, change, is_match, named_preempt};
@@ -8,7 +9,6 @@ ghost use Rattle.af_model.specs.Perform.{done};
 ghost use Rattle.af_state.specs.Kept.{kept_channels_at};
 ghost use Rattle.af_state.specs.Environment.{StepsDevices, ChangesLink};
 ghost use Rattle.af_perform.specs.Asked.{new_context, new_settings};
-ghost use Rattle.af_model.specs.Sizes.{most_to_send};
 
 use crate::checks::{
     check, check_gain, context_refusal, first_refusal, named_gain, names, where_named,

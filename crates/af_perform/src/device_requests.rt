@@ -1,6 +1,7 @@
 // SelectEvents, SetControls, QueryControls, HookSwitch and QueryPhone: the controls of a device, and its telephone line.
 ghost use Rattle.std.specs.Prelude.{◌≡◌, ℕ, ◌≤◌, ◌<◌, List, length, slice_get, option_map, ◌==◌, if◌then◌else◌};
 ghost use Rattle.std.specs.declared.option.Option.TheVariants.{None, Some};
+ghost use Rattle.af_limits.specs.Limits.{most_to_send};
 ghost use Rattle.af_phone.specs.Lines.{wanting};
 ghost use Rattle.af_request.specs.Answer.{plain};
 ghost use Rattle.af_request.specs.Asked.{select_events, query_controls, hook_switch, query_phone};
@@ -14,7 +15,6 @@ ghost use Rattle.af_perform.specs.Asked.{new_controls};
 ghost use Rattle.af_perform.specs.Lines.{line_at};
 ghost use Rattle.af_state.specs.Deferrals.{KeptDeferral};
 ghost use Rattle.af_state.specs.Environment.{kept, StepsDevices, StepsLinkFor, ChangesLink};
-ghost use Rattle.af_model.specs.Sizes.{most_to_send};
 
 use crate::checks::{
     check, check_gain, first_refusal, is_missing, named_gain, names, no_device, no_line,

@@ -1,11 +1,11 @@
 // Performing a request: one function for each opcode.
 ghost use Rattle.std.specs.Prelude.{◌≡◌, ℕ, ◌≤◌, IsTrue, length};
+ghost use Rattle.af_limits.specs.Limits.{most_to_send};
 ghost use Rattle.af_request.specs.Asked.{get_time, request_meaning};
 ghost use Rattle.af_request.specs.Requests.{FitsFrame};
 ghost use Rattle.af_model.specs.Perform.{done, perform};
 ghost use Rattle.af_state.specs.Environment.{StepsLink, StepsDevices, Leaves, MayAsk};
 ghost use Rattle.af_perform.specs.Asked.{is_done_at_once};
-ghost use Rattle.af_model.specs.Sizes.{most_to_send};
 
 use crate::checks::{is_missing, no_device};
 use crate::context_requests::{NewContext, NewSettings, change_ac, create_ac, free_ac};

@@ -1,5 +1,6 @@
 // Play: sound of a client from a time on.
 ghost use Rattle.std.specs.Prelude.{◌≡◌, ℕ, ◌≤◌, ◌<◌, ◌*◌, ◌/◌, ◌%◌, ◌++◌, List, length, take, if◌then◌else◌};
+ghost use Rattle.af_limits.specs.Limits.{longest_play, longest_message, event_limit};
 ghost use Rattle.af_sample.specs.Channels.{AreWholeFrames, IsChannelCount};
 ghost use Rattle.af_sample.specs.SampleTypes.{width_of};
 ghost use Rattle.af_context.specs.declared.Context.{Context};
@@ -13,9 +14,6 @@ ghost use Rattle.af_state.specs.Deferrals.{CanComplete};
 ghost use Rattle.af_state.specs.Environment.{StepsLink, StepsLinkFor, Leaves, MayAsk};
 ghost use Rattle.af_perform.specs.Asked.{new_play};
 ghost use Rattle.af_perform.specs.Sounds.{play_by_context, start_play_of, with_named_device, AcceptsPlay, CompletesDeferred, IsSoundOf, WholeBytes};
-ghost use Rattle.af_sample.specs.Sizes.{longest_play};
-ghost use Rattle.af_wire.specs.Sizes.{longest_message};
-ghost use Rattle.af_model.specs.Sizes.{event_limit};
 
 use crate::checks::{check, is_missing, no_context, no_device};
 use crate::opcode;

@@ -1,5 +1,6 @@
 // Record: sound of a device from a time on.
 ghost use Rattle.std.specs.Prelude.{◌≡◌, ℕ, ◌≤◌, ◌<◌, ◌*◌, ◌&&◌, nat_lt, drop, length, min, take, if◌then◌else◌};
+ghost use Rattle.af_limits.specs.Limits.{longest_frame, longest_record, longest_message, most_to_send, event_limit};
 ghost use Rattle.af_time.specs.DeviceTime.{unwrap};
 ghost use Rattle.af_sample.specs.Channels.{IsChannelCount};
 ghost use Rattle.af_sample.specs.SampleTypes.{frame_bytes};
@@ -10,13 +11,11 @@ ghost use Rattle.af_state.specs.Kept.{OfDeviceAt, StandsForDevice};
 ghost use Rattle.af_state.specs.Environment.{StepsLink, StepsLinkFor, ChangesLink, Leaves, MayAsk};
 ghost use Rattle.af_perform.specs.Asked.{new_record};
 ghost use Rattle.af_perform.specs.Sounds.{record_by_context, with_named_device, IsRecordOn};
-ghost use Rattle.af_sample.specs.Sizes.{longest_record};
-ghost use Rattle.af_wire.specs.Sizes.{longest_frame, longest_message};
-ghost use Rattle.af_model.specs.Sizes.{most_to_send, event_limit};
 
 use crate::checks::{check, first_refusal, is_missing, no_context, no_device};
 use crate::opcode;
 use af_context::Context;
+use af_limits::LONGEST_RECORD;
 use af_model::{Refusal, RefusalCause};
 use af_request::RECORDED_AT;
 use af_state::{Device, Environment, Record, ServedLink, Work};
@@ -40,9 +39,6 @@ pub struct ContextRecord {
     pub bytes: u32,
 }
 
-/// The most bytes of a record.
-const LONGEST_RECORD: u32 = 16000;
-
 // A record has at most 16000 bytes, in whole frames.
 fn record_refusal(context: &Context, channels: u8, bytes: u32) -> Option<Refusal>
     requires { IsChannelCount channels }
@@ -50,7 +46,7 @@ fn record_refusal(context: &Context, channels: u8, bytes: u32) -> Option<Refusal
 {
     let frame = context.ty.frame_bytes(channels) as u32;
     first_refusal(&[
-        check(bytes > LONGEST_RECORD, RefusalCause::BadValue, bytes),
+        check(bytes > LONGEST_RECORD as u32, RefusalCause::BadValue, bytes),
         check(bytes % frame != 0, RefusalCause::BadValue, bytes),
     ])
 }

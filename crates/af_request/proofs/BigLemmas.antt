@@ -3,6 +3,7 @@ use Rattle.std.proofs.Common.{◌≡◌, ◌+◌, ◌-◌, ◌*◌, ◌==◌, �
 use Rattle.std.specs.Prelude.{Some, None, if◌then◌else◌, option_map}
 use Rattle.std.proofs.lemmas.Bool.Decides.{nat_tests}
 use Rattle.std.proofs.lemmas.List.{drop-drop}
+use Rattle.af_limits.specs.Limits.{most_devices}
 use Rattle.af_wire.specs.declared.order.Order.TheVariants.{Big}
 use Rattle.af_wire.specs.Message.{head}
 use Rattle.af_wire.specs.Order.{u32_of}
@@ -46,7 +47,7 @@ same_record body = grind arith
 same_setup : (body : List ℕ) → setup_in Big body ≡ big.setup_in body
 same_setup body =
     let count : ℕ = u32_at Big 4 body in
-    ap (λ devices. if u16_at Big 0 body == 1 && u16_at Big 2 body == 0 && nat_le 1 count && nat_le count 8 && length body == 8 + 12 * count then option_map setup devices else None)
+    ap (λ devices. if u16_at Big 0 body == 1 && u16_at Big 2 body == 0 && nat_le 1 count && nat_le count most_devices && length body == 8 + 12 * count then option_map setup devices else None)
     (same_devices count (drop 8 body))
 
 pub same_answers : (opcode : ℕ) (body : List ℕ) → answer_in Big opcode body ≡ big.answer_in opcode body

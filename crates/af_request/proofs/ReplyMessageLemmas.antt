@@ -4,6 +4,7 @@ use Rattle.std.proofs.Math.Seq.{take-append-add, take-length}
 use Rattle.std.proofs.lemmas.Bool.Decides.{nat_tests}
 use Rattle.std.proofs.lemmas.List.{append_assoc}
 use Rattle.std.specs.Prelude.{IsTrue}
+use Rattle.af_limits.specs.Limits.{most_devices, longest_record}
 use Rattle.af_wire.specs.declared.order.Order.{Order}
 use Rattle.af_wire.specs.Message.{head}
 use Rattle.af_wire.specs.Order.{u32_bytes}
@@ -14,7 +15,6 @@ use Rattle.af_request.specs.Answer.{Answer, setup, plain, time, played, recorded
 use Rattle.af_request.specs.Fields.{words_for}
 use Rattle.af_request.specs.Replies.{body_bytes, body_words, is_plain, reply_bytes, IsReplyTo}
 use Rattle.af_request.proofs.ReplyRoundTrips.{length-body}
-use Rattle.af_sample.specs.Sizes.{longest_record}
 
 -- the opcode of a reply that a client takes
 IsOpcode : ℕ → Type 0
@@ -39,7 +39,7 @@ opcode_within opcode (controls c) is = let e : opcode ≡ 10 = is.0 in inr (omeg
 opcode_within opcode (phone p) is = let e : opcode ≡ 12 = is in inr (omega arith, omega arith)
 
 few_words : (opcode : ℕ) (a : Answer) → IsReplyTo opcode a → body_words a ≤ 4002
-few_words opcode (setup devices) is = let few : length devices ≤ 8 = is.2 in omega arith
+few_words opcode (setup devices) is = let few : length devices ≤ most_devices = is.2 in omega arith
 few_words opcode plain is = omega arith
 few_words opcode (time now) is = omega arith
 few_words opcode (played now) is = omega arith

@@ -7,6 +7,7 @@ use Rattle.std.proofs.lemmas.Bool.{eq-eqb}
 use Rattle.std.proofs.lemmas.Bool.Decides.{nat_tests}
 use Rattle.std.proofs.lemmas.List.{length-append}
 use Rattle.std.proofs.Math.Seq.{drop-append_seam}
+use Rattle.af_limits.specs.Limits.{most_devices, longest_record}
 use Rattle.af_sample.specs.declared.sample_type.SampleType.{SampleType}
 use Rattle.af_sample.specs.declared.sample_type.SampleType.TheVariants.{Mu255, Alaw, Lin16, Lin32}
 use Rattle.af_sample.specs.SampleTypes.{code_of, type_of_code}
@@ -23,7 +24,6 @@ use Rattle.af_request.specs.Answer.{Answer, setup, plain, time, played, recorded
 use Rattle.af_request.specs.Fields.{flag_byte, words_for, padded}
 use Rattle.af_request.specs.Replies.{answer_in, body_bytes, body_words, controls_of, phone_of, reply_bytes, device_bytes, device_in, device_info_of, device_then, devices_in, flag_of, is_padded, is_plain, is_zero, IsReplyTo, IsDeviceInfo}
 use Rattle.af_request.proofs.FieldRoundTrips.{ap_2, ap_3, length-padded, take-padded}
-use Rattle.af_sample.specs.Sizes.{longest_record}
 
 pub rate_below : (rate : ℕ) → IsListedRate rate → rate ≤ 48000
 rate_below rate listed = grind (arith, nat_tests)
@@ -106,10 +106,10 @@ module _ (order : Order) where
       length-append (device_bytes order d) (flat_map (device_bytes order) devices) ∙ ap (λ n. 12 + n) (length-devices devices) ∙ sum
 
   -- as many devices as a setup may have, all there
-  counted : (count n size : ℕ) → count ≡ n → 1 ≤ n → n ≤ 8 → size ≡ 8 + 12 * n → (nat_le 1 count && nat_le count 8 && size == 8 + 12 * count) ≡ true
+  counted : (count n size : ℕ) → count ≡ n → 1 ≤ n → n ≤ most_devices → size ≡ 8 + 12 * n → (nat_le 1 count && nat_le count most_devices && size == 8 + 12 * count) ≡ true
   counted count n size e some most whole = grind (arith, nat_tests)
 
-  setup_again : (devices : List DeviceInfo) → 1 ≤ length devices → length devices ≤ 8 → All IsDeviceInfo devices →
+  setup_again : (devices : List DeviceInfo) → 1 ≤ length devices → length devices ≤ most_devices → All IsDeviceInfo devices →
       answer_in order 0 (body_bytes order (setup devices)) ≡ Some (setup devices)
   setup_again devices some most each =
       let n : ℕ = length devices in
@@ -118,7 +118,7 @@ module _ (order : Order) where
       let body : List ℕ = body_bytes order (setup devices) in
       let e : count ≡ n = u32_again order n (omega arith) in
       let whole : length body ≡ 8 + 12 * n = length-append (u16_bytes order 1 ++ u16_bytes order 0 ++ u32_bytes order n) tail ∙ ap (λ k. 8 + k) (length-devices devices) in
-      ap_2 (λ a b. if a == 1 && b == 0 && nat_le 1 count && nat_le count 8 && length body == 8 + 12 * count then option_map setup (devices_in order count tail) else None) (u16_again order 1 (omega arith)) (u16_again order 0 (omega arith))
+      ap_2 (λ a b. if a == 1 && b == 0 && nat_le 1 count && nat_le count most_devices && length body == 8 + 12 * count then option_map setup (devices_in order count tail) else None) (u16_again order 1 (omega arith)) (u16_again order 0 (omega arith))
       ∙ ap (λ b. if b then option_map setup (devices_in order count tail) else None) (counted count n (length body) e some most whole)
       ∙ ap (λ k. option_map setup (devices_in order k tail)) e
       ∙ ap (option_map setup) (devices_again devices each)

@@ -3,6 +3,7 @@ use Rattle.std.proofs.Common.{◌≡◌, ◌<◌, ◌≤◌, ◌+◌, ◌-◌, �
 use Rattle.std.specs.Prelude.{Some, None, if◌then◌else◌, slice_range}
 use Rattle.std.proofs.lemmas.Bool.{eq-eqb}
 use Rattle.std.proofs.lemmas.List.{length-append}
+use Rattle.af_limits.specs.Limits.{most_words, longest_play}
 use Rattle.af_wire.specs.declared.front.Front.TheVariants.{Frame}
 use Rattle.af_wire.specs.declared.order.Order.{Order}
 use Rattle.af_wire.specs.Front.{frame_front, frame_with}
@@ -12,7 +13,6 @@ use Rattle.af_request.specs.Asked.{Asked, no_op, get_time, create_ac, change_ac,
 use Rattle.af_request.specs.Fields.{flag_byte, words_for, padded}
 use Rattle.af_request.specs.Requests.{row, asked_by, asked_in, request_bytes, front, IsOneRequest, IsWritable}
 use Rattle.af_request.proofs.FieldRoundTrips.{ap_2, ap_3, length-padded, take-padded}
-use Rattle.af_sample.specs.Sizes.{longest_play}
 
 module _ (order : Order) where
   -- a count of samples that a frame has room for is below 2^32
@@ -71,11 +71,11 @@ module _ (order : Order) where
   request_again (query_phone device) fits = refl
 
   -- so many words, all there
-  framed_with : (words there size : ℕ) → 0 < words → words ≤ 4096 → size ≡ 4 * words → 4 * words ≤ there → frame_with words there ≡ Frame size
+  framed_with : (words there size : ℕ) → 0 < words → words ≤ most_words → size ≡ 4 * words → 4 * words ≤ there → frame_with words there ≡ Frame size
   framed_with words there size some most whole room = grind arith
 
   -- a frame of the length that it states, whatever follows it
-  framed : (opcode detail words : ℕ) (body rest : List ℕ) → 0 < words → words ≤ 4096 → length (front order opcode detail words ++ body) ≡ 4 * words →
+  framed : (opcode detail words : ℕ) (body rest : List ℕ) → 0 < words → words ≤ most_words → length (front order opcode detail words ++ body) ≡ 4 * words →
       frame_front order (front order opcode detail words ++ body ++ rest) ≡ Frame (length (front order opcode detail words ++ body))
   framed opcode detail words body rest some most whole =
       let there : ℕ = length (front order opcode detail words ++ body ++ rest) in

@@ -4,6 +4,7 @@ use Rattle.std.proofs.lemmas.Bool.Decides.{nat_tests}
 use Rattle.std.proofs.lemmas.Bool.{and_parts}
 use Rattle.std.specs.Prelude.{All, Some, None, option_map}
 use Rattle.std.specs.declared.option.Option.{Option}
+use Rattle.af_limits.specs.Limits.{most_devices}
 use Rattle.af_wire.specs.declared.order.Order.{Order}
 use Rattle.af_sample.specs.declared.sample_type.SampleType.{SampleType}
 use Rattle.af_sample.specs.SampleTypes.{type_of_code}
@@ -65,16 +66,16 @@ module _ (order : Order) where
       then_stated n (device_in order (take 12 bytes)) (devices_in order n (drop 12 bytes)) devices (device_stated (take 12 bytes)) (devices_stated n (drop 12 bytes)) is
 
   -- the fields of a body's head, as they are tested
-  tested : (n major minor size : ℕ) (b : Bool) → (major == 1 && minor == 0 && nat_le 1 n && nat_le n 8 && size == 8 + 12 * n) ≡ b → b ≡ true → (1 ≤ n) × (n ≤ 8)
+  tested : (n major minor size : ℕ) (b : Bool) → (major == 1 && minor == 0 && nat_le 1 n && nat_le n most_devices && size == 8 + 12 * n) ≡ b → b ≡ true → (1 ≤ n) × (n ≤ most_devices)
   tested n major minor size b is good = (grind (arith, nat_tests), grind (arith, nat_tests))
 
-  body_stated : (n : ℕ) (b : Bool) (o : Option (List DeviceInfo)) (devices : List DeviceInfo) → (b ≡ true → (1 ≤ n) × (n ≤ 8)) → ((ds : List DeviceInfo) → o ≡ Some ds → AreStated n ds) →
+  body_stated : (n : ℕ) (b : Bool) (o : Option (List DeviceInfo)) (devices : List DeviceInfo) → (b ≡ true → (1 ≤ n) × (n ≤ most_devices)) → ((ds : List DeviceInfo) → o ≡ Some ds → AreStated n ds) →
       (if b then option_map setup o else None) ≡ Some (setup devices) → IsReplyTo 0 (setup devices)
   body_stated n true (Some ds) devices few all is =
       let same : ds ≡ devices = cc in
       let s : AreStated n devices = subst (λ (l : List DeviceInfo). AreStated n l) same (all ds refl) in
       let some : 1 ≤ n = (few refl).0 in
-      let most : n ≤ 8 = (few refl).1 in
+      let most : n ≤ most_devices = (few refl).1 in
       let number : length devices ≡ n = s.number in
       (refl, omega arith, omega arith, s.each)
   body_stated n true None devices few all is = cc
@@ -83,5 +84,5 @@ module _ (order : Order) where
   pub setup_stated : (body : List ℕ) (devices : List DeviceInfo) → answer_in order 0 body ≡ Some (setup devices) → IsReplyTo 0 (setup devices)
   setup_stated body devices is =
       let count : ℕ = u32_at order 4 body in
-      let test : Bool = u16_at order 0 body == 1 && u16_at order 2 body == 0 && nat_le 1 count && nat_le count 8 && length body == 8 + 12 * count in
+      let test : Bool = u16_at order 0 body == 1 && u16_at order 2 body == 0 && nat_le 1 count && nat_le count most_devices && length body == 8 + 12 * count in
       body_stated count test (devices_in order count (drop 8 body)) devices (tested count (u16_at order 0 body) (u16_at order 2 body) (length body) test refl) (devices_stated count (drop 8 body)) is

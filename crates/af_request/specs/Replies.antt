@@ -1,6 +1,7 @@
 -- The grammar of replies: which bodies answer what, and how a reply is spelled.
 use Rattle.std.specs.Prelude.{◌≡◌, ◌≤◌, ◌<◌, ◌^◌, ℕ, zero, suc, ◌+◌, ◌*◌, ◌==◌, nat_le, ◌&&◌, if◌then◌else◌, Bool, true, false, ℤ, List, [], ◌∷◌, ◌++◌, All, Option, Some, None, IsTrue, length, take, drop, slice_range, option_map, ⊤}
 use Rattle.std.specs.List.{list_all, list_any, flat_map}
+use Rattle.af_limits.specs.Limits.{most_devices, longest_record}
 use Rattle.af_wire.specs.declared.order.Order.{Order}
 use Rattle.af_wire.specs.Message.{head}
 use Rattle.af_wire.specs.Order.{i16_bytes, u16_bytes, u32_bytes, u32_of}
@@ -13,7 +14,6 @@ use Rattle.af_request.specs.declared.reply.DeviceInfo.{DeviceInfo}
 use Rattle.af_request.specs.declared.reply.Phone.{Phone}
 use Rattle.af_request.specs.Answer.{Answer, setup, plain, time, played, recorded, controls, phone}
 use Rattle.af_request.specs.Fields.{u8_at, u16_at, u32_at, i16_at, flag_byte, words_for, padded}
-use Rattle.af_sample.specs.Sizes.{longest_record}
 
 -- whether all bytes are zero, as padding is
 abbrev pub is_zero : List ℕ → Bool
@@ -51,7 +51,7 @@ devices_in order (suc count) bytes = device_then (device_in order (take 12 bytes
 -- the reply to a setup: version 1.0, and 1 to 8 devices
 abbrev pub setup_in : Order → List ℕ → Option Answer
 setup_in order body = let count = u32_at order 4 body in
-    if u16_at order 0 body == 1 && u16_at order 2 body == 0 && nat_le 1 count && nat_le count 8 && length body == 8 + 12 * count
+    if u16_at order 0 body == 1 && u16_at order 2 body == 0 && nat_le 1 count && nat_le count most_devices && length body == 8 + 12 * count
     then option_map setup (devices_in order count (drop 8 body))
     else None
 
@@ -164,7 +164,7 @@ pub record IsDeviceInfo (d : DeviceInfo) : Type 0 where
 
 -- a reply that a request of an opcode may get
 abbrev pub IsReplyTo : ℕ → Answer → Type 0
-IsReplyTo opcode (setup devices) = (opcode ≡ 0) × (1 ≤ length devices) × (length devices ≤ 8) × All IsDeviceInfo devices
+IsReplyTo opcode (setup devices) = (opcode ≡ 0) × (1 ≤ length devices) × (length devices ≤ most_devices) × All IsDeviceInfo devices
 IsReplyTo opcode plain = IsTrue (is_plain opcode)
 IsReplyTo opcode (time now) = (opcode ≡ 2) × (now < 2 ^ 32)
 IsReplyTo opcode (played now) = (opcode ≡ 6) × (now < 2 ^ 32)

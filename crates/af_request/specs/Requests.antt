@@ -1,13 +1,13 @@
 -- The grammar of requests: which bytes ask what, and how a request is spelled.
 use Rattle.std.specs.Prelude.{◌≡◌, ◌≢◌, ◌≤◌, ◌<◌, ◌^◌, ℕ, ◌+◌, ◌*◌, ◌==◌, if◌then◌else◌, Bool, List, [], ◌∷◌, ◌++◌, Option, Some, None, length, slice_range, bit_and, option_and_then, MatchOption, FitsSigned, ⊤}
 use Rattle.std.specs.Int.{w16}
+use Rattle.af_limits.specs.Limits.{longest_play}
 use Rattle.af_wire.specs.declared.order.Order.{Order}
 use Rattle.af_wire.specs.declared.front.Front.TheVariants.{Frame}
 use Rattle.af_wire.specs.Front.{frame_front}
 use Rattle.af_wire.specs.Order.{i16_bytes, u16_bytes, u32_bytes}
 use Rattle.af_request.specs.Asked.{Asked, no_op, get_time, create_ac, change_ac, free_ac, play_run, record_run, select_events, set_controls, query_controls, hook_switch, query_phone}
 use Rattle.af_request.specs.Fields.{u8_at, u32_at, i16_at, flag_byte, words_for, padded}
-use Rattle.af_sample.specs.Sizes.{longest_play}
 
 -- a row of the grammar, at the bytes of a frame: how many words such a request has, and what it asks
 pub record Row : Type 0 where

@@ -3,6 +3,7 @@
 use Rattle.std.specs.Prelude.{ℕ, zero, suc, ◌+◌, ◌*◌, ◌==◌, ◌&&◌, nat_le, if◌then◌else◌, ℤ, List, [], ◌∷◌, ◌++◌, Option, Some, None, length, take, drop, slice_range, option_and_then, option_map}
 use Rattle.std.specs.Int.{w16, w32, cast_signed, cast_unsigned, from_be_bytes, to_be_bytes}
 use Rattle.std.specs.List.{flat_map}
+use Rattle.af_limits.specs.Limits.{most_devices}
 use Rattle.af_wire.specs.big.{head}
 use Rattle.af_sample.specs.SampleTypes.{code_of, type_of_code}
 use Rattle.af_sample.specs.Gains.{gain_of}
@@ -126,7 +127,7 @@ devices_in (suc count) bytes = device_then (device_in (take 12 bytes)) (devices_
 -- the reply to a setup: version 1.0, and 1 to 8 devices
 abbrev pub setup_in : List ℕ → Option Answer
 setup_in body = let count = u32_at 4 body in
-    if u16_at 0 body == 1 && u16_at 2 body == 0 && nat_le 1 count && nat_le count 8 && length body == 8 + 12 * count
+    if u16_at 0 body == 1 && u16_at 2 body == 0 && nat_le 1 count && nat_le count most_devices && length body == 8 + 12 * count
     then option_map setup (devices_in count (drop 8 body))
     else None
 

@@ -1,4 +1,5 @@
 // What the server replies.
+use af_limits::MOST_DEVICES;
 use af_sample::{Gain, SampleType};
 use af_time::DevTime;
 use arrayvec::ArrayVec;
@@ -32,7 +33,7 @@ impl Default for DeviceInfo {
 }
 
 /// The devices of a server, by rising number.
-pub type Devices = ArrayVec<DeviceInfo, 8>;
+pub type Devices = ArrayVec<DeviceInfo, MOST_DEVICES>;
 
 /// The controls of a device.
 #[derive(Clone, Copy, Debug, PartialEq, Eq)]

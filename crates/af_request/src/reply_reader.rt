@@ -1,5 +1,6 @@
 // Reading the body of a reply: one function for each kind of body.
 ghost use Rattle.std.specs.Prelude.{◌≡◌, ◌≤◌, ◌*◌, length, option_map, slice_index, true};
+ghost use Rattle.af_limits.specs.Limits.{most_devices};
 ghost use Rattle.af_wire.specs.Order.{i16_of};
 ghost use Rattle.af_sample.specs.Channels.{is_channel_count};
 ghost use Rattle.af_sample.specs.Gains.{gain_of};
@@ -160,7 +161,7 @@ fn setup<'a>(order: Order, body: &'a [u8]) -> Option<Reply<'a>>
 
 // What n times 12 bytes of the reply to a setup say of the devices.
 fn devices(order: Order, count: usize, bytes: &[u8]) -> Option<Devices>
-    requires most { count ≤ 8 }
+    requires most { count ≤ most_devices }
     requires whole { length bytes.now ≡ 12 * count }
     ensures { option_map items_of result ≡ devices_in order count bytes.now }
 {

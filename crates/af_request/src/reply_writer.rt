@@ -1,5 +1,6 @@
 // Writing a reply as a message.
 ghost use Rattle.std.specs.Prelude.{◌≡◌, ◌≤◌, ◌+◌, ◌*◌, ◌++◌, drop, length, take};
+ghost use Rattle.af_limits.specs.Limits.{most_devices, longest_record, longest_message};
 ghost use Rattle.af_wire.specs.Message.{head};
 ghost use Rattle.af_wire.specs.MessageFront.{IsOneMessage};
 ghost use Rattle.af_request.specs.Answer.{reply_meaning, recorded, setup};
@@ -7,8 +8,6 @@ ghost use Rattle.af_request.specs.Answer.{controls as controls_answer};
 ghost use Rattle.af_request.specs.Fields.{words_for};
 ghost use Rattle.af_wire.specs.Order.{i16_bytes};
 ghost use Rattle.af_request.specs.Replies.{answer_in, body_bytes, body_words, device_bytes, phone_bytes, reply_bytes, FitsMessage, IsReplyTo};
-ghost use Rattle.af_sample.specs.Sizes.{longest_record};
-ghost use Rattle.af_wire.specs.Sizes.{longest_message};
 
 use crate::put::{put, put_zeros};
 use crate::reply::{Controls, DeviceInfo, Phone, Reply};
@@ -102,7 +101,7 @@ fn put_head(order: Order, out: &mut [u8], opcode: u8, sequence: u16, words: u32)
 
 // The version, the count of the devices, and each of them.
 fn put_devices(order: Order, out: &mut [u8], at: usize, devices: &[DeviceInfo]) -> usize
-    requires most { length devices.now ≤ 8 }
+    requires most { length devices.now ≤ most_devices }
     requires room { at + 104 ≤ length out.old }
     ensures end { result ≡ at + 8 + 12 * length devices.now }
     ensures bytes { take result out.new ≡ take at out.old ++ body_bytes order (setup devices.now) }

@@ -1,11 +1,10 @@
 // Writing a request as a frame.
 ghost use Rattle.std.specs.Prelude.{◌≡◌, ◌≤◌, ◌+◌, ◌*◌, ◌++◌, length, take, slice_index};
+ghost use Rattle.af_limits.specs.Limits.{longest_frame, longest_play};
 ghost use Rattle.af_request.specs.Asked.{request_meaning, play_run, record_run};
 ghost use Rattle.af_request.specs.Fields.{words_for};
 ghost use Rattle.af_wire.specs.Order.{i16_bytes, u32_bytes};
 ghost use Rattle.af_request.specs.Requests.{asked_in, front, request_bytes, FitsFrame, IsOneRequest};
-ghost use Rattle.af_sample.specs.Sizes.{longest_play};
-ghost use Rattle.af_wire.specs.Sizes.{longest_frame};
 
 use crate::Request;
 use crate::put::{put, put_zeros};

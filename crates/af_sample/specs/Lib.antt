@@ -7,5 +7,4 @@ pub mod G711
 pub mod Samples
 pub mod Heard
 pub mod Window
-pub mod Sizes
 pub mod Lanes

@@ -15,6 +15,7 @@ use Rattle.af_world.specs.declared.script.Step.{Step}
 use Rattle.af_world.specs.declared.script.Step.TheVariants as step
 use Rattle.af_world.specs.Outside.{IsStep, IsCapture, IsRoom, spec_has_line, frame_bytes_at}
 use Rattle.std.specs.Result.{result_ok}
+use Rattle.af_limits.specs.Limits.{most_links, longest_tick, longest_send}
 use Rattle.hex.specs.Hex.{decode_of}
 use Rattle.af_script.specs.declared.statement.LineKind.{LineKind}
 use Rattle.af_script.specs.declared.statement.LineKind.TheVariants as kind
@@ -22,7 +23,6 @@ use Rattle.af_script.specs.Words.{number_of, number_within, only_if, then_some, 
 use Rattle.af_script.specs.Statement.{line_kind_of, is_device_kind, type_of, rate_of, channels_stated, behind_channels, line_stated, device_at, device_with, device_of, link_of, device_number, line_number, switch_of, digit_of, with_link, send_of, room_stated, room_of, capture_of, tick_of, switched, dial_of, with_number, fail_hook_of, idle_of, step_of_kind, step_of, is_device_line}
 use Rattle.af_script.specs.Script.{StatedScript, ScriptLine, most_devices, device_lines, with_first, each_says, first_number, with_steps, with_config, stated_by, script_of, entries}
 use Rattle.af_script.specs.Lines.{lines}
-use Rattle.af_world.specs.Sizes.{longest_send}
 
 abbrev some_or : {A : Type 0} → A → Option A → A
 some_or d None = d
@@ -99,12 +99,12 @@ device_from (name ∷ arguments) d e =
     ]) e
 
 -- a step that names a link alone
-with_link_from : (config : List DeviceSpec) (make : ℕ → Step) (arguments : List (List ℕ)) (s : Step) → ((k : ℕ) → k < 32 → IsStep config (make k)) → with_link make arguments ≡ Some s → IsStep config s
+with_link_from : (config : List DeviceSpec) (make : ℕ → Step) (arguments : List (List ℕ)) (s : Step) → ((k : ℕ) → k < most_links → IsStep config (make k)) → with_link make arguments ≡ Some s → IsStep config s
 with_link_from config make [] s fits e = cc e
 with_link_from config make (link ∷ w ∷ ws) s fits e = cc e
 with_link_from config make (link ∷ []) s fits e =
     let a = map_from make (link_of link) s e in
-    let n = number_from 0 31 link a.0 a.1 in
+    let n = number_from 0 last_link link a.0 a.1 in
     subst (IsStep config) a.2 (fits a.0 (omega (arith, n.1)))
 
 size_within : (low high m n : ℕ) → m ≡ n → nat_le low m ≡ true → nat_le m high ≡ true → (low ≤ n) × (n ≤ high)
@@ -124,7 +124,7 @@ send_from config (link ∷ hex ∷ w ∷ ws) s e = cc e
 send_from config (link ∷ hex ∷ []) s e =
     let a = and_then_from (λ k. option_map (step.Send k) (bytes_within 1 longest_send hex)) (link_of link) s e in
     let b = map_from (step.Send a.0) (bytes_within 1 longest_send hex) s a.2 in
-    let n = number_from 0 31 link a.0 a.1 in
+    let n = number_from 0 last_link link a.0 a.1 in
     let size = bytes_from 1 longest_send hex b.0 b.1 in
     subst (IsStep config) b.2 (omega (arith, n.1), size.0, size.1)
 
@@ -145,7 +145,7 @@ room_from config (link ∷ room ∷ w ∷ ws) s e = cc e
 room_from config (link ∷ room ∷ []) s e =
     let a = and_then_from (λ k. option_map (step.Room k) (room_stated room)) (link_of link) s e in
     let b = map_from (step.Room a.0) (room_stated room) s a.2 in
-    let n = number_from 0 31 link a.0 a.1 in
+    let n = number_from 0 last_link link a.0 a.1 in
     subst (IsStep config) b.2 (omega (arith, n.1), room_stated_from room b.0 b.1)
 
 device_number_from : (config : List DeviceSpec) (word : List ℕ) (d : ℕ) → device_number config word ≡ Some d → d < length config
@@ -164,17 +164,17 @@ capture_from size (hex ∷ []) capture e =
     let n = bytes_from size size hex a.0 a.1 in
     subst (IsCapture size) a.2 (omega (arith, n.0, n.1))
 
-tick_is : (config : List DeviceSpec) (d n : ℕ) (captured : Option (List ℕ)) (s : Step) → step.Tick d n captured ≡ s → d < length config → 1 ≤ n → n ≤ 4096 → IsCapture (n * frame_bytes_at config d) captured → IsStep config s
+tick_is : (config : List DeviceSpec) (d n : ℕ) (captured : Option (List ℕ)) (s : Step) → step.Tick d n captured ≡ s → d < length config → 1 ≤ n → n ≤ longest_tick → IsCapture (n * frame_bytes_at config d) captured → IsStep config s
 tick_is config d n captured s e there some few capture = subst (IsStep config) e (there, some, few, capture)
 
 tick_from : (config : List DeviceSpec) (arguments : List (List ℕ)) (s : Step) → tick_of config arguments ≡ Some s → IsStep config s
 tick_from config [] s e = cc e
 tick_from config (device ∷ []) s e = cc e
 tick_from config (device ∷ frames ∷ capture) s e =
-    let a = and_then_from (λ d. option_and_then (λ n. option_map (step.Tick d n) (capture_of (n * frame_bytes_at config d) capture)) (number_within 1 4096 frames)) (device_number config device) s e in
-    let b = and_then_from (λ n. option_map (step.Tick a.0 n) (capture_of (n * frame_bytes_at config a.0) capture)) (number_within 1 4096 frames) s a.2 in
+    let a = and_then_from (λ d. option_and_then (λ n. option_map (step.Tick d n) (capture_of (n * frame_bytes_at config d) capture)) (number_within 1 longest_tick frames)) (device_number config device) s e in
+    let b = and_then_from (λ n. option_map (step.Tick a.0 n) (capture_of (n * frame_bytes_at config a.0) capture)) (number_within 1 longest_tick frames) s a.2 in
     let c = map_from (step.Tick a.0 b.0) (capture_of (b.0 * frame_bytes_at config a.0) capture) s b.2 in
-    let n = number_from 1 4096 frames b.0 b.1 in
+    let n = number_from 1 longest_tick frames b.0 b.1 in
     tick_is config a.0 b.0 c.0 s c.2 (device_number_from config device a.0 a.1) n.0 n.1 (capture_from (b.0 * frame_bytes_at config a.0) capture c.0 c.1)
 
 -- a step that names a device alone

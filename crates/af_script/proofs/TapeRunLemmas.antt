@@ -2,6 +2,7 @@
 use Rattle.std.proofs.Common.{◌≡◌, suc, ◌<◌, Bool, true, false, List, [], ◌∷◌, ◌++◌, length, map, is_some, IfSome, All, refl, sym, ap, ◌∙◌, subst, append_assoc, append-nil, arith}
 use Rattle.std.specs.declared.option.Option.{Option}
 use Rattle.std.specs.declared.option.Option.TheVariants.{None, Some}
+use Rattle.af_limits.specs.Limits.{most_links}
 use Rattle.af_world.specs.declared.happening.Happening.TheVariants.{Woke}
 use Rattle.af_world.specs.declared.happening.Wake.{Wake}
 use Rattle.af_world.specs.declared.script.DeviceSpec.{DeviceSpec}
@@ -39,7 +40,7 @@ pub record Plays (config : List DeviceSpec) (steps : List Step) (kept : Kept) (t
   pub lossless : StateLosesNone state
   pub agree : Agree state tape.outside
   pub lines : lines_of state.devices ≡ map line_of config
-  pub links : length kept.links ≡ 32
+  pub links : length kept.links ≡ most_links
 
 -- a device has a line from the start just where it is stated to
 opening_has_line : (line : Bool) → is_some (opening_line line) ≡ line
@@ -96,7 +97,7 @@ wake_fits config steps kept tape after wake p t all =
     let s = step_taken tape wake after t in
     let whole : steps ≡ p.taken ++ s.step ∷ s.left = p.whole ∙ ap (λ l. p.taken ++ l) s.next in
     let allowed : IsStep config s.step = all_last (IsStep config) p.taken s.left s.step (subst (All (IsStep config)) whole all) in
-    let clients : length tape.outside.clients ≡ 32 = sym (map_length {A = Option ScriptedClient} is_some tape.outside.clients) ∙ ap length p.agree ∙ map_length {A = Option LinkState} is_some (links_of p.state.slots) ∙ ap length p.stands.kept.links ∙ p.links in
+    let clients : length tape.outside.clients ≡ most_links = sym (map_length {A = Option ScriptedClient} is_some tape.outside.clients) ∙ ap length p.agree ∙ map_length {A = Option LinkState} is_some (links_of p.state.slots) ∙ ap length p.stands.kept.links ∙ p.links in
     let fit = step_fits config p.state tape.outside s.step p.agree clients p.lines allowed in
     let same : outline p.state ≡ outline_of kept = ap (λ lines. outline_with lines (links_of p.state.slots)) (same_lines kept.devices p.state.devices p.stands.kept.devices) ∙ ap (λ l. outline_with (kept_lines kept.devices) l) p.stands.kept.links in
     subst (λ o. fits o wake ≡ true) same (subst (λ w. fits (outline p.state) w ≡ true) (sym s.is) fit)

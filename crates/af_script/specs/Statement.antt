@@ -1,5 +1,6 @@
 -- What a line states by its words: a device, or a step.
 use Rattle.std.specs.Prelude.{ℕ, ◌*◌, ◌-◌, ◌^◌, nat_lt, Bool, true, false, List, [], ◌∷◌, length, codes, bytes_eq, Option, Some, None, option_map, option_and_then, if◌then◌else◌}
+use Rattle.af_limits.specs.Limits.{most_links, longest_tick, longest_send}
 use Rattle.af_sample.specs.declared.sample_type.SampleType.{SampleType}
 use Rattle.af_phone.specs.Lines.{is_digit}
 use Rattle.af_phone.specs.declared.line.LineChange.{LineChange}
@@ -12,7 +13,6 @@ use Rattle.af_script.specs.declared.statement.LineKind.{LineKind}
 use Rattle.af_script.specs.declared.statement.LineKind.TheVariants as kind
 pub use Rattle.af_text.specs.Sound.{type_of, rate_of, channels_stated, behind_channels}
 use Rattle.af_script.specs.Words.{number_of, number_within, only_if, bytes_within}
-use Rattle.af_world.specs.Sizes.{longest_send}
 
 -- the kind of a line by its first word
 abbrev pub line_kind_of : List ℕ → Option LineKind
@@ -94,7 +94,7 @@ device_of (name ∷ arguments) = device_of_kind (line_kind_of name) arguments
 
 -- links are numbered from 0 to this
 abbrev pub last_link : ℕ
-last_link = 31
+last_link = most_links - 1
 
 -- the number of a link
 abbrev pub link_of : List ℕ → Option ℕ
@@ -144,7 +144,7 @@ capture_of size _ = None
 -- the step of `tick D N` or `tick D N HEX`
 abbrev pub tick_of : List DeviceSpec → List (List ℕ) → Option Step
 tick_of config (device ∷ frames ∷ capture) =
-    option_and_then (λ d. option_and_then (λ n. option_map (step.Tick d n) (capture_of (n * frame_bytes_at config d) capture)) (number_within 1 4096 frames)) (device_number config device)
+    option_and_then (λ d. option_and_then (λ n. option_map (step.Tick d n) (capture_of (n * frame_bytes_at config d) capture)) (number_within 1 longest_tick frames)) (device_number config device)
 tick_of config _ = None
 
 -- `on` or `off`

@@ -1,5 +1,6 @@
 // A text is read as a script, line by line.
 ghost use Rattle.std.specs.Prelude.{◌≡◌, ◌≤◌, ◌&&◌, ◌⊎◌, ℕ, [], Some, length, All, IfOk, IfErr, option_map, ◌++◌, ◌∷◌, ◌<◌};
+ghost use Rattle.af_limits.specs.Limits.{most_devices, longest_script};
 ghost use Rattle.af_sample.specs.Rates.{IsListedRate};
 ghost use Rattle.af_sample.specs.Channels.{IsChannelCount};
 ghost use Rattle.af_world.specs.Outside.{IsStep};
@@ -11,15 +12,13 @@ ghost use Rattle.af_script.specs.Reading.{with_line, can_take_device};
 
 use crate::statement::{LineKind, device_stated, kind_named, step_stated};
 use crate::{ScriptFault, Steps};
+use af_limits::MOST_DEVICES;
 use af_text::{ByLine, LineFault, next_word, passes_over, read_lines};
 use af_time::OutOfMemory;
 use af_world::{Config, DeviceSpec, Step};
 use arrayvec::ArrayVec;
 use std::alloc::Global;
 use std::marker::Model;
-
-/// How many devices a script may have.
-const MOST_DEVICES: usize = 8;
 
 /// A script: its devices, which are numbered from 0, and its steps, in order.
 #[derive(Drop)]
@@ -29,14 +28,14 @@ pub struct Script {
 }
 
 /// Reads the script that a text is. If the text is none, the fault has the number of its first line that is not
-/// allowed where it stands; want of memory can come in the place of any answer. The text has at most 1048576 bytes.
+/// allowed where it stands; want of memory can come in the place of any answer. The text has at most `LONGEST_SCRIPT` bytes.
 pub fn read_script(alloc: Global, text: &[u8]) -> Result<Script, ScriptFault>
-    requires { length text.now ≤ 1048576 }
+    requires { length text.now ≤ longest_script }
     ensures script { IfOk result (λ s. script_of text.now ≡ Ok (record { config = s.config.items; steps = s.steps })) }
     ensures fault { IfErr result (λ e. IsScriptFault text.now e) }
     ensures found { (n : ℕ) → script_of text.now ≡ Err n →
         (result ≡ Err (ScriptFault.Line n)) ⊎ (result ≡ Err ScriptFault.OutOfMemory) }
-    ensures devices { IfOk result (λ s. (1 ≤ length s.config.items) × (length s.config.items ≤ 8)) }
+    ensures devices { IfOk result (λ s. (1 ≤ length s.config.items) × (length s.config.items ≤ most_devices)) }
     ensures rates { IfOk result (λ s. All (λ device. IsListedRate device.rate) s.config.items) }
     ensures channels { IfOk result (λ s. All (λ device. IsChannelCount device.channels) s.config.items) }
     ensures steps { IfOk result (λ s. All (IsStep s.config.items) s.steps) }
@@ -126,7 +125,7 @@ fn is_further_device(kind: LineKind, config: &Config, steps: &[Step]) -> bool
 
 /// Adds the device that the words behind `device` state, and says whether they state one.
 fn add_device(arguments: &[u8], config: &mut Config) -> bool
-    requires { length config.old.items < 8 }
+    requires { length config.old.items < most_devices }
     ensures { option_map (λ device. config.old.items ++ device ∷ []) (device_with (words arguments.now))
         ≡ then_some result config.new.items }
 {
@@ -147,7 +146,7 @@ fn add_step(
     arguments: &[u8],
     steps: &mut Vec<Step>,
 ) -> Result<bool, OutOfMemory>
-    requires { length config.now ≤ 8 }
+    requires { length config.now ≤ most_devices }
     ensures { IfOk result (λ allowed. option_map (λ step. steps.old.items ++ step ∷ [])
         (step_of_kind config.now (Some kind) (words arguments.now)) ≡ then_some allowed steps.new.items) }
 {

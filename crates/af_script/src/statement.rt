@@ -1,11 +1,13 @@
 // What a line states: a device, or a step.
 ghost use Rattle.std.specs.Prelude.{◌≡◌, ◌≤◌, IfOk, length};
+ghost use Rattle.af_limits.specs.Limits.{most_devices};
 ghost use Rattle.af_world.specs.Outside.{frame_bytes_at, spec_has_line};
 ghost use Rattle.af_script.specs.Lines.{words};
 ghost use Rattle.af_script.specs.Words.{bytes_within};
 ghost use Rattle.af_script.specs.Statement.{line_kind_of, line_stated, device_with, device_number, line_number, link_of, switch_of, digit_of, open_of, send_of, end_of, room_stated, room_of, capture_of, tick_of, ring_of, loop_of, dial_of, fail_read_of, fail_write_of, fail_capture_of, fail_emit_of, fail_hook_of, idle_of, step_of_kind};
 
 use af_io::Bytes;
+use af_limits::{LONGEST_SEND, LONGEST_TICK, MOST_LINKS};
 use af_phone::{LineChange, is_digit};
 use af_text::{
     channel_count, is_word, listed_rate, next_word, number, number_between, one_word, sample_type,
@@ -17,7 +19,7 @@ use hex::FromHexError;
 use std::alloc::Global;
 
 /// Links are numbered from 0 to this.
-const LAST_LINK: u32 = 31;
+const LAST_LINK: u32 = MOST_LINKS as u32 - 1;
 
 /// What the first word of a line says that the line is.
 #[derive(Clone, Copy, Debug, PartialEq, Eq)]
@@ -123,7 +125,7 @@ fn link(word: &[u8]) -> Option<u8>
 
 /// The number of one of these devices.
 fn device(config: &[DeviceSpec], word: &[u8]) -> Option<u8>
-    requires { length config.now ≤ 8 }
+    requires { length config.now ≤ most_devices }
     ensures { result ≡ device_number config.now word.now }
 {
     let number = number(word)?;
@@ -136,7 +138,7 @@ fn device(config: &[DeviceSpec], word: &[u8]) -> Option<u8>
 
 /// The number of one of these devices that has a line.
 fn line(config: &[DeviceSpec], word: &[u8]) -> Option<u8>
-    requires { length config.now ≤ 8 }
+    requires { length config.now ≤ most_devices }
     ensures { result ≡ line_number config.now word.now }
 {
     let device = device(config, word)?;
@@ -193,9 +195,6 @@ fn open(arguments: &[u8]) -> Option<Step>
     let link = link(one_word(arguments)?)?;
     Some(Step::Open(link))
 }
-
-/// The most bytes of one `send`: as many as one read of a link may take.
-const LONGEST_SEND: usize = 16384;
 
 /// `send K HEX`
 fn send(alloc: Global, arguments: &[u8]) -> Result<Option<Step>, OutOfMemory>
@@ -258,7 +257,7 @@ fn capture(
 
 /// `tick D N` or `tick D N HEX`
 fn tick(alloc: Global, config: &[DeviceSpec], arguments: &[u8]) -> Result<Option<Step>, OutOfMemory>
-    requires { length config.now ≤ 8 }
+    requires { length config.now ≤ most_devices }
     ensures { IfOk result (λ step. step ≡ tick_of config.now (words arguments.now)) }
 {
     let Some((first, rest)) = next_word(arguments) else {
@@ -270,7 +269,7 @@ fn tick(alloc: Global, config: &[DeviceSpec], arguments: &[u8]) -> Result<Option
     let Some(device) = device(config, first) else {
         return Ok(None);
     };
-    let Some(frames) = number_between(1, 4096, second) else {
+    let Some(frames) = number_between(1, LONGEST_TICK, second) else {
         return Ok(None);
     };
     let size = frames as usize * frame_bytes(config, device);
@@ -302,7 +301,7 @@ fn digit(word: &[u8]) -> Option<u8>
 
 /// `ring D on` or `ring D off`
 fn ring(config: &[DeviceSpec], arguments: &[u8]) -> Option<Step>
-    requires { length config.now ≤ 8 }
+    requires { length config.now ≤ most_devices }
     ensures { result ≡ ring_of config.now (words arguments.now) }
 {
     let (first, second) = two_words(arguments)?;
@@ -313,7 +312,7 @@ fn ring(config: &[DeviceSpec], arguments: &[u8]) -> Option<Step>
 
 /// `loop D on` or `loop D off`
 fn current(config: &[DeviceSpec], arguments: &[u8]) -> Option<Step>
-    requires { length config.now ≤ 8 }
+    requires { length config.now ≤ most_devices }
     ensures { result ≡ loop_of config.now (words arguments.now) }
 {
     let (first, second) = two_words(arguments)?;
@@ -324,7 +323,7 @@ fn current(config: &[DeviceSpec], arguments: &[u8]) -> Option<Step>
 
 /// `digit D C`
 fn dial(config: &[DeviceSpec], arguments: &[u8]) -> Option<Step>
-    requires { length config.now ≤ 8 }
+    requires { length config.now ≤ most_devices }
     ensures { result ≡ dial_of config.now (words arguments.now) }
 {
     let (first, second) = two_words(arguments)?;
@@ -351,7 +350,7 @@ fn fail_write(arguments: &[u8]) -> Option<Step>
 
 /// `failcapture D`
 fn fail_capture(config: &[DeviceSpec], arguments: &[u8]) -> Option<Step>
-    requires { length config.now ≤ 8 }
+    requires { length config.now ≤ most_devices }
     ensures { result ≡ fail_capture_of config.now (words arguments.now) }
 {
     let device = device(config, one_word(arguments)?)?;
@@ -360,7 +359,7 @@ fn fail_capture(config: &[DeviceSpec], arguments: &[u8]) -> Option<Step>
 
 /// `failemit D`
 fn fail_emit(config: &[DeviceSpec], arguments: &[u8]) -> Option<Step>
-    requires { length config.now ≤ 8 }
+    requires { length config.now ≤ most_devices }
     ensures { result ≡ fail_emit_of config.now (words arguments.now) }
 {
     let device = device(config, one_word(arguments)?)?;
@@ -369,7 +368,7 @@ fn fail_emit(config: &[DeviceSpec], arguments: &[u8]) -> Option<Step>
 
 /// `failhook D`
 fn fail_hook(config: &[DeviceSpec], arguments: &[u8]) -> Option<Step>
-    requires { length config.now ≤ 8 }
+    requires { length config.now ≤ most_devices }
     ensures { result ≡ fail_hook_of config.now (words arguments.now) }
 {
     let device = line(config, one_word(arguments)?)?;
@@ -393,7 +392,7 @@ pub fn step_stated(
     kind: LineKind,
     arguments: &[u8],
 ) -> Result<Option<Step>, OutOfMemory>
-    requires { length config.now ≤ 8 }
+    requires { length config.now ≤ most_devices }
     ensures { IfOk result (λ step. step ≡ step_of_kind config.now (Some kind) (words arguments.now)) }
 {
     match kind {

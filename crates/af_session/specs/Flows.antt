@@ -1,5 +1,6 @@
 -- The bytes of a link, as two lists.
 use Rattle.std.specs.Prelude.{ℕ, ◌≤◌, List, [], length}
+use Rattle.af_limits.specs.Limits.{most_unread, output_room}
 
 -- what came in and is not used yet, and what is to go out
 pub record Flow : Type 0 where
@@ -15,5 +16,5 @@ no_flow = flow [] []
 
 -- at most 32768 bytes that are not used yet, and at most 65536 that are to go out
 pub record IsFlow (f : Flow) : Type 0 where
-  pub rest : length f.rest ≤ 32768
-  pub pending : length f.pending ≤ 65536
+  pub rest : length f.rest ≤ most_unread
+  pub pending : length f.pending ≤ output_room

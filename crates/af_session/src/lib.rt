@@ -4,5 +4,4 @@
 mod session;
 mod unread;
 
-pub use session::{MOST_PENDING, Session};
-pub use unread::MOST_UNREAD;
+pub use session::Session;

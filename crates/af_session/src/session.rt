@@ -6,16 +6,15 @@
 // it lies.
 ghost use Rattle.std.specs.Prelude.{◌≡◌, ◌+◌, ◌≤◌, [], ◌++◌, length, drop, vec_capacity, IfOk, IfSome};
 ghost use Rattle.std.specs.Borrow.{sem};
+ghost use Rattle.af_limits.specs.Limits.{most_unread, output_room};
 ghost use Rattle.af_session.specs.Flows.{no_flow, IsFlow};
 
 use crate::unread::Unread;
+use af_limits::OUTPUT_ROOM;
 use af_time::OutOfMemory;
 use circular_buffer::HeapCircularBuffer;
 use std::alloc::Global;
 use std::marker::Model;
-
-/// The most bytes that may wait to go out.
-pub const MOST_PENDING: usize = 65536;
 
 /// The bytes of a link. Clauses see two lists: the rest, at most 32768 bytes that came in and are not used yet, and what
 /// is pending, at most 65536 bytes that are to go out. All its memory is taken when it is made.
@@ -31,13 +30,14 @@ pub struct Session {
 
 impl Model for Session {
     ghost use Rattle.std.specs.Prelude.{◌≡◌, ◌≤◌, drop, length, vec_capacity, IfSome};
+    ghost use Rattle.af_limits.specs.Limits.{output_room};
     ghost use Rattle.af_session.specs.Flows.{flow, Flow, IsFlow};
 
     ghost Value = { Flow };
 
     ghost view = { λ s. flow s.input s.output.items };
 
-    ghost invariant = { λ s. IsFlow (flow s.input s.output.items) × (s.output.capacity ≡ 65536) × (65536 ≤ vec_capacity s.piece)
+    ghost invariant = { λ s. IsFlow (flow s.input s.output.items) × (s.output.capacity ≡ output_room) × (output_room ≤ vec_capacity s.piece)
         × IfSome s.gone (λ gone. (gone ≤ length s.piece.items) × (drop gone s.piece.items ≡ s.output.items)) };
 }
 
@@ -49,8 +49,8 @@ impl Session {
         ensures { IfOk result (λ session. session ≡ no_flow) }
     {
         let input = Unread::new(alloc)?;
-        let output = HeapCircularBuffer::with_capacity(alloc, MOST_PENDING)?;
-        let piece = Vec::with_capacity(alloc, MOST_PENDING)?;
+        let output = HeapCircularBuffer::with_capacity(alloc, OUTPUT_ROOM)?;
+        let piece = Vec::with_capacity(alloc, OUTPUT_ROOM)?;
         Ok(Session {
             input,
             output,
@@ -61,7 +61,7 @@ impl Session {
 
     /// Bytes came in, behind those that are not used yet. There has to be room for them.
     pub fn take_in(&mut self, bytes: &[u8])
-        requires { length self.old.rest + length bytes.now ≤ 32768 }
+        requires { length self.old.rest + length bytes.now ≤ most_unread }
         ensures taken { self.new ≡ record self.old { rest = self.old.rest ++ bytes.now } }
         ensures bounds { IsFlow self.new }
     {
@@ -87,7 +87,7 @@ impl Session {
 
     /// More bytes are to go out, behind those that are. There has to be room for them.
     pub fn push_out(&mut self, bytes: &[u8])
-        requires { length self.old.pending + length bytes.now ≤ 65536 }
+        requires { length self.old.pending + length bytes.now ≤ output_room }
         ensures pushed { self.new ≡ record self.old { pending = self.old.pending ++ bytes.now } }
         ensures bounds { IsFlow self.new }
     {

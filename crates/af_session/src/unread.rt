@@ -1,12 +1,11 @@
 // Bytes that come in at the back and are used from the front, with room for 32768 that is taken once.
 ghost use Rattle.std.specs.Prelude.{◌≡◌, ◌+◌, ◌≤◌, [], ◌++◌, length, drop, vec_capacity, IfOk};
+ghost use Rattle.af_limits.specs.Limits.{most_unread};
 
+use af_limits::MOST_UNREAD;
 use af_time::OutOfMemory;
 use std::alloc::Global;
 use std::marker::Model;
-
-/// The most bytes that may have come in and not be used yet.
-pub const MOST_UNREAD: usize = 32768;
 
 #[derive(Drop)]
 pub struct Unread {
@@ -17,12 +16,13 @@ pub struct Unread {
 
 impl Model for Unread {
     ghost use Rattle.std.specs.Prelude.{List, ℕ, ◌≤◌, vec_len, vec_capacity, drop};
+    ghost use Rattle.af_limits.specs.Limits.{most_unread};
 
     ghost Value = { List ℕ };
 
     ghost view = { λ u. drop u.start u.bytes.items };
 
-    ghost invariant = { λ u. (u.start ≤ vec_len u.bytes) × (vec_len u.bytes ≤ 32768) × (32768 ≤ vec_capacity u.bytes) };
+    ghost invariant = { λ u. (u.start ≤ vec_len u.bytes) × (vec_len u.bytes ≤ most_unread) × (most_unread ≤ vec_capacity u.bytes) };
 }
 
 impl Unread {
@@ -35,13 +35,13 @@ impl Unread {
 
     pub fn as_slice(&self) -> &[u8]
         ensures bytes { result.now ≡ self.now }
-        ensures bound { length self.now ≤ 32768 }
+        ensures bound { length self.now ≤ most_unread }
     {
         &self.bytes.as_slice()[self.start..]
     }
 
     pub fn append(&mut self, more: &[u8])
-        requires { length self.old + length more.now ≤ 32768 }
+        requires { length self.old + length more.now ≤ most_unread }
         ensures { self.new ≡ self.old ++ more.now }
     {
         if self.bytes.len() + more.len() > MOST_UNREAD {

@@ -3,7 +3,7 @@ use Rattle.std.proofs.Common.{◌≡◌, ◌≢◌, ℕ, zero, suc, ℤ, ◌+◌
 use Rattle.std.proofs.lemmas.Bool.Decides.{nat_tests}
 use Rattle.std.specs.declared.option.Option.TheVariants.{None, Some}
 use Rattle.std.proofs.Math.Nat.{div-le_self}
-use Rattle.af_sample.specs.Sizes.{longest_play, longest_record}
+use Rattle.af_limits.specs.Limits.{longest_tick, longest_play, longest_record}
 use Rattle.af_wait.specs.declared.Wait.{Wait}
 use Rattle.af_wait.specs.Waits.{without_first}
 use Rattle.af_wait.proofs.WaitLemmas.{passed-link}
@@ -53,7 +53,7 @@ waits_set devices d s s' (k ∷ ks) (w ∷ ws) here now rate channels h =
 
 -- Time goes on
 
-near_later : (channels horizon now n : ℕ) (deferred : Deferred) → 32000 ≤ horizon → n ≤ 4096 → IsShort channels deferred → now < due channels horizon deferred → IsNear horizon now deferred → IsNear horizon (now + n) deferred
+near_later : (channels horizon now n : ℕ) (deferred : Deferred) → 32000 ≤ horizon → n ≤ longest_tick → IsShort channels deferred → now < due channels horizon deferred → IsNear horizon now deferred → IsNear horizon (now + n) deferred
 near_later channels horizon now n (deferred_play quiet start sound preempt) far few short before near =
     let a = near.0 in
     let b = near.1 in
@@ -66,7 +66,7 @@ near_later channels horizon now n (deferred_record context start frames) far few
     let most : frames ≤ longest_record = short.0 in
     (omega arith, omega arith)
 
-wait_passed : (devices : List DeviceState) (d n : ℕ) (s : DeviceState) (captured : List ℤ) (is_dead : Bool) (k : KeptDeferral) (w : Deferral) → slice_get devices d ≡ Some s → n ≤ 4096 → 32000 ≤ s.rate * 4 →
+wait_passed : (devices : List DeviceState) (d n : ℕ) (s : DeviceState) (captured : List ℤ) (is_dead : Bool) (k : KeptDeferral) (w : Deferral) → slice_get devices d ≡ Some s → n ≤ longest_tick → 32000 ≤ s.rate * 4 →
     0 < k.wait.left → StandsForDeferral devices k w → StandsForDeferral (slice_set devices d (later n captured is_dead s)) (kept_passed d n k) w
 wait_passed devices d n s captured is_dead k w here few far some h =
     elim (w.device == d) as (λ b. (w.device == d) ≡ b → StandsForDeferral (slice_set devices d (later n captured is_dead s)) (kept_passed d n k) w) [
@@ -106,7 +106,7 @@ wait_passed devices d n s captured is_dead k w here few far some h =
     ] refl
 
 -- n frames of a device go by
-pub waits_passed : (devices : List DeviceState) (d n : ℕ) (s : DeviceState) (captured : List ℤ) (is_dead : Bool) (ks : List KeptDeferral) (ws : List Deferral) → slice_get devices d ≡ Some s → n ≤ 4096 → 32000 ≤ s.rate * 4 →
+pub waits_passed : (devices : List DeviceState) (d n : ℕ) (s : DeviceState) (captured : List ℤ) (is_dead : Bool) (ks : List KeptDeferral) (ws : List Deferral) → slice_get devices d ≡ Some s → n ≤ longest_tick → 32000 ≤ s.rate * 4 →
     AreLater ks → StandForDeferrals devices ks ws → StandForDeferrals (slice_set devices d (later n captured is_dead s)) (map (kept_passed d n) ks) ws
 waits_passed devices d n s captured is_dead [] [] here few far l h = tt
 waits_passed devices d n s captured is_dead [] (w ∷ ws) here few far l h = absurd h

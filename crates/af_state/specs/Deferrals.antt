@@ -1,6 +1,7 @@
 -- The requests that wait, as the server keeps them.
 use Rattle.std.specs.Prelude.{◌≡◌, ◌≢◌, ℕ, ◌+◌, ◌-◌, ◌*◌, ◌%◌, ◌^◌, ◌<◌, ◌≤◌, ◌==◌, Bool, false, List, [], ◌∷◌, ◌++◌, length, map, filter, not, slice_get, slice_index_or}
 use Rattle.std.specs.declared.option.Option.TheVariants.{Some}
+use Rattle.af_limits.specs.Limits.{longest_play, longest_record}
 use Rattle.af_wait.specs.declared.Wait.{Wait}
 use Rattle.af_wait.specs.Waits.{is_due, is_waiting, passed}
 use Rattle.af_model.specs.State.{DeviceState, Deferred, deferred_play, deferred_record, Deferral}
@@ -10,7 +11,6 @@ use Rattle.af_buffers.specs.PlayBuffer.{frames_within}
 use Rattle.af_state.specs.Kept.{KeptDevice}
 use Rattle.af_sample.specs.Channels.{AreWholeFrames, frame_count}
 use Rattle.af_sample.specs.SampleTypes.{frame_bytes}
-use Rattle.af_sample.specs.Sizes.{longest_play, longest_record}
 
 -- a link that waits: how long it has to, and for what; of the start only the 32-bit word is kept
 pub record KeptDeferral : Type 0 where

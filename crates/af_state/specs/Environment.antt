@@ -1,10 +1,10 @@
 -- A link and its environment, as the server keeps them.
 use Rattle.std.specs.Prelude.{◌≡◌, ◌<◌, ◌≤◌, ℕ, false, IsTrue, List, length, slice_get}
 use Rattle.std.specs.declared.option.Option.TheVariants.{Some}
+use Rattle.af_limits.specs.Limits.{most_links, most_to_send}
 use Rattle.af_model.specs.State.{EnvironmentState, DeviceState, LinkState, OpenLink, open_link}
 use Rattle.af_state.specs.Kept.{KeptDevice, StandForDevices}
 use Rattle.af_state.specs.Deferrals.{OnlyQueues, KeptDeferral, StandForDeferrals, has_waiting}
-use Rattle.af_model.specs.Sizes.{most_to_send}
 
 -- what all links share, as the server keeps it
 pub record KeptEnvironment : Type 0 where
@@ -44,9 +44,9 @@ ChangesLinkIn a f l l' =
 abbrev pub ChangesLink : (OpenLink → OpenLink) → LinkState → LinkState → Type 0
 ChangesLink f l l' = (a : EnvironmentState) → ChangesLinkIn a f l l'
 
--- a link may ask something: it is one of 32, does not wait, and what it has to send leaves room for a reply
+-- a link may ask something: its number is one that a link may have, it does not wait, and what it has to send leaves room for a reply
 pub record MayAsk (k : ℕ) (e : KeptEnvironment) (l : LinkState) : Type 0 where
-  pub number : k < 32
+  pub number : k < most_links
   pub free : has_waiting e.waits k ≡ false
   pub room : length l.pending ≤ most_to_send
 

@@ -2,6 +2,7 @@
 use Rattle.std.specs.Prelude.{◌≡◌, ℕ, ◌+◌, ◌*◌, ◌≤◌, Bool, List, [], ◌∷◌, length, is_some, option_map, slice_get}
 use Rattle.std.specs.declared.option.Option.{Option}
 use Rattle.std.specs.declared.option.Option.TheVariants.{Some}
+use Rattle.af_limits.specs.Limits.{longest_message, most_unread, event_limit}
 use Rattle.af_sample.specs.declared.sample_type.SampleType.{SampleType}
 use Rattle.af_sample.specs.Rates.{IsListedRate}
 use Rattle.af_buffers.specs.PlayBuffer.{Next, Hears}
@@ -12,8 +13,6 @@ use Rattle.af_request.specs.declared.reply.Phone.{Phone}
 use Rattle.af_model.specs.State.{DeviceState, LinkState}
 use Rattle.af_model.specs.Reply.{horizon_of}
 use Rattle.af_model.specs.NoLoss.{LosesNone}
-use Rattle.af_wire.specs.Sizes.{longest_message}
-use Rattle.af_model.specs.Sizes.{event_limit}
 
 -- A device: the frames next from its time on, and the last ones up to then. The time and the channels are those of both.
 pub record KeptDevice : Type 0 where
@@ -63,5 +62,5 @@ kept_info d = record { ty = d.ty; channels = d.next.channels; line = is_some d.l
 -- A link never has more than 32768 bytes unread, nor more to send than 49152 bytes and the reply that is made while no more
 -- than these wait to be sent.
 pub record IsBounded (l : LinkState) : Type 0 where
-  pub rest : length l.rest ≤ 32768
+  pub rest : length l.rest ≤ most_unread
   pub pending : length l.pending ≤ event_limit + longest_message

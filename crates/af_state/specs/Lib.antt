@@ -1,5 +1,4 @@
 pub mod Deferred
-pub mod Sizes
 pub mod Kept
 pub mod Environment
 pub mod Deferrals

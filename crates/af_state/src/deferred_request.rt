@@ -1,15 +1,13 @@
 // A request that waits, with room for the samples of a play that is taken once.
 ghost use Rattle.std.specs.Prelude.{◌≡◌, ◌≤◌, length};
+ghost use Rattle.af_limits.specs.Limits.{longest_play};
 ghost use Rattle.af_state.specs.Deferred.{deferred_as, deferred_of_play, deferred_of_record};
-ghost use Rattle.af_sample.specs.Sizes.{longest_play};
 
 use af_context::Context;
+use af_limits::LONGEST_PLAY;
 use af_time::{DevTime, OutOfMemory};
 use std::alloc::Global;
 use std::marker::Model;
-
-/// The most samples of a play.
-const LONGEST_PLAY: usize = 16368;
 
 /// A play for a device from a time on, with its sound. One that is quiet is not replied to.
 #[derive(Clone, Copy, Debug)]
@@ -49,7 +47,7 @@ impl Model for DeferredRequest {
     ghost use Rattle.std.specs.Prelude.{◌≤◌, vec_capacity, vec_len};
     ghost use Rattle.af_model.specs.State.{Deferred};
     ghost use Rattle.af_state.specs.Deferred.{deferred_as};
-    ghost use Rattle.af_sample.specs.Sizes.{longest_play};
+    ghost use Rattle.af_limits.specs.Limits.{longest_play};
 
     ghost Value = { Deferred };
 

@@ -1,23 +1,24 @@
 // The requests that wait, each with what it will do.
 // How they lie: `order` lists who waits, oldest first, each with its device and the frames that are left; `deferred` has a place for
-// each of 32 links, by number: the request, and room for the samples of a play, all taken once. A link that begins to wait fills
+// each link, by number: the request, and room for the samples of a play, all taken once. A link that begins to wait fills
 // its place and goes to the end of the list. One that ends leaves the list alone: no sample is moved, and what stands in its
 // place means nothing any more. Contracts see one list: each that waits, in order, joined with what its place holds.
 ghost use Rattle.std.specs.Prelude.{◌≡◌, ◌<◌, ◌≤◌, false, [], ◌∷◌, ◌++◌, length, map, find, option_map, IfOk, IfSome};
 ghost use Rattle.std.specs.List.{All};
+ghost use Rattle.af_limits.specs.Limits.{most_links, longest_play};
 ghost use Rattle.af_wait.specs.Waits.{without_first};
 ghost use Rattle.af_state.specs.Deferred.{deferred_of_play, deferred_of_record};
 ghost use Rattle.af_state.specs.Deferrals.{has_waiting, kept_due, kept_passed, kept_without, waiting, waits_of};
-ghost use Rattle.af_sample.specs.Sizes.{longest_play};
 
 use crate::deferred_request::{DeferredRequest, Play, Record};
+use af_limits::MOST_LINKS;
 use af_time::OutOfMemory;
 use af_wait::Waiting;
 use std::alloc::Global;
 use std::marker::Model;
 
 /// The requests that wait, in the order in which they began to. All their memory is taken here: there is room for one request of
-/// each of 32 links.
+/// each link.
 #[derive(Drop)]
 pub struct DeferredRequests {
     order: Waiting,
@@ -27,20 +28,21 @@ pub struct DeferredRequests {
 
 impl Model for DeferredRequests {
     ghost use Rattle.std.specs.Prelude.{◌≡◌, List, length, map};
+    ghost use Rattle.af_limits.specs.Limits.{most_links};
     ghost use Rattle.af_state.specs.Deferrals.{kept_deferral, KeptDeferral};
 
     ghost Value = { List KeptDeferral };
 
     ghost view = { λ a. map (kept_deferral a.deferred.items) a.order };
 
-    ghost invariant = { λ a. length a.deferred.items ≡ 32 };
+    ghost invariant = { λ a. length a.deferred.items ≡ most_links };
 }
 
-// Room for the requests of 32 links.
+// Room for a request of each link.
 fn make_room(alloc: Global) -> Result<Vec<DeferredRequest>, OutOfMemory>
-    ensures { IfOk result (λ room. length room.items ≡ 32) }
+    ensures { IfOk result (λ room. length room.items ≡ most_links) }
 {
-    let mut room = Vec::with_capacity(alloc, 32)?;
+    let mut room = Vec::with_capacity(alloc, MOST_LINKS)?;
     for _number in 0..32u8 {
         let deferred = DeferredRequest::new(alloc)?;
         room.push(deferred)?;
@@ -81,9 +83,9 @@ impl DeferredRequests {
         &self.order
     }
 
-    /// Link 0..31 begins to wait with a play, until `left` frames of its device have passed, at least 1. It may not wait already.
+    /// A link begins to wait with a play, until `left` frames of its device have passed, at least 1. It may not wait already.
     pub fn begin_play(&mut self, link: u8, left: u32, play: &Play<'_>)
-        requires link { link < 32 }
+        requires link { link < most_links }
         requires apart { has_waiting self.old link ≡ false }
         requires later { 0 < left }
         requires few { length play.now.sound.now ≤ longest_play }
@@ -93,9 +95,9 @@ impl DeferredRequests {
         self.deferred[usize::from(link)].defer_play(play);
     }
 
-    /// Link 0..31 begins to wait with a record, in the same way.
+    /// A link begins to wait with a record, in the same way.
     pub fn begin_record(&mut self, link: u8, left: u32, asked: Record)
-        requires link { link < 32 }
+        requires link { link < most_links }
         requires apart { has_waiting self.old link ≡ false }
         requires later { 0 < left }
         ensures { self.new ≡ self.old ++ waiting link asked.context.device left (deferred_of_record asked) ∷ [] }
@@ -114,14 +116,14 @@ impl DeferredRequests {
     /// The link of the earliest of the requests that wait for a device and are due. None where none is due.
     pub fn first_due(&self, device: u8) -> Option<u8>
         ensures earliest { result ≡ option_map (λ k. k.wait.link) (find (kept_due device) self.now) }
-        ensures bound { IfSome result (λ link. link < 32) }
+        ensures bound { IfSome result (λ link. link < most_links) }
     {
         self.order.first_due(device)
     }
 
     /// The request of a link that waits.
     pub fn deferred(&self, link: u8) -> &DeferredRequest
-        requires { link < 32 }
+        requires { link < most_links }
         ensures { All (λ k. k.wait.link ≡ link → result.now ≡ k.deferred) self.now }
     {
         &self.deferred[usize::from(link)]

@@ -1,5 +1,6 @@
 // A device, as the core keeps it.
 ghost use Rattle.std.specs.Prelude.{◌≡◌, ℕ, ◌*◌, ◌≤◌, length, IfOk, MatchOption, true};
+ghost use Rattle.af_limits.specs.Limits.{longest_tick, longest_play, longest_record};
 ghost use Rattle.af_time.specs.DeviceTime.{unwrap};
 ghost use Rattle.af_sample.specs.SampleTypes.{width_of};
 ghost use Rattle.af_sample.specs.Channels.{AreWholeFrames, IsChannelCount, frame_count};
@@ -12,7 +13,6 @@ ghost use Rattle.af_model.specs.Record.{recorded_bytes};
 ghost use Rattle.af_model.specs.Controls.{through_output_control};
 ghost use Rattle.af_model.specs.Tick.{later, next_sound};
 ghost use Rattle.af_state.specs.Kept.{StandsForDevice, kept_info};
-ghost use Rattle.af_sample.specs.Sizes.{longest_play, longest_record};
 
 use crate::level::level;
 use af_buffers::{PlayBuffer, RecordBuffer};
@@ -202,7 +202,7 @@ impl Device {
     /// behind the output control.
     pub fn pass(&mut self, captured: &mut [i16], sound: &mut [i16])
         requires same { length sound.old ≡ length captured.old }
-        requires few { frame_count self.old.next.channels captured.old ≤ 4096 }
+        requires few { frame_count self.old.next.channels captured.old ≤ longest_tick }
         requires whole { AreWholeFrames self.old.next.channels captured.old }
         ensures stands { (s : DeviceState) → StandsForDevice self.old s →
             StandsForDevice self.new (later (frame_count s.channels captured.old) captured.old s.is_dead s) }

@@ -13,11 +13,11 @@ pub struct Environment {
 
 impl Model for Environment {
     ghost use Rattle.std.specs.Prelude.{◌≤◌, length};
-    ghost use Rattle.af_state.specs.Environment.{KeptEnvironment};
+        ghost use Rattle.af_state.specs.Environment.{KeptEnvironment};
 
     ghost Value = { KeptEnvironment };
 
     ghost view = { λ a. record { devices = a.devices.items; waits = a.waits } };
 
-    ghost invariant = { λ a. length a.devices.items ≤ 8 };
+    ghost invariant = { λ a. length a.devices.items ≤ most_devices };
 }

@@ -6,6 +6,7 @@
 ghost use Rattle.std.specs.Prelude.{◌≡◌, ◌+◌, ◌==◌, ◌≤◌, nat_le, not, [], ◌∷◌, ◌++◌, length, drop, take, slice_set, true, false, IfOk, IfSome, OnOk, OnErr};
 ghost use Rattle.std.specs.declared.option.Option.TheVariants.{Some};
 ghost use Rattle.std.specs.Borrow.{sem};
+ghost use Rattle.af_limits.specs.Limits.{longest_record, longest_message, most_unread, event_limit};
 ghost use Rattle.af_context.specs.Contexts.{context_of, creation, is_in_use, reference, with_changed, with_settings, without_context};
 ghost use Rattle.af_request.specs.Answer.{recorded, reply_meaning};
 ghost use Rattle.af_request.specs.Replies.{FitsMessage};
@@ -21,12 +22,10 @@ ghost use Rattle.af_model.specs.More.{wants_turn};
 ghost use Rattle.af_model.specs.Turn.{wants_read, wants_write, close_due, ready, sent, writable};
 ghost use Rattle.af_state.specs.Deferrals.{has_waiting};
 ghost use Rattle.af_state.specs.Kept.{IsBounded};
-ghost use Rattle.af_sample.specs.Sizes.{longest_record};
-ghost use Rattle.af_wire.specs.Sizes.{longest_message};
-ghost use Rattle.af_model.specs.Sizes.{event_limit};
 
 use crate::DeferredRequests;
 use af_context::{Context, ContextFault, Contexts};
+use af_limits::{EVENT_LIMIT, MOST_DEVICES, MOST_TO_SEND};
 use af_model::Refusal;
 use af_phone::event_for;
 use af_request::{Reply, write_recorded, write_reply};
@@ -37,15 +36,6 @@ use af_wire::{Event, EventKind, Order, write_error, write_event};
 use af_world::Why;
 use std::alloc::Global;
 use std::marker::Model;
-
-/// The most devices.
-const DEVICES: usize = 8;
-
-/// A link with more than this to send has no more of its requests performed until some of it is sent.
-const MOST_TO_SEND: usize = 16384;
-
-/// A link that would have more than this to send with one more event is dropped.
-const EVENT_LIMIT: usize = 49152;
 
 /// The length of an event.
 const EVENT: usize = 20;
@@ -62,16 +52,17 @@ pub struct ServedLink {
     sequence: u16,
     contexts: Contexts,
     // the masks of the events that it selects, by the numbers of the devices
-    selections: [u32; DEVICES],
+    selections: [u32; MOST_DEVICES],
 }
 
 impl Model for ServedLink {
     ghost use Rattle.std.specs.Prelude.{◌≤◌, length};
+    ghost use Rattle.af_limits.specs.Limits.{most_pending};
     ghost use Rattle.af_model.specs.State.{LinkState};
 
     ghost Value = { LinkState };
 
-    ghost invariant = { λ a. length a.session.pending ≤ 65168 };
+    ghost invariant = { λ a. length a.session.pending ≤ most_pending };
 
     ghost view = { λ a. record { is_set_up = a.is_set_up; order = a.order; rest = a.session.rest; pending = a.session.pending; is_ready = a.is_ready; is_stuck = a.is_stuck; closing = a.closing; sequence = a.sequence; contexts = a.contexts; selections = a.selections } };
 }
@@ -92,7 +83,7 @@ impl ServedLink {
             closing: None,
             sequence: 0,
             contexts: Contexts::new(),
-            selections: [0; DEVICES],
+            selections: [0; MOST_DEVICES],
         })
     }
 
@@ -105,7 +96,7 @@ impl ServedLink {
     /// The input that was not read yet.
     pub fn rest(&self) -> &[u8]
         ensures bytes { result.now ≡ self.now.rest }
-        ensures bound { length self.now.rest ≤ 32768 }
+        ensures bound { length self.now.rest ≤ most_unread }
     {
         self.session.rest()
     }
@@ -171,7 +162,7 @@ impl ServedLink {
     {
         self.session.drop_front(self.session.rest().len());
         self.closing = Some(cause);
-        self.selections = [0; DEVICES];
+        self.selections = [0; MOST_DEVICES];
     }
 
     /// The order of the bytes of its numbers: Big before its setup.
@@ -204,7 +195,7 @@ impl ServedLink {
 
     /// More input comes.
     pub fn take_in(&mut self, bytes: &[u8])
-        requires { length self.old.rest + length bytes.now ≤ 32768 }
+        requires { length self.old.rest + length bytes.now ≤ most_unread }
         ensures { self.new ≡ record self.old { rest = self.old.rest ++ bytes.now } }
     {
         self.session.take_in(bytes);
@@ -329,7 +320,7 @@ impl ServedLink {
     pub fn select(&mut self, device: u8, mask: u32)
         ensures { self.new ≡ record self.old { selections = slice_set self.old.selections device mask } }
     {
-        if usize::from(device) < DEVICES {
+        if usize::from(device) < MOST_DEVICES {
             self.selections[usize::from(device)] = mask;
         }
     }
@@ -427,6 +418,6 @@ impl ServedLink {
         self.closing = None;
         self.sequence = 0;
         self.contexts.clear();
-        self.selections = [0; DEVICES];
+        self.selections = [0; MOST_DEVICES];
     }
 }

@@ -1,18 +1,9 @@
 // Room for what a turn has in hand. It is taken once.
 
+use af_limits::{LONGEST_CAPTURE, LONGEST_FRAME, LONGEST_MESSAGE};
 use af_time::OutOfMemory;
 use std::alloc::Global;
 use std::marker::Model;
-
-/// The most that is captured of a device at once, in bytes: 4096 frames of two samples of 32 bits. No more is read of a link at
-/// once.
-const LONGEST_CAPTURE: usize = 32768;
-
-/// The longest frame, in bytes. No request has more samples, nor more bytes of them.
-const LONGEST_FRAME: usize = 16384;
-
-/// The longest message, in bytes.
-const LONGEST_MESSAGE: usize = 16016;
 
 /// Room for the samples of a request or a tick, for bytes of samples that are sent, and for a message.
 #[derive(Drop)]
@@ -24,7 +15,7 @@ pub struct Work {
 
 impl Model for Work {
     ghost use Rattle.std.specs.Prelude.{◌≡◌, length};
-    ghost use Rattle.af_wire.specs.Sizes.{longest_frame, longest_message};
+    ghost use Rattle.af_limits.specs.Limits.{longest_frame, longest_message};
 
     // what stands there means nothing from one use to the next
     ghost Value = { Unit {0} };
@@ -43,7 +34,7 @@ pub struct Scratch {
 
 impl Model for Scratch {
     ghost use Rattle.std.specs.Prelude.{◌≡◌, length};
-    ghost use Rattle.af_state.specs.Sizes.{longest_capture};
+    ghost use Rattle.af_limits.specs.Limits.{longest_capture};
 
     ghost Value = { Unit {0} };
 

@@ -1,5 +1,6 @@
 // A text is read line by line.
 ghost use Rattle.std.specs.Prelude.{◌≡◌, ◌≤◌, ◌⊎◌, ℕ, length, false, IfOk, IfErr};
+ghost use Rattle.af_limits.specs.Limits.{longest_script};
 ghost use Rattle.af_text.specs.Lines.{lines};
 ghost use Rattle.af_text.specs.Reading.{MeetsFault, read_on};
 
@@ -42,9 +43,9 @@ pub trait ByLine {
 }
 
 /// Reads a text, line by line. Where a line is not allowed, the fault has the number of the first such line; want of memory can
-/// come in the place of any answer. The text has at most 1048576 bytes.
+/// come in the place of any answer. The text has at most `LONGEST_SCRIPT` bytes.
 pub fn read_lines<R: ByLine>(alloc: Global, text: &[u8], read: &mut R) -> Result<(), LineFault>
-    requires { length text.now ≤ 1048576 }
+    requires { length text.now ≤ longest_script }
     ensures whole { IfOk result (λ done. read_on R.with_line R.wants read.old 1 (lines text.now) ≡ Ok read.new) }
     ensures done { IfOk result (λ done. R.wants read.new ≡ false) }
     ensures fault { IfErr result (λ e. MeetsFault (read_on R.with_line R.wants read.old 1 (lines text.now)) e) }

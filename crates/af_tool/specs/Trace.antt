@@ -3,6 +3,7 @@
 use Rattle.std.specs.Prelude.{ℕ, List, [], ◌∷◌, ◌++◌, length, slice_get, Result, Ok, Err}
 use Rattle.std.specs.declared.option.Option.{Option}
 use Rattle.std.specs.declared.option.Option.TheVariants.{None, Some}
+use Rattle.af_limits.specs.Limits.{most_events}
 use Rattle.af_request.specs.declared.reply.DeviceInfo.{DeviceInfo}
 use Rattle.af_time.specs.declared.DevTime.{DevTime}
 use Rattle.af_request.specs.Asked.{Asked, get_time}
@@ -68,7 +69,7 @@ answered_by (Err fault) w next = ends (refused fault)
 
 -- the message that a client awaits next
 abbrev pub next_message : ClientState → Awaited
-next_message w = awaited w.order 4096 w.ring w.input
+next_message w = awaited w.order most_events w.ring w.input
 
 -- a client that has sent a request and taken its answer
 abbrev pub after_reply : ClientState → ClientState

@@ -6,21 +6,22 @@ use Rattle.std.proofs.lemmas.Bool.Decides.{nat_tests}
 use Rattle.std.proofs.lemmas.List.{get_or_past, get_or-replicate, get_or-set_other, get_or-set_same, length-replicate, length-set}
 use Rattle.std.proofs.lemmas.List.Folds.{list_any-append}
 use Rattle.std.proofs.lemmas.Map.Views.{any-filter_same}
+use Rattle.af_limits.specs.Limits.{most_links}
 use Rattle.af_wait.specs.declared.Wait.{Wait}
 use Rattle.af_wait.specs.Waits.{is_waiting, passed, without_link, AreFlags}
 use Rattle.af_wait.proofs.WaitLemmas.{passed-link}
 
 -- nothing waits, and no flag is set
-pub AreFlags-none : AreFlags (replicate 32 false) []
+pub AreFlags-none : AreFlags (replicate most_links false) []
 AreFlags-none = record {
-  count = length-replicate 32 false;
-  fits = λ k. elim (cases_lt k 32) [ inl low ↦ get_or-replicate 32 k false false low | inr past ↦ get_or_past (replicate 32 false) k false past ];
+  count = length-replicate most_links false;
+  fits = λ k. elim (cases_lt k most_links) [ inl low ↦ get_or-replicate most_links k false false low | inr past ↦ get_or_past (replicate most_links false) k false past ];
 }
 
 waiting-push : (ws : List Wait) (w : Wait) (k : ℕ) → is_waiting (ws ++ w ∷ []) k ≡ (is_waiting ws k || ((w.link == k) || false))
 waiting-push ws w k = list_any-append (λ x. x.link == k) ws (w ∷ [])
 
-flag-push : (flags : List Bool) (ws : List Wait) (w : Wait) → AreFlags flags ws → w.link < 32 → (k : ℕ) → get_or (set flags w.link true) k false ≡ is_waiting (ws ++ w ∷ []) k
+flag-push : (flags : List Bool) (ws : List Wait) (w : Wait) → AreFlags flags ws → w.link < most_links → (k : ℕ) → get_or (set flags w.link true) k false ≡ is_waiting (ws ++ w ∷ []) k
 flag-push flags ws w h low k =
     let count = h.count in
     elim (cases_eq k w.link) [
@@ -35,7 +36,7 @@ flag-push flags ws w h low k =
     ]
 
 -- one wait more sets the flag of its link
-pub AreFlags-push : (flags : List Bool) (ws : List Wait) (w : Wait) → AreFlags flags ws → w.link < 32 → AreFlags (set flags w.link true) (ws ++ w ∷ [])
+pub AreFlags-push : (flags : List Bool) (ws : List Wait) (w : Wait) → AreFlags flags ws → w.link < most_links → AreFlags (set flags w.link true) (ws ++ w ∷ [])
 AreFlags-push flags ws w h low = record {
   count = length-set flags w.link true ∙ h.count;
   fits = flag-push flags ws w h low;

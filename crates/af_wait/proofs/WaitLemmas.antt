@@ -8,6 +8,7 @@ use Rattle.std.proofs.lemmas.List.Elements.{All-filter, All-head, All-map, All-p
 use Rattle.std.proofs.lemmas.List.Quantifiers.{all_pairs_push}
 use Rattle.std.proofs.lemmas.Map.Keys.{IsDistinct-from_apart}
 use Rattle.std.proofs.lemmas.Map.Steps.{length-le_from_distinct_below}
+use Rattle.af_limits.specs.Limits.{most_links}
 use Rattle.af_wait.specs.declared.Wait.{Wait}
 use Rattle.af_wait.specs.Waits.{is_waiting, passed, without_first, without_link, without_taken, AreWaits}
 
@@ -18,17 +19,17 @@ apart ws link free k d low same =
     absurd cc
 
 -- one wait more, of a link that does not wait
-pub AreWaits-push : (ws : List Wait) (w : Wait) → AreWaits ws → w.link < 32 → is_waiting ws w.link ≡ false → AreWaits (ws ++ w ∷ [])
+pub AreWaits-push : (ws : List Wait) (w : Wait) → AreWaits ws → w.link < most_links → is_waiting ws w.link ≡ false → AreWaits (ws ++ w ∷ [])
 AreWaits-push ws w h low free = record {
   distinct = all_pairs_push (λ a b. a.link ≢ b.link) ws w h.distinct (apart ws w.link free);
-  links = All-push (λ x. x.link < 32) ws w h.links low;
+  links = All-push (λ x. x.link < most_links) ws w h.links low;
 }
 
-any_below : (ws : List Wait) (q : ℕ) → All (λ w. w.link < 32) ws → list_any (eqb q) (map (λ w. w.link) ws) ≡ true → q < 32
+any_below : (ws : List Wait) (q : ℕ) → All (λ w. w.link < most_links) ws → list_any (eqb q) (map (λ w. w.link) ws) ≡ true → q < most_links
 any_below [] q h e = absurd cc
 any_below (w ∷ ws) q h e =
-    let here : w.link < 32 = h 0 w (omega arith) in
-    elim (eqb q w.link) as (λ b. eqb q w.link ≡ b → (b || list_any (eqb q) (map (λ x. x.link) ws)) ≡ true → q < 32) [
+    let here : w.link < most_links = h 0 w (omega arith) in
+    elim (eqb q w.link) as (λ b. eqb q w.link ≡ b → (b || list_any (eqb q) (map (λ x. x.link) ws)) ≡ true → q < most_links) [
       | true ↦ λ t f. grind (arith, nat_tests)
       | false ↦ λ t f. any_below ws q (λ k d low. h (suc k) d (omega arith)) f
     ] refl e
@@ -39,17 +40,17 @@ link_apart ws i j d h below low same =
     h.distinct i j x below low
     (sym (get_or-map (λ w. w.link) ws i x d (omega arith)) ∙ same ∙ get_or-map (λ w. w.link) ws j x d low)
 
--- links below 32 of which each waits once are 32 at most
-length-AreWaits : (ws : List Wait) → AreWaits ws → length ws ≤ 32
+-- links of which each waits once are no more than there may be
+length-AreWaits : (ws : List Wait) → AreWaits ws → length ws ≤ most_links
 length-AreWaits ws h =
     let links : List ℕ = map (λ w. w.link) ws in
     let n : length links ≡ length ws = length-map ws (λ w. w.link) in
     let distinct = IsDistinct-from_apart eqb links (λ i j d below low.
     let ne : get_or links i d ≢ get_or links j d = link_apart ws i j d h below (omega arith) in grind (arith, nat_tests)) in
-    let m = length-le_from_distinct_below links 32 distinct (λ q e. any_below ws q h.links e) in omega arith
+    let m = length-le_from_distinct_below links most_links distinct (λ q e. any_below ws q h.links e) in omega arith
 
 -- so there is room for a link that does not wait
-pub room-AreWaits : (ws : List Wait) (w : Wait) → AreWaits ws → w.link < 32 → is_waiting ws w.link ≡ false → length ws < 32
+pub room-AreWaits : (ws : List Wait) (w : Wait) → AreWaits ws → w.link < most_links → is_waiting ws w.link ≡ false → length ws < most_links
 room-AreWaits ws w h low free =
     let m = length-AreWaits (ws ++ w ∷ []) (AreWaits-push ws w h low free) in
     let n : length (ws ++ w ∷ []) ≡ length ws + 1 = length_push ws w in omega arith
@@ -73,7 +74,7 @@ filter_pairs p (w ∷ ws) h =
 pub AreWaits-without_link : (ws : List Wait) (link : ℕ) → AreWaits ws → AreWaits (without_link ws link)
 AreWaits-without_link ws link h = record {
   distinct = filter_pairs (λ w. not (w.link == link)) ws h.distinct;
-  links = All-filter (λ w. not (w.link == link)) (λ w. w.link < 32) ws h.links;
+  links = All-filter (λ w. not (w.link == link)) (λ w. w.link < most_links) ws h.links;
 }
 
 keep_others : (ws : List Wait) (link : ℕ) → All (λ w. link ≢ w.link) ws → without_link ws link ≡ ws
@@ -125,12 +126,12 @@ AreWaits-passed ws device n h = record {
       let k : length (map (passed device n) ws) ≡ length ws = length-map ws (passed device n) in
       h.distinct i j d below (omega arith)
       (sym (link_at ws device n i d (omega arith)) ∙ same ∙ link_at ws device n j d (omega arith));
-  links = All-map (λ w. w.link < 32) (passed device n) ws (All-weaker (λ w. w.link < 32) (λ w. (passed device n w).link < 32) (λ w low. subst (λ k. k < 32) (sym (passed-link device n w)) low) ws h.links);
+  links = All-map (λ w. w.link < most_links) (passed device n) ws (All-weaker (λ w. w.link < most_links) (λ w. (passed device n w).link < most_links) (λ w low. subst (λ k. k < most_links) (sym (passed-link device n w)) low) ws h.links);
 }
 
 -- the link of one that is found is a link's number
-pub find-below : (p : Wait → Bool) (ws : List Wait) → All (λ w. w.link < 32) ws → IfSome (option_map (λ w. w.link) (find p ws)) (λ link. link < 32)
+pub find-below : (p : Wait → Bool) (ws : List Wait) → All (λ w. w.link < most_links) ws → IfSome (option_map (λ w. w.link) (find p ws)) (λ link. link < most_links)
 find-below p [] h = tt
 find-below p (w ∷ ws) h =
-    elim (p w) as (λ b. IfSome (option_map (λ (w : Wait). w.link) (cond b (Some w) (find p ws))) (λ link. link < 32))
-    [ true ↦ h 0 w (omega arith) | false ↦ find-below p ws (All-tail (λ w. w.link < 32) w ws h) ]
+    elim (p w) as (λ b. IfSome (option_map (λ (w : Wait). w.link) (cond b (Some w) (find p ws))) (λ link. link < most_links))
+    [ true ↦ h 0 w (omega arith) | false ↦ find-below p ws (All-tail (λ w. w.link < most_links) w ws h) ]

@@ -1,20 +1,21 @@
 -- The requests that wait: a list in the order in which they began to wait, in which each link stands once.
 use Rattle.std.specs.Prelude.{◌≡◌, ◌≢◌, ℕ, ◌-◌, ◌==◌, ◌<◌, Bool, false, not, ◌&&◌, if◌then◌else◌, Option, Some, None, List, [], ◌∷◌, filter, find, get_or, length, AllPairs}
 use Rattle.std.specs.List.{list_any, All}
+use Rattle.af_limits.specs.Limits.{most_links}
 use Rattle.af_wait.specs.declared.Wait.{Wait}
 
 -- whether a link waits
 abbrev pub is_waiting : List Wait → ℕ → Bool
 is_waiting waits link = list_any (λ w. w.link == link) waits
 
--- each link waits once at most, and links are numbered 0..31
+-- each link waits once at most, and has a number that a link may have
 pub record AreWaits (waits : List Wait) : Type 0 where
   pub distinct : AllPairs (λ a b. a.link ≢ b.link) waits
-  pub links : All (λ w. w.link < 32) waits
+  pub links : All (λ w. w.link < most_links) waits
 
--- of each of 32 links whether it waits, and no link beyond them does
+-- of each number that a link may have, whether it waits; no link beyond them does
 pub record AreFlags (flags : List Bool) (waits : List Wait) : Type 0 where
-  pub count : length flags ≡ 32
+  pub count : length flags ≡ most_links
   pub fits : (link : ℕ) → get_or flags link false ≡ is_waiting waits link
 
 -- a wait when n frames of a device have passed: one for another device stays, and no less than 0 frames are left

@@ -8,7 +8,7 @@ pub use list::Waiting;
 /// A request that waits. A link has at most one.
 #[derive(Clone, Copy, Debug, Default, PartialEq, Eq)]
 pub struct Wait {
-    /// The link whose request it is, 0..31.
+    /// The link whose request it is.
     pub link: u8,
     /// The device whose time it waits for.
     pub device: u8,

@@ -1,18 +1,20 @@
 // The list of requests that wait.
 ghost use Rattle.std.specs.Prelude.{◌≡◌, ◌↔◌, ◌<◌, false, [], ◌∷◌, ◌++◌, length, map, option_map, slice_set, IfSome, IsNone};
 ghost use Rattle.std.specs.List.{All};
+ghost use Rattle.af_limits.specs.Limits.{most_links};
 ghost use Rattle.af_wait.specs.Waits.{first_due, is_due, is_waiting, passed, without_first, without_link, without_taken, AreWaits};
 
 use crate::Wait;
+use af_limits::MOST_LINKS;
 use arrayvec::ArrayVec;
 use std::marker::Model;
 
 /// The requests that wait, in the order in which they began to. Clauses see the list of them.
 #[derive(Drop)]
 pub struct Waiting {
-    waits: ArrayVec<Wait, 32>,
+    waits: ArrayVec<Wait, MOST_LINKS>,
     // of each link whether it waits, since that is asked of every link in every turn
-    is_waiting: [bool; 32],
+    is_waiting: [bool; MOST_LINKS],
 }
 
 impl Model for Waiting {
@@ -34,7 +36,7 @@ impl Waiting {
     {
         Waiting {
             waits: ArrayVec::new(),
-            is_waiting: [false; 32],
+            is_waiting: [false; MOST_LINKS],
         }
     }
 
@@ -55,9 +57,9 @@ impl Waiting {
             .unwrap_or(false)
     }
 
-    /// A link, 0..31, begins to wait until `left` frames of a device have passed, at least 1. It may not wait already.
+    /// A link begins to wait until `left` frames of a device have passed, at least 1. It may not wait already.
     pub fn add(&mut self, link: u8, device: u8, left: u32)
-        requires link { link < 32 }
+        requires link { link < most_links }
         requires apart { is_waiting self.old link ≡ false }
         requires later { 0 < left }
         ensures added { self.new ≡ self.old ++ record { link = link; device = device; left = left } ∷ [] }
@@ -87,7 +89,7 @@ impl Waiting {
     /// The link of the earliest of the requests that wait for a device and are due. None where none is due.
     pub fn first_due(&self, device: u8) -> Option<u8>
         ensures earliest { result ≡ option_map (λ w. w.link) (first_due device self.now) }
-        ensures bound { IfSome result (λ link. link < 32) }
+        ensures bound { IfSome result (λ link. link < most_links) }
     {
         first_due_link(&self.waits, device)
     }

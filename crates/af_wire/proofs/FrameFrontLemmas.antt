@@ -4,6 +4,7 @@ use Rattle.std.specs.Prelude.{if◌then◌else◌}
 use Rattle.af_wire.specs.declared.order.Order.{Order}
 use Rattle.std.proofs.lemmas.Bool.Decides.{nat_tests}
 use Rattle.std.proofs.lemmas.List.{take-append-drop, length-append}
+use Rattle.af_limits.specs.Limits.{most_words}
 use Rattle.af_wire.specs.declared.front.Front.{Front}
 use Rattle.af_wire.specs.declared.front.Front.TheVariants as frame
 use Rattle.af_wire.specs.Front.{frame_front, frame_with}
@@ -43,7 +44,7 @@ module _ (order : Order) where
   by_words : (opcode detail high low : ℕ) (tail : List ℕ) → (let words = u16_of order (high ∷ low ∷ []) in
       HasFront order (opcode ∷ detail ∷ high ∷ low ∷ tail) (frame_with words (length (opcode ∷ detail ∷ high ∷ low ∷ tail))))
   unfolding HasFront
-  by_words opcode detail high low tail = by (words == 0) (nat_lt 4096 words) (nat_lt there (4 * words)) refl refl refl where
+  by_words opcode detail high low tail = by (words == 0) (nat_lt most_words words) (nat_lt there (4 * words)) refl refl refl where
     words : ℕ
     words = u16_of order (high ∷ low ∷ [])
 
@@ -53,7 +54,7 @@ module _ (order : Order) where
     there : ℕ
     there = length bytes
 
-    by : (a b less : Bool) → (words == 0) ≡ a → (nat_lt 4096 words) ≡ b → nat_lt there (4 * words) ≡ less →
+    by : (a b less : Bool) → (words == 0) ≡ a → (nat_lt most_words words) ≡ b → nat_lt there (4 * words) ≡ less →
         HasFront order bytes (if a || b then frame.Malformed else if less then frame.NeedMore else frame.Frame (4 * words))
     by true b less e f g = (words, first_word opcode detail high low tail, inl (grind (arith, nat_tests)))
     by false true less e f g = (words, first_word opcode detail high low tail, inr (grind (arith, nat_tests)))
@@ -61,7 +62,7 @@ module _ (order : Order) where
         inr (words, first_word opcode detail high low tail, (grind (arith, nat_tests), grind (arith, nat_tests)), grind (arith, nat_tests))
     by false false false e f g =
         let some : 1 ≤ words = grind (arith, nat_tests) in
-        let most : words ≤ 4096 = grind (arith, nat_tests) in
+        let most : words ≤ most_words = grind (arith, nat_tests) in
         let room : 4 * words ≤ there = grind (arith, nat_tests) in
         whole opcode detail high low tail (some, most) (omega arith)
 
@@ -103,7 +104,7 @@ module _ (order : Order) where
   whole_with : (words there n : ℕ) → IsFrameLength words → n ≡ 4 * words → n ≤ there → frame_with words there ≡ frame.Frame n
   whole_with words there n fits size room = grind (arith, nat_tests)
 
-  malformed : (words there : ℕ) → (words ≡ 0) ⊎ (4096 < words) → frame_with words there ≡ frame.Malformed
+  malformed : (words there : ℕ) → (words ≡ 0) ⊎ (most_words < words) → frame_with words there ≡ frame.Malformed
   malformed words there (inl none) = grind (arith, nat_tests)
   malformed words there (inr more) = grind (arith, nat_tests)
 

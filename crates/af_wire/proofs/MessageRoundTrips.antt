@@ -4,6 +4,7 @@ use Rattle.std.specs.Prelude.{IsTrue, if◌then◌else◌, Some}
 use Rattle.af_wire.specs.declared.order.Order.{Order}
 use Rattle.std.proofs.lemmas.Bool.Decides.{nat_tests}
 use Rattle.std.proofs.lemmas.List.{length-append}
+use Rattle.af_limits.specs.Limits.{most_devices}
 use Rattle.af_wire.specs.declared.event.Event.{Event}
 use Rattle.af_wire.specs.declared.event.EventKind.{EventKind}
 use Rattle.af_wire.specs.declared.event.EventKind.TheVariants as kind
@@ -80,7 +81,7 @@ event_one order e sequence bytes is low =
     subst (λ (b : List ℕ). IsOneMessage order 2 (detail_of e.kind) sequence b) (sym is)
     (head_one order 2 (detail_of e.kind) sequence 3 (head order 2 (detail_of e.kind) sequence 3) body refl (event_head e.kind) low (omega arith) refl)
 
-event_stated : (k : EventKind) (device time value : ℕ) → device ≤ 7 → IsTrue (is_value k value) → event_from (kind_of_code (detail_of k)) device time value ≡ Some (record { kind = k; device = device; time = record { 0 = time }; value = value })
+event_stated : (k : EventKind) (device time value : ℕ) → device < most_devices → IsTrue (is_value k value) → event_from (kind_of_code (detail_of k)) device time value ≡ Some (record { kind = k; device = device; time = record { 0 = time }; value = value })
 event_stated kind.Ring device time value low fits = grind (arith, nat_tests)
 event_stated kind.Hook device time value low fits = grind (arith, nat_tests)
 event_stated kind.Current device time value low fits = grind (arith, nat_tests)

@@ -1,5 +1,6 @@
 -- What bytes begin with, said of whole lists: the pieces that they are put together from, and no place in them.
 use Rattle.std.specs.Prelude.{◌≡◌, ◌≢◌, ◌≤◌, ◌<◌, ◌⊎◌, ◌+◌, ◌*◌, ℕ, false, IsTrue, List, [], ◌∷◌, ◌++◌, length}
+use Rattle.af_limits.specs.Limits.{most_words}
 use Rattle.af_wire.specs.declared.order.Order.{Order}
 use Rattle.af_wire.specs.declared.order.Order.TheVariants.{Big, Little}
 use Rattle.af_wire.specs.declared.front.SetupFront.{SetupFront}
@@ -62,9 +63,9 @@ pub record StatesFrame (order : Order) (words : ℕ) (bytes : List ℕ) : Type 0
   pub is : bytes ≡ opcode ∷ detail ∷ (words_field ++ rest)
   pub is_words : IsU16 order words words_field
 
--- a frame has from 1 to 4096 words
+-- a frame has one word or more, up to the most
 abbrev pub IsFrameLength : ℕ → Type 0
-IsFrameLength words = (1 ≤ words) × (words ≤ 4096)
+IsFrameLength words = (1 ≤ words) × (words ≤ most_words)
 
 -- a whole frame: as many words as it states
 pub record IsFrame (order : Order) (bytes : List ℕ) : Type 0 where
@@ -82,7 +83,7 @@ NeedsMoreOfFrame order bytes =
 unfoldable pub HasFront : Order → List ℕ → Front → Type 0
 HasFront order bytes frame.NeedMore = NeedsMoreOfFrame order bytes
 HasFront order bytes (frame.Frame n) = (piece : List ℕ) × BeginsWith piece bytes × IsFrame order piece × (length piece ≡ n)
-HasFront order bytes frame.Malformed = (words : ℕ) × StatesFrame order words bytes × ((words ≡ 0) ⊎ (4096 < words))
+HasFront order bytes frame.Malformed = (words : ℕ) × StatesFrame order words bytes × ((words ≡ 0) ⊎ (most_words < words))
 
 -- bytes that begin with the head of a message: a kind, a detail, a sequence number, and the length of the body in words
 pub record StatesHead (order : Order) (kind detail sequence words : ℕ) (bytes : List ℕ) : Type 0 where

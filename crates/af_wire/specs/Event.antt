@@ -1,5 +1,6 @@
 -- Events of telephone lines: how they are spelled, and which messages are events.
-use Rattle.std.specs.Prelude.{ℕ, ◌≤◌, ◌<◌, ◌^◌, IsTrue, Bool, true, ◌==◌, ◌&&◌, nat_le, if◌then◌else◌, List, [], ◌∷◌, ◌++◌, Option, Some, None}
+use Rattle.std.specs.Prelude.{ℕ, ◌≤◌, ◌<◌, ◌^◌, IsTrue, Bool, true, ◌==◌, ◌&&◌, nat_le, nat_lt, if◌then◌else◌, List, [], ◌∷◌, ◌++◌, Option, Some, None}
+use Rattle.af_limits.specs.Limits.{most_devices}
 use Rattle.af_wire.specs.declared.order.Order.{Order}
 use Rattle.af_wire.specs.declared.event.Event.{Event}
 use Rattle.af_wire.specs.declared.event.EventKind.{EventKind}
@@ -33,10 +34,10 @@ unfoldable pub event_bytes : Order → Event → ℕ → List ℕ
 event_bytes order e sequence =
     head order 2 (detail_of e.kind) sequence 3 ++ (u32_bytes order e.device ++ u32_bytes order e.time.0 ++ u32_bytes order e.value)
 
--- an event of a kind, if its device is one of the eight that a server may have, and its value one of its kind
+-- an event of a kind, if its device is one that a server may have, and its value one of its kind
 abbrev pub event_from : Option EventKind → ℕ → ℕ → ℕ → Option Event
 event_from (Some kind) device time value =
-    if nat_le device 7 && is_value kind value
+    if nat_lt device most_devices && is_value kind value
     then Some (record { kind = kind; device = device; time = record { 0 = time }; value = value })
     else None
 event_from None device time value = None
@@ -50,7 +51,7 @@ event_in order detail _ = None
 
 -- an event as a message may state it
 pub record IsEvent (e : Event) : Type 0 where
-  pub device : e.device ≤ 7
+  pub device : e.device < most_devices
   pub time : e.time.0 < 2 ^ 32
   pub value : e.value < 2 ^ 32
   pub fits : IsTrue (is_value e.kind e.value)

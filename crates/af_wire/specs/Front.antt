@@ -1,5 +1,6 @@
 -- The fronts of the bytes that a client sends: what they begin with.
 use Rattle.std.specs.Prelude.{ℕ, ◌<◌, ◌≤◌, ◌*◌, List, [], ◌∷◌, ◌++◌, length, if◌then◌else◌, ◌==◌, ◌||◌, nat_lt}
+use Rattle.af_limits.specs.Limits.{most_words}
 use Rattle.af_wire.specs.declared.order.Order.{Order}
 use Rattle.af_wire.specs.declared.order.Order.TheVariants.{Big, Little}
 use Rattle.af_wire.specs.declared.front.SetupFront.{SetupFront}
@@ -31,7 +32,7 @@ setup_front _ = setup.NeedMore
 -- the front of n bytes that state a length in words of 4 bytes
 abbrev pub frame_with : ℕ → ℕ → Front
 frame_with words there =
-    if words == 0 || nat_lt 4096 words then Malformed
+    if words == 0 || nat_lt most_words words then Malformed
     else if nat_lt there (4 * words) then NeedMore
     else Frame (4 * words)
 

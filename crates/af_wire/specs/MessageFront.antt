@@ -1,10 +1,10 @@
 -- The front of the bytes that a server sends: whether they begin with a message, with part of one, or with none.
 use Rattle.std.specs.Prelude.{◌≡◌, ℕ, ◌<◌, ◌≤◌, ◌+◌, ◌*◌, Bool, false, ◌==◌, ◌&&◌, ◌||◌, nat_le, nat_lt, if◌then◌else◌, List, [], ◌∷◌, ◌++◌, length}
+use Rattle.af_limits.specs.Limits.{longest_message}
 use Rattle.af_wire.specs.declared.order.Order.{Order}
 use Rattle.af_wire.specs.declared.message_front.MessageFront.{MessageFront}
 use Rattle.af_wire.specs.declared.message_front.MessageFront.TheVariants.{NeedMore, Message, BadMessage}
 use Rattle.af_wire.specs.Order.{u16_of, u32_of}
-use Rattle.af_wire.specs.Sizes.{longest_message}
 
 -- whether a client takes this for the head of a message: an error of a known code, the reply to a setup or to a known
 -- opcode, or a known event, each with a length that such a message may have

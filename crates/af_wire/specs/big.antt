@@ -2,6 +2,7 @@
 -- setup of the other order, which was a bad one.
 use Rattle.std.specs.Prelude.{◌≡◌, ◌≢◌, ◌≤◌, ◌<◌, ◌⊎◌, ◌+◌, ◌*◌, ℕ, false, IsTrue, List, [], ◌∷◌, ◌++◌, length, Option, None}
 use Rattle.std.specs.Int.{w16, w32, from_be_bytes, to_be_bytes}
+use Rattle.af_limits.specs.Limits.{most_words}
 use Rattle.af_wire.specs.declared.order.Order.TheVariants.{Big}
 use Rattle.af_wire.specs.declared.front.SetupFront.{SetupFront}
 use Rattle.af_wire.specs.declared.front.SetupFront.TheVariants as setup
@@ -71,9 +72,9 @@ pub record StatesFrame (words : ℕ) (bytes : List ℕ) : Type 0 where
   pub is : bytes ≡ opcode ∷ detail ∷ (words_field ++ rest)
   pub is_words : IsU16 words words_field
 
--- a frame has from 1 to 4096 words
+-- a frame has one word or more, up to the most
 abbrev pub IsFrameLength : ℕ → Type 0
-IsFrameLength words = (1 ≤ words) × (words ≤ 4096)
+IsFrameLength words = (1 ≤ words) × (words ≤ most_words)
 
 -- a whole frame: as many words as it states
 pub record IsFrame (bytes : List ℕ) : Type 0 where
@@ -91,7 +92,7 @@ NeedsMoreOfFrame bytes =
 unfoldable pub HasFront : List ℕ → Front → Type 0
 HasFront bytes frame.NeedMore = NeedsMoreOfFrame bytes
 HasFront bytes (frame.Frame n) = (piece : List ℕ) × BeginsWith piece bytes × IsFrame piece × (length piece ≡ n)
-HasFront bytes frame.Malformed = (words : ℕ) × StatesFrame words bytes × ((words ≡ 0) ⊎ (4096 < words))
+HasFront bytes frame.Malformed = (words : ℕ) × StatesFrame words bytes × ((words ≡ 0) ⊎ (most_words < words))
 
 -- bytes that begin with the head of a message: a kind, a detail, a sequence number, and the length of the body in words
 pub record StatesHead (kind detail sequence words : ℕ) (bytes : List ℕ) : Type 0 where

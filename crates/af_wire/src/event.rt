@@ -4,6 +4,7 @@ ghost use Rattle.af_wire.specs.Event.{detail_of, event_bytes, event_in, kind_of_
 ghost use Rattle.af_wire.specs.MessageFront.{IsOneMessage};
 
 use crate::{Order, write_head};
+use af_limits::MOST_DEVICES;
 use af_time::DevTime;
 
 /// What happened on a telephone line.
@@ -83,7 +84,7 @@ pub fn read_event(order: Order, detail: u8, body: &[u8]) -> Option<Event>
     let time = order.u32([*t0, *t1, *t2, *t3]);
     let value = order.u32([*v0, *v1, *v2, *v3]);
     let kind = EventKind::of_code(detail)?;
-    if device > 7 || value > 1 && kind != EventKind::Digit {
+    if device >= MOST_DEVICES as u32 || value > 1 && kind != EventKind::Digit {
         return None;
     }
     Some(Event {

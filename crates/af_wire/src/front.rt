@@ -1,15 +1,16 @@
 // What the bytes of a link begin with: a setup, a frame, too little, or nothing that can be read.
 ghost use Rattle.std.specs.Prelude.{◌≡◌, ◌↔◌, ◌<◌, length};
+ghost use Rattle.af_limits.specs.Limits.{longest_frame};
 ghost use Rattle.af_wire.specs.declared.front.SetupFront.TheVariants as setup;
 ghost use Rattle.af_wire.specs.declared.front.Front.TheVariants as frame;
 ghost use Rattle.af_wire.specs.declared.front.SetupFront.{SetupFront};
 ghost use Rattle.af_wire.specs.declared.front.Front.{Front};
 ghost use Rattle.af_wire.specs.Begins.{HasSetupFront, HasFront};
-ghost use Rattle.af_wire.specs.Sizes.{longest_frame};
 ghost use Rattle.af_wire.specs.Front.{setup_front, versioned, frame_front, IsFrameWithin, IsSetupWithin};
 ghost use Rattle.af_wire.specs.Order.{u16_of};
 
 use crate::Order;
+use af_limits::MOST_WORDS;
 
 /// What the bytes of a link that is not set up begin with.
 #[derive(Clone, Copy, Debug, PartialEq, Eq)]
@@ -80,7 +81,7 @@ pub fn frame_at(order: Order, input: &[u8]) -> Front
         return Front::NeedMore;
     };
     let words = usize::from(order.u16([*w0, *w1]));
-    if words == 0 || words > 4096 {
+    if words == 0 || words > MOST_WORDS {
         Front::Malformed
     } else if input.len() < 4 * words {
         Front::NeedMore

@@ -1,4 +1,3 @@
-pub mod Sizes
 pub mod Log
 pub mod World
 pub mod Outside

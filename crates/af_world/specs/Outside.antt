@@ -2,6 +2,7 @@
 use Rattle.std.specs.Prelude.{◌≡◌, ℕ, ◌-◌, ◌≤◌, ◌<◌, ◌*◌, ◌^◌, min, Bool, true, false, not, IsTrue, map, List, [], ◌∷◌, ◌++◌, length, take, drop, if◌then◌else◌, ◌==◌, ◌&&◌, is_some, option_map, slice_get, slice_set, replicate}
 use Rattle.std.specs.declared.option.Option.{Option}
 use Rattle.std.specs.declared.option.Option.TheVariants.{None, Some}
+use Rattle.af_limits.specs.Limits.{most_links, longest_tick, longest_read, longest_send}
 use Rattle.af_sample.specs.declared.sample_type.SampleType.{SampleType}
 use Rattle.af_sample.specs.declared.sample_type.SampleType.TheVariants.{Mu255, Alaw, Lin16, Lin32}
 use Rattle.af_sample.specs.SampleTypes.{frame_bytes}
@@ -16,7 +17,6 @@ use Rattle.af_world.specs.declared.script.DeviceSpec.{DeviceSpec}
 use Rattle.af_world.specs.declared.script.Step.{Step}
 use Rattle.af_world.specs.declared.script.Step.TheVariants as step
 use Rattle.af_world.specs.Log.{Log}
-use Rattle.af_world.specs.Sizes.{longest_read, longest_send}
 
 -- The scripted client of an open link: the bytes that it has still to give, whether it ends after them, how many bytes it takes
 -- still (None is every byte), and whether its next read and its next write are to fail.
@@ -51,7 +51,7 @@ scripted_of ty = record { ty = ty; states = None; fails_capture = false; fails_e
 
 -- no link is open, and nothing was stated of the devices
 abbrev pub outside_start : List DeviceSpec → Outside
-outside_start config = record { clients = replicate 32 None; devices = map (λ d. scripted_of d.ty) config }
+outside_start config = record { clients = replicate most_links None; devices = map (λ d. scripted_of d.ty) config }
 
 abbrev pub some_client : Option (Option ScriptedClient) → Option ScriptedClient
 some_client None = None
@@ -183,14 +183,14 @@ IsRoom (Some n) = n < 2 ^ 32
 
 -- a step that may stand in a script with these devices
 abbrev pub IsStep : List DeviceSpec → Step → Type 0
-IsStep config (step.Open k) = k < 32
-IsStep config (step.Send k bytes) = (k < 32) × (1 ≤ length bytes) × (length bytes ≤ longest_send)
-IsStep config (step.End k) = k < 32
-IsStep config (step.Room k room) = (k < 32) × IsRoom room
-IsStep config (step.Tick d n captured) = (d < length config) × (1 ≤ n) × (n ≤ 4096) × IsCapture (n * frame_bytes_at config d) captured
+IsStep config (step.Open k) = k < most_links
+IsStep config (step.Send k bytes) = (k < most_links) × (1 ≤ length bytes) × (length bytes ≤ longest_send)
+IsStep config (step.End k) = k < most_links
+IsStep config (step.Room k room) = (k < most_links) × IsRoom room
+IsStep config (step.Tick d n captured) = (d < length config) × (1 ≤ n) × (n ≤ longest_tick) × IsCapture (n * frame_bytes_at config d) captured
 IsStep config (step.Line d change) = IsTrue (spec_has_line config d) × IsTrue (is_change change)
-IsStep config (step.FailRead k) = k < 32
-IsStep config (step.FailWrite k) = k < 32
+IsStep config (step.FailRead k) = k < most_links
+IsStep config (step.FailWrite k) = k < most_links
 IsStep config (step.FailCapture d) = d < length config
 IsStep config (step.FailEmit d) = d < length config
 IsStep config (step.FailHook d) = IsTrue (spec_has_line config d)

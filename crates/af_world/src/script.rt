@@ -1,5 +1,6 @@
 // What a script states: its devices, and its steps.
 use crate::Bytes;
+use af_limits::MOST_DEVICES;
 use af_phone::LineChange;
 use af_sample::SampleType;
 use arrayvec::ArrayVec;
@@ -28,7 +29,7 @@ impl Default for DeviceSpec {
 }
 
 /// The devices of a server, 1 to 8, which are numbered from 0.
-pub type Config = ArrayVec<DeviceSpec, 8>;
+pub type Config = ArrayVec<DeviceSpec, MOST_DEVICES>;
 
 /// A step of a script.
 #[derive(Drop)]

@@ -1,11 +1,11 @@
 // The world that the server lives in.
 ghost use Rattle.std.specs.Prelude.{◌≡◌, ◌≤◌, ◌<◌, ℕ, [], ◌∷◌, length};
 ghost use Rattle.std.specs.declared.option.Option.{Option};
+ghost use Rattle.af_limits.specs.Limits.{longest_read, output_room};
 ghost use Rattle.af_world.specs.declared.happening.Happening.TheVariants.{Woke, Read, Wrote, Closed, Captured, Emitted, Hooked};
 ghost use Rattle.af_io.specs.Observed.{Appended, FaultCounted};
 ghost use Rattle.af_world.specs.Log.{Log};
 ghost use Rattle.af_world.specs.World.{got_of, took_of, captured_of, is_done, LinkGotFits, TookFits};
-ghost use Rattle.af_world.specs.Sizes.{longest_read};
 
 use crate::{Put, Wake, Why};
 
@@ -57,7 +57,7 @@ pub trait World {
     /// Offers a piece to a link, which takes its first bytes, or all of it, or none.
     fn write(&mut self, link: u8, piece: &[u8]) -> LinkTook
         requires some { 0 < length piece.now }
-        requires bound { length piece.now ≤ 65536 }
+        requires bound { length piece.now ≤ output_room }
         ensures log { Appended (log self.old) (Wrote link (length piece.now) (took_of result piece.now) ∷ []) (log self.new) }
         ensures bound { TookFits result (length piece.now) }
         ensures cause { result ≡ LinkTook.Failed → FaultCounted (link_faults self.old) (link_faults self.new) }

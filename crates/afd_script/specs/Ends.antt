@@ -2,6 +2,7 @@
 use Rattle.std.specs.Prelude.{◌≡◌, ◌≢◌, ℕ, ⊤, Bool, true, false, List, length, Ok, Err}
 use Rattle.std.specs.declared.option.Option.{Option}
 use Rattle.std.specs.declared.option.Option.TheVariants.{None, Some}
+use Rattle.af_limits.specs.Limits.{longest_script}
 use Rattle.af_io.specs.Observed.{NoFault}
 use Rattle.af_world.specs.Log.{Log}
 use Rattle.af_io.specs.declared.flow.Put.{Put}
@@ -16,10 +17,6 @@ use Rattle.afd_script.specs.declared.job.ScriptJob.{ScriptJob}
 use Rattle.afd_script.specs.declared.job.ScriptJob.TheVariants as job
 use Rattle.afd_script.specs.declared.script.ScriptEnd.{ScriptEnd}
 use Rattle.afd_script.specs.declared.script.ScriptEnd.TheVariants as end
-
--- how many bytes a script may have
-abbrev pub longest_script : ℕ
-longest_script = 1048576
 
 -- the text is a script, and this is its one log, of which the laws of whole runs hold
 pub record IsLogOf (text : List ℕ) (log : Log) : Type 0 where

@@ -2,6 +2,7 @@
 // goes out.
 ghost use Rattle.std.specs.Prelude.{◌≡◌, ◌≢◌, ◌↔◌, ◌⊎◌, ◌≤◌, length, true, false, All, IfOk, IfErr};
 ghost use Rattle.std.specs.declared.option.Option.TheVariants.{None, Some};
+ghost use Rattle.af_limits.specs.Limits.{longest_script};
 ghost use Rattle.af_io.specs.Observed.{CountsFault, NoFault};
 ghost use Rattle.af_io.specs.declared.flow.Put.TheVariants as put;
 ghost use Rattle.af_sample.specs.Channels.{IsChannelCount};
@@ -17,13 +18,11 @@ ghost use Rattle.afd_script.specs.Words.{job_of};
 use crate::job::{ScriptJob, job_of};
 use af_exercise::make_script;
 use af_io::{Args, Put, Sink, Source, TextFault, read_text};
+use af_limits::LONGEST_SCRIPT;
 use af_outside::{OuterFaults, Tape};
 use af_script::{Script, ScriptFault, print_log, print_summary, read_script, run_tape};
 use af_time::OutOfMemory;
 use std::alloc::Global;
-
-/// How many bytes a script may have.
-const LONGEST_SCRIPT: usize = 1048576;
 
 /// How a script command ended.
 #[derive(Clone, Copy, Debug, PartialEq, Eq)]
@@ -146,7 +145,7 @@ fn exercise<K: Sink>(alloc: Global, seed: u64, turns: u32, sink: &mut K) -> Scri
 
 // Runs the script that a text is. The tape tells its one log.
 fn run_text(alloc: Global, text: &[u8]) -> Result<Tape, ScriptFault>
-    requires { length text.now ≤ 1048576 }
+    requires { length text.now ≤ longest_script }
     ensures ran { IfOk result (λ tape. TellsLogOf text.now tape.log) }
     ensures fault { IfErr result (λ e. IsScriptFault text.now e) }
 {

@@ -3,6 +3,7 @@ use Rattle.std.proofs.Common.{◌≡◌, ℕ, ◌+◌, ◌≤◌, List, ◌++◌
 use Rattle.std.specs.declared.option.Option.{Option}
 use Rattle.std.specs.declared.option.Option.TheVariants.{None, Some}
 use Rattle.std.specs.declared.result.Result.{Result}
+use Rattle.af_limits.specs.Limits.{longest_config}
 use Rattle.af_world.specs.declared.outer.Outer.{Outer}
 use Rattle.af_io.specs.Observed.{Appended, Unchanged}
 use Rattle.af_world.specs.Log.{Log}
@@ -16,7 +17,7 @@ use Rattle.afd_serve.specs.Words.{ServeJob, serve_job_of}
 use Rattle.afd_serve.specs.Serving.{started}
 use Rattle.afd_serve.specs.Starting.{IsReadEnd, IsReadFrom, StartedUntil}
 use Rattle.afd_serve.specs.Rounds.{ServedUntil}
-use Rattle.afd_serve.specs.Ends.{EndsWell, FailedAt, IsFaultyConfig, IsTold, ServerRan, StartedInPart, Unheard, last_entry, longest_config}
+use Rattle.afd_serve.specs.Ends.{EndsWell, FailedAt, IsFaultyConfig, IsTold, ServerRan, StartedInPart, Unheard, last_entry}
 use Rattle.afd_serve.proofs.ServeRoundLemmas.{served_behind}
 
 -- A good configuration is read

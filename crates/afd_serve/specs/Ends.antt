@@ -2,6 +2,7 @@
 use Rattle.std.specs.Prelude.{◌≡◌, ◌≢◌, ℕ, ◌<◌, ◌≤◌, ◌⊎◌, ⊤, Bool, true, false, List, [], ◌∷◌, ◌++◌, length, take, Ok, Err}
 use Rattle.std.specs.declared.option.Option.{Option}
 use Rattle.std.specs.declared.option.Option.TheVariants.{None, Some}
+use Rattle.af_limits.specs.Limits.{longest_config}
 use Rattle.af_world.specs.declared.happening.Wake.TheVariants as wake
 use Rattle.af_world.specs.declared.outer.Outer.{Outer}
 use Rattle.af_world.specs.declared.outer.Outer.TheVariants as noted
@@ -17,10 +18,6 @@ use Rattle.afd_serve.specs.declared.live.LiveEnd.{LiveEnd}
 use Rattle.afd_serve.specs.declared.live.LiveEnd.TheVariants as end
 use Rattle.afd_serve.specs.Words.{ServeJob, serve_job_of}
 use Rattle.afd_serve.specs.Serving.{WaitMade, Served, all_attached, started}
-
--- how many bytes a configuration may have
-abbrev pub longest_config : ℕ
-longest_config = 65536
 
 -- all that the source gave is no configuration, and this is the first line that may not stand where it stands
 pub record IsFaultyConfig (line : ℕ) (left left' : Option (List ℕ)) : Type 0 where

@@ -2,6 +2,7 @@
 use Rattle.std.specs.Prelude.{◌≡◌, ℕ, ◌<◌, List, [], ◌∷◌, ◌++◌, length, take}
 use Rattle.std.specs.declared.option.Option.{Option}
 use Rattle.std.specs.declared.result.Result.TheVariants.{Ok}
+use Rattle.af_limits.specs.Limits.{longest_config}
 use Rattle.af_world.specs.declared.outer.Outer.{Outer}
 use Rattle.af_world.specs.declared.outer.Outer.TheVariants as noted
 use Rattle.af_io.specs.Observed.{Appended}
@@ -10,7 +11,6 @@ use Rattle.af_config.specs.Stating.{Settings}
 use Rattle.af_config.specs.Configuration.{config_of}
 use Rattle.afd_serve.specs.declared.live.LiveEnd.{LiveEnd}
 use Rattle.afd_serve.specs.declared.live.LiveEnd.TheVariants as end
-use Rattle.afd_serve.specs.Ends.{longest_config}
 use Rattle.afd_serve.specs.Serving.{all_attached, started}
 
 -- all that the source gave is this configuration

@@ -1,5 +1,6 @@
 -- The words of the server's command: `serve ADDRESS WAITS`.
 use Rattle.std.specs.Prelude.{ℕ, ◌-◌, ◌^◌, nat_le, ◌&&◌, List, [], ◌∷◌, length, codes, bytes_eq, Bool, Option, None, option_map, if◌then◌else◌}
+use Rattle.af_limits.specs.Limits.{longest_address}
 use Rattle.af_text.specs.Words.{long_number_within}
 use Rattle.afd_serve.specs.declared.words.Command.{Command}
 
@@ -14,7 +15,7 @@ waits_stated word = long_number_within 1 (2 ^ 63 - 1) word
 
 -- an address has 1 to 64 bytes
 abbrev pub is_address : List ℕ → Bool
-is_address word = nat_le 1 (length word) && nat_le (length word) 64
+is_address word = nat_le 1 (length word) && nat_le (length word) longest_address
 
 abbrev pub job_at : List ℕ → ℕ → ServeJob
 job_at address waits = record { address = address; waits = waits }

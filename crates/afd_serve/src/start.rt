@@ -1,6 +1,7 @@
 // The start of a server: its configuration is read, it is listened in, and its devices are attached.
 ghost use Rattle.std.specs.Prelude.{◌≡◌, ◌≤◌, length, All, IfOk, IfErr};
 ghost use Rattle.std.specs.declared.result.Result.TheVariants.{Err};
+ghost use Rattle.af_limits.specs.Limits.{most_devices};
 ghost use Rattle.af_sample.specs.Channels.{IsChannelCount};
 ghost use Rattle.af_sample.specs.Rates.{IsListedRate};
 ghost use Rattle.af_io.specs.Observed.{CountsFault, Appended, Unchanged};
@@ -14,16 +15,14 @@ use crate::LiveEnd;
 use af_config::{ConfigFault, Setting, read_config};
 use af_core::Core;
 use af_io::{Source, TextFault, read_text};
+use af_limits::LONGEST_CONFIG;
 use af_world::{Live, Ready};
 use std::alloc::Global;
-
-/// How many bytes a configuration may have.
-const LONGEST_CONFIG: usize = 65536;
 
 /// The configuration that a source gives, or the end that its want makes.
 pub(crate) fn read_setting<S: Source>(alloc: Global, source: &mut S) -> Result<Setting, LiveEnd>
     ensures setting { IfOk result (λ s. IsReadFrom (S.left source.old) (S.left source.new) s) }
-    ensures devices { IfOk result (λ s. length s.config ≤ 8) }
+    ensures devices { IfOk result (λ s. length s.config ≤ most_devices) }
     ensures rates { IfOk result (λ s. All (λ device. IsListedRate device.rate) s.config) }
     ensures channels { IfOk result (λ s. All (λ device. IsChannelCount device.channels) s.config) }
     ensures ends { IfErr result (λ end. IsReadEnd end) }
@@ -45,7 +44,7 @@ pub(crate) fn read_setting<S: Source>(alloc: Global, source: &mut S) -> Result<S
 
 // Attaches each device by rising number.
 fn attach_devices<W: Live>(alloc: Global, setting: &Setting, world: &mut W) -> Result<(), LiveEnd>
-    requires { length setting.now.config ≤ 8 }
+    requires { length setting.now.config ≤ most_devices }
     ensures log { Unchanged (W.World.log world.old) (W.World.log world.new) }
     ensures all { IfOk result (λ _. Appended (W.outer world.old) (all_attached setting.now) (W.outer world.new)) }
     ensures some { IfErr result (λ end. AttachedUntil end setting.now (W.outer world.old) (W.outer world.new)) }
@@ -71,7 +70,7 @@ pub(crate) fn start<W: Live>(
     setting: &Setting,
     world: &mut W,
 ) -> Result<Core, LiveEnd>
-    requires few { length setting.now.config ≤ 8 }
+    requires few { length setting.now.config ≤ most_devices }
     requires rates { All (λ device. IsListedRate device.rate) setting.now.config }
     requires channels { All (λ device. IsChannelCount device.channels) setting.now.config }
     ensures core { IfOk result (λ core. Stands core (opening setting.now.config)) }

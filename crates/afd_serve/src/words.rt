@@ -3,6 +3,7 @@ ghost use Rattle.std.specs.Prelude.{◌≡◌, ◌≤◌, option_map, IfSome};
 ghost use Rattle.afd_serve.specs.Words.{is_address, job_of_command, serve_job_of, serve_job_of_three};
 
 use af_io::Args;
+use af_limits::LONGEST_ADDRESS;
 use af_text::{is_word, long_number_between};
 
 /// The most waits that may be asked for.
@@ -11,7 +12,7 @@ const MOST_WAITS: u64 = 9223372036854775807;
 fn is_address(word: &[u8]) -> bool
     ensures { result ≡ is_address word.now }
 {
-    !word.is_empty() && word.len() <= 64
+    !word.is_empty() && word.len() <= LONGEST_ADDRESS
 }
 
 /// What the words `serve ADDRESS WAITS` ask for.

@@ -1,14 +1,14 @@
 use Rattle.std.proofs.Common.{◌≡◌, ◌⊎◌, ◌<◌, ◌≤◌, length, IsTrue}
+use Rattle.af_limits.specs.Limits.{most_links, event_limit}
 use Rattle.af_model.specs.State.{EnvironmentState, open_link}
 use Rattle.af_model.specs.Advance.{advance}
 use Rattle.af_state.specs.Deferrals.{has_waiting, OnlyQueues}
 use Rattle.af_state.specs.Environment.{StandsForEnvironment}
 use Rattle.af_core.proofs.advance.advance.Given as goal
-use Rattle.af_model.specs.Sizes.{event_limit}
 
 abbrev pub invariant-loop-environment : goal.invariant-loop-environment
 invariant-loop-environment l = record {
-  number : l.number < 32;
+  number : l.number < most_links;
   answered : (l.link ≡ l.initial.link) ⊎ (length l.link.rest < length l.initial.link.rest);
   room : IsTrue (has_waiting l.environment.waits l.number) → length l.link.pending ≤ event_limit;
   only_queues : OnlyQueues l.number l.initial.environment.waits l.environment.waits;

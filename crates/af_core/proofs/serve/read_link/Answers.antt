@@ -1,4 +1,5 @@
 use Rattle.std.proofs.Common.{◌≡◌, ◌<◌, ◌≤◌, ◌∙◌, ap, ◌++◌, length, length-take-le, take, refl, arith, rules, true, false}
+use Rattle.af_limits.specs.Limits.{longest_frame, longest_read}
 use Rattle.af_world.specs.declared.happening.ReadGot.TheVariants.{Given, NotYet, Ended, Failed}
 use Rattle.af_world.specs.declared.happening.Why.TheVariants as why
 use Rattle.af_model.specs.State.{stopped}
@@ -7,8 +8,6 @@ use Rattle.af_model.specs.Events.{dropped}
 use Rattle.af_model.specs.Turn.{wants_read}
 use Rattle.af_model.proofs.BoolTestLemmas.{both-true}
 use Rattle.af_state.specs.Deferrals.{has_waiting}
-use Rattle.af_wire.specs.Sizes.{longest_frame}
-use Rattle.af_world.specs.Sizes.{longest_read}
 use Rattle.af_state.specs.Environment.{KeptEnvironment}
 use Rattle.af_state.proofs.DeferralLemmas.{leaves_others_dropped, leaves_others_grown, leaves_others_nothing}
 use Rattle.af_core.proofs.LinkPhaseLemmas.{absorbed, reads, reads_nothing, at_open_link, at_update, given_fits}

@@ -1,4 +1,5 @@
 use Rattle.std.proofs.Common.{◌<◌}
+use Rattle.af_limits.specs.Limits.{most_links}
 use Rattle.af_model.specs.Turn.{write_phase}
 use Rattle.af_state.specs.Environment.{StandsForLink}
 use Rattle.af_core.specs.Stands.{LinkServed, writes_left}
@@ -7,7 +8,7 @@ use Rattle.af_core.proofs.serve.write_link.Given as goal
 
 abbrev pub invariant-loop-environment : goal.invariant-loop-environment
 invariant-loop-environment g l = record {
-  number : l.number < 32;
+  number : l.number < most_links;
   link : LinkServed l.number l.initial.environment.waits l.environment.waits l.link;
   leads : g.W.World.leads_to l.initial.world l.world;
   simulates : Simulates (g.W.World.log l.initial.world) (g.W.World.log l.world) (StandsForLink l.initial.environment l.initial.link) (StandsForLink l.environment l.link) (write_phase l.number) (write_phase l.number);

@@ -1,8 +1,8 @@
 use Rattle.std.proofs.Common.{◌≡◌, ◌≤◌, ◌++◌, length, take, map}
+use Rattle.af_limits.specs.Limits.{longest_frame}
 use Rattle.af_world.specs.declared.script.Step.TheVariants as step
 use Rattle.af_exercise.specs.Exercise.{links, greeting}
 use Rattle.af_exercise.proofs.generate.greetings.Given as goal
-use Rattle.af_wire.specs.Sizes.{longest_frame}
 
 abbrev pub invariant-loop-link : goal.invariant-loop-link
 invariant-loop-link l = l.steps.items ≡ map step.Open (take l.link-index links)

@@ -1,5 +1,6 @@
 use Rattle.std.proofs.Common.{rules, arith, ◌≡◌, ◌≢◌, ℕ, subst, sym, refl, ◌∙◌}
 use Rattle.std.specs.Prelude.{Result, Ok, Err}
+use Rattle.af_limits.specs.Limits.{most_events}
 use Rattle.af_lib.specs.declared.receive.Taken.{Taken}
 use Rattle.af_lib.specs.declared.fault.ConnFault.{ConnFault}
 use Rattle.af_lib.specs.declared.fault.ConnFault.TheVariants as fault
@@ -39,7 +40,7 @@ returns-in_err-event-clause-awaits g c unfailed =
     let l0 = g.L.Link.left c.args.link.now in
     let l1 = g.L.Link.left c.loop-allowed.link in
     let l2 = g.L.Link.left c.take_message.new.link in
-    let told = await_fault c.args.order l0 l1 l2 4096 c.loop-allowed.allowed c.args.ring.now c.loop-allowed.ring c.loop-allowed.invariant.0 c.in_err-event.field-0.0 (omega arith)
+    let told = await_fault c.args.order l0 l1 l2 most_events c.loop-allowed.allowed c.args.ring.now c.loop-allowed.ring c.loop-allowed.invariant.0 c.in_err-event.field-0.0 (omega arith)
     (c.in_err-event.ensures.takes (λ e. unfailed (same ∙ retag e))) in
     let P : Result ℕ ConnFault → Type 0 = λ r. Awaits c.args.order r c.take_message.new.input c.args.ring.now c.loop-allowed.ring l0 l2 in
     subst P (sym same) told
@@ -49,7 +50,7 @@ returns-in-Other-clause-awaits g c _ =
     let l0 = g.L.Link.left c.args.link.now in
     let l1 = g.L.Link.left c.loop-allowed.link in
     let l2 = g.L.Link.left c.take_message.new.link in
-    await_other c.args.order l0 l1 l2 4096 c.loop-allowed.allowed c.args.ring.now c.loop-allowed.ring c.loop-allowed.invariant.0 _ (omega arith)
+    await_other c.args.order l0 l1 l2 most_events c.loop-allowed.allowed c.args.ring.now c.loop-allowed.ring c.loop-allowed.invariant.0 _ (omega arith)
     (sound c.in_ok-event.field-0 _ (λ t. Takes c.args.order (Ok t) c.take_message.new.input l1 l2) c.in-Other.is c.in_ok-event.ensures.takes)
 
 pub loop-allowed-init : goal.loop-allowed-init
@@ -61,13 +62,13 @@ loop-allowed-preserved g c =
     let l1 = g.L.Link.left c.loop-allowed.link in
     let l2 = g.L.Link.left c.take_message.new.link in
     let i = c.loop-allowed.invariant in
-    let told = await_event c.args.order l0 l1 l2 4096 c.loop-allowed.allowed c.args.ring.now c.loop-allowed.ring i.0 c.in-Event.event (omega arith)
+    let told = await_event c.args.order l0 l1 l2 most_events c.loop-allowed.allowed c.args.ring.now c.loop-allowed.ring i.0 c.in-Event.event (omega arith)
     (sound c.in_ok-event.field-0 _ (λ t. Takes c.args.order (Ok t) c.take_message.new.input l1 l2) c.in-Event.is c.in_ok-event.ensures.takes) in
     (rw c.note.ensures told, read_on i.1 (read_where (λ never. absurd never) c.in_ok-event.ensures.reads), subst (λ (r : RingState). Gained c.args.ring.now r) (sym c.note.ensures) (one_more _ _ i.2))
 
 pub returns-clause-awaits : goal.returns-clause-awaits
 returns-clause-awaits g c _ =
-    await_flood c.args.order (g.L.Link.left c.args.link.now) (g.L.Link.left c.loop-allowed.link) 4096 c.loop-allowed.allowed c.args.ring.now c.loop-allowed.ring c.loop-allowed.invariant.0 (omega arith)
+    await_flood c.args.order (g.L.Link.left c.args.link.now) (g.L.Link.left c.loop-allowed.link) most_events c.loop-allowed.allowed c.args.ring.now c.loop-allowed.ring c.loop-allowed.invariant.0 (omega arith)
 
 -- the same fault of a call with another answer, the other way
 untag : {f f' : ConnFault} → (let r : Result ℕ ConnFault = Err f in r ≡ Err f') → (let r : Result Taken ConnFault = Err f in r ≡ Err f')

@@ -1,4 +1,5 @@
 use Rattle.std.proofs.Common.{◌≡◌}
+use Rattle.af_limits.specs.Limits.{most_events}
 use Rattle.af_lib.specs.Observed.{BothTold, OnlyRead}
 use Rattle.af_lib.specs.Incoming.{awaited}
 use Rattle.af_lib.specs.Ring.{Gained}
@@ -6,7 +7,7 @@ use Rattle.af_lib.proofs.receive.await_message.Given as goal
 
 abbrev pub invariant-loop-allowed : goal.invariant-loop-allowed
 invariant-loop-allowed g l =
-    BothTold (g.L.Link.left l.initial.link) (g.L.Link.left l.link) (λ before now. awaited l.order 4096 l.initial.ring before ≡ awaited l.order l.allowed l.ring now)
+    BothTold (g.L.Link.left l.initial.link) (g.L.Link.left l.link) (λ before now. awaited l.order most_events l.initial.ring before ≡ awaited l.order l.allowed l.ring now)
     × OnlyRead g.L.Link.left g.L.Link.sent g.L.Link.faults ⊥ l.initial.link l.link
     × Gained l.initial.ring l.ring
 

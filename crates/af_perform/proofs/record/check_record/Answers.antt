@@ -1,5 +1,6 @@
 use Rattle.std.proofs.Common.{◌≡◌, ℕ, ◌<◌, ◌≤◌, ◌*◌, ◌/◌, ◌∙◌, ap, sym, subst, length, slice_get, refl, arith}
 use Rattle.std.specs.declared.option.Option.TheVariants.{Some}
+use Rattle.af_limits.specs.Limits.{longest_record}
 use Rattle.af_sample.specs.SampleTypes.{frame_bytes}
 use Rattle.af_model.specs.State.{DeviceState, EnvironmentState}
 use Rattle.af_model.specs.Record.{record_refusal, record_sound, start_record}
@@ -8,7 +9,6 @@ use Rattle.af_state.specs.Environment.{KeptEnvironment, StandsForEnvironment}
 use Rattle.af_perform.proofs.LinkRequestLemmas.{any_device, device_here, device_kept, device_missing, at_refused, at_passed, with_error}
 use Rattle.af_perform.proofs.CheckLemmas.{few_frames, record_passes}
 use Rattle.af_perform.proofs.record.check_record.Goals as goal
-use Rattle.af_sample.specs.Sizes.{longest_record}
 
 pub answer_or_defer-requires-clause-few : goal.answer_or_defer-requires-clause-few
 answer_or_defer-requires-clause-few c =

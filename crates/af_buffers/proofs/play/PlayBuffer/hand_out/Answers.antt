@@ -1,4 +1,5 @@
 use Rattle.std.proofs.Common.{◌≡◌, ◌+◌, ◌/◌, ◌%◌, ◌^◌, length, subst, sym, ap, ◌∙◌}
+use Rattle.af_limits.specs.Limits.{longest_tick}
 use Rattle.af_ring.specs.Cells.{ClearsRun, IsRunAt}
 use Rattle.af_sample.specs.Channels.{frame_count}
 use Rattle.af_buffers.specs.PlayBuffer.{Next, next_of, HandsOut, IsRingOf}
@@ -8,7 +9,7 @@ use Rattle.af_buffers.proofs.play.PlayBuffer.hand_out.Goals as goal
 pub invariant_of-self : goal.invariant_of-self
 invariant_of-self c =
     let whole = whole_of c.self.inside.ring c.self.inside.time.0 c.self.inside.channels c.self.inside.horizon c.args.self.now c.args.out.now c.read_run.new.out c.self.view_is c.read_run.auto.out c.requires.whole in
-    let few = few_of c.self.inside.ring c.self.inside.time.0 c.self.inside.channels c.self.inside.horizon 4096 c.args.self.now c.args.out.now c.read_run.new.out c.self.view_is c.read_run.auto.out c.requires.count in
+    let few = few_of c.self.inside.ring c.self.inside.time.0 c.self.inside.channels c.self.inside.horizon longest_tick c.args.self.now c.args.out.now c.read_run.new.out c.self.view_is c.read_run.auto.out c.requires.count in
     let later : c.after-self-inside.result.0 ≡ (c.self.inside.time.0 + frame_count c.self.inside.channels c.read_run.new.out) % 2 ^ 32 =
     c.after-self-inside.ensures ∙ ap (λ m. (c.self.inside.time.0 + length c.read_run.new.out / m) % 2 ^ 32) c.from.ensures in
     subst (λ t. IsRingOf c.clear_run.new.self t c.self.inside.channels c.self.inside.horizon) (sym later)
@@ -18,7 +19,7 @@ invariant_of-self c =
 pub returns-clause-next : goal.returns-clause-next
 returns-clause-next c =
     let whole = whole_of c.self.inside.ring c.self.inside.time.0 c.self.inside.channels c.self.inside.horizon c.args.self.now c.args.out.now c.read_run.new.out c.self.view_is c.read_run.auto.out c.requires.whole in
-    let few = few_of c.self.inside.ring c.self.inside.time.0 c.self.inside.channels c.self.inside.horizon 4096 c.args.self.now c.args.out.now c.read_run.new.out c.self.view_is c.read_run.auto.out c.requires.count in
+    let few = few_of c.self.inside.ring c.self.inside.time.0 c.self.inside.channels c.self.inside.horizon longest_tick c.args.self.now c.args.out.now c.read_run.new.out c.self.view_is c.read_run.auto.out c.requires.count in
     let later : c.after-self-inside.result.0 ≡ (c.self.inside.time.0 + frame_count c.self.inside.channels c.read_run.new.out) % 2 ^ 32 =
     c.after-self-inside.ensures ∙ ap (λ m. (c.self.inside.time.0 + length c.read_run.new.out / m) % 2 ^ 32) c.from.ensures in
     subst (λ (v : Next). HandsOut v (next_of c.clear_run.new.self c.after-self-inside.result.0 c.self.inside.channels c.self.inside.horizon) c.read_run.new.out) c.self.view_is

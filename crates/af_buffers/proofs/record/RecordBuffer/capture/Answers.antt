@@ -1,4 +1,5 @@
 use Rattle.std.proofs.Common.{◌≡◌, ◌+◌, ◌/◌, ◌%◌, ◌^◌, ◌≤◌, length, subst, sym, ap, ◌∙◌}
+use Rattle.af_limits.specs.Limits.{longest_tick}
 use Rattle.af_sample.specs.Channels.{frame_count, AreWholeFrames}
 use Rattle.af_ring.specs.Cells.{PutsRun}
 use Rattle.af_buffers.specs.RecordBuffer.{Last, last_of, Captures}
@@ -13,6 +14,6 @@ returns-clause-last c =
     subst (λ (v : Last). Captures v (last_of c.put_run.new.self c.after-self-inside.result.0 c.self.inside.channels c.self.inside.horizon) c.args.samples.now) c.self.view_is
     (subst (λ t. Captures b (last_of c.put_run.new.self t c.self.inside.channels c.self.inside.horizon) c.args.samples.now) (sym later)
     (captures c.self.inside.ring c.put_run.new.self c.args.samples.now c.self.inside.time.0 c.self.inside.channels c.self.inside.horizon c.self.invariant
-    (subst (λ (v : Last). frame_count v.channels c.args.samples.now ≤ 4096) (sym c.self.view_is) c.requires.count)
+    (subst (λ (v : Last). frame_count v.channels c.args.samples.now ≤ longest_tick) (sym c.self.view_is) c.requires.count)
     (subst (λ (v : Last). AreWholeFrames v.channels c.args.samples.now) (sym c.self.view_is) c.requires.whole)
     (subst (λ t. PutsRun c.self.inside.ring c.put_run.new.self t c.args.samples.now) c.first_cell-cell.ensures c.put_run.ensures)))

@@ -1,4 +1,5 @@
 use Rattle.std.proofs.Common.{◌≤◌, length, arith, refl, rules}
+use Rattle.af_limits.specs.Limits.{most_devices}
 use Rattle.af_core.proofs.TurnLemmas.{starts}
 use Rattle.af_core.proofs.WantsWithinLemmas.{starts_bounds}
 use Rattle.af_core.proofs.server.Core.new.Goals as goal
@@ -6,7 +7,7 @@ use Rattle.af_core.proofs.server.Core.new.Goals as goal
 pub invariant_of-result : goal.invariant_of-result
 invariant_of-result c =
     let count = c.in_ok-devices.ensures.count in
-    let few : length c.as_slice.result.now ≤ 8 = search rules in
+    let few : length c.as_slice.result.now ≤ most_devices = search rules in
     omega (arith, count, few)
 
 pub invariant_of-result-2 : goal.invariant_of-result-2

@@ -1,5 +1,6 @@
 use Rattle.std.proofs.Common.{◌≡◌, ◌≤◌, ◌<◌, true, false, subst}
 use Rattle.std.proofs.Math.Nat.{le_refl}
+use Rattle.af_limits.specs.Limits.{most_devices}
 use Rattle.af_world.specs.declared.live.Ready.TheVariants.{Done, Failed}
 use Rattle.af_live.specs.Behind.{AttachesAt}
 use Rattle.af_live.specs.CodecUse.{codec_allows, codec_behind}
@@ -13,7 +14,7 @@ pub returns-clause-faults : goal.returns-clause-faults
 returns-clause-faults g c = subst (λ (s : RealState). CountsOne (c.attach-attached.result ≡ Failed) s.device_faults c.count_ready.new.faults) c.self.view_is c.count_ready.ensures
 
 pub returns-clause-attaches : goal.returns-clause-attaches
-returns-clause-attaches g c = subst (λ (s : RealState). c.attach-attached.result ≡ Done → (c.args.device < 8) × (is_paced s.round c.args.device ≡ false)) c.self.view_is c.attach-attached.ensures.attaches
+returns-clause-attaches g c = subst (λ (s : RealState). c.attach-attached.result ≡ Done → (c.args.device < most_devices) × (is_paced s.round c.args.device ≡ false)) c.self.view_is c.attach-attached.ensures.attaches
 
 pub returns-clause-round : goal.returns-clause-round
 returns-clause-round g c = subst (λ (s : RealState). c.attach-attached.new.self.round ≡ round_after c.attach-attached.result s.round c.args.device c.args.spec.now.rate) c.self.view_is c.attach-attached.ensures.round

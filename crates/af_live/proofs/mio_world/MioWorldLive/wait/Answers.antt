@@ -1,6 +1,7 @@
 use Rattle.std.proofs.Common.{◌≡◌, ◌≤◌, ◌<◌, ℕ, true, false, sym, subst, IfSome, MatchOption}
 use Rattle.std.proofs.Math.Nat.{le_refl}
 use Rattle.std.specs.declared.option.Option.{Option}
+use Rattle.af_limits.specs.Limits.{most_links}
 use Rattle.af_world.specs.declared.happening.Wake.{Wake}
 use Rattle.af_world.specs.declared.live.Waited.TheVariants.{Failed}
 use Rattle.af_live.specs.LinkTable.{link_at, something_ready, KeepsOpen, Opens}
@@ -17,7 +18,7 @@ returns-clause-unlistened g c = subst (λ (s : RealState). s.listens ≡ false �
 pub returns-clause-kept : goal.returns-clause-kept
 returns-clause-kept g c =
     let w = sym c.answer-waited.ensures.given in
-    subst (λ (s : RealState). (k : ℕ) → s.listens ≡ true → k < 32 → something_ready (link_at s.links k) ≡ true → GivesKept (given c.answer-waited.result) s.links s.round c.next_wake-next.new.links c.next_wake-next.new.round) c.self.view_is
+    subst (λ (s : RealState). (k : ℕ) → s.listens ≡ true → k < most_links → something_ready (link_at s.links k) ≡ true → GivesKept (given c.answer-waited.result) s.links s.round c.next_wake-next.new.links c.next_wake-next.new.round) c.self.view_is
     (λ k l b r. subst (λ (o : Option Wake). GivesKept o c.self.inside.links c.self.inside.devices.round c.next_wake-next.new.links c.next_wake-next.new.round) w (c.next_wake-next.ensures.kept k l b r))
 
 pub returns-clause-fits : goal.returns-clause-fits

@@ -13,7 +13,7 @@ pub struct Environment {
 
 impl Model for Environment {
     ghost use Rattle.std.specs.Prelude.{◌≤◌, length};
-        ghost use Rattle.af_state.specs.Environment.{KeptEnvironment};
+    ghost use Rattle.af_state.specs.Environment.{KeptEnvironment};
 
     ghost Value = { KeptEnvironment };
 

@@ -42,7 +42,7 @@ pub struct ContextPlay<'a> {
     pub bytes: &'a [u8],
 }
 
-// A play has whole frames.
+// Refuses a play whose bytes are not whole frames.
 fn play_refusal(context: &Context, channels: u8, bytes: usize) -> Option<Refusal>
     requires few { bytes ≤ longest_play }
     requires count { IsChannelCount channels }

@@ -18,6 +18,7 @@ pub mod CuttingLawLemmas
 pub mod InputLemmas
 pub mod CauseLemmas
 pub mod LinkInvariantLemmas
+pub mod AdvancedLemmas
 pub mod PhasePartLemmas
 pub mod OwedBytesLemmas
 pub mod SafeLemmas

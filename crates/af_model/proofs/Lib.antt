@@ -31,4 +31,5 @@ pub mod FoldLawLemmas
 pub mod CauseLawLemmas
 pub mod DeadLawLemmas
 pub mod Example
+pub mod RunExamples
 pub mod NoLossLemmas

@@ -85,6 +85,20 @@ by_none : (n k : ℕ) (p : OpenLink) → advance_step k p ≡ None → advance_b
 by_none zero k p e = refl
 by_none (suc n) k p e = ap (λ o. or_else p (advance_by n k) o) e
 
+-- behind an advance there is none to take
+by_ends : (n k : ℕ) (p : OpenLink) → length p.link.rest ≤ n → advance_step k (advance_by n k p) ≡ None
+by_ends zero k p h =
+    elim (advance_step k p) as (λ o. IsShorter (length p.link.rest) o → o ≡ None) [ None ↦ λ s. refl | Some q ↦ λ s. absurd (omega (arith, s, h)) ] (step_shorter k p)
+by_ends (suc n) k p h =
+    elim (advance_step k p) as (λ o. advance_step k p ≡ o → IsShorter (length p.link.rest) o → advance_step k (or_else p (advance_by n k) o) ≡ None) [
+      | None ↦ λ e s. e
+      | Some q ↦ λ e s. by_ends n k q (omega (arith, s, h))
+    ] refl (step_shorter k p)
+
+pub advance_ends : (k : ℕ) (p : OpenLink) → advance_step k (advance k p) ≡ None
+unfolding advance
+advance_ends k p = by_ends (length p.link.rest) k p (omega arith)
+
 -- if there is one to take, advancing goes on behind it
 pub advance-some : (k : ℕ) (p q : OpenLink) → advance_step k p ≡ Some q → advance k p ≡ advance k q
 unfolding advance

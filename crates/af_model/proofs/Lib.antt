@@ -18,6 +18,7 @@ pub mod CuttingLawLemmas
 pub mod InputLemmas
 pub mod CauseLemmas
 pub mod LinkInvariantLemmas
+pub mod AdvancedLemmas
 pub mod PhasePartLemmas
 pub mod OwedBytesLemmas
 pub mod SafeLemmas
@@ -30,4 +31,5 @@ pub mod FoldLawLemmas
 pub mod CauseLawLemmas
 pub mod DeadLawLemmas
 pub mod Example
+pub mod RunExamples
 pub mod NoLossLemmas

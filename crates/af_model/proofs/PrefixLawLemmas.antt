@@ -37,7 +37,7 @@ opening_queued config k = subst (λ (x : SlotState). OwingLink k no_history x.sa
 
 shown : (k : ℕ) (g : LinkHistory) (said : List ℕ) (link : Option LinkState) (waiting : List Deferral) → OwingLink k g said link waiting → IsFrontOf g.took said link
 shown k g said None waiting h = record { rest = h.0; whole = h.1; queued = tt }
-shown k g said (Some l) waiting h = record { rest = h.rest; whole = h.whole; queued = h.queued }
+shown k g said (Some l) waiting h = record { rest = h.0.rest; whole = h.0.whole; queued = h.0.queued }
 
 pub takes_in_order : (config : List DeviceSpec) (log : Log) → TakesInOrder config log
 unfolding end_state

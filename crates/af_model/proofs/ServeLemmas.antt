@@ -25,9 +25,10 @@ use Rattle.af_model.proofs.BoolTestLemmas.{both-true, cond-some, none_some, same
 use Rattle.af_model.proofs.ListLemmas.{get-set_other, get-set_same}
 use Rattle.af_model.proofs.DeviceHistoryLemmas.{AllLive, Laters, all_live_refl, all_live_trans, laters_refl, laters_trans, live_laters}
 use Rattle.af_model.proofs.DeadLemmas.{DeadAs, DeadIn, NoneFails, died, died_device, died_line, lives_dead, none_fails-append}
+use Rattle.af_model.proofs.AdvancedLemmas.{advanced_behind, advanced_closing}
 use Rattle.af_model.proofs.LinkInvariantLemmas.{advance_keeps, takes_more_open}
 use Rattle.af_model.proofs.SafeLemmas.{SafeIn, SafeState, safe_dropped}
-use Rattle.af_model.proofs.OwedBytesLemmas.{Moved, Owing, OwingAt, QueuedSlot, OwingLink, moved_of, queued_closed, queued_ended, queued_failed, queued_given, queued_taken, queueing_fewer, queueing_keeps, sending_undropped, own_left, still_waits, SameOthers}
+use Rattle.af_model.proofs.OwedBytesLemmas.{Moved, OwingAt, QueuedSlot, OwingLink, moved_of, queued_closed, queued_ended, queued_failed, queued_given, queued_taken, queueing_keeps, queueing_same, sending_undropped, own_left, still_waits, SameOthers}
 use Rattle.af_model.proofs.PhasePartLemmas.{Takes, close_takes, read_takes, takes_chain, takes_nothing, takes_then, write_takes}
 
 -- A happening within a turn, behind its wake and its emit
@@ -84,14 +85,17 @@ served_trans j a p b q c s t = record {
 
 -- Reads
 
--- a link that is read is not closing
+-- more may be taken off a link that is read, and it is not closing
+read_more : (k : ℕ) (p : OpenLink) → wants_read (has_deferral p.environment.waiting k) p.link ≡ true → takes_more (has_deferral p.environment.waiting k) p.link ≡ true
+read_more k p w = (both-true p.link.is_ready (takes_more (has_deferral p.environment.waiting k) p.link) w).1
+
 read_open : (k : ℕ) (p : OpenLink) → wants_read (has_deferral p.environment.waiting k) p.link ≡ true → p.link.closing ≡ None
-read_open k p w = takes_more_open (has_deferral p.environment.waiting k) p.link (both-true p.link.is_ready (takes_more (has_deferral p.environment.waiting k) p.link) w).1
+read_open k p w = takes_more_open (has_deferral p.environment.waiting k) p.link (read_more k p w)
 
 -- what a read makes of a link and its environment, and of its history
 record HasRead (k : ℕ) (p : OpenLink) (got : ReadGot) (q : OpenLink) : Type 0 where
   devices : AllLive p.environment.devices q.environment.devices
-  own : (g : LinkHistory) → Owing k g p → Owing k (read_noted got g) q
+  own : (g : LinkHistory) → QueuedSlot k g (enter p) → QueuedSlot k (read_noted got g) (enter q)
   waits : SameOthers k p.environment.waiting q.environment.waiting
   safe : SafeIn 0 0 p.environment → SafeIn 0 0 q.environment
 
@@ -99,21 +103,33 @@ has_read : (k : ℕ) (p : OpenLink) (got : ReadGot) → wants_read (has_deferral
 has_read k p (Given bytes) w =
     let none = read_open k p w in
     let q : OpenLink = open_link p.environment (record p.link { rest = p.link.rest ++ bytes }) in
-    let m : Moved k (enter q) (enter (advance k q)) = moved_of k q (advance k q) (λ May I kept h. advance_keeps k May I kept q h) in
+    let m : Moved k q (advance k q) = moved_of k q (advance k q) (advanced_behind k q) (λ May I kept h. advance_keeps k May I kept q h) in
     let same : absorb k bytes p ≡ advance k q = ap (λ t. cond t (advance k q) p) (ap is_none none) in
-    subst (HasRead k p (Given bytes)) (sym same) (record { devices = m.devices; own = λ g h. m.own (read_noted (Given bytes) g) (queued_given k g bytes p none h); waits = m.others; safe = m.safe })
+    subst (HasRead k p (Given bytes)) (sym same) (record { devices = m.devices; own = λ g h. (m.own (read_noted (Given bytes) g) (queued_given k g bytes p none h.0), advanced_behind k q); waits = m.others; safe = m.safe })
 has_read k p NotYet w =
     let none = read_open k p w in
     record {
       devices = all_live_refl p.environment.devices;
-      own = λ g h. (queueing_keeps k g).link p (after_read k NotYet p).link none none refl refl refl refl h;
+      own = λ g h. ((queueing_keeps k g).link p (after_read k NotYet p).link none none refl refl refl refl h.0, h.1);
       waits = refl;
       safe = λ h. h;
     }
 has_read k p Ended w =
-    record { devices = all_live_refl p.environment.devices; own = λ g h. queued_ended k g p (read_open k p w) h; waits = refl; safe = λ h. h }
+    let ended = after_read k Ended p in
+    record {
+      devices = all_live_refl p.environment.devices;
+      own = λ g h. (queued_ended k g p (read_open k p w) (h.1 (read_more k p w)) h.0, advanced_closing k ended.link ended.environment.waiting why.Ended refl);
+      waits = refl;
+      safe = λ h. h;
+    }
 has_read k p Failed w =
-    record { devices = all_live_refl p.environment.devices; own = λ g h. queued_failed k g p h; waits = own_left p.environment.waiting k; safe = λ h. safe_dropped k p.environment.devices p.environment.waiting h }
+    let failed = after_read k Failed p in
+    record {
+      devices = all_live_refl p.environment.devices;
+      own = λ g h. (queued_failed k g p h.0, advanced_closing k failed.link failed.environment.waiting why.LinkFault refl);
+      waits = own_left p.environment.waiting k;
+      safe = λ h. safe_dropped k p.environment.devices p.environment.waiting h;
+    }
 
 served_got : (k : ℕ) (p q : OpenLink) (got : ReadGot) → HasRead k p got q → Served k (enter p) (Read k got ∷ []) (enter q)
 served_got k p q got r = record {
@@ -141,7 +157,7 @@ served_wrote : (k : ℕ) (p : OpenLink) (offered : ℕ) (bytes : List ℕ) (part
     Served k (enter (after_write k bytes p)) part r → Served k (enter p) (Wrote k offered (Some bytes) ∷ part) r
 served_wrote k p offered bytes part r w front s =
     let left : OpenLink = open_link p.environment (sent (length bytes) p.link) in
-    let m : Moved k (enter left) (enter (advance k left)) = moved_of k left (advance k left) (λ May I kept h. advance_keeps k May I kept left h) in
+    let m : Moved k left (advance k left) = moved_of k left (advance k left) (advanced_behind k left) (λ May I kept h. advance_keeps k May I kept left h) in
     let some = (both-true (not (length p.link.pending == 0)) (not p.link.is_stuck) w).0 in
     record {
       inside = s.inside;
@@ -149,8 +165,8 @@ served_wrote k p offered bytes part r w front s =
       devices = all_live_trans p.environment.devices (advance k left).environment.devices r.environment.devices m.devices s.devices;
       own = λ g h.
           let f = write_noted (Some bytes) g in
-          let undropped = sending_undropped k g p.environment.said p.link p.environment.waiting some h in
-          subst (λ t. QueuedSlot k (fold (noted k) (cond t f g) part) r) (sym (same_number k)) (s.own f (m.own f (queued_taken k g bytes p left.link undropped refl refl refl refl (front_back bytes p.link.pending front) h)));
+          let undropped = sending_undropped k g p.environment.said p.link p.environment.waiting some h.0 in
+          subst (λ t. QueuedSlot k (fold (noted k) (cond t f g) part) r) (sym (same_number k)) (s.own f (m.own f (queued_taken k g bytes p left.link undropped refl refl refl refl refl (front_back bytes p.link.pending front) h.0), advanced_behind k left));
       others = λ j other g. ap (λ t. fold (noted j) (cond t (write_noted (Some bytes) g) g) part) other ∙ s.others j other g;
       waits = s.waits ∙ m.others;
       safe = λ h. s.safe (m.safe h);
@@ -164,7 +180,8 @@ served_failed k p offered part r s = record {
   devices = s.devices;
   own = λ g h.
       let f = write_noted None g in
-      subst (λ t. QueuedSlot k (fold (noted k) (cond t f g) part) r) (sym (same_number k)) (s.own f (queued_failed k g p h));
+      let failed = dropped k why.LinkFault p in
+      subst (λ t. QueuedSlot k (fold (noted k) (cond t f g) part) r) (sym (same_number k)) (s.own f (queued_failed k g p h.0, advanced_closing k failed.link failed.environment.waiting why.LinkFault refl));
   others = λ j other g. ap (λ t. fold (noted j) (cond t (write_noted None g) g) part) other ∙ s.others j other g;
   waits = s.waits ∙ own_left p.environment.waiting k;
   safe = λ h. s.safe (safe_dropped k p.environment.devices p.environment.waiting h);
@@ -199,7 +216,7 @@ served_close k p =
       inside = refl;
       alive = λ c sofar. (refl, refl);
       devices = all_live_refl p.environment.devices;
-      own = λ g h. subst (λ x. QueuedSlot k x (link_in_slot p.environment None)) (sym (ap (λ t. cond t (record g { closed = Some cause }) g) (same_number k))) (queued_closed k g p cause due h);
+      own = λ g h. subst (λ x. QueuedSlot k x (link_in_slot p.environment None)) (sym (ap (λ t. cond t (record g { closed = Some cause }) g) (same_number k))) (queued_closed k g p cause due h.0);
       others = λ j other g. ap (λ t. cond t (record g { closed = Some cause }) g) other;
       waits = refl;
       safe = λ h. h;
@@ -263,8 +280,8 @@ same_door k s = ap (λ slots. record s { slots = slots }) (slot_same s.slots k)
 
 -- another link in the slot of an open one
 pub put_goes : (j : ℕ) (s : State) (l : LinkState) (d : SlotLink) (part : Log) → (slot_at j s).link ≡ Some l → NoneFails part → AllLive s.devices d.environment.devices → ((g : LinkHistory) → OwingAt j g s → QueuedSlot j (fold (noted j) g part) d) →
-    ((k : ℕ) → (j == k) ≡ false → (g : LinkHistory) → fold (noted k) g part ≡ g) → ((k : ℕ) → (j == k) ≡ false → has_deferral s.waiting k ≡ false → has_deferral d.environment.waiting k ≡ false) → (SafeState 0 0 s → SafeIn 0 0 d.environment) → Goes s part (with_slot_link j s d)
-put_goes j s l d part is alive devices own others fewer safe =
+    ((k : ℕ) → (j == k) ≡ false → (g : LinkHistory) → fold (noted k) g part ≡ g) → ((k : ℕ) → (j == k) ≡ false → has_deferral d.environment.waiting k ≡ has_deferral s.waiting k) → (SafeState 0 0 s → SafeIn 0 0 d.environment) → Goes s part (with_slot_link j s d)
+put_goes j s l d part is alive devices own others same safe =
     let slot : SlotState = record { link = d.link; said = d.environment.said } in
     record {
       devices = live_laters s.devices d.environment.devices devices;
@@ -277,7 +294,7 @@ put_goes j s l d part is alive devices own others fewer safe =
         | false ↦ λ e.
             subst (λ x. OwingAt k x (with_slot_link j s d)) (sym (others k e g))
             (subst (λ (x : SlotState). OwingLink k g x.said x.link d.environment.waiting) (sym (slot_other s.slots j k slot e))
-            (queueing_fewer k g (slot_at k s).said (slot_at k s).link s.waiting d.environment.waiting (fewer k e) h))
+            (queueing_same k g (slot_at k s).said (slot_at k s).link s.waiting d.environment.waiting (same k e) h))
       ] refl;
       safe = safe;
     }
@@ -308,7 +325,7 @@ served_at k s =
           (within_trans s part (with_slot_link k s d) [] (with_slot_link k s d)
           (record {
             inside = h.inside;
-            goes = put_goes k s l d part is h.alive h.devices (λ g queueing. h.own g (subst (λ o. OwingLink k g a.said o s.waiting) is queueing)) h.others (λ j other e. still_waits s.waiting d.environment.waiting k j other h.waits e) h.safe;
+            goes = put_goes k s l d part is h.alive h.devices (λ g queueing. h.own g (subst (λ o. OwingLink k g a.said o s.waiting) is queueing)) h.others (λ j other. still_waits s.waiting d.environment.waiting k j other h.waits) h.safe;
           }) (within_refl (with_slot_link k s d))))
     ] refl
 

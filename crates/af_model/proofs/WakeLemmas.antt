@@ -17,21 +17,23 @@ use Rattle.af_world.specs.declared.happening.Wake.{Wake}
 use Rattle.af_world.specs.declared.happening.Wake.TheVariants.{Opened, Readable, Writable, Ticked, Line, Idle, Stop}
 use Rattle.af_world.specs.Log.{Log}
 use Rattle.af_wait.specs.Waits.{without_first}
-use Rattle.af_model.specs.State.{State, DeviceState, SlotState, LinkState, OpenLink, SlotLink, Deferral, link_in_slot, slot_link_at, lines_of, links_of, opened, outline, open_link, say, slot_at, some_slot, with_slot_link, with_device, with_slot}
-use Rattle.af_model.specs.Waiting.{falls_due}
+use Rattle.af_model.specs.State.{State, DeviceState, SlotState, LinkState, OpenLink, Deferral, link_in_slot, slot_link_at, lines_of, links_of, opened, outline, open_link, say, slot_at, some_slot, with_slot_link, with_device, with_slot}
+use Rattle.af_model.specs.Waiting.{due, falls_due}
+use Rattle.af_model.specs.Reply.{horizon_of}
 use Rattle.af_model.specs.Advance.{or_else}
 use Rattle.af_model.specs.Tick.{captured_samples, complete, complete_at, complete_by, complete_due, complete_first, complete_for, complete_step, completing, enter, later, sound, tick}
 use Rattle.af_model.specs.Events.{dropped, event_at, hook_given, hook_refused, line_becomes, line_changes, mask_of, tell, tell_at, tell_from, tell_link, tell_open, tell_selected}
 use Rattle.af_model.specs.Turn.{Parsed, parsed, parse_then, parse_one, capture_by, after_capture, tick_phase, line_phase, wake_phase, ready, writable, in_open, in_slot, is_closed_at, fits, hook_at, hook_from, hook_all, serve_all, serve_and_hook, turn}
 use Rattle.af_model.specs.LinkHistory.{LinkHistory, no_history, noted}
 use Rattle.af_model.specs.Prefix.{is_dropped}
-use Rattle.af_model.proofs.BoolTestLemmas.{both-true, cond-some, none_some}
+use Rattle.af_model.proofs.BoolTestLemmas.{both-true, cond-some, none_some, some_is}
 use Rattle.af_model.proofs.DeviceHistoryLemmas.{AllLive, Later, Laters, Lives, all_live_refl, all_live_trans, all_live_with, later_passed, later_line, later_trans, laters_get, laters_lines, laters_refl, laters_trans, laters_with, live_laters, lives_completing, lives_line, with_there}
 use Rattle.af_model.proofs.DeadLemmas.{DeadAs, lives_dead, with_dead}
 use Rattle.af_model.proofs.SafeLemmas.{AwaitedIn, SafeIn, SafeState, all_without_first, loses_alike, safe_becomes, safe_completing, safe_fewer, safe_keeps}
 use Rattle.af_model.proofs.CompletionLemmas.{found_all, ticks_safe}
-use Rattle.af_model.proofs.LinkInvariantLemmas.{complete_keeps}
-use Rattle.af_model.proofs.OwedBytesLemmas.{Moved, Owed, moved_overrun, OwingAt, OwingLink, Owing, SameOthers, found_waits, grows_keeps, queueing_fewer, queueing_keeps, others_keep, still_waits, selects_undropped, waiting_undropped, waits_left}
+use Rattle.af_model.proofs.AdvancedLemmas.{IsAdvanced, advanced_complete, advanced_says}
+use Rattle.af_model.proofs.LinkInvariantLemmas.{complete_keeps, open_undropped}
+use Rattle.af_model.proofs.OwedBytesLemmas.{Moved, Owed, moved_overrun, OwingAt, OwingLink, Owing, SameOthers, found_waits, grows_keeps, owed_fewer, queueing_keeps, queueing_left, others_keep, others_left, still_waits, selects_open, waiting_undropped, waits_left}
 use Rattle.af_model.proofs.PhasePartLemmas.{Takes, hook_takes, live_takes, takes_chain, takes_map, takes_nothing, takes_then}
 use Rattle.af_model.proofs.ServeLemmas.{Goes, Within, goes_refl, goes_trans, inner, put_goes, same_door, served_from, slot_other, within_refl, within_trans}
 
@@ -50,9 +52,10 @@ becomes_goes d f s l same =
 
 -- Completions
 
--- the first that is due leaves the list, and completes
-completed : (passes : Deferral → Bool) (s : State) (w : Deferral) → find passes s.waiting ≡ Some w → Goes s [] (complete w (record s { waiting = without_first passes s.waiting }))
-completed passes s w found =
+-- the first that is due, of a device that is there, leaves the list, and completes
+completed : (passes : Deferral → Bool) (s : State) (w : Deferral) (x : DeviceState) → find passes s.waiting ≡ Some w → slice_get s.devices w.device ≡ Some x →
+    Goes s [] (complete w (record s { waiting = without_first passes s.waiting }))
+completed passes s w x found there =
     let fewer : State = record s { waiting = without_first passes s.waiting } in
     let a = (slot_link_at w.link fewer).environment in
     let k = w.link in
@@ -60,7 +63,7 @@ completed passes s w found =
     elim (slot_at k s).link as (λ o. (slot_at k s).link ≡ o → Goes s [] (with_slot_link k fewer (complete_at w a o))) [
       | None ↦ λ is.
           let back : with_slot_link k fewer (link_in_slot a None) ≡ fewer = ap (λ o. with_slot_link k fewer (link_in_slot a o)) (sym is) ∙ same_door k fewer in
-          subst (Goes s []) (sym back) (record { devices = laters_refl s.devices; deaths = λ c x y h. h; queued = λ j g h. queueing_fewer j g (slot_at j s).said (slot_at j s).link s.waiting fewer.waiting (waits_left passes s.waiting j) h; safe = λ h. left h })
+          subst (Goes s []) (sym back) (record { devices = laters_refl s.devices; deaths = λ c x y h. h; queued = λ j g h. queueing_left passes w j g (slot_at j s).said (slot_at j s).link s.waiting found (λ own. subst (λ n. (slot_at n s).link ≡ None) (eqb-true k j own) is) h; safe = λ h. left h })
       | Some l ↦ λ is.
           let p = open_link a l in
           let device = slice_get s.devices w.device in
@@ -69,15 +72,17 @@ completed passes s w found =
           (λ x there h. all_live_trans s.devices s.devices (with_device w.device (completing w.link w.deferred) s.devices) h (all_live_with w.device (completing w.link w.deferred) s.devices (λ d is. lives_completing w.link d w.deferred))) tt (all_live_refl s.devices))
           (λ g h.
           let here : OwingLink k g a.said (Some l) s.waiting = subst (λ o. OwingLink k g a.said o s.waiting) is h in
-          let undropped = waiting_undropped k g a.said l s.waiting (found_waits passes s.waiting w found) here in
-          complete_keeps k (λ closing. is_dropped closing ≡ false) (Owing k g) (queueing_keeps k g) w.device w.deferred device p refl (λ x there h. h) undropped
-          (queueing_fewer k g a.said (Some l) s.waiting fewer.waiting (waits_left passes s.waiting k) here))
+          let undropped = waiting_undropped k g a.said l s.waiting (found_waits passes s.waiting w found) here.0 in (
+            complete_keeps k (λ closing. is_dropped closing ≡ false) (Owing k g) (queueing_keeps k g) w.device w.deferred device p refl (λ x there h. h) undropped
+                (owed_fewer k g a.said l s.waiting fewer.waiting (waits_left passes s.waiting k) here.0),
+            advanced_complete w device x p there,
+          ))
           (λ j other g. refl)
-          (λ j other e.
+          (λ j other.
           let q = complete_for w device p in
           let same : SameOthers k fewer.waiting q.environment.waiting =
           complete_keeps k (λ closing. Unit {0}) (λ q. SameOthers k fewer.waiting q.environment.waiting) (others_keep k fewer.waiting) w.device w.deferred device p refl (λ x there h. h) tt refl in
-          still_waits fewer.waiting q.environment.waiting k j other same (waits_left passes s.waiting j e))
+          still_waits fewer.waiting q.environment.waiting k j other same ∙ others_left passes s.waiting w j found other)
           (λ h. complete_keeps k (λ closing. Unit {0}) (λ q. SafeIn 0 0 q.environment) (safe_keeps k 0 0) w.device w.deferred device p refl
           (λ x there g. safe_completing 0 0 w s.devices fewer.waiting (omega arith) (found_all passes s.waiting w (λ v. AwaitedIn 0 0 s.devices v) found h.waiting) g) tt (left h))
     ] refl
@@ -85,15 +90,24 @@ completed passes s w found =
 abbrev GoesTo : State → Option State → Type 0
 GoesTo s o = IfSome o (λ t. Goes s [] t)
 
-first_goes : (d : ℕ) (s : State) (device : DeviceState) → GoesTo s (complete_first d s device)
-first_goes d s device =
+-- a request that falls due waits for that device
+falls_due_there : (d : ℕ) (device : DeviceState) (ws : List Deferral) (w : Deferral) → find (falls_due d device) ws ≡ Some w → w.device ≡ d
+falls_due_there d device [] w e = absurd (none_some e)
+falls_due_there d device (v ∷ ws) w e =
+    elim (falls_due d device v) as (λ t. falls_due d device v ≡ t → cond t (Some v) (find (falls_due d device) ws) ≡ Some w → w.device ≡ d) [
+      | true ↦ λ t e. let same : v ≡ w = some_is e in subst (λ (u : Deferral). u.device ≡ d) same (eqb-true v.device d (both-true (v.device == d) (nat_le (due device.channels (horizon_of device) v.deferred) device.now) t).0)
+      | false ↦ λ t e. falls_due_there d device ws w e
+    ] refl e
+
+first_goes : (d : ℕ) (s : State) (device : DeviceState) → slice_get s.devices d ≡ Some device → GoesTo s (complete_first d s device)
+first_goes d s device there =
     elim (find (falls_due d device) s.waiting) as (λ o. find (falls_due d device) s.waiting ≡ o → GoesTo s (option_map (λ w. complete w (record s { waiting = without_first (falls_due d device) s.waiting })) o)) [
       | None ↦ λ found. tt
-      | Some w ↦ λ found. completed (falls_due d device) s w found
+      | Some w ↦ λ found. completed (falls_due d device) s w device found (subst (λ n. slice_get s.devices n ≡ Some device) (sym (falls_due_there d device s.waiting w found)) there)
     ] refl
 
 step_goes : (d : ℕ) (s : State) → GoesTo s (complete_step d s)
-step_goes d s = elim (slice_get s.devices d) as (λ o. GoesTo s (option_and_then (complete_first d s) o)) [ None ↦ tt | Some device ↦ first_goes d s device ]
+step_goes d s = elim (slice_get s.devices d) as (λ o. slice_get s.devices d ≡ o → GoesTo s (option_and_then (complete_first d s) o)) [ None ↦ λ there. tt | Some device ↦ λ there. first_goes d s device there ] refl
 
 pub by_goes : (n d : ℕ) (s : State) → Goes s [] (complete_by n d s)
 by_goes zero d s = goes_refl s
@@ -129,32 +143,35 @@ ticks d n captured is_dead s device there few =
 
 -- Events
 
-told : (k : ℕ) (e : Event) (p : OpenLink) → Moved k (enter p) (enter (tell_link k e p))
+told : (k : ℕ) (e : Event) (p : OpenLink) → Moved k p (tell_link k e p)
 told k e p =
-    elim (selects (mask_of p.link e.device) e.kind) as (λ t. selects (mask_of p.link e.device) e.kind ≡ t → Moved k (enter p) (enter (cond t (tell_selected k e p) p))) [
-      | true ↦ λ t. elim (nat_le (length p.link.pending + 20) event_limit) as (λ u. nat_le (length p.link.pending + 20) event_limit ≡ u → Moved k (enter p) (enter (cond u (say p (event_bytes p.link.order e p.link.sequence)) (dropped k why.Overrun p)))) [
+    elim (selects (mask_of p.link e.device) e.kind) as (λ t. selects (mask_of p.link e.device) e.kind ≡ t → Moved k p (cond t (tell_selected k e p) p)) [
+      | true ↦ λ t. elim (nat_le (length p.link.pending + 20) event_limit) as (λ u. nat_le (length p.link.pending + 20) event_limit ≡ u → Moved k p (cond u (say p (event_bytes p.link.order e p.link.sequence)) (dropped k why.Overrun p))) [
         | true ↦ λ u. record {
           devices = all_live_refl p.environment.devices;
-          own = λ g h. (queueing_keeps k g).says p (event_bytes p.link.order e p.link.sequence) (selects_undropped k e.device e.kind g p t h) h;
+          own = λ g h. (queueing_keeps k g).says p (event_bytes p.link.order e p.link.sequence) (open_undropped p.link.closing (selects_open k e.device e.kind g p t h)) h;
+          advanced = advanced_says k p (event_bytes p.link.order e p.link.sequence);
           others = refl;
           safe = λ h. h;
         }
-        | false ↦ λ u. moved_overrun k p (λ g h. selects_undropped k e.device e.kind g p t h) u
+        | false ↦ λ u. moved_overrun k p (λ g h. selects_open k e.device e.kind g p t h) u
       ] refl
-      | false ↦ λ t. record { devices = all_live_refl p.environment.devices; own = λ g h. h; others = refl; safe = λ h. h }
+      | false ↦ λ t. record { devices = all_live_refl p.environment.devices; own = λ g h. h; advanced = λ h. h; others = refl; safe = λ h. h }
     ] refl
 
 -- an open link moves, and nothing is taken
-moves_goes : (k : ℕ) (s : State) (l : LinkState) (d : SlotLink) → (slot_at k s).link ≡ Some l → Moved k (enter (open_link (slot_link_at k s).environment l)) d → Goes s [] (with_slot_link k s d)
-moves_goes k s l d is m =
-    put_goes k s l d [] is (λ c sofar. (refl, refl)) m.devices (λ g h. m.own g (subst (λ o. OwingLink k g (slot_at k s).said o s.waiting) is h)) (λ j other g. refl) (λ j other e. still_waits s.waiting d.environment.waiting k j other m.others e) m.safe
+moves_goes : (k : ℕ) (s : State) (l : LinkState) (q : OpenLink) → (slot_at k s).link ≡ Some l → Moved k (open_link (slot_link_at k s).environment l) q → Goes s [] (with_slot_link k s (enter q))
+moves_goes k s l q is m =
+    put_goes k s l (enter q) [] is (λ c sofar. (refl, refl)) m.devices
+    (λ g h. let here : OwingLink k g (slot_at k s).said (Some l) s.waiting = subst (λ o. OwingLink k g (slot_at k s).said o s.waiting) is h in (m.own g here.0, m.advanced here.1))
+    (λ j other g. refl) (λ j other. still_waits s.waiting q.environment.waiting k j other m.others) m.safe
 
 tell_at-goes : (k : ℕ) (e : Event) (s : State) → Goes s [] (tell_at k e s)
 tell_at-goes k e s =
     let a = (slot_link_at k s).environment in
     elim (slot_at k s).link as (λ o. (slot_at k s).link ≡ o → Goes s [] (with_slot_link k s (tell_open k e a o))) [
       | None ↦ λ is. subst (Goes s []) (sym (ap (λ o. with_slot_link k s (link_in_slot a o)) (sym is) ∙ same_door k s)) (goes_refl s)
-      | Some l ↦ λ is. moves_goes k s l (enter (tell_link k e (open_link a l))) is (told k e (open_link a l))
+      | Some l ↦ λ is. moves_goes k s l (tell_link k e (open_link a l)) is (told k e (open_link a l))
     ] refl
 
 tell_from-goes : (n k : ℕ) (e : Event) (s : State) → Goes s [] (tell_from n k e s)
@@ -325,28 +342,31 @@ opened_goes j s fit =
       safe = λ h. h;
       queued = λ k g h. elim (j == k) as (λ t. (j == k) ≡ t → OwingAt k (cond t no_history g) (with_slot j slot s)) [
         | true ↦ λ e.
-            subst (λ n. OwingAt n no_history (with_slot j slot s)) (eqb-true j k e) (subst (λ (x : SlotState). OwingLink j no_history x.said x.link s.waiting) (sym (slot_opened s.slots j slot fit))
-            (record {
-              rest = [];
-              whole = refl;
-              queued = λ e. refl;
-              sends = λ e. refl;
-              waits = λ e. absurd cc;
-              wants = λ e. refl;
-              shows = record { failed = refl; ended = refl; input = refl };
-              unclosed = refl;
-            }))
+            subst (λ n. OwingAt n no_history (with_slot j slot s)) (eqb-true j k e) (subst (λ (x : SlotState). OwingLink j no_history x.said x.link s.waiting) (sym (slot_opened s.slots j slot fit)) (
+              record {
+                rest = [];
+                whole = refl;
+                queued = λ e. refl;
+                sends = λ e. refl;
+                waits = λ e. absurd cc;
+                wants = λ e. refl;
+                shows = record { failed = refl; ended = refl; input = refl };
+                unclosed = refl;
+              },
+              λ more. refl,
+            ))
         | false ↦ λ e. subst (λ (x : SlotState). OwingLink k g x.said x.link s.waiting) (sym (slot_other s.slots j k slot e)) h
       ] refl;
     }
 
--- something of an open link changes, but nothing that is queued for it
-opens_goes : (f : LinkState → LinkState) (k : ℕ) (s : State) → ((g : LinkHistory) (said : List ℕ) (l : LinkState) (waiting : List Deferral) → Owed k g said l waiting → Owed k g said (f l) waiting) → Goes s [] (with_slot k (in_slot f (slot_at k s)) s)
-opens_goes f k s queued =
+-- something of an open link changes, but nothing that is queued for it or taken off its input
+opens_goes : (f : LinkState → LinkState) (k : ℕ) (s : State) → ((g : LinkHistory) (said : List ℕ) (l : LinkState) (waiting : List Deferral) → Owed k g said l waiting → Owed k g said (f l) waiting) →
+    ((l : LinkState) (waiting : List Deferral) → IsAdvanced k l waiting → IsAdvanced k (f l) waiting) → Goes s [] (with_slot k (in_slot f (slot_at k s)) s)
+opens_goes f k s queued advanced =
     let a = (slot_link_at k s).environment in
     elim (slot_at k s).link as (λ o. (slot_at k s).link ≡ o → Goes s [] (with_slot_link k s (link_in_slot a (in_open f o)))) [
       | None ↦ λ is. subst (Goes s []) (sym (ap (λ o. with_slot_link k s (link_in_slot a o)) (sym is) ∙ same_door k s)) (goes_refl s)
-      | Some l ↦ λ is. moves_goes k s l (link_in_slot a (Some (f l))) is (record { devices = all_live_refl s.devices; own = λ g h. queued g a.said l s.waiting h; others = refl; safe = λ h. h })
+      | Some l ↦ λ is. moves_goes k s l (open_link a (f l)) is (record { devices = all_live_refl s.devices; own = λ g h. queued g a.said l s.waiting h; advanced = advanced l s.waiting; others = refl; safe = λ h. h })
     ] refl
 
 -- a wake that no link is opened by, and that takes nothing off
@@ -370,10 +390,10 @@ unfolding wake_phase
 woken (Opened k) s fit = takes_nothing (with_slot k (record { link = Some opened; said = [] }) s) (Woken s (Opened k)) (record { goes = opened_goes k s fit; emits = inl refl })
 woken (Readable k) s fit =
     woken_quiet (Readable k) s (with_slot k (in_slot ready (slot_at k s)) s) (λ k f. refl)
-    (opens_goes ready k s (λ g said l waiting h. record { rest = h.rest; whole = h.whole; queued = h.queued; sends = h.sends; waits = h.waits; wants = h.wants; shows = h.shows; unclosed = h.unclosed }))
+    (opens_goes ready k s (λ g said l waiting h. record { rest = h.rest; whole = h.whole; queued = h.queued; sends = h.sends; waits = h.waits; wants = h.wants; shows = h.shows; unclosed = h.unclosed }) (λ l waiting h. h))
 woken (Writable k) s fit =
     woken_quiet (Writable k) s (with_slot k (in_slot writable (slot_at k s)) s) (λ k f. refl)
-    (opens_goes writable k s (λ g said l waiting h. record { rest = h.rest; whole = h.whole; queued = h.queued; sends = h.sends; waits = h.waits; wants = h.wants; shows = h.shows; unclosed = h.unclosed }))
+    (opens_goes writable k s (λ g said l waiting h. record { rest = h.rest; whole = h.whole; queued = h.queued; sends = h.sends; waits = h.waits; wants = h.wants; shows = h.shows; unclosed = h.unclosed }) (λ l waiting h. h))
 woken (Ticked d n) s fit = woken_ticked d n (slice_get s.devices d) s (few_frames n (both-true (nat_lt d (length (outline s).lines) && nat_le 1 n) (nat_le n longest_tick) fit).1) refl
   where
     few_frames : (n : ℕ) → nat_le n longest_tick ≡ true → n ≤ longest_tick

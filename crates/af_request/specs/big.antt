@@ -153,7 +153,7 @@ controls_in body =
     then controls_of (flag_of (u8_at 0 body)) (flag_of (u8_at 1 body)) (gain_of (i16_at 4 body)) (gain_of (i16_at 6 body))
     else None
 
--- what a body answers to a request of an opcode, if it is a body of that opcode; 0 stands for a setup
+-- what a body answers to a request of an opcode, or to a setup, if it is such a body
 abbrev pub answer_in : ℕ → List ℕ → Option Answer
 answer_in opcode body =
     if is_plain opcode then plain_in body

@@ -3,7 +3,7 @@
 /// A setup has no opcode: 0 stands for it in its reply and its error.
 pub const SETUP: u8 = 0;
 
-/// Asks nothing.
+/// Does nothing, and gets no reply.
 pub const NO_OP: u8 = 1;
 
 /// Asks for the time of a device.

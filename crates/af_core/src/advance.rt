@@ -42,7 +42,9 @@ fn reply_setup(devices: &[Device], link: &mut ServedLink, message: &mut [u8])
     requires count { length devices.now ≤ 8 }
     requires room { length link.old.pending ≤ most_to_send }
     requires size { length message.old ≡ longest_message }
-    ensures { link.new ≡ record link.old { pending = link.old.pending ++ reply_message link.old.order opcodes.setup (setup (map kept_info devices.now)) 0 } }
+    ensures { link.new ≡ record link.old {
+      pending = link.old.pending ++ reply_message link.old.order opcodes.setup (setup (map kept_info devices.now)) 0;
+    } }
 {
     let reply = Reply::Setup {
         devices: infos_of(devices),
@@ -54,7 +56,8 @@ fn reply_setup(devices: &[Device], link: &mut ServedLink, message: &mut [u8])
 // A bad setup is answered in an order, and closes the link.
 fn refuse_setup(order: Order, value: u32, link: &mut ServedLink)
     requires room { length link.old.pending ≤ most_to_send }
-    ensures { link.new ≡ record (stopped why.BadSetup link.old) { pending = link.old.pending ++ error order 1 value opcodes.setup 0 } }
+    ensures { link.new ≡
+        record (stopped why.BadSetup link.old) { pending = link.old.pending ++ error order 1 value opcodes.setup 0 } }
 {
     let mut message = [0; 16];
     write_error(order, BAD_SETUP, value, opcode::SETUP, 0, &mut message);

@@ -247,7 +247,8 @@ pub fn set_up<L: Link>(
     input: &mut [u8],
 ) -> Result<Devices, ConnFault>
     requires { longest_message ≤ length input.old }
-    ensures answers { Answers order as_devices opcodes.setup 0 (listed result) ring.old ring.new (L.left link.old) (L.left link.new) }
+    ensures answers { Answers order as_devices opcodes.setup 0 (listed result) ring.old ring.new
+        (L.left link.old) (L.left link.new) }
     ensures stated { IfOk result (λ devices. IsReplyTo opcodes.setup (setup devices.items)) }
     ensures fresh { IsFresh result }
     ensures sends { Sends (listed result) (L.sent link.old) (setup_bytes order) (L.sent link.new) }

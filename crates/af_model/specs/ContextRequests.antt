@@ -47,7 +47,8 @@ described device ac ty preempt play_gain record_gain = record {
 
 -- one context more, if the number is free and there is room
 abbrev pub create : Context → OpenLink → OpenLink
-create c p = refused_or opcodes.create_ac (context_refusal c.ac (creation p.link.contexts c.ac)) (λ q. replied opcodes.create_ac plain (with_contexts (q.link.contexts ++ c ∷ []) q)) p
+create c p = refused_or opcodes.create_ac (context_refusal c.ac (creation p.link.contexts c.ac))
+    (λ q. replied opcodes.create_ac plain (with_contexts (q.link.contexts ++ c ∷ []) q)) p
 
 -- the fields that the mask names are looked at: 1 play gain, 2 record gain, 4 preempt
 unfoldable pub change_refusal : List Context → ℕ → ℕ → ℕ → ℤ → ℤ → Option Refusal
@@ -69,4 +70,5 @@ change mask ac preempt play_gain record_gain p = replied opcodes.change_ac plain
 
 -- a context is no more; what it had accepted stays
 abbrev pub free : ℕ → OpenLink → OpenLink
-free ac p = refused_or opcodes.free_ac (context_refusal ac (reference p.link.contexts ac)) (λ q. replied opcodes.free_ac plain (with_contexts (without_context q.link.contexts ac) q)) p
+free ac p = refused_or opcodes.free_ac (context_refusal ac (reference p.link.contexts ac))
+    (λ q. replied opcodes.free_ac plain (with_contexts (without_context q.link.contexts ac) q)) p

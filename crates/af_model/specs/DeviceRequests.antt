@@ -22,7 +22,8 @@ on_line opcode d f (Some line) p = f line p
 
 -- SelectEvents: the mask of events of a device is replaced
 abbrev pub select : ℕ → ℕ → OpenLink → OpenLink
-select d mask p = replied opcodes.select_events plain (open_link p.environment (record p.link { selections = slice_set p.link.selections d mask }))
+select d mask p = replied opcodes.select_events plain
+    (open_link p.environment (record p.link { selections = slice_set p.link.selections d mask }))
 
 -- SetControls: the fields that the mask names are looked at: 1 input gain, 2 output gain, 4 input on, 8 output on
 unfoldable pub controls_refusal : ℕ → ℕ → ℕ → ℤ → ℤ → Option Refusal
@@ -64,7 +65,8 @@ wanting_hook k off device = record device { line = option_map (wanting off) devi
 
 abbrev pub switch_hook : ℕ → ℕ → ℕ → Phone → OpenLink → OpenLink
 switch_hook k d off line p =
-    refused_or opcodes.hook_switch (switch_refusal d off line) (λ q. replied opcodes.hook_switch plain (in_devices d (wanting_hook k (off == 1)) q)) p
+    refused_or opcodes.hook_switch (switch_refusal d off line)
+    (λ q. replied opcodes.hook_switch plain (in_devices d (wanting_hook k (off == 1)) q)) p
 
 -- QueryPhone
 abbrev pub tell_phone : Phone → OpenLink → OpenLink

@@ -69,4 +69,5 @@ start_play k quiet c time bytes device p =
     else wait k c.device (deferred_play quiet (unwrap device.now time) (sent_sound c bytes) c.preempt) p
 
 abbrev pub play : ℕ → Bool → Context → ℕ → List ℕ → DeviceState → OpenLink → OpenLink
-play k quiet c time bytes device p = refused_or opcodes.play (play_refusal device.channels c (length bytes)) (start_play k quiet c time bytes device) p
+play k quiet c time bytes device p =
+    refused_or opcodes.play (play_refusal device.channels c (length bytes)) (start_play k quiet c time bytes device) p

@@ -49,4 +49,5 @@ start_record k blocking c time bytes device p =
     else give_record c (unwrap device.now time) (given_frames blocking device time (frames_of device.channels c bytes)) device p
 
 abbrev pub record_sound : ℕ → Bool → Context → ℕ → ℕ → DeviceState → OpenLink → OpenLink
-record_sound k blocking c time bytes device p = refused_or opcodes.record (record_refusal device.channels c bytes) (start_record k blocking c time bytes device) p
+record_sound k blocking c time bytes device p =
+    refused_or opcodes.record (record_refusal device.channels c bytes) (start_record k blocking c time bytes device) p

@@ -203,8 +203,8 @@ fn wanting(off: bool, line: Option<Line>) -> Option<Line>
 fn want_hook(device: u8, off: bool, devices: &mut [Device], link: &mut ServedLink, work: &mut Work)
     requires room { length link.old.pending ≤ most_to_send }
     requires there { device < length devices.old }
-    ensures step { (k : ℕ) (ks : List KeptDeferral) → StepsLinkFor device (λ s p. replied opcodes.hook_switch plain (in_devices device (wanting_hook k off) p))
-        (kept devices.old ks) link.old (kept devices.new ks) link.new }
+    ensures step { (k : ℕ) (ks : List KeptDeferral) → StepsLinkFor device (λ s p. replied opcodes.hook_switch plain
+        (in_devices device (wanting_hook k off) p)) (kept devices.old ks) link.old (kept devices.new ks) link.new }
     ensures rest { link.new.rest ≡ link.old.rest }
 {
     let device = &mut devices[usize::from(device)];

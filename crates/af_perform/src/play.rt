@@ -73,8 +73,9 @@ fn read_sound(context: &Context, bytes: &[u8], samples: &mut [i16])
 fn tell_played(quiet: bool, time: DevTime, link: &mut ServedLink, message: &mut [u8])
     requires room { length link.old.pending ≤ event_limit }
     requires size { length message.old ≡ longest_message }
-    ensures { link.new ≡ (if quiet then link.old else
-        record link.old { pending = link.old.pending ++ reply_message link.old.order opcodes.play (played time.0) link.old.sequence }) }
+    ensures { link.new ≡ (if quiet then link.old else record link.old {
+      pending = link.old.pending ++ reply_message link.old.order opcodes.play (played time.0) link.old.sequence;
+    }) }
 {
     if !quiet {
         link.reply(opcode::PLAY, &Reply::Played { time }, message);

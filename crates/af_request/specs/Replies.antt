@@ -104,8 +104,8 @@ phone_in body =
 
 -- CreateAC, ChangeAC, FreeAC, SelectEvents, SetControls and HookSwitch are not answered with a value
 abbrev pub is_plain : ℕ → Bool
-is_plain opcode = list_any (λ o. opcode == o)
-    (opcodes.create_ac ∷ opcodes.change_ac ∷ opcodes.free_ac ∷ opcodes.select_events ∷ opcodes.set_controls ∷ opcodes.hook_switch ∷ [])
+is_plain opcode = list_any (λ o. opcode == o) (opcodes.create_ac ∷ opcodes.change_ac ∷ opcodes.free_ac
+    ∷ opcodes.select_events ∷ opcodes.set_controls ∷ opcodes.hook_switch ∷ [])
 
 -- what a body answers to a request of an opcode, or to a setup, if it is such a body
 abbrev pub answer_in : Order → ℕ → List ℕ → Option Answer

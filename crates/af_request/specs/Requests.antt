@@ -111,17 +111,21 @@ abbrev pub request_bytes : Order → Asked → List ℕ
 request_bytes order no_op = front order opcodes.no_op 0 1
 request_bytes order (get_time device) = front order opcodes.get_time device 1
 request_bytes order (create_ac device ac ty channels preempt play_gain record_gain) =
-    front order opcodes.create_ac device 4 ++ u32_bytes order ac ++ (ty ∷ channels ∷ preempt ∷ 0 ∷ []) ++ i16_bytes order play_gain ++ i16_bytes order record_gain
+    front order opcodes.create_ac device 4 ++ u32_bytes order ac ++ (ty ∷ channels ∷ preempt ∷ 0 ∷ [])
+    ++ i16_bytes order play_gain ++ i16_bytes order record_gain
 request_bytes order (change_ac mask ac preempt play_gain record_gain) =
-    front order opcodes.change_ac mask 4 ++ u32_bytes order ac ++ (preempt ∷ 0 ∷ 0 ∷ 0 ∷ []) ++ i16_bytes order play_gain ++ i16_bytes order record_gain
+    front order opcodes.change_ac mask 4 ++ u32_bytes order ac ++ (preempt ∷ 0 ∷ 0 ∷ 0 ∷ [])
+    ++ i16_bytes order play_gain ++ i16_bytes order record_gain
 request_bytes order (free_ac ac) = front order opcodes.free_ac 0 2 ++ u32_bytes order ac
 request_bytes order (play_run quiet ac time samples) =
-    front order opcodes.play (flag_byte quiet) (4 + words_for (length samples)) ++ u32_bytes order ac ++ u32_bytes order time ++ u32_bytes order (length samples) ++ padded samples
+    front order opcodes.play (flag_byte quiet) (4 + words_for (length samples))
+    ++ u32_bytes order ac ++ u32_bytes order time ++ u32_bytes order (length samples) ++ padded samples
 request_bytes order (record_run blocking ac time nbytes) =
     front order opcodes.record (flag_byte blocking) 4 ++ u32_bytes order ac ++ u32_bytes order time ++ u32_bytes order nbytes
 request_bytes order (select_events device mask) = front order opcodes.select_events device 2 ++ u32_bytes order mask
 request_bytes order (set_controls device mask input_on output_on input_gain output_gain) =
-    front order opcodes.set_controls device 3 ++ (mask ∷ input_on ∷ output_on ∷ 0 ∷ []) ++ i16_bytes order input_gain ++ i16_bytes order output_gain
+    front order opcodes.set_controls device 3 ++ (mask ∷ input_on ∷ output_on ∷ 0 ∷ [])
+    ++ i16_bytes order input_gain ++ i16_bytes order output_gain
 request_bytes order (query_controls device) = front order opcodes.query_controls device 1
 request_bytes order (hook_switch device off) = front order opcodes.hook_switch device 2 ++ u32_bytes order off
 request_bytes order (query_phone device) = front order opcodes.query_phone device 1

@@ -97,12 +97,14 @@ abbrev pub request_bytes : Asked → List ℕ
 request_bytes no_op = front opcodes.no_op 0 1
 request_bytes (get_time device) = front opcodes.get_time device 1
 request_bytes (create_ac device ac ty channels preempt play_gain record_gain) =
-    front opcodes.create_ac device 4 ++ u32_bytes ac ++ (ty ∷ channels ∷ preempt ∷ 0 ∷ []) ++ i16_bytes play_gain ++ i16_bytes record_gain
+    front opcodes.create_ac device 4 ++ u32_bytes ac ++ (ty ∷ channels ∷ preempt ∷ 0 ∷ [])
+    ++ i16_bytes play_gain ++ i16_bytes record_gain
 request_bytes (change_ac mask ac preempt play_gain record_gain) =
     front opcodes.change_ac mask 4 ++ u32_bytes ac ++ (preempt ∷ 0 ∷ 0 ∷ 0 ∷ []) ++ i16_bytes play_gain ++ i16_bytes record_gain
 request_bytes (free_ac ac) = front opcodes.free_ac 0 2 ++ u32_bytes ac
 request_bytes (play_run quiet ac start samples) =
-    front opcodes.play (flag_byte quiet) (4 + words_for (length samples)) ++ u32_bytes ac ++ u32_bytes start ++ u32_bytes (length samples) ++ padded samples
+    front opcodes.play (flag_byte quiet) (4 + words_for (length samples))
+    ++ u32_bytes ac ++ u32_bytes start ++ u32_bytes (length samples) ++ padded samples
 request_bytes (record_run blocking ac start nbytes) =
     front opcodes.record (flag_byte blocking) 4 ++ u32_bytes ac ++ u32_bytes start ++ u32_bytes nbytes
 request_bytes (select_events device mask) = front opcodes.select_events device 2 ++ u32_bytes mask

@@ -46,7 +46,8 @@ pub fn requests_round_trip()
 pub fn replies_round_trip()
     ensures again { (order : Order) (opcode : ℕ) (a : Answer) → IsReplyTo opcode a → answer_in order opcode (body_bytes order a) ≡ Some a }
     ensures words { (order : Order) (a : Answer) → length (body_bytes order a) ≡ 4 * body_words a }
-    ensures stated { (order : Order) (body : List ℕ) (devices : List DeviceInfo) → answer_in order opcodes.setup body ≡ Some (setup devices) → IsReplyTo opcodes.setup (setup devices) }
+    ensures stated { (order : Order) (body : List ℕ) (devices : List DeviceInfo) →
+        answer_in order opcodes.setup body ≡ Some (setup devices) → IsReplyTo opcodes.setup (setup devices) }
 {}
 
 /// What requests and replies were before a client chose its order, they are in Big: frames ask, bodies answer, and both are spelled

@@ -18,8 +18,8 @@ use af_sample::Gain;
 use af_time::DevTime;
 use af_wire::{Order, write_head};
 
-/// Writes the reply, in an order, to a request of this opcode, or to a setup (`SETUP`), and answers how many bytes that are. Recorded
-/// samples have at most 16000 bytes.
+/// Writes the reply, in an order, to a request of this opcode, or to a setup (`SETUP`), and answers how many bytes that are.
+/// Recorded samples have at most 16000 bytes.
 pub fn write_reply(
     order: Order,
     opcode: u8,

@@ -15,6 +15,7 @@ use Rattle.af_wire.specs.Order.{u16_of, u32_of}
 use Rattle.af_request.specs.Asked.{Asked}
 use Rattle.af_request.specs.Requests.{asked_in}
 use Rattle.af_request.specs.Answer.{setup}
+use Rattle.af_request.specs.Opcodes as opcodes
 use Rattle.af_model.specs.State.{OpenLink, open_link, say}
 use Rattle.af_model.specs.Waiting.{has_deferral}
 use Rattle.af_model.specs.Reply.{infos_of, reply_message}
@@ -115,7 +116,7 @@ setup_more p b front.NeedMore g e w s = tt
 setup_more p b (front.BadSetup order value) g e w s = ap (λ x. after_setup x (more_bytes p b)) s
 setup_more p b (front.Setup order) g e w s =
     let d : drop 8 (p.link.rest ++ b) ≡ drop 8 p.link.rest ++ b = drop-append-le 8 p.link.rest b w in
-    let set_up : List ℕ → OpenLink = λ rest. say (open_link p.environment (record p.link { is_set_up = true; order = order; rest = rest })) (reply_message order 0 (setup (infos_of p.environment.devices)) 0) in
+    let set_up : List ℕ → OpenLink = λ rest. say (open_link p.environment (record p.link { is_set_up = true; order = order; rest = rest })) (reply_message order opcodes.setup (setup (infos_of p.environment.devices)) 0) in
     ap (λ x. after_setup x (more_bytes p b)) s ∙ ap (λ x. Some x) (ap set_up d ∙ sym (open_bytes (set_up (drop 8 p.link.rest)) b e))
 
 front_more : (t : Bool) (k : ℕ) (p : OpenLink) (b : List ℕ) → is_none p.link.closing ≡ true →

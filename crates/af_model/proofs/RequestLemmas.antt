@@ -9,6 +9,7 @@ use Rattle.af_context.specs.Contexts.{creation, reference, context_of, without_c
 use Rattle.af_request.specs.Asked.{Asked, no_op, get_time, create_ac, change_ac, free_ac, play_run, record_run, select_events, set_controls, query_controls, hook_switch, query_phone}
 use Rattle.af_request.specs.declared.reply.Phone.{Phone}
 use Rattle.af_request.specs.Answer.{plain}
+use Rattle.af_request.specs.Opcodes as opcodes
 use Rattle.af_model.specs.declared.refusal.Refusal.{Refusal}
 use Rattle.af_model.specs.State.{DeviceState, OpenLink, open_link, say, Deferred, deferred_play, deferred_record}
 use Rattle.af_model.specs.Reply.{replied}
@@ -71,7 +72,7 @@ module _ (k : ℕ) (p : OpenLink) (r : List ℕ) (most : ℕ) (M : OpenLink → 
 
   play_both : (quiet : Bool) (c : Context) (time : ℕ) (bytes : List ℕ) (device : DeviceState) → slice_get p.environment.devices c.device ≡ Some device → length bytes ≤ most → Both (play k quiet c time bytes device)
   play_both quiet c time bytes device there short =
-      refused_both 6 (play_refusal device.channels c (length bytes)) (start_play k quiet c time bytes device)
+      refused_both opcodes.play (play_refusal device.channels c (length bytes)) (start_play k quiet c time bytes device)
       (λ whole. either_both (nat_le (frames_of device.channels c (length bytes)) (frames_within_horizon device time)) (λ q. tell_played quiet device (in_devices c.device (accepting k (entry_now c device time bytes)) q))
       (wait k c.device (deferred_play quiet (unwrap device.now time) (sent_sound c bytes) c.preempt))
       (λ within. played_both quiet c.device device (accepting k (entry_now c device time bytes)) there (record { lives = lives_accepting k device (entry_now c device time bytes) refl; completed = refl; acts = acts_accepting k device (entry_now c device time bytes) }))
@@ -79,37 +80,37 @@ module _ (k : ℕ) (p : OpenLink) (r : List ℕ) (most : ℕ) (M : OpenLink → 
 
   record_both : (blocking : Bool) (c : Context) (time bytes : ℕ) (device : DeviceState) → slice_get p.environment.devices c.device ≡ Some device → longest_record ≤ most → Both (record_sound k blocking c time bytes device)
   record_both blocking c time bytes device there short =
-      refused_both 7 (record_refusal device.channels c bytes) (start_record k blocking c time bytes device)
+      refused_both opcodes.record (record_refusal device.channels c bytes) (start_record k blocking c time bytes device)
       (λ allowed. either_both (is_to_wait blocking device time (frames_of device.channels c bytes)) (wait k c.device (deferred_record c (unwrap device.now time) (frames_of device.channels c bytes)))
       (give_record c (unwrap device.now time) (given_frames blocking device time (frames_of device.channels c bytes)) device)
       (λ wanted. waits c.device device (deferred_record c (unwrap device.now time) (frames_of device.channels c bytes)) there (record_waits blocking c device time bytes most allowed short wanted)) (λ given. answers _))
 
   pub done_both : (request : Asked) → most_asked request ≤ most → Both (done k request)
   done_both no_op short = stays
-  done_both (get_time d) short = device_both 2 d tell_time (slice_get p.environment.devices d) refl (λ device there. answers _)
+  done_both (get_time d) short = device_both opcodes.get_time d tell_time (slice_get p.environment.devices d) refl (λ device there. answers _)
   done_both (create_ac d ac ty channels preempt play_gain record_gain) short =
       let c = described d ac ty preempt play_gain record_gain in
-      refused_both 3 (creation_refusal (channels_at p.environment.devices d) d ty channels preempt play_gain record_gain) (create c)
-      (λ allowed. refused_both 3 (context_refusal c.ac (creation p.link.contexts c.ac)) (λ q. replied 3 plain (with_contexts (q.link.contexts ++ c ∷ []) q)) (λ free. says (p.link.contexts ++ c ∷ []) p.link.selections _))
+      refused_both opcodes.create_ac (creation_refusal (channels_at p.environment.devices d) d ty channels preempt play_gain record_gain) (create c)
+      (λ allowed. refused_both opcodes.create_ac (context_refusal c.ac (creation p.link.contexts c.ac)) (λ q. replied opcodes.create_ac plain (with_contexts (q.link.contexts ++ c ∷ []) q)) (λ free. says (p.link.contexts ++ c ∷ []) p.link.selections _))
   done_both (change_ac mask ac preempt play_gain record_gain) short =
-      refused_both 4 (change_refusal p.link.contexts mask ac preempt play_gain record_gain) (change mask ac preempt play_gain record_gain) (λ allowed. says _ p.link.selections _)
+      refused_both opcodes.change_ac (change_refusal p.link.contexts mask ac preempt play_gain record_gain) (change mask ac preempt play_gain record_gain) (λ allowed. says _ p.link.selections _)
   done_both (free_ac ac) short =
-      refused_both 5 (context_refusal ac (reference p.link.contexts ac)) (λ q. replied 5 plain (with_contexts (without_context q.link.contexts ac) q)) (λ allowed. says _ p.link.selections _)
-  done_both (play_run quiet ac start bytes) short = context_both 6 ac (λ c. play k quiet c start bytes) (context_of p.link.contexts ac) (λ c device there. play_both quiet c start bytes device there short)
-  done_both (record_run blocking ac start bytes) short = context_both 7 ac (λ c. record_sound k blocking c start bytes) (context_of p.link.contexts ac) (λ c device there. record_both blocking c start bytes device there short)
+      refused_both opcodes.free_ac (context_refusal ac (reference p.link.contexts ac)) (λ q. replied opcodes.free_ac plain (with_contexts (without_context q.link.contexts ac) q)) (λ allowed. says _ p.link.selections _)
+  done_both (play_run quiet ac start bytes) short = context_both opcodes.play ac (λ c. play k quiet c start bytes) (context_of p.link.contexts ac) (λ c device there. play_both quiet c start bytes device there short)
+  done_both (record_run blocking ac start bytes) short = context_both opcodes.record ac (λ c. record_sound k blocking c start bytes) (context_of p.link.contexts ac) (λ c device there. record_both blocking c start bytes device there short)
   done_both (select_events d mask) short =
-      device_both 8 d (λ device. on_line 8 d (λ line. select d mask) device.line) (slice_get p.environment.devices d) refl
-      (λ device there. line_both 8 d (λ line. select d mask) device.line (λ line. says p.link.contexts _ _))
+      device_both opcodes.select_events d (λ device. on_line opcodes.select_events d (λ line. select d mask) device.line) (slice_get p.environment.devices d) refl
+      (λ device there. line_both opcodes.select_events d (λ line. select d mask) device.line (λ line. says p.link.contexts _ _))
   done_both (set_controls d mask input_on output_on input_gain output_gain) short =
       let f = controlling k mask input_on output_on input_gain output_gain in
-      device_both 9 d (set_device_controls k d mask input_on output_on input_gain output_gain) (slice_get p.environment.devices d) refl
-      (λ device there. refused_both 9 (controls_refusal mask input_on output_on input_gain output_gain) (λ q. replied 9 plain (in_devices d f q)) (λ allowed. tells d device f _ there
+      device_both opcodes.set_controls d (set_device_controls k d mask input_on output_on input_gain output_gain) (slice_get p.environment.devices d) refl
+      (λ device there. refused_both opcodes.set_controls (controls_refusal mask input_on output_on input_gain output_gain) (λ q. replied opcodes.set_controls plain (in_devices d f q)) (λ allowed. tells d device f _ there
       (record { lives = record { later = later_same device (f device) refl refl refl (λ j h. still_acted j k device.actors h); dead = refl; line_dead = refl; now = refl; rate = refl; channels = refl }; completed = refl; acts = inr (now_acted k device.actors) })))
-  done_both (query_controls d) short = device_both 10 d tell_controls (slice_get p.environment.devices d) refl (λ device there. answers _)
+  done_both (query_controls d) short = device_both opcodes.query_controls d tell_controls (slice_get p.environment.devices d) refl (λ device there. answers _)
   done_both (hook_switch d off) short =
       let f = wanting_hook k (off == 1) in
-      device_both 11 d (λ device. on_line 11 d (switch_hook k d off) device.line) (slice_get p.environment.devices d) refl
-      (λ device there. line_both 11 d (switch_hook k d off) device.line
-      (λ line. refused_both 11 (switch_refusal d off line) (λ q. replied 11 plain (in_devices d f q)) (λ allowed. tells d device f _ there (record { lives = lives_wanting k (off == 1) device; completed = refl; acts = inr (now_acted k device.actors) }))))
+      device_both opcodes.hook_switch d (λ device. on_line opcodes.hook_switch d (switch_hook k d off) device.line) (slice_get p.environment.devices d) refl
+      (λ device there. line_both opcodes.hook_switch d (switch_hook k d off) device.line
+      (λ line. refused_both opcodes.hook_switch (switch_refusal d off line) (λ q. replied opcodes.hook_switch plain (in_devices d f q)) (λ allowed. tells d device f _ there (record { lives = lives_wanting k (off == 1) device; completed = refl; acts = inr (now_acted k device.actors) }))))
   done_both (query_phone d) short =
-      device_both 12 d (λ device. on_line 12 d tell_phone device.line) (slice_get p.environment.devices d) refl (λ device there. line_both 12 d tell_phone device.line (λ line. answers _))
+      device_both opcodes.query_phone d (λ device. on_line opcodes.query_phone d tell_phone device.line) (slice_get p.environment.devices d) refl (λ device there. line_both opcodes.query_phone d tell_phone device.line (λ line. answers _))

@@ -20,7 +20,10 @@ struct ReadySpan {
 }
 
 /// Nothing is ready of any link.
-const NONE_READY: ReadySpan = ReadySpan { from: MOST_LINKS, below: 0 };
+const NONE_READY: ReadySpan = ReadySpan {
+    from: MOST_LINKS,
+    below: 0,
+};
 
 impl ReadySpan {
     /// Something may be ready of this link too.

@@ -135,7 +135,7 @@ pub fn aplay<L: Link + Drop, S: Source, K: Sink>(
 {
     let device = match device_with(conn, job.device) {
         Ok(device) => device,
-        Err(end) => return end,
+        Err(missing) => return missing,
     };
     let sound = match sound_of(job, device, source) {
         Ok(sound) => sound,

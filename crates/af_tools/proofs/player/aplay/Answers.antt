@@ -20,12 +20,12 @@ use Rattle.af_tools.proofs.player.aplay.Goals as goal
 
 pub returns-in-Err-clause-ran : goal.returns-in-Err-clause-ran
 returns-in-Err-clause-ran g c input bytes told is tells =
-    let m = is_missing c.args.conn.now.devices c.args.job.now.device c.in-Err.end c.in-Err.ensures.value in
+    let m = is_missing c.args.conn.now.devices c.args.job.now.device c.in-Err.missing c.in-Err.ensures.value in
     aplay_ran c.args.job.now c.args.conn.now.devices bytes (client_of c.args.conn.now input) _ _ _ _ _ c.requires.block.0 (missing_at c.args.conn.now.devices c.args.job.now.device m.get)
     (followed_missing _ (length c.args.conn.now.devices) _ _ _ (aplay_missing c.args.conn.now.devices (client_of c.args.conn.now input) c.args.job.now bytes m.get) m.way)
 
 pub returns-in-Err-clause-no_device : goal.returns-in-Err-clause-no_device
-returns-in-Err-clause-no_device g c n = missing_iff _ _ _ (is_missing c.args.conn.now.devices c.args.job.now.device c.in-Err.end c.in-Err.ensures.value) n
+returns-in-Err-clause-no_device g c n = missing_iff _ _ _ (is_missing c.args.conn.now.devices c.args.job.now.device c.in-Err.missing c.in-Err.ensures.value) n
 
 pub returns-in-Err-sound_of-clause-ran : goal.returns-in-Err-sound_of-clause-ran
 returns-in-Err-sound_of-clause-ran g c input bytes told is tells =

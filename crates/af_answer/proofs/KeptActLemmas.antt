@@ -19,7 +19,7 @@ use Rattle.af_answer.specs.declared.job.AnswerJob.{AnswerJob}
 use Rattle.af_answer.specs.declared.tally.Tally.{Tally}
 use Rattle.af_answer.specs.Acts.{MachineAct, acts_behind, acts_from, call_acts, call_end, greet, later_ends, leaves_off, off_after, off_hook, on_hook, record_message, rings_after, tally_after, write_tally}
 use Rattle.af_answer.specs.AnswerTrace.{ToCome, AnswerTrace, AnswerFinish, attends, awaits_call, awaits_event, having, behind_event, behind_from, child_starved, first_run, by_event, hearing, leaves_message, met_fault, next_event, rang_too_little, by_reply, writes_tally, requesting, requests, running, runs_child, stops, takes_call, unless_starved}
-use Rattle.af_answer.specs.Answered.{IsReplied, children_of, requests_of, text_of_acts}
+use Rattle.af_answer.specs.Answered.{SwitchesHook, children_of, requests_of, text_of_acts}
 use Rattle.af_answer.specs.Children.{ChildRun, run_end, run_told, shell_words}
 
 child_is : (text : List ℕ) (w : ClientState) (runs : List ChildRun) (next : ChildEnd → ToCome → AnswerTrace) →
@@ -53,7 +53,7 @@ counts_one ended.Bad t n calls is = omega (arith, is)
 counts_one ended.NoMemory t n calls is = omega (arith, is)
 
 module _ (order : Order) where
-  -- a trace has prefixes of what these acts have, and all of it unless a connection answered a fault
+  -- a trace has prefixes of what these acts have, and all of it unless a HookSwitch was answered with a fault
   pub record KeepsTo (job : AnswerJob) (acts : List MachineAct) (runs : List ChildRun) (t : AnswerTrace) : Type 0 where
     pub unsent : List ℕ
     pub untold : List Told
@@ -61,19 +61,7 @@ module _ (order : Order) where
     pub sent : requests_of order job.device acts ≡ t.sends ++ unsent
     pub children : children_of job acts runs ≡ t.told ++ untold
     pub text : text_of_acts acts ≡ t.output ++ unwritten
-    pub whole : IsReplied t → (unsent ≡ []) × (untold ≡ []) × (unwritten ≡ [])
-
-  -- a trace that has met a fault and did nothing
-  keeps_fault : (job : AnswerJob) (acts : List MachineAct) (runs : List ChildRun) (f : ConnFault) → KeepsTo job acts runs (stops (met_fault f))
-  keeps_fault job acts runs f = record {
-    unsent = requests_of order job.device acts;
-    untold = children_of job acts runs;
-    unwritten = text_of_acts acts;
-    sent = refl;
-    children = refl;
-    text = refl;
-    whole = λ served. absurd (served f refl);
-  }
+    pub whole : SwitchesHook t → (unsent ≡ []) × (untold ≡ []) × (unwritten ≡ [])
 
   -- one that ends where no act is left
   keeps_end : (job : AnswerJob) (runs : List ChildRun) (finish : AnswerFinish) → KeepsTo job [] runs (stops finish)
@@ -88,7 +76,7 @@ module _ (order : Order) where
 
   -- the hook is taken off, or put on
   keeps_off : (job : AnswerJob) (acts : List Event → List MachineAct) (runs : List ChildRun) (r : Result (Unit {0}) ConnFault) (b : ToCome) (next : ToCome → AnswerTrace) →
-      KeepsTo job (acts (next b).heard) runs (next b) → (let t : AnswerTrace = having (requesting (request_bytes order (hook_switch job.device 1))) (by_reply r b next) in KeepsTo job (off_hook ∷ acts t.heard) runs t)
+      KeepsTo job (acts (next b).heard) runs (next b) → (let t : AnswerTrace = having (requesting (request_bytes order (hook_switch job.device 1))) (by_reply (hook_switch job.device 1) r b next) in KeepsTo job (off_hook ∷ acts t.heard) runs t)
   keeps_off job acts runs (Ok u) b next k = record {
     unsent = k.unsent;
     untold = k.untold;
@@ -109,7 +97,7 @@ module _ (order : Order) where
   }
 
   keeps_on : (job : AnswerJob) (acts : List Event → List MachineAct) (runs : List ChildRun) (r : Result (Unit {0}) ConnFault) (b : ToCome) (next : ToCome → AnswerTrace) →
-      KeepsTo job (acts (next b).heard) runs (next b) → (let t : AnswerTrace = having (requesting (request_bytes order (hook_switch job.device 0))) (by_reply r b next) in KeepsTo job (on_hook ∷ acts t.heard) runs t)
+      KeepsTo job (acts (next b).heard) runs (next b) → (let t : AnswerTrace = having (requesting (request_bytes order (hook_switch job.device 0))) (by_reply (hook_switch job.device 0) r b next) in KeepsTo job (on_hook ∷ acts t.heard) runs t)
   keeps_on job acts runs (Ok u) b next k = record {
     unsent = k.unsent;
     untold = k.untold;
@@ -155,10 +143,10 @@ module _ (order : Order) where
   }
 
   requests_is : (device off : ℕ) (w : ClientState) (runs : List ChildRun) (next : ToCome → AnswerTrace) → w.order ≡ order →
-      requests (hook_switch device off) (record { wire = w; runs = runs }) next ≡ having (requesting (request_bytes order (hook_switch device off))) (by_reply (answer_on (hook_switch device off) as_done w) (record { wire = after_reply w; runs = runs }) next)
+      requests (hook_switch device off) (record { wire = w; runs = runs }) next ≡ having (requesting (request_bytes order (hook_switch device off))) (by_reply (hook_switch device off) (answer_on (hook_switch device off) as_done w) (record { wire = after_reply w; runs = runs }) next)
   unfolding requests
   requests_is device off w runs next its =
-      ap (λ (o : Order). having (requesting (request_bytes o (hook_switch device off))) (by_reply (answer_on (hook_switch device off) as_done w) (record { wire = after_reply w; runs = runs }) next)) its
+      ap (λ (o : Order). having (requesting (request_bytes o (hook_switch device off))) (by_reply (hook_switch device off) (answer_on (hook_switch device off) as_done w) (record { wire = after_reply w; runs = runs }) next)) its
 
   -- what follows a call keeps to them, wherever the link stands and however the children run
   abbrev KeepsLater : AnswerJob → Tally → (ChildEnd → ToCome → AnswerTrace) → Type 0
@@ -260,19 +248,19 @@ module _ (order : Order) where
         (sym (ap (λ (x : Bool). if x then call_acts ends ++ later_acts job t (call_end ends) (later_ends ends) y.heard else acts_from job (rings_after job rings e) t y.heard ends) is))
         (more (rings_after job rings e) w its))
 
+    none_left : (rings : ℕ) (finish : AnswerFinish) → KeepsTo job (acts_from job rings t [] (map run_end runs)) runs (stops finish)
+    unfolding acts_from
+    none_left rings finish = keeps_end job runs finish
+
     handed_keeps : (n rings : ℕ) (r : Result Event ConnFault) (w : ClientState) → w.order ≡ order →
         ((rings : ℕ) (w : ClientState) → w.order ≡ order → (let x : AnswerTrace = awaits_call n job rings (record { wire = w; runs = runs }) taken in KeepsTo job (acts_from job rings t x.heard (map run_end runs)) runs x)) →
         (let x : AnswerTrace = by_event r (record { wire = w; runs = runs }) (rung n rings) in KeepsTo job (acts_from job rings t x.heard (map run_end runs)) runs x)
     handed_keeps n rings (Ok e) w its more = heard_one rings e (rung n rings e (record { wire = w; runs = runs })) (rung_keeps n rings e w (rings_after job rings e == job.rings) its refl more)
-    handed_keeps n rings (Err f) w its more = keeps_fault job _ runs f
-
-    none_left : (rings : ℕ) → KeepsTo job (acts_from job rings t [] (map run_end runs)) runs (stops rang_too_little)
-    unfolding acts_from
-    none_left rings = keeps_end job runs rang_too_little
+    handed_keeps n rings (Err f) w its more = none_left rings (met_fault f)
 
     pub awaited_keeps : (n rings : ℕ) (w : ClientState) → w.order ≡ order → (let x : AnswerTrace = awaits_call n job rings (record { wire = w; runs = runs }) taken in KeepsTo job (acts_from job rings t x.heard (map run_end runs)) runs x)
     unfolding awaits_call
-    awaited_keeps zero rings w its = none_left rings
+    awaited_keeps zero rings w its = none_left rings rang_too_little
     awaited_keeps (suc n) rings w its =
         let b : ToCome = record { wire = w; runs = runs } in
         keeps_same job (λ events. acts_from job rings t events (map run_end runs)) runs _ _ (awaits_is b (rung n rings))

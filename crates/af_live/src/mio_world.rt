@@ -11,7 +11,7 @@ ghost use Rattle.af_world.specs.World.{LinkGotFits, TookFits};
 ghost use Rattle.af_live.specs.LinkTable.{is_free, link_at, something_ready, AfterRead, AfterWrite, KeepsOpen, ClosesOne, LinkWakeFits, Opens};
 ghost use Rattle.af_live.specs.Counting.{CountsOne, CountsStand};
 ghost use Rattle.af_codec.specs.Codec.{TellsThese};
-ghost use Rattle.af_live.specs.Behind.{CapturesAt, EmitsAt, AttachesAt};
+ghost use Rattle.af_live.specs.Behind.{opens_files, CapturesAt, EmitsAt, AttachesAt};
 ghost use Rattle.af_live.specs.CodecUse.{codec_allows, codec_behind};
 ghost use Rattle.af_live.specs.Readings.{whole_millis, pause_of, IsReadingBy};
 ghost use Rattle.af_pace.specs.Rounds.{is_paced, round_begun};
@@ -235,6 +235,8 @@ impl<R: Net + Clock + Files + Drop, S: Spawner + Drop> Live for MioWorld<R, S> {
         ensures allowed { result ≡ Ready.Done → codec_allows self.old.codec kind.entry ≡ true }
         ensures behind { AttachesAt result kind.entry device spec.now.ty self.old.behind self.new.behind }
         ensures codec { self.new.codec ≡ codec_behind result kind.entry self.old.codec }
+        ensures done { device < 8 → is_paced self.old.round device ≡ false →
+            codec_allows self.old.codec kind.entry ≡ true → opens_files kind.entry ≡ false → result ≡ Ready.Done }
         ensures rest { self.new ≡ record self.old
             { behind = self.new.behind; codec = self.new.codec; round = self.new.round; device_faults = self.new.device_faults } }
         ensures counts { CountsStand self.old self.new }

@@ -1,3 +1,4 @@
 pub mod ConsumesLemmas
 pub mod HeldLinksLemmas
 pub mod BehindLemmas
+pub mod PollsLemmas

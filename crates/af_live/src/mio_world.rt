@@ -8,7 +8,7 @@ ghost use Rattle.std.specs.declared.option.Option.TheVariants.{None};
 ghost use Rattle.std.specs.Duration.{as_nanos};
 ghost use Rattle.af_io.specs.Observed.{FaultCounted};
 ghost use Rattle.af_world.specs.World.{LinkGotFits, TookFits};
-ghost use Rattle.af_live.specs.LinkTable.{is_free, link_at, something_ready, AfterRead, AfterWrite, KeepsOpen, ClosesOne, LinkWakeFits, Opens};
+ghost use Rattle.af_live.specs.LinkTable.{is_drained, is_free, link_at, something_ready, AfterRead, AfterWrite, KeepsOpen, ClosesOne, LinkWakeFits, Opens};
 ghost use Rattle.af_live.specs.Counting.{CountsOne, CountsStand};
 ghost use Rattle.af_codec.specs.Codec.{TellsThese};
 ghost use Rattle.af_live.specs.Behind.{opens_files, CapturesAt, EmitsAt, AttachesAt};
@@ -134,7 +134,8 @@ impl<R: Net + Clock + Files + Drop, S: Spawner + Drop> World for MioWorld<R, S> 
         ensures leads { RealLeadsTo self.old self.new }
         ensures open { KeepsOpen self.old.links self.new.links }
         ensures unheld { is_free (link_at self.old.links link) ≡ true → result ≡ LinkGot.Failed }
-        ensures behind { AfterRead link result self.old.links self.new.links }
+        ensures drained { self.old.listens ≡ true → is_drained (link_at self.old.links link) ≡ true → result ≡ LinkGot.NotYet }
+        ensures behind { AfterRead link (length into.new) result self.old.links self.new.links }
         ensures rest { self.new ≡ record self.old { links = self.new.links; link_faults = self.new.link_faults } }
     {
         let got = read_link(&mut self.sockets, &mut self.links, link, into);
@@ -233,11 +234,11 @@ impl<R: Net + Clock + Files + Drop, S: Spawner + Drop> Live for MioWorld<R, S> {
         ensures attaches { result ≡ Ready.Done → (device < 8) × (is_paced self.old.round device ≡ false) }
         ensures round { self.new.round ≡ round_after result self.old.round device spec.now.rate }
         ensures allowed { result ≡ Ready.Done → codec_allows self.old.codec kind.entry ≡ true }
-        ensures behind { AttachesAt result kind.entry device spec.now.ty self.old.behind self.new.behind }
-        ensures codec { self.new.codec ≡ codec_behind result kind.entry self.old.codec }
         ensures done { device < 8 → is_paced self.old.round device ≡ false →
             codec_allows self.old.codec kind.entry ≡ true → opens_files kind.entry ≡ false → result ≡ Ready.Done }
         ensures rest { self.new ≡ record self.old
+        ensures behind { AttachesAt result kind.entry device spec.now.ty self.old.behind self.new.behind }
+        ensures codec { self.new.codec ≡ codec_behind result kind.entry self.old.codec }
             { behind = self.new.behind; codec = self.new.codec; round = self.new.round; device_faults = self.new.device_faults } }
         ensures counts { CountsStand self.old self.new }
     {

@@ -29,11 +29,11 @@ setup_within xs = grind arith
 
 pub perform_rest : (k : ℕ) (request : Asked) (p : OpenLink) → (perform k request p).link.rest ≡ p.link.rest
 perform_rest k request p =
-    done_both k (open_link p.environment (request_counted p.link)) p.link.rest (most_asked request) (λ u v. u.link.rest ≡ p.link.rest) refl (λ contexts selections bytes. refl) (λ d device f there l. refl) (λ d device f bytes there l. refl) (λ d device deferred there w. refl) request (omega arith)
+    done_both k (open_link p.environment (request_counted p.link)) p.link.rest (most_asked request) (λ u v. u.link.rest ≡ p.link.rest) refl (λ contexts selections bytes short. refl) (λ d device f there l. refl) (λ d device f bytes short there l. refl) (λ d device deferred there w. refl) request (omega arith)
 
 pub perform_closing : (k : ℕ) (request : Asked) (p : OpenLink) → (perform k request p).link.closing ≡ p.link.closing
 perform_closing k request p =
-    done_both k (open_link p.environment (request_counted p.link)) p.link.rest (most_asked request) (λ u v. u.link.closing ≡ p.link.closing) refl (λ contexts selections bytes. refl) (λ d device f there l. refl) (λ d device f bytes there l. refl) (λ d device deferred there w. refl) request (omega arith)
+    done_both k (open_link p.environment (request_counted p.link)) p.link.rest (most_asked request) (λ u v. u.link.closing ≡ p.link.closing) refl (λ contexts selections bytes short. refl) (λ d device f there l. refl) (λ d device f bytes short there l. refl) (λ d device deferred there w. refl) request (omega arith)
 
 requested_rest : (k : ℕ) (o : Option Asked) (p : OpenLink) → length (requested k o p).link.rest ≤ length p.link.rest
 requested_rest k None p = omega arith

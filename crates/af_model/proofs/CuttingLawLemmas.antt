@@ -88,7 +88,7 @@ perform_more : (k : ℕ) (request : Asked) (p : OpenLink) (b : List ℕ) → is_
 perform_more k request p b e =
     let q = open_link p.environment (request_counted p.link) in
     let both : perform k request (more_bytes p b) ≡ more_bytes (perform k request p) b =
-    done_both k q (p.link.rest ++ b) (most_asked request) (λ (u v : OpenLink). v ≡ more_bytes u b) refl (λ contexts selections bytes. refl) (λ d device f there l. refl) (λ d device f bytes there l. refl) (λ d device deferred there w. refl) request (omega arith) in
+    done_both k q (p.link.rest ++ b) (most_asked request) (λ (u v : OpenLink). v ≡ more_bytes u b) refl (λ contexts selections bytes short. refl) (λ d device f there l. refl) (λ d device f bytes short there l. refl) (λ d device deferred there w. refl) request (omega arith) in
     both ∙ sym (open_bytes (perform k request p) b (ap is_none (perform_closing k request p) ∙ e))
 
 requested_more : (k : ℕ) (o : Option Asked) (p : OpenLink) (b : List ℕ) → is_none p.link.closing ≡ true → requested k o (more_bytes p b) ≡ then_bytes (requested k o p) b

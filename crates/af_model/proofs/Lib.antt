@@ -13,6 +13,7 @@ pub mod OneLogLemmas
 pub mod DeviceHistoryLemmas
 pub mod DueLemmas
 pub mod FrameSizeLemmas
+pub mod ReplySizeLemmas
 pub mod RequestLemmas
 pub mod CuttingLawLemmas
 pub mod InputLemmas
@@ -23,10 +24,12 @@ pub mod PhasePartLemmas
 pub mod OwedBytesLemmas
 pub mod SafeLemmas
 pub mod CompletionLemmas
+pub mod PendingLemmas
 pub mod DeadLemmas
 pub mod ServeLemmas
 pub mod WakeLemmas
 pub mod PrefixLawLemmas
+pub mod OfferLawLemmas
 pub mod FoldLawLemmas
 pub mod CauseLawLemmas
 pub mod DeadLawLemmas

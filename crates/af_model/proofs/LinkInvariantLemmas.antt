@@ -59,9 +59,9 @@ module _ (k : ℕ) (May : Option Why → Type 0) (I : OpenLink → Type 0) (kept
       let i : I q = kept.link p (request_counted p.link) none none refl refl refl refl h in
       let may = kept.may p.link.closing (open_undropped p.link.closing none) in
       done_both k q q.link.rest longest_frame (λ u v. I u) i
-      (λ contexts selections bytes. kept.says (chosen contexts selections q) bytes may (kept.link q (chosen contexts selections q).link none none refl refl refl refl i))
+      (λ contexts selections bytes few. kept.says (chosen contexts selections q) bytes may (kept.link q (chosen contexts selections q).link none none refl refl refl refl i))
       (λ d device f there l. kept.becomes q d device f there l i)
-      (λ d device f bytes there l. kept.says (in_devices d f q) bytes may (kept.becomes q d device f there l i))
+      (λ d device f bytes few there l. kept.says (in_devices d f q) bytes may (kept.becomes q d device f there l i))
       (λ d device deferred there w. kept.waits q d device deferred there w none i) request short
 
   -- a frame is a request, or closes the link

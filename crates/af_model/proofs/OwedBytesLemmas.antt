@@ -25,6 +25,7 @@ use Rattle.af_model.proofs.CauseLemmas.{IsUnended, Shows, ShowsBy, cause_alike, 
 use Rattle.af_model.proofs.DeviceHistoryLemmas.{AllLive, Lives, all_live_refl, all_live_trans, all_live_with}
 use Rattle.af_model.proofs.SafeLemmas.{SafeIn, safe_dropped, safe_keeps}
 use Rattle.af_model.proofs.LinkInvariantLemmas.{Keeps, open_undropped}
+use Rattle.af_model.proofs.PendingLemmas.{RoomOf, room_dropped}
 
 pub not_both : {A : Type 0} (t : Bool) → t ≡ false → t ≡ true → A
 not_both true e f = absurd cc
@@ -405,22 +406,24 @@ others_keep k ws = record {
   waits = λ p d device deferred there w open' h. own_waits p.environment.waiting k (record { link = k; device = d; deferred = deferred }) (same_number k) ∙ h;
 }
 
--- What becomes of a link and its environment, if nothing is taken: devices become later, what is queued for it stays so, all stays
--- taken off its input that was, and the others wait as they did.
+-- What becomes of a link and its environment, if nothing is taken: devices become later, what is queued for it stays so and within its
+-- room, all stays taken off its input that was, and the others wait as they did.
 pub record Moved (j : ℕ) (p q : OpenLink) : Type 0 where
   pub devices : AllLive p.environment.devices q.environment.devices
   pub own : (g : LinkHistory) → Owing j g p → Owing j g q
   pub advanced : IsAdvanced j p.link p.environment.waiting → IsAdvanced j q.link q.environment.waiting
   pub others : SameOthers j p.environment.waiting q.environment.waiting
   pub safe : SafeIn 0 0 p.environment → SafeIn 0 0 q.environment
+  pub room : RoomOf j p → RoomOf j q
 
-pub moved_of : (j : ℕ) (p q : OpenLink) → IsAdvanced j q.link q.environment.waiting → ((May : Option Why → Type 0) (I : OpenLink → Type 0) → Keeps j May I → I p → I q) → Moved j p q
-moved_of j p q ends go = record {
+pub moved_of : (j : ℕ) (p q : OpenLink) → IsAdvanced j q.link q.environment.waiting → (RoomOf j p → RoomOf j q) → ((May : Option Why → Type 0) (I : OpenLink → Type 0) → Keeps j May I → I p → I q) → Moved j p q
+moved_of j p q ends room go = record {
   devices = go (λ closing. Unit {0}) (λ x. AllLive p.environment.devices x.environment.devices) (grows_keeps j p.environment.devices) (all_live_refl p.environment.devices);
   own = λ g h. go (λ closing. is_dropped closing ≡ false) (Owing j g) (queueing_keeps j g) h;
   advanced = λ h. ends;
   others = go (λ closing. Unit {0}) (λ x. SameOthers j p.environment.waiting x.environment.waiting) (others_keep j p.environment.waiting) refl;
   safe = λ h. go (λ closing. Unit {0}) (λ x. SafeIn 0 0 x.environment) (safe_keeps j 0 0) h;
+  room = room;
 }
 
 -- an event found no room
@@ -431,4 +434,5 @@ moved_overrun k p opens full = record {
   advanced = λ h. advanced_closing k (dropped k why.Overrun p).link (dropped k why.Overrun p).environment.waiting why.Overrun refl;
   others = own_left p.environment.waiting k;
   safe = λ h. safe_dropped k p.environment.devices p.environment.waiting h;
+  room = λ h. room_dropped k why.Overrun p h;
 }

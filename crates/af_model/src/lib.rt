@@ -20,6 +20,7 @@ ghost use Rattle.af_model.specs.Script.{ScriptLog};
 ghost use Rattle.af_model.specs.Cutting.{CutsAlike};
 ghost use Rattle.af_model.specs.LinkHistory.{LinkHistory};
 ghost use Rattle.af_model.specs.Prefix.{TakesInOrder};
+ghost use Rattle.af_model.specs.Offers.{OffersWithin};
 ghost use Rattle.af_model.specs.Causes.{ClosesForCauses, IsCause};
 ghost use Rattle.af_model.specs.Dead.{IsDeadWhereFailed};
 ghost use Rattle.af_model.specs.Fold.{MixesAll};
@@ -53,6 +54,12 @@ pub fn cutting_law()
 /// said to it since then, and the rest is what waits to be sent where the link is open and was not dropped.
 pub fn prefix_law()
     ensures { (config : List DeviceSpec) (log : Log) → TakesInOrder config log }
+{}
+
+/// A law of the definitions alone, of what is offered: with at most eight devices, no write of a run offers more than 65168 bytes. So
+/// much may wait to be sent where a request is answered that had waited behind events.
+pub fn offer_law()
+    ensures { (config : List DeviceSpec) (log : Log) → OffersWithin config log }
 {}
 
 /// A law of the definitions alone, of what is heard: each emit in a run has the sound of all plays that its device has accepted at

@@ -56,7 +56,7 @@ impl<F: Read + Write + Drop, S: Spawner + Drop> Devices<F, S> {
     pub fn attach<R: Files<File = F>>(&mut self, rt: &R, asked: NewDevice<'_>) -> Ready
         ensures attaches { result ≡ Ready.Done → (asked.entry.number < most_devices) × (is_paced self.old.round asked.entry.number ≡ false) }
         ensures allowed { result ≡ Ready.Done → codec_allows self.old.codec asked.entry.kind ≡ true }
-        ensures done { asked.entry.number < 8 → is_paced self.old.round asked.entry.number ≡ false →
+        ensures done { asked.entry.number < most_devices → is_paced self.old.round asked.entry.number ≡ false →
             codec_allows self.old.codec asked.entry.kind ≡ true → opens_files asked.entry.kind ≡ false → result ≡ Ready.Done }
         ensures round { self.new.round ≡ round_after result self.old.round asked.entry.number asked.entry.rate }
         ensures attached { AttachesAt result asked.entry.kind asked.entry.number asked.entry.ty self.old.attached self.new.attached }

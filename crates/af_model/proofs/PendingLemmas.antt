@@ -6,7 +6,7 @@ use Rattle.std.proofs.lemmas.List.Elements.{All-filter, All-push, All-weaker, le
 use Rattle.std.specs.List.{All}
 use Rattle.std.specs.declared.option.Option.{Option}
 use Rattle.std.specs.declared.option.Option.TheVariants.{None, Some}
-use Rattle.af_limits.specs.Limits.{longest_frame, longest_record, longest_message, most_to_send, event_limit, most_pending}
+use Rattle.af_limits.specs.Limits.{most_devices, longest_frame, longest_record, longest_message, most_to_send, event_limit, most_pending}
 use Rattle.af_wire.specs.declared.event.Event.{Event}
 use Rattle.af_wire.specs.declared.front.Front.{Front}
 use Rattle.af_wire.specs.declared.front.Front.TheVariants.{NeedMore, Frame, Malformed}
@@ -112,7 +112,7 @@ AnsweredIn devices w = (device : DeviceState) → slice_get devices w.device ≡
 
 -- no more than eight devices; and of each link no more than one request waits
 pub record HasRoom (ds : List DeviceState) (ws : List Deferral) : Type 0 where
-  pub few : length ds ≤ 8
+  pub few : length ds ≤ most_devices
   pub answered : All (λ w. AnsweredIn ds w) ws
   pub once : (j : ℕ) → waiters j ws ≤ 1
 
@@ -138,7 +138,7 @@ pub room_with : (d : ℕ) (f : DeviceState → DeviceState) (ds : List DeviceSta
 room_with d f ds ws same h =
     let all = zip_with SameChannels (λ x. refl) d f ds same in
     record {
-      few = subst (λ n. n ≤ 8) (length_all_zip SameChannels ds (with_device d f ds) all) h.few;
+      few = subst (λ n. n ≤ most_devices) (length_all_zip SameChannels ds (with_device d f ds) all) h.few;
       answered = All-weaker (λ w. AnsweredIn ds w) (λ w. AnsweredIn (with_device d f ds) w) (λ w one e there.
           let got = zip_back SameChannels ds (with_device d f ds) w.device e all there in
           subst (λ n. answer_size n w.deferred ≤ longest_record) (sym got.2) (one got.0 got.1)) ws h.answered;
@@ -231,7 +231,7 @@ module _ (k : ℕ) (p : OpenLink) (idle : has_deferral p.environment.waiting k �
   setup_room front.NeedMore = tt
   setup_room (front.Setup order) =
       let answer = setup (infos_of p.environment.devices) in
-      let few : length (infos_of p.environment.devices) ≤ 8 = omega (arith, h.0.few, length-map p.environment.devices info_of) in
+      let few : length (infos_of p.environment.devices) ≤ most_devices = omega (arith, h.0.few, length-map p.environment.devices info_of) in
       (h.0, pends_more p.link.pending (reply_message order 0 answer 0) (waiters k p.environment.waiting) (waiters_none p.environment.waiting k idle) low (reply_short order 0 answer 0 few))
   setup_room (front.BadSetup order value) =
       (h.0, pends_more p.link.pending (error order 1 value 0 0) (waiters k p.environment.waiting) (waiters_none p.environment.waiting k idle) low (error_short order 1 value 0 0))

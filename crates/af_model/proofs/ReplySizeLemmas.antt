@@ -3,7 +3,7 @@ use Rattle.std.proofs.Common.{◌≡◌, ℕ, suc, ◌+◌, ◌*◌, ◌/◌, �
 use Rattle.std.proofs.lemmas.List.{length-map}
 use Rattle.std.proofs.lemmas.List.FromFn.{length-map-range_with_len}
 use Rattle.std.proofs.Math.Nat.{div-mul-le_self, mul-le-mul_right}
-use Rattle.af_limits.specs.Limits.{longest_record, longest_message}
+use Rattle.af_limits.specs.Limits.{most_devices, longest_record, longest_message}
 use Rattle.af_sample.specs.declared.sample_type.SampleType.{SampleType}
 use Rattle.af_sample.specs.Gains.{gained}
 use Rattle.af_sample.specs.SampleTypes.{frame_bytes, width_of}
@@ -25,7 +25,7 @@ use Rattle.af_model.specs.Record.{frames_before_now, given_frames, recorded_byte
 
 -- an answer that tells no more than eight devices, and has no more samples than a record may have
 abbrev pub IsShortAnswer : Answer → Type 0
-IsShortAnswer (setup devices) = length devices ≤ 8
+IsShortAnswer (setup devices) = length devices ≤ most_devices
 IsShortAnswer (recorded now samples) = length samples ≤ longest_record
 IsShortAnswer _ = Unit {0}
 

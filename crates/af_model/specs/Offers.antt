@@ -1,7 +1,7 @@
 -- That no write offers more than may wait to be sent.
 use Rattle.std.specs.Prelude.{◌≤◌, List, length, IfSome}
 use Rattle.std.specs.List.{All}
-use Rattle.af_limits.specs.Limits.{most_pending}
+use Rattle.af_limits.specs.Limits.{most_devices, most_pending}
 use Rattle.af_world.specs.declared.happening.Happening.{Happening}
 use Rattle.af_world.specs.declared.happening.Happening.TheVariants.{Wrote}
 use Rattle.af_world.specs.declared.script.DeviceSpec.{DeviceSpec}
@@ -15,4 +15,4 @@ IsOfferWithin _ = Unit {0}
 
 -- so does each in a run over at most eight devices
 abbrev pub OffersWithin : List DeviceSpec → Log → Type 0
-OffersWithin config log = length config ≤ 8 → IfSome (end_state config log) (λ end. All IsOfferWithin log)
+OffersWithin config log = length config ≤ most_devices → IfSome (end_state config log) (λ end. All IsOfferWithin log)

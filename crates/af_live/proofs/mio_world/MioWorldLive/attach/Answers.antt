@@ -23,7 +23,7 @@ pub returns-clause-allowed : goal.returns-clause-allowed
 returns-clause-allowed g c = subst (λ (s : RealState). c.attach-attached.result ≡ Done → codec_allows s.codec c.args.kind ≡ true) c.self.view_is c.attach-attached.ensures.allowed
 
 pub returns-clause-done : goal.returns-clause-done
-returns-clause-done g c = subst (λ (s : RealState). c.args.device < 8 → is_paced s.round c.args.device ≡ false → codec_allows s.codec c.args.kind ≡ true → opens_files c.args.kind ≡ false → c.attach-attached.result ≡ Done) c.self.view_is c.attach-attached.ensures.done
+returns-clause-done g c = subst (λ (s : RealState). c.args.device < most_devices → is_paced s.round c.args.device ≡ false → codec_allows s.codec c.args.kind ≡ true → opens_files c.args.kind ≡ false → c.attach-attached.result ≡ Done) c.self.view_is c.attach-attached.ensures.done
 
 pub returns-clause-behind : goal.returns-clause-behind
 returns-clause-behind g c = subst (λ (s : RealState). AttachesAt c.attach-attached.result c.args.kind c.args.device c.args.spec.now.ty s.behind c.attach-attached.new.self.attached) c.self.view_is c.attach-attached.ensures.attached

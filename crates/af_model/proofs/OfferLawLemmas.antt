@@ -4,7 +4,7 @@ use Rattle.std.proofs.lemmas.List.{length-map}
 use Rattle.std.proofs.lemmas.List.Elements.{All-append, All-nil}
 use Rattle.std.specs.List.{All}
 use Rattle.std.specs.declared.option.Option.TheVariants.{None, Some}
-use Rattle.af_limits.specs.Limits.{most_devices}
+use Rattle.af_limits.specs.Limits.{most_links, most_devices}
 use Rattle.af_world.specs.declared.script.DeviceSpec.{DeviceSpec}
 use Rattle.af_world.specs.Log.{Log}
 use Rattle.af_model.specs.State.{Deferral, SlotState, State, opening, opening_device}
@@ -20,7 +20,7 @@ use Rattle.af_model.proofs.WakeLemmas.{turned}
 opening_room : (config : List DeviceSpec) → length config ≤ most_devices → RoomIn (opening config)
 opening_room config few = (
   record { few = omega (arith, few, length-map config opening_device); answered = All-nil (λ (w : Deferral). AnsweredIn (opening config).devices w); once = λ j. omega arith },
-  λ k. subst (λ (x : SlotState). IfSome x.link (λ l. IsPending k [] l)) (sym (first_slot 32 k)) tt,
+  λ k. subst (λ (x : SlotState). IfSome x.link (λ l. IsPending k [] l)) (sym (first_slot most_links k)) tt,
 )
 
 run_offers : (n : ℕ) (s : State) (log : Log) (e : State) → RoomIn s → end_by n s log ≡ Some e → All IsOfferWithin log

@@ -1,5 +1,5 @@
 -- The steps of an answering machine: a request, an event that is waited for, and a child.
-use Rattle.std.proofs.Common.{◌≡◌, ◌≢◌, ℕ, List, [], ◌∷◌, ◌++◌, slice_get, sym, ap, ◌∙◌, append_assoc, refl, subst}
+use Rattle.std.proofs.Common.{◌≡◌, ◌≢◌, ℕ, zero, suc, List, [], ◌∷◌, ◌++◌, slice_get, sym, ap, ◌∙◌, append_assoc, refl, subst}
 use Rattle.std.specs.Prelude.{Result, Ok, Err}
 use Rattle.std.specs.declared.option.Option.{Option}
 use Rattle.std.specs.declared.option.Option.TheVariants.{None, Some}
@@ -42,7 +42,8 @@ refusal_end (record_run blocking ac start nbytes) f = refl
 refusal_end (select_events device mask) f = refl
 refusal_end (set_controls device mask input_on output_on input_gain output_gain) f = refl
 refusal_end (query_controls device) f = refl
-refusal_end (hook_switch device off) f = refl
+refusal_end (hook_switch device zero) f = refl
+refusal_end (hook_switch device (suc off)) f = refl
 refusal_end (query_phone device) f = refl
 
 requests_is : (asked : Asked) (b : ToCome) (next : ToCome → AnswerTrace) →

@@ -33,8 +33,9 @@ pub data AnswerFinish : Type 0 where
   all_answered : AnswerFinish
   device_missing : (devices : ℕ) → AnswerFinish
   line_missing : (device : ℕ) → AnswerFinish
-  -- a HookSwitch was answered with this fault
-  hook_fault : (fault : ConnFault) → AnswerFinish
+  -- an OffHook was answered with this fault, or an OnHook
+  off_hook_fault : (fault : ConnFault) → AnswerFinish
+  on_hook_fault : (fault : ConnFault) → AnswerFinish
   -- another request was, or a wait for an event
   met_fault : (fault : ConnFault) → AnswerFinish
   -- 1000000 events were handed out and no call was taken
@@ -74,7 +75,8 @@ running told = record { heard = []; sends = []; told = told }
 
 -- why a machine ends whose request was answered with a fault
 abbrev pub refusal : Asked → ConnFault → AnswerFinish
-refusal (hook_switch device off) fault = hook_fault fault
+refusal (hook_switch device zero) fault = on_hook_fault fault
+refusal (hook_switch device (suc off)) fault = off_hook_fault fault
 refusal _ fault = met_fault fault
 
 -- what follows the answer to a request: a fault ends the machine
@@ -195,7 +197,8 @@ abbrev pub machine_end : AnswerFinish → AnswerEnd
 machine_end all_answered = end.Done
 machine_end (device_missing devices) = end.NoDevice devices
 machine_end (line_missing device) = end.NoLine device
-machine_end (hook_fault fault) = connection_end fault
+machine_end (off_hook_fault fault) = connection_end fault
+machine_end (on_hook_fault fault) = connection_end fault
 machine_end (met_fault fault) = connection_end fault
 machine_end rang_too_little = end.EventFlood
 machine_end child_starved = end.OutOfMemory

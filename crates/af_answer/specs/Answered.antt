@@ -17,7 +17,7 @@ use Rattle.af_answer.specs.declared.end.AnswerEnd.{AnswerEnd}
 use Rattle.af_answer.specs.declared.end.AnswerEnd.TheVariants as end
 use Rattle.af_answer.specs.declared.job.AnswerJob.{AnswerJob}
 use Rattle.af_answer.specs.Acts.{MachineAct, answer_acts, greet, leaves_off, off_hook, on_hook, record_message, write_tally}
-use Rattle.af_answer.specs.AnswerTrace.{AnswerTrace, Deeds, answer_trace, child_starved, first_run, hook_fault, met_fault, rang_too_little, tally_text}
+use Rattle.af_answer.specs.AnswerTrace.{AnswerTrace, Deeds, answer_trace, child_starved, first_run, met_fault, off_hook_fault, on_hook_fault, rang_too_little, tally_text}
 use Rattle.af_answer.specs.AnswerParts.{MatchesAnswer, is_from_outside}
 use Rattle.af_answer.specs.Children.{ChildRun, run_end, run_told, shell_words}
 
@@ -87,9 +87,12 @@ pub record HangsUp (order : Order) (job : AnswerJob) (acts : List MachineAct) (r
 abbrev pub HasLine : AnswerJob → List DeviceInfo → Type 0
 HasLine job devices = (device : DeviceInfo) × (slice_get devices job.device ≡ Some device) × (device.line ≡ true)
 
--- each HookSwitch gets the reply that it awaits
+-- each OnHook gets the reply that it awaits, and each OffHook, too
+abbrev pub PutsOn : AnswerTrace → Type 0
+PutsOn trace = (f : ConnFault) → trace.finish ≢ on_hook_fault f
+
 abbrev pub SwitchesHook : AnswerTrace → Type 0
-SwitchesHook trace = (f : ConnFault) → trace.finish ≢ hook_fault f
+SwitchesHook trace = PutsOn trace × ((f : ConnFault) → trace.finish ≢ off_hook_fault f)
 
 -- each request gets the reply that it awaits, and each wait an event
 abbrev pub IsReplied : AnswerTrace → Type 0
@@ -101,7 +104,9 @@ pub data HookAtEnd : Type 0 where
   never_off : HookAtEnd
   -- it was put on again each time
   put_on : HookAtEnd
-  -- the same, unless a HookSwitch was answered with a fault
+  -- it is on, unless an OnHook was answered so
+  on_if_put_on : HookAtEnd
+  -- it is on, unless an OffHook or an OnHook was answered so
   on_if_switched : HookAtEnd
   -- the link failed: it may be off
   maybe_off : HookAtEnd
@@ -115,18 +120,27 @@ hook_at (end.NoLine device) = never_off
 hook_at end.Done = put_on
 hook_at end.OutOfMemory = put_on
 hook_at end.SinkFault = put_on
-hook_at (end.Refused code value) = on_if_switched
+hook_at (end.Refused code value) = on_if_put_on
 hook_at end.LinkEnded = on_if_switched
 hook_at (end.BadReply header first) = on_if_switched
 hook_at end.EventFlood = on_if_switched
 hook_at end.LinkFault = maybe_off
 
--- The hook was left so: nothing was sent, or all that hangs up was.
-abbrev pub LeavesHook : HookAtEnd → AnswerTrace → (hung_up : Type 0) → (sends : List ℕ) → Type 0
-LeavesHook never_off trace hung_up sends = sends ≡ []
-LeavesHook put_on trace hung_up sends = hung_up
-LeavesHook on_if_switched trace hung_up sends = SwitchesHook trace → hung_up
-LeavesHook maybe_off trace hung_up sends = ⊤
+-- An OffHook was sent last, and the acts before it leave the hook on.
+pub record StopsAtOffHook (order : Order) (job : AnswerJob) (acts : List MachineAct) (sends : List ℕ) : Type 0 where
+  pub before : List MachineAct
+  pub later : List MachineAct
+  pub are : acts ≡ before ++ off_hook ∷ later
+  pub sent : sends ≡ sends_of_job order job (before ++ off_hook ∷ [])
+  pub on : leaves_off before ≡ false
+
+-- The hook was left so: nothing was sent, or all that hangs up was, or an OffHook was refused last.
+abbrev pub LeavesHook : HookAtEnd → AnswerTrace → (hung_up refused_off : Type 0) → (sends : List ℕ) → Type 0
+LeavesHook never_off trace hung_up refused_off sends = sends ≡ []
+LeavesHook put_on trace hung_up refused_off sends = hung_up
+LeavesHook on_if_put_on trace hung_up refused_off sends = PutsOn trace → hung_up ⊎ refused_off
+LeavesHook on_if_switched trace hung_up refused_off sends = SwitchesHook trace → hung_up
+LeavesHook maybe_off trace hung_up refused_off sends = ⊤
 
 -- A machine did as in this trace, in an order of bytes, with its children running so.
 pub record RanAs (order : Order) (job : AnswerJob) (devices : List DeviceInfo) (trace : AnswerTrace) (runs : List ChildRun) (how : AnswerEnd) (sent sent' : Option (List ℕ)) (acts acts' : Option (List Told)) (held held' : Option (List ℕ)) : Type 0 where
@@ -141,7 +155,8 @@ pub record RanAs (order : Order) (job : AnswerJob) (devices : List DeviceInfo) (
   -- it is what the events that were handed out and the ends of the children ask for
   pub answered : HasLine job devices → KeepsToActs order job (answer_acts job trace.heard (map run_end runs)) runs how done.sends done.told output
   -- the hook is left as this end has it
-  pub hung_up : LeavesHook (hook_at how) trace (HangsUp order job (answer_acts job trace.heard (map run_end runs)) runs done.sends done.told) done.sends
+  pub hung_up : LeavesHook (hook_at how) trace (HangsUp order job (answer_acts job trace.heard (map run_end runs)) runs done.sends done.told)
+      (StopsAtOffHook order job (answer_acts job trace.heard (map run_end runs)) done.sends) done.sends
   -- memory ran out exactly where it did for a child, and the hook was put on behind it
   pub starved : how ≡ end.OutOfMemory → trace.finish ≡ child_starved
   pub starves : trace.finish ≡ child_starved → (how ≡ end.OutOfMemory) ⊎ (is_from_outside how ≡ true)

@@ -129,7 +129,7 @@ fn converse(rt: &impl Abort, alloc: Global, far: &[u8], fails: u64) -> Result<()
             holds(rt, "set up", fails >= SETUP_CALLS);
             take_steps(rt, &mut conn, fails);
         }
-        Err((fault, _)) => {
+        Err((fault, _link)) => {
             holds(rt, "a setup", fails < SETUP_CALLS);
             holds(rt, "its fault", fault == ConnFault::LinkFault);
         }

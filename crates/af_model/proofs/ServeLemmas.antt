@@ -53,8 +53,8 @@ inner-append (h ∷ p) q a b = let both = both-true (is_inner h) (inner p) a in 
 -- One link
 
 -- What serving link j makes of it and its environment, and of its history: what is queued for it and what its history shows stay so; of
--- other links nothing is shown, and they wait as they did; no device and no line fails; and nothing
--- that waits is due.
+-- other links nothing is shown, and they wait as they did; no device and no line fails; nothing that waits is due; and no write offers
+-- more than may wait to be sent.
 pub record Served (j : ℕ) (d : SlotLink) (part : Log) (e : SlotLink) : Type 0 where
   pub inside : inner part ≡ true
   pub alive : NoneFails part
@@ -256,7 +256,7 @@ served_link k p =
 -- A state
 
 -- What a part of a log makes of a state: devices become later, and are dead where the part shows it; what is queued for each link, and
--- what its history shows, stay so; and nothing that waits is due.
+-- what its history shows, stay so; nothing that waits is due; and no write offers more than may wait to be sent.
 pub record Goes (s : State) (part : Log) (t : State) : Type 0 where
   pub devices : Laters s.devices t.devices
   pub deaths : (d : ℕ) (x y : Bool) → DeadAs d x y s → DeadAs d (died_device d x part) (died_line d y part) t

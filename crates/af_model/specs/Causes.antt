@@ -47,7 +47,8 @@ pub record ShowsNoOther (h : LinkHistory) (owed : ℕ) : Type 0 where
 
 -- What a link shows that is closed for a cause, of which so many bytes were said to it and not taken: a read or a write of it failed; an
 -- event of 20 bytes found no room beside what was to be sent, and no read had said that it ended; a read said that it ended, and all
--- that it gave is served; its first bytes are no good setup; behind a good setup and requests in its order its bytes are malformed.
+-- that its reads gave is served; its first bytes are no good setup; behind a good setup and requests in its order its bytes are
+-- malformed.
 abbrev pub IsCause : Why → LinkHistory → ℕ → Type 0
 IsCause why.LinkFault h owed = h.has_failed ≡ true
 IsCause why.Overrun h owed = (h.has_failed ≡ false) × (h.has_ended ≡ false) × (event_limit < owed + 20)

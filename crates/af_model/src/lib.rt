@@ -69,8 +69,9 @@ pub fn fold_law()
 {}
 
 /// A law of the definitions alone, of closes: each link in a run is closed for the one cause that its part of the log shows. A read or
-/// a write of it failed; or an event found no room beside what was to be sent to it; or a read said that it ended; or its first bytes
-/// are no good setup; or, behind a good setup and requests, its bytes are malformed.
+/// a write of it failed; or an event found no room beside what was to be sent to it, and no read had said that it ended; or a read
+/// said that it ended, and all that its reads gave was served; or its first bytes are no good setup; or, behind a good setup and
+/// requests, its bytes are malformed.
 pub fn cause_law()
     ensures shown { (config : List DeviceSpec) (log : Log) → ClosesForCauses config log }
     ensures one { (a b : Why) (h : LinkHistory) (owed : ℕ) → IsCause a h owed → IsCause b h owed → a ≡ b }

@@ -314,13 +314,14 @@ fn whole_millis(shown: Duration) -> Option<u64>
     Some(nanos - nanos % NANOS_A_MILLISECOND)
 }
 
-/// The reading of the clock that a round goes by: its own, or one that is taken now.
+/// The reading of the clock that a round goes by: its own, or one that is taken now. After the server stood still that is behind
+/// what the clock shows, round by round at most 20 milliseconds further: each device ticks then, and so no poll waits.
 fn reading<R: Clock>(rt: &R, round: &Round) -> Option<u64>
-    ensures { IfSome result (λ nanos. IsReadingBy round.now.reading nanos) }
+    ensures { IfSome result (λ nanos. IsReadingBy round.now.reading round.now.last nanos) }
 {
     match round.reading() {
         Some(taken) => Some(taken),
-        None => whole_millis(rt.monotonic().ok()?),
+        None => Some(round.reading_after(whole_millis(rt.monotonic().ok()?)?)),
     }
 }
 

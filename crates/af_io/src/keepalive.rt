@@ -23,7 +23,13 @@ pub fn keep_alive<S: AsRawFd>(stream: &S) {
         c::setsockopt(fd, tcp, c::TCP_KEEPIDLE, &value_of(SILENT_SECONDS), 4);
         c::setsockopt(fd, tcp, c::TCP_KEEPINTVL, &value_of(SECONDS_BETWEEN), 4);
         c::setsockopt(fd, tcp, c::TCP_KEEPCNT, &value_of(MOST_UNANSWERED), 4);
-        c::setsockopt(fd, tcp, c::TCP_USER_TIMEOUT, &value_of(UNANSWERED_MILLIS), 4);
+        c::setsockopt(
+            fd,
+            tcp,
+            c::TCP_USER_TIMEOUT,
+            &value_of(UNANSWERED_MILLIS),
+            4,
+        );
         c::setsockopt(fd, c::SOL_SOCKET, c::SO_KEEPALIVE, &value_of(1), 4);
     }
 }

@@ -325,10 +325,11 @@ fn reading<R: Clock>(rt: &R, round: &Round) -> Option<u64>
     }
 }
 
-/// What a poll finds first. A new round over the devices begins behind it.
+/// What a poll finds first, at this reading of the clock. A new round over the devices begins behind it.
 fn poll_once(
     sockets: &mut Sockets,
     pause: Duration,
+    nanos: u64,
     links: &mut HeldLinks,
     round: &mut Round,
 ) -> Option<Wake>
@@ -337,7 +338,7 @@ fn poll_once(
     ensures links { MatchOption result (links.new ≡ links.old) (λ wake. PolledGives wake links.old links.new) }
     ensures round { MatchOption result (round.new ≡ round.old) (λ wake. round.new ≡ round_begun round.old) }
 {
-    if !sockets.poll(pause, links) {
+    if !sockets.poll(pause, nanos, links) {
         return None;
     }
     round.begin();
@@ -375,7 +376,8 @@ fn next_wake<R: Clock>(
     if let Some((device, frames)) = round.next_tick(nanos) {
         return Some(Wake::Ticked(device, frames));
     }
-    poll_once(sockets, pause(more, round.has_ticked()), links, round)
+    let pause = pause(more, round.has_ticked());
+    poll_once(sockets, pause, nanos, links, round)
 }
 
 /// What a wait answers that found this wake, or none.

@@ -6,6 +6,8 @@ ghost use Rattle.af_live.specs.Polls.{told_by, PollsTo};
 
 use crate::held_links::HeldLinks;
 use crate::link_table::Told;
+use crate::turned_away::TurnedAway;
+use af_io::keep_alive;
 use af_limits::MOST_LINKS;
 use mio::event::Event;
 use mio::net::{TcpListener, TcpStream};
@@ -34,6 +36,7 @@ pub(crate) struct Sockets {
     /// Whether connections may wait: their event comes once, and not for each.
     waiting: bool,
     streams: Slab<TcpStream>,
+    turned_away: TurnedAway,
 }
 
 impl Sockets {
@@ -51,12 +54,13 @@ impl Sockets {
             listener,
             waiting: false,
             streams,
+            turned_away: TurnedAway::new(),
         })
     }
 
-    /// Waits for at most so long until something is ready, and notes it. New links are accepted. The answer is whether the
-    /// system could be asked; a signal is no refusal.
-    pub fn poll(&mut self, pause: Duration, links: &mut HeldLinks) -> bool
+    /// Waits for at most so long until something is ready, and notes it. New links are accepted, at this reading of the clock. The
+    /// answer is whether the system could be asked; a signal is no refusal.
+    pub fn poll(&mut self, pause: Duration, now: u64, links: &mut HeldLinks) -> bool
         ensures polls { PollsTo links.old links.new }
         ensures refused { result ≡ false → links.new ≡ links.old }
     {
@@ -68,20 +72,21 @@ impl Sockets {
         if note_events(&self.events, links) {
             self.waiting = true;
         }
+        self.turned_away.close_old(now);
         if self.waiting {
-            self.accept_all(links);
+            self.accept_all(now, links);
         }
         true
     }
 
     /// Accepts the connections that wait. Where the system refuses one for the time being, as with no descriptor left, those that
     /// wait are tried again behind the next poll.
-    fn accept_all(&mut self, links: &mut HeldLinks)
+    fn accept_all(&mut self, now: u64, links: &mut HeldLinks)
         ensures { PollsTo links.old links.new }
     {
         for _ in 0..MOST_ACCEPTS {
             match self.listener.accept() {
-                Ok((stream, _)) => self.take_in(stream, links),
+                Ok((stream, _)) => self.take_in(stream, now, links),
                 Err(e) => match e.kind() {
                     ErrorKind::Interrupted | ErrorKind::ConnectionAborted => {}
                     kind => {
@@ -93,11 +98,13 @@ impl Sockets {
         }
     }
 
-    /// Holds a new link under the least number that is free. If none is, or the system does not watch it, it is closed.
-    fn take_in(&mut self, mut stream: TcpStream, links: &mut HeldLinks)
+    /// Holds a new link under the least number that is free. If none is, it is turned away; if the system does not watch it, it is
+    /// closed.
+    fn take_in(&mut self, mut stream: TcpStream, now: u64, links: &mut HeldLinks)
         ensures { TakesIn links.old links.new }
     {
         let Some(number) = links.least_free() else {
+            self.turned_away.turn_away(stream, now);
             return;
         };
         // there is room wherever a number is free
@@ -106,6 +113,7 @@ impl Sockets {
         }
         // An answer is to leave at once. Where the system refuses that, it leaves later.
         let _ = stream.set_nodelay(true);
+        keep_alive(&stream);
         let all = Interest::READABLE | Interest::WRITABLE | Interest::PRIORITY;
         if self
             .poll

@@ -1,6 +1,6 @@
 -- The words of an answering machine: they are one simple command of clap, and what they ask is that of the matches that clap
 -- defines.
-use Rattle.std.specs.Prelude.{◌-◌, ℕ, ◌&&◌, Bool, false, nat_le, List, [], ◌∷◌, length, Option, Some, None, codes, is_some, option_and_then, option_map, if◌then◌else◌}
+use Rattle.std.specs.Prelude.{ℕ, ◌-◌, ◌&&◌, Bool, false, nat_le, List, [], ◌∷◌, length, Option, Some, None, codes, is_some, option_and_then, option_map, if◌then◌else◌}
 use Rattle.std.specs.Str.{bytes_eq}
 use Rattle.af_limits.specs.Limits.{most_devices}
 use Rattle.clap.specs.Words.{App, Row, Text, first_of, matches_of, new_app, takes}

@@ -20,7 +20,8 @@ pub struct Ring {
 
 impl Model for Ring {
     ghost use Rattle.std.specs.Prelude.{◌≡◌};
-        ghost use Rattle.af_lib.specs.Ring.{RingState};
+    ghost use Rattle.af_limits.specs.Limits.{most_kept_events};
+    ghost use Rattle.af_lib.specs.Ring.{RingState};
 
     ghost Value = { RingState };
 

@@ -1,5 +1,5 @@
 -- The words of the tools: each tool is one simple command of clap, and its job is that of the matches that clap defines.
-use Rattle.std.specs.Prelude.{◌-◌, ℕ, pos, ◌&&◌, Bool, true, false, nat_le, List, [], ◌∷◌, length, Option, Some, None, codes, is_some, map, option_and_then, option_map, if◌then◌else◌}
+use Rattle.std.specs.Prelude.{ℕ, ◌-◌, pos, ◌&&◌, Bool, true, false, nat_le, List, [], ◌∷◌, length, Option, Some, None, codes, is_some, map, option_and_then, option_map, if◌then◌else◌}
 use Rattle.std.specs.Str.{bytes_eq}
 use Rattle.std.specs.Option.{option_map_or}
 use Rattle.af_limits.specs.Limits.{most_devices, longest_address}

@@ -1,5 +1,5 @@
 // The jobs of the tools, by their words.
-ghost use Rattle.std.specs.Prelude.{◌-◌, ◌≡◌, ◌≤◌, None, codes, length, option_map, pos, IfSome};
+ghost use Rattle.std.specs.Prelude.{◌≡◌, ◌-◌, ◌≤◌, None, codes, length, option_map, pos, IfSome};
 ghost use Rattle.af_limits.specs.Limits.{most_devices, longest_address};
 ghost use Rattle.clap.specs.Words.{first_of, found_of, rows_of};
 ghost use Rattle.af_text.specs.Sound.{type_of};

@@ -4,7 +4,7 @@ use crate::deferred_requests::DeferredRequests;
 use crate::device::Device;
 use std::marker::Model;
 
-/// What all links share: the devices, of which there are at most 8, and the requests that wait for them.
+/// What all links share: the devices, and the requests that wait for them.
 #[derive(Drop)]
 pub struct Environment {
     pub devices: Vec<Device>,
@@ -13,7 +13,8 @@ pub struct Environment {
 
 impl Model for Environment {
     ghost use Rattle.std.specs.Prelude.{◌≤◌, length};
-        ghost use Rattle.af_state.specs.Environment.{KeptEnvironment};
+    ghost use Rattle.af_limits.specs.Limits.{most_devices};
+    ghost use Rattle.af_state.specs.Environment.{KeptEnvironment};
 
     ghost Value = { KeptEnvironment };
 

@@ -1,0 +1,16 @@
+//! What a person is told of a tool that did not do what was wanted, or lost sound: the outside is watched as the tools use it, and the
+//! lines are made of what was seen.
+#![tactic(auto)]
+
+mod asked;
+mod dial;
+mod incoming;
+mod lost;
+mod passage;
+mod talk;
+
+pub use asked::Asked;
+pub use dial::{WatchedDial, WatchedLink};
+pub use lost::Lost;
+pub use passage::Passage;
+pub use talk::{Address, Talk};

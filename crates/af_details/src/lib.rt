@@ -3,14 +3,19 @@
 #![tactic(auto)]
 
 mod asked;
+mod children;
 mod dial;
 mod incoming;
 mod lost;
 mod passage;
+mod shown;
+mod source;
 mod talk;
 
 pub use asked::Asked;
+pub use children::{Calls, WatchedSpawner};
 pub use dial::{WatchedDial, WatchedLink};
 pub use lost::Lost;
 pub use passage::Passage;
+pub use source::WatchedSource;
 pub use talk::{Address, Talk};

@@ -33,6 +33,8 @@ pub struct Talk {
     pub devices: Devices,
     /// What the server was asked last.
     pub asked: Option<Asked>,
+    /// Whether it has not answered that.
+    pub waits: bool,
     /// Frames that were played too late to be heard.
     pub late: Lost,
     /// Frames that had left the server before they were asked for.
@@ -54,6 +56,7 @@ impl Talk {
             heard: false,
             devices: Devices::new(),
             asked: None,
+            waits: false,
             late: Lost::new(),
             gone: Lost::new(),
             passage: Passage::new(),
@@ -65,6 +68,7 @@ impl Talk {
 
     /// The client sends a setup, or a whole request.
     pub fn sent(&mut self, piece: &[u8]) {
+        self.waits = true;
         let Some(order) = self.order else {
             if let SetupFront::Setup(order) = setup_of(piece) {
                 self.order = Some(order);
@@ -117,6 +121,7 @@ impl Talk {
         let [1, detail, _, _, _, _, _, _, body @ ..] = self.incoming.bytes() else {
             return;
         };
+        self.waits = false;
         if *detail == 0 {
             if let Some(Reply::Setup { devices }) = read_reply(order, 0, body) {
                 self.devices = devices;

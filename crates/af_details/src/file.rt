@@ -11,6 +11,18 @@ pub struct Unplayable<'a> {
     pub first: &'a [u8],
 }
 
+impl<'a> Unplayable<'a> {
+    /// Whether it is sound that another program may convert: it is of a kind that is known, and another option would not do.
+    pub fn is_sound(&self) -> bool {
+        match (self.fault, self.form, self.first) {
+            (SoundFault::BadMagic, SoundForm::Au, [b'R', b'I', b'F', b'F', ..]) => false,
+            (SoundFault::BadMagic, _, [b'.', b's', b'n', b'd', ..]) => false,
+            (SoundFault::BadMagic, form, first) => kind_of(form, first) != UNKNOWN,
+            _ => true,
+        }
+    }
+}
+
 impl<'a> fmt::Display for Unplayable<'a> {
     fn fmt<W: Write>(&self, f: &mut Formatter<W>) -> fmt::Result {
         match (self.fault, self.form) {
@@ -31,6 +43,9 @@ impl<'a> fmt::Display for Unplayable<'a> {
     }
 }
 
+const UNKNOWN: &str =
+    "no sound file that is known here; samples without a head are played with --file=raw";
+
 // The kind of a file of another form than the one that was expected. A reader stops at the first four bytes that are no .au file's, and
 // at the first twelve that are no WAVE file's.
 fn kind_of<'a>(form: SoundForm, first: &[u8]) -> &'a str {
@@ -49,7 +64,7 @@ fn kind_of<'a>(form: SoundForm, first: &[u8]) -> &'a str {
         [b'c', b'a', b'f', b'f', ..] => "CAF",
         [0x1a, 0x45, 0xdf, 0xa3, ..] => "Matroska or WebM",
         [_, _, _, _, b'f', b't', b'y', b'p', ..] => "MP4",
-        _ => "no sound file that is known here: samples without a head are played with --file=raw",
+        _ => UNKNOWN,
     }
 }
 

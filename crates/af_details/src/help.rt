@@ -28,7 +28,7 @@ pub fn tell_version(rt: &impl Eprint) {
 
 /// The list of tools.
 pub fn tell_tools(rt: &impl Eprint) {
-    let _ = eprintln!(rt; "af: af TOOL SERVER [OPTION ..], with one of these tools:");
+    let _ = eprintln!(rt; "af: usage: af TOOL SERVER [OPTION ..], with one of these tools:");
     for command in &COMMANDS {
         let name = command.name();
         let what = command.what();
@@ -42,7 +42,7 @@ pub fn tell_tools(rt: &impl Eprint) {
 pub fn tell_options(rt: &impl Eprint, command: Command) {
     let what = command.what();
     let name = command.name();
-    let _ = eprintln!(rt; "af: {command}");
+    let _ = eprintln!(rt; "af: usage: {command}");
     let _ = eprintln!(rt; "af: {name} {what}");
     for row in command.options() {
         tell_option(rt, row);

@@ -93,14 +93,16 @@ pub fn tell_bad_reply<R: Net + Drop>(rt: &impl Eprint, dial: &WatchedDial<R>) {
 /// Tells which devices a server has, if it has not the one that was asked for.
 pub fn tell_no_device(rt: &impl Eprint, talk: &Talk, device: u8) {
     let address = talk.address.as_str();
-    let _ = eprintln!(rt; "af: {address} has no device {device}; it has");
+    let _ = eprintln!(rt; "af: {address} has no device {device}; its devices are:");
     tell_devices(rt, talk);
 }
 
 /// Tells which devices of a server have a telephone line, if the one that was asked for has none.
 pub fn tell_no_line(rt: &impl Eprint, talk: &Talk, device: u8) {
     let address = talk.address.as_str();
-    let _ = eprintln!(rt; "af: device {device} of {address} has no telephone line; it has");
+    let _ = eprintln!(rt;
+        "af: device {device} of {address} has no telephone line; the devices there are:"
+    );
     tell_devices(rt, talk);
 }
 

@@ -350,7 +350,7 @@ impl Command {
             Command::Record => "records to standard output",
             Command::Set => "sets the controls of a device, and tells how they stand",
             Command::Pass => "passes sound from one server to another",
-            Command::Answer => "is an answering machine",
+            Command::Answer => "takes calls of a telephone line, greets and records messages",
         }
     }
 

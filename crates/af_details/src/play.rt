@@ -5,7 +5,7 @@ use crate::shown::Counted;
 use crate::source::WatchedSource;
 use crate::talk::Talk;
 use af_options::PlayJob;
-use af_sound::{SoundFault, SoundForm};
+use af_sound::SoundForm;
 use af_tool::ToolEnd;
 use std::io::Read;
 
@@ -21,7 +21,17 @@ pub fn tell_sound<S: Read + Drop>(
         return;
     };
     match end {
-        ToolEnd::BadSound { fault } => tell_unplayable(rt, form, fault, source),
+        ToolEnd::BadSound { fault } => {
+            let file = Unplayable {
+                form,
+                fault,
+                first: source.first(),
+            };
+            let _ = eprintln!(rt; "af: standard input is {file}");
+            if !file.is_sound() {
+                return;
+            }
+        }
         ToolEnd::RateMismatch { from, to } => tell_rates(rt, job, talk, from, to),
         ToolEnd::ChannelMismatch { from, to } => tell_channels(rt, job, talk, from, to),
         ToolEnd::SoundCut => {
@@ -36,25 +46,11 @@ pub fn tell_sound<S: Read + Drop>(
     tell_remedy(rt, job, form, talk);
 }
 
-fn tell_unplayable<S: Read + Drop>(
-    rt: &impl Eprint,
-    form: SoundForm,
-    fault: SoundFault,
-    source: &WatchedSource<S>,
-) {
-    let file = Unplayable {
-        form,
-        fault,
-        first: source.first(),
-    };
-    let _ = eprintln!(rt; "af: standard input is {file}");
-}
-
 fn tell_rates(rt: &impl Eprint, job: &PlayJob, talk: &Talk, from: u32, to: u32) {
     let device = job.device;
     let address = talk.address.as_str();
     let _ = eprintln!(rt;
-        "af: the file has {from} frames a second, and device {device} of {address} {to}"
+        "af: the file has {from} frames a second, and device {device} of {address} has {to}"
     );
 }
 
@@ -63,17 +59,18 @@ fn tell_channels(rt: &impl Eprint, job: &PlayJob, talk: &Talk, from: u8, to: u8)
     let address = talk.address.as_str();
     let from = channels_text(from);
     let to = channels_text(to);
-    let _ = eprintln!(rt; "af: the file has {from}, and device {device} of {address} {to}");
+    let _ = eprintln!(rt; "af: the file has {from}, and device {device} of {address} has {to}");
 }
 
 // Tells what makes a file that the device plays.
 fn tell_remedy(rt: &impl Eprint, job: &PlayJob, form: SoundForm, talk: &Talk) {
     if let Some(info) = talk.devices.get(usize::from(job.device)) {
+        let device = job.device;
         let rate = info.rate;
         let channels = info.channels;
         let ending = ending(form);
         let _ = eprintln!(rt;
-            "af: this makes a file that it plays: sox IN -r {rate} -c {channels} -b 16 OUT.{ending}"
+            "af: this makes a file that device {device} plays: sox IN -r {rate} -c {channels} -b 16 OUT.{ending}"
         );
     }
 }

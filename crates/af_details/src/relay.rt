@@ -65,11 +65,13 @@ pub fn tell_passed(rt: &impl Eprint, job: &PassJob, from: &Talk, to: &Talk) {
     let last = to.passage.last;
     match to.passage.resynced {
         0 => {
-            let _ = eprintln!(rt; "af: {passed}, and no resynchronisation");
+            let _ = eprintln!(rt; "af: passed {passed}, never resynchronised");
         }
         resynced => {
-            let resynced = Counted(resynced, "resynchronisation");
-            let _ = eprintln!(rt; "af: {passed}, and {resynced}, the last at block {last}");
+            let resynced = Counted(resynced, "time");
+            let _ = eprintln!(rt;
+                "af: passed {passed}, resynchronised {resynced}, the last time at block {last}"
+            );
         }
     }
     if to.late.frames > 0 {

@@ -111,7 +111,7 @@ impl Talk {
         };
         let asked = Asked::by(request, frame);
         if let Asked::Play { frames, time } = asked {
-            self.passage.note(time, frames);
+            self.passage.note_sent(time, frames);
         }
         self.asked = Some(asked);
     }
@@ -137,7 +137,10 @@ impl Talk {
     // The reply to what was asked last has this time.
     fn note_time(&mut self, now: DevTime) {
         match self.asked {
-            Some(Asked::Play { frames, time }) => self.late.note(frames_before(time, frames, now)),
+            Some(Asked::Play { frames, time }) => {
+                self.passage.note_taken();
+                self.late.note(frames_before(time, frames, now));
+            }
             Some(Asked::Record { frames, time }) => {
                 let oldest = DevTime(now.0.wrapping_sub(self.horizon()));
                 self.gone.note(frames_before(time, frames, oldest));

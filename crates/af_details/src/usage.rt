@@ -24,7 +24,7 @@ pub fn tell_usage(rt: &impl Eprint, alloc: Global, words: &Args) {
         None => {
             if !asks_help(words) {
                 let name = Shown(name);
-                let _ = eprintln!(rt; "af: '{name}' is no tool");
+                let _ = eprintln!(rt; "af: there is no tool '{name}'");
             }
             tell_tools(rt);
         }
@@ -54,7 +54,7 @@ fn tell_mistake(rt: &impl Eprint, alloc: Global, command: Command, words: &Args)
             Err(e) => tell_error(rt, alloc, command, &e),
         }
     }
-    let _ = eprintln!(rt; "af: {command}");
+    let _ = eprintln!(rt; "af: usage: {command}");
 }
 
 // The words of a tool's command.
@@ -152,7 +152,7 @@ fn tell_values(rt: &impl Eprint, command: Command, matches: &ArgMatches<'_>) {
             && !row.values.has(value)
         {
             let name = row.name;
-            let takes = row.values;
+            let takes = row.values.wanted();
             let value = Shown(value);
             let _ = eprintln!(rt; "af: '{value}' is no value of --{name}, which takes {takes}");
         }

@@ -19,6 +19,11 @@ pub enum Values<'a> {
 }
 
 impl<'a> Values<'a> {
+    /// What a value may be, in words.
+    pub fn wanted(self) -> Wanted<'a> {
+        Wanted(self)
+    }
+
     /// Whether a text is such a value.
     pub fn has(&self, text: &str) -> bool {
         match self {
@@ -30,6 +35,20 @@ impl<'a> Values<'a> {
             Values::OneOf(words) => words.split("|").any(|word| word == text),
             Values::Command => !text.is_empty() && text.len() <= 200,
             Values::None => true,
+        }
+    }
+}
+
+/// What a value may be, in words.
+#[derive(Clone, Copy)]
+pub struct Wanted<'a>(Values<'a>);
+
+impl<'a> fmt::Display for Wanted<'a> {
+    fn fmt<W: Write>(&self, f: &mut Formatter<W>) -> fmt::Result {
+        let values = self.0;
+        match values {
+            Values::Command => f.write_str("a command of 1 to 200 bytes"),
+            _ => write!(f, "{values}"),
         }
     }
 }

@@ -46,8 +46,8 @@ impl<'a> fmt::Display for Unplayable<'a> {
 const UNKNOWN: &str =
     "no sound file that is known here; samples without a head are played with --file=raw";
 
-// The kind of a file of another form than the one that was expected. A reader stops at the first four bytes that are no .au file's, and
-// at the first twelve that are no WAVE file's.
+// The kind of a file of another form than the one that was expected. Four bytes show that a file is no .au file, and twelve that
+// it is no WAVE file: more was not read.
 fn kind_of<'a>(form: SoundForm, first: &[u8]) -> &'a str {
     match first {
         [b'R', b'I', b'F', b'F', ..] if form == SoundForm::Au =>

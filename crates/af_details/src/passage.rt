@@ -1,8 +1,8 @@
 // Blocks that are played one behind the other, and where their times jump.
 use af_time::DevTime;
 
-/// How many blocks were played, how often the time of one did not follow on the one before it, and the number of the block at which
-/// that happened last, the first block being 1. All counts stand still at 2^64 - 1.
+/// How many blocks were played, how often the time of one did not follow on the one before it, and the number of the block at
+/// which that happened last, the first block being 1. All counts stand still at 2^64 - 1.
 #[derive(Clone, Copy, Debug, PartialEq, Eq)]
 pub struct Passage {
     pub blocks: u64,

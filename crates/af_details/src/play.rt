@@ -97,8 +97,8 @@ pub fn tell_played<S: Read + Drop>(
             }
         }
     }
-    let played = end == ToolEnd::Done && talk.passage.blocks > 0;
-    if end == ToolEnd::Done && job.form.is_some() && !played && source.gives_more() {
+    let silent = end == ToolEnd::Done && job.form.is_some() && talk.passage.blocks == 0;
+    if silent && source.gives_more() {
         let _ = eprintln!(rt;
             "af: the head of the file says 0 samples, as a writer leaves it that could not go back; more bytes follow"
         );

@@ -309,6 +309,10 @@ static ANSWER: [OptionRow<'static>; 5] = [
     },
 ];
 
+static ONE: [&str; 1] = ["SERVER"];
+
+static BOTH: [&str; 2] = ["FROM", "TO"];
+
 /// A tool of `af`.
 #[derive(Clone, Copy, Debug, PartialEq, Eq)]
 pub enum Command {
@@ -355,10 +359,10 @@ impl Command {
     }
 
     /// The words for its servers.
-    pub fn servers<'a>(self) -> &'a str {
+    pub fn places<'a>(self) -> &'a [&'a str] {
         match self {
-            Command::Pass => "FROM TO",
-            _ => "SERVER",
+            Command::Pass => BOTH.as_slice(),
+            _ => ONE.as_slice(),
         }
     }
 
@@ -395,8 +399,10 @@ impl<'a> fmt::Display for OptionRow<'a> {
 impl fmt::Display for Command {
     fn fmt<W: Write>(&self, f: &mut Formatter<W>) -> fmt::Result {
         let name = self.name();
-        let servers = self.servers();
-        write!(f, "af {name} {servers}")?;
+        write!(f, "af {name}")?;
+        for place in self.places() {
+            write!(f, " {place}")?;
+        }
         for row in self.options() {
             if row.needed {
                 write!(f, " {row}")?;

@@ -60,11 +60,8 @@ fn tell_mistake(rt: &impl Eprint, alloc: Global, command: Command, words: &Args)
 // The words of a tool's command.
 fn command_words<'a>(alloc: Global, command: Command) -> Result<Vec<Word<'a>>, AllocError> {
     let mut table = Vec::new(alloc);
-    if command == Command::Pass {
-        table.push(Word("FROM", ArgumentKind::Place))?;
-        table.push(Word("TO", ArgumentKind::Place))?;
-    } else {
-        table.push(Word("SERVER", ArgumentKind::Place))?;
+    for place in command.places() {
+        table.push(Word(*place, ArgumentKind::Place))?;
     }
     for row in command.options() {
         table.push(Word(row.name, kind_of(row)))?;
@@ -112,7 +109,7 @@ fn has_negative(line: &str) -> bool {
 
 // Tells which words are missing.
 fn tell_missing(rt: &impl Eprint, command: Command, text: &str) {
-    for word in command.servers().split(" ") {
+    for word in command.places() {
         if names(text, "<", word) {
             let _ = eprintln!(rt;
                 "af: {word} is missing: the address of a server, such as 127.0.0.1:1701"
@@ -142,7 +139,7 @@ fn names(text: &str, mark: &str, name: &str) -> bool {
 
 // Tells which values are outside of what they may be.
 fn tell_values(rt: &impl Eprint, command: Command, matches: &ArgMatches<'_>) {
-    for place in command.servers().split(" ") {
+    for place in command.places() {
         if let Some(address) = text_of(matches, place) {
             tell_address(rt, place, address);
         }

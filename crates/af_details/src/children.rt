@@ -1,8 +1,9 @@
 // The children of an answering machine, which are counted.
-ghost use Rattle.std.specs.Prelude.{◌≡◌, ◌≤◌};
+ghost use Rattle.std.specs.Prelude.{◌≡◌, ◌≤◌, ◌^◌, ◌-◌, ℕ};
 ghost use Rattle.std.specs.declared.option.Option.TheVariants.{None};
 ghost use Rattle.arrayvec.specs.ArrayVec.{array_vec_len};
 ghost use Rattle.af_io.specs.Observed.{CountsOneFault};
+ghost use Rattle.af_child.specs.Acts.{started_after};
 
 use af_child::{Finished, Spawner, Started, StdSpawner, Words};
 use af_io::Put;
@@ -97,10 +98,12 @@ impl<R: Processes + Drop> WatchedSpawner<R> {
 impl<R: Processes + Drop> Spawner for WatchedSpawner<R> {
     ghost acts = { λ _. None };
 
+    ghost started = { λ spawner. spawner.spawner.started };
+
     ghost faults = { λ spawner. spawner.spawner.faults };
 
     fn note(&mut self, sound: &[u8])
-        ensures count { self.old.spawner.faults ≤ self.new.spawner.faults }
+        ensures same { self.new.spawner ≡ self.old.spawner }
     {
         self.spawner.note(sound);
     }
@@ -108,6 +111,9 @@ impl<R: Processes + Drop> Spawner for WatchedSpawner<R> {
     fn start(&mut self, alloc: Global, words: &Words) -> Started
         requires { 1 ≤ array_vec_len words.now }
         ensures faults { CountsOneFault (result ≡ Started.Failed) self.old.spawner.faults self.new.spawner.faults }
+        ensures number { (child : ℕ) → result ≡ Started.Child child → child ≡ self.old.spawner.started }
+        ensures most { self.old.spawner.started ≡ 2 ^ 32 - 1 → result ≡ Started.Failed }
+        ensures started { self.new.spawner.started ≡ started_after self.old.spawner.started result }
     {
         let started = self.spawner.start(alloc, words);
         self.calls.note_start(started);
@@ -116,12 +122,14 @@ impl<R: Processes + Drop> Spawner for WatchedSpawner<R> {
 
     fn give(&mut self, child: u32, bytes: &[u8]) -> Put
         ensures faults { CountsOneFault (result ≡ Put.Failed) self.old.spawner.faults self.new.spawner.faults }
+        ensures started { self.new.spawner.started ≡ self.old.spawner.started }
     {
         self.spawner.give(child, bytes)
     }
 
     fn finish(&mut self, child: u32) -> Finished
         ensures faults { CountsOneFault (result ≡ Finished.Failed) self.old.spawner.faults self.new.spawner.faults }
+        ensures started { self.new.spawner.started ≡ self.old.spawner.started }
     {
         let finished = self.spawner.finish(child);
         self.calls.note_end(finished);

@@ -4,6 +4,7 @@
 mod args;
 mod bytes;
 mod calls;
+mod details;
 mod dial;
 mod faults;
 mod flow;
@@ -13,11 +14,13 @@ mod mem_dial;
 mod mem_link;
 mod memory;
 mod real;
+mod reason;
 mod tcp;
 mod text;
 
 pub use args::{Args, WordsFault, program_words};
 pub use bytes::{Bytes, copy_first};
+pub use details::{open_standard_streams, wants_details};
 pub use dial::{Dial, Dialed};
 pub use faults::faults_after;
 pub use flow::{Got, Put, Sink, Source};
@@ -27,5 +30,6 @@ pub use mem_dial::MemDial;
 pub use mem_link::MemLink;
 pub use memory::{MemSink, MemSource};
 pub use real::{StdSink, StdSource};
+pub use reason::Reason;
 pub use tcp::{TcpDial, TcpLink};
 pub use text::{TextFault, read_text};

@@ -7,7 +7,7 @@ ghost use Rattle.af_io.specs.Flow.{GotFits};
 ghost use Rattle.af_io.specs.Real.{ReadsOn, WritesOn};
 
 use crate::faults::faults_after;
-use crate::{Got, Put, Sink, Source};
+use crate::{Got, Put, Reason, Sink, Source};
 use std::io::{ErrorKind, Read, Write};
 use std::marker::Model;
 
@@ -20,6 +20,7 @@ const ATTEMPTS: u32 = 1001;
 pub struct StdSource<R: Read + Drop> {
     reader: R,
     faults: u64,
+    reason: Option<Reason>,
 }
 
 impl<R: Read + Drop> Model for StdSource<R> {
@@ -35,7 +36,16 @@ impl<R: Read + Drop> StdSource<R> {
     pub fn new(reader: R) -> StdSource<R>
         ensures { result ≡ record { remaining = R.remaining reader; faults = 0 } }
     {
-        StdSource { reader, faults: 0 }
+        StdSource {
+            reader,
+            faults: 0,
+            reason: None,
+        }
+    }
+
+    /// Why a read failed last, if one did.
+    pub fn reason(&self) -> Option<Reason> {
+        self.reason
     }
 }
 
@@ -50,7 +60,7 @@ impl<R: Read + Drop> Source for StdSource<R> {
         ensures faults { CountsOneFault (result ≡ Got.Failed) self.old.faults self.new.faults }
         ensures reads { ReadsOn result self.old.remaining into.new self.new.remaining }
     {
-        let got = read_some(&mut self.reader, into);
+        let got = read_some(&mut self.reader, into, &mut self.reason);
         self.faults = faults_after(self.faults, got == Got::Failed);
         got
     }
@@ -62,6 +72,7 @@ impl<R: Read + Drop> Source for StdSource<R> {
 pub struct StdSink<W: Write + Drop> {
     writer: W,
     faults: u64,
+    reason: Option<Reason>,
 }
 
 impl<W: Write + Drop> Model for StdSink<W> {
@@ -77,7 +88,16 @@ impl<W: Write + Drop> StdSink<W> {
     pub fn new(writer: W) -> StdSink<W>
         ensures { result ≡ record { contents = W.contents writer; faults = 0 } }
     {
-        StdSink { writer, faults: 0 }
+        StdSink {
+            writer,
+            faults: 0,
+            reason: None,
+        }
+    }
+
+    /// Why a write failed last, if one did.
+    pub fn reason(&self) -> Option<Reason> {
+        self.reason
     }
 }
 
@@ -91,14 +111,14 @@ impl<W: Write + Drop> Sink for StdSink<W> {
         ensures faults { CountsOneFault (result ≡ Put.Failed) self.old.faults self.new.faults }
         ensures writes { WritesOn result self.old.contents piece.now self.new.contents }
     {
-        let put = write_whole(&mut self.writer, piece);
+        let put = write_whole(&mut self.writer, piece, &mut self.reason);
         self.faults = faults_after(self.faults, put == Put::Failed);
         put
     }
 }
 
-/// A read, made again where it is interrupted.
-pub fn read_some<R: Read>(reader: &mut R, into: &mut [u8]) -> Got
+/// A read, made again where it is interrupted. Where it fails the reason is kept.
+pub fn read_some<R: Read>(reader: &mut R, into: &mut [u8], reason: &mut Option<Reason>) -> Got
     requires { 0 < length into.old }
     ensures { ReadsOn result (R.remaining reader.old) into.new (R.remaining reader.new) }
 {
@@ -106,37 +126,49 @@ pub fn read_some<R: Read>(reader: &mut R, into: &mut [u8]) -> Got
         match reader.read(into) {
             Ok(0) => return Got::Ended,
             Ok(count) => return Got::Bytes(count),
-            Err(e) if e.kind() == ErrorKind::Interrupted => {}
-            Err(_) => return Got::Failed,
+            Err(e) => {
+                *reason = Some(Reason::new(e));
+                if e.kind() != ErrorKind::Interrupted {
+                    return Got::Failed;
+                }
+            }
         }
     }
     Got::Failed
 }
 
-// A write of a first part of a piece, made again where it is interrupted. None where it failed, which writes nothing.
-fn write_some<W: Write>(writer: &mut W, piece: &[u8]) -> Option<usize>
+// A write of a first part of a piece, made again where it is interrupted. None where it failed, which writes nothing, and
+// the reason is kept.
+fn write_some<W: Write>(writer: &mut W, piece: &[u8], reason: &mut Option<Reason>) -> Option<usize>
     ensures { MatchOption result (Keeps (W.contents writer.old) (W.contents writer.new))
         (λ count. (1 ≤ count) × (count ≤ length piece.now)
         × Appends (W.contents writer.old) (W.contents writer.new) (take count piece.now)) }
 {
     for _ in 0..ATTEMPTS {
         match writer.write(piece) {
-            Ok(0) => return None,
+            Ok(0) => {
+                *reason = Some(Reason::nothing_taken());
+                return None;
+            }
             Ok(count) => return Some(count),
-            Err(e) if e.kind() == ErrorKind::Interrupted => {}
-            Err(_) => return None,
+            Err(e) => {
+                *reason = Some(Reason::new(e));
+                if e.kind() != ErrorKind::Interrupted {
+                    return None;
+                }
+            }
         }
     }
     None
 }
 
-/// Writes a piece part by part.
-pub fn write_whole<W: Write>(writer: &mut W, piece: &[u8]) -> Put
+/// Writes a piece part by part. Where it fails the reason is kept.
+pub fn write_whole<W: Write>(writer: &mut W, piece: &[u8], reason: &mut Option<Reason>) -> Put
     ensures { WritesOn result (W.contents writer.old) piece.now (W.contents writer.new) }
 {
     let mut written = 0;
     while written < piece.len() {
-        let Some(count) = write_some(writer, &piece[written..]) else {
+        let Some(count) = write_some(writer, &piece[written..], reason) else {
             return Put::Failed;
         };
         written += count;

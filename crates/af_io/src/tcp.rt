@@ -10,7 +10,7 @@ ghost use Rattle.af_io.specs.Dial.{CountsHurt, GivesNext, AppendedBack, IsUnhurt
 use crate::faults::faults_after;
 use crate::keepalive::keep_alive;
 use crate::real::{read_some, write_whole};
-use crate::{Dial, Dialed, Got, Link, Put};
+use crate::{Dial, Dialed, Got, Link, Put, Reason};
 use std::io::{ErrorKind, Read, Write};
 use std::marker::Model;
 use std::net::{Net, OpenStream, TcpStream};
@@ -21,6 +21,7 @@ use std::net::{Net, OpenStream, TcpStream};
 pub struct TcpLink<S: Read + Write + Drop> {
     stream: S,
     faults: u64,
+    reason: Option<Reason>,
 }
 
 impl<S: Read + Write + Drop> Model for TcpLink<S> {
@@ -29,6 +30,13 @@ impl<S: Read + Write + Drop> Model for TcpLink<S> {
     ghost Value = { StreamState };
 
     ghost view = { λ a. record { remaining = S.Read.remaining a.stream; contents = S.Write.contents a.stream; faults = a.faults } };
+}
+
+impl<S: Read + Write + Drop> TcpLink<S> {
+    /// Why a read or a write failed last, if one did.
+    pub fn reason(&self) -> Option<Reason> {
+        self.reason
+    }
 }
 
 impl<S: Read + Write + Drop> Link for TcpLink<S> {
@@ -44,7 +52,7 @@ impl<S: Read + Write + Drop> Link for TcpLink<S> {
         ensures reads { ReadsOn result self.old.remaining into.new self.new.remaining }
         ensures faults { CountsOneFault (result ≡ Got.Failed) self.old.faults self.new.faults }
     {
-        let got = read_some(&mut self.stream, into);
+        let got = read_some(&mut self.stream, into, &mut self.reason);
         self.faults = faults_after(self.faults, got == Got::Failed);
         got
     }
@@ -54,7 +62,7 @@ impl<S: Read + Write + Drop> Link for TcpLink<S> {
         ensures writes { WritesOn result self.old.contents piece.now self.new.contents }
         ensures faults { CountsOneFault (result ≡ Put.Failed) self.old.faults self.new.faults }
     {
-        let put = write_whole(&mut self.stream, piece);
+        let put = write_whole(&mut self.stream, piece, &mut self.reason);
         self.faults = faults_after(self.faults, put == Put::Failed);
         put
     }
@@ -67,6 +75,7 @@ pub struct TcpDial<R: Net + Drop> {
     rt: R,
     faults: u64,
     hurt: u64,
+    reason: Option<Reason>,
 }
 
 impl<R: Net + Drop> Model for TcpDial<R> {
@@ -86,7 +95,13 @@ impl<R: Net + Drop> TcpDial<R> {
             rt,
             faults: 0,
             hurt: 0,
+            reason: None,
         }
+    }
+
+    /// Why a dial failed last, if one did.
+    pub fn reason(&self) -> Option<Reason> {
+        self.reason
     }
 }
 
@@ -114,10 +129,15 @@ impl<R: Net + Drop> Dial for TcpDial<R> {
                 // A request is to leave at once. Where the system refuses that, it leaves later.
                 let _ = stream.set_nodelay(true);
                 keep_alive(&stream);
-                Dialed::Far(TcpLink { stream, faults: 0 })
+                Dialed::Far(TcpLink {
+                    stream,
+                    faults: 0,
+                    reason: None,
+                })
             }
             Err(e) if e.kind() == ErrorKind::OutOfMemory => Dialed::OutOfMemory,
-            Err(_) => {
+            Err(e) => {
+                self.reason = Some(Reason::new(e));
                 self.faults = faults_after(self.faults, true);
                 Dialed::Failed
             }

@@ -16,3 +16,4 @@ mod sockets;
 pub use af_config::{ConfigFault, Setting, read_config};
 pub use af_pace::Pace;
 pub use mio_world::MioWorld;
+pub use sockets::Sockets;

@@ -25,13 +25,15 @@ const MOST_ACCEPTS: u32 = 64;
 
 /// What stands behind the links of a world that listens.
 #[derive(Drop)]
-pub(crate) struct Sockets {
+pub struct Sockets {
     poll: Poll,
     events: Events<Global>,
-    listener: TcpListener,
+    pub listener: TcpListener,
+    /// How many connections came while all numbers were taken. The count stands still at 2^64 - 1.
+    pub turned_away: u64,
     /// Whether connections may wait: their event comes once, and not for each.
     waiting: bool,
-    streams: Slab<TcpStream>,
+    pub(crate) streams: Slab<TcpStream>,
 }
 
 impl Sockets {
@@ -47,6 +49,7 @@ impl Sockets {
             poll,
             events,
             listener,
+            turned_away: 0,
             waiting: false,
             streams,
         })
@@ -54,7 +57,7 @@ impl Sockets {
 
     /// Waits for at most so long until something is ready, and notes it. New links are accepted. The answer is whether the
     /// system could be asked; a signal is no refusal.
-    pub fn poll(&mut self, pause: Duration, links: &mut HeldLinks) -> bool
+    pub(crate) fn poll(&mut self, pause: Duration, links: &mut HeldLinks) -> bool
         ensures { KeepsOpen links.old links.new }
     {
         match self.poll.poll(&mut self.events, Some(pause)) {
@@ -96,6 +99,7 @@ impl Sockets {
         ensures open { KeepsOpen links.old links.new }
     {
         let Some(number) = links.least_free() else {
+            self.turned_away = self.turned_away.saturating_add(1);
             return;
         };
         // there is room wherever a number is free

@@ -11,6 +11,7 @@ mod refusal;
 mod watched_file;
 mod watched_runtime;
 
+pub use listening::ListenRefusal;
 pub use log::Log;
 pub use logged_spawner::LoggedSpawner;
 pub use logged_world::LoggedWorld;

@@ -1,9 +1,13 @@
 // The lines of the log: at most 50 in a second, and none that standard error does not take at once.
 use crate::gate::Gate;
 use crate::refusal::Refusal;
+use af_child::{Finished, Started};
 use af_io::Reason;
+use af_world::Kind;
+use afd_details::Shown;
 use std::cell::{Cell, RefCell};
-use std::fmt::Display;
+use std::fmt;
+use std::fmt::{Display, Formatter, Write};
 use std::time::Clock;
 
 /// How many lines are written in a second.
@@ -77,6 +81,94 @@ impl<'a> Log<'a> {
         }
     }
 
+    /// A device is attached now. If it has a codec, its program has as many starts as it may be started again, and one.
+    pub(crate) fn attaches(&self, device: u8, kind: Kind<'_>) {
+        self.attaching.set(device);
+        if let Kind::Codec { restarts, words: _ } = kind {
+            self.codec.set(device);
+            self.starts.set(restarts.saturating_add(1));
+        }
+    }
+
+    /// A file is opened now, for the device that is attached.
+    pub(crate) fn opens(&self, name: &str) {
+        let device = self.attaching.get();
+        let name = Shown::new(name.as_bytes());
+        self.line(format_args!("device {device}: opening {name}"));
+    }
+
+    /// Notes why the system refused a call.
+    pub(crate) fn note(&self, reason: Reason) {
+        self.reason.set(Some(reason));
+    }
+
+    /// Why the system refused a call last, which is forgotten then.
+    pub(crate) fn take_reason(&self) -> Option<Reason> {
+        self.reason.take()
+    }
+
+    /// Notes that the system refused to open a file, and why.
+    pub(crate) fn note_refusal(&self, name: &str, reason: Reason) {
+        if let Ok(name) = String::from_str(self.rt.alloc(), name) {
+            let _ = self.refusal.try_replace(Some(Refusal { name, reason }));
+        }
+    }
+
+    /// The file that the system refused to open last, if there is one, which is forgotten then.
+    pub fn take_refusal(&self) -> Option<Refusal> {
+        match self.refusal.try_replace(None) {
+            Ok(refusal) => refusal,
+            Err(_) => None,
+        }
+    }
+
+    /// Tells that the program of a codec was started, or could not be.
+    pub(crate) fn tell_start(&self, started: Started) {
+        let device = self.codec.get();
+        match started {
+            Started::Child(_) => {
+                self.starts.set(self.starts.get().saturating_sub(1));
+                self.line(format_args!("device {device}: its program was started"));
+            }
+            Started::Failed => {
+                self.starts.set(self.starts.get().saturating_sub(1));
+                let next = self.next_start();
+                match self.take_reason() {
+                    Some(reason) => self.line(format_args!(
+                        "device {device}: its program could not be started: {reason}; {next}"
+                    )),
+                    None => self.line(format_args!(
+                        "device {device}: its program could not be started; {next}"
+                    )),
+                }
+            }
+            Started::OutOfMemory => self.line(format_args!(
+                "device {device}: there was no memory to start its program"
+            )),
+        }
+    }
+
+    /// Tells that the program of a codec has ended.
+    pub(crate) fn tell_end(&self, finished: Finished) {
+        let device = self.codec.get();
+        let next = self.next_start();
+        match finished {
+            Finished::Ended(status) => self.line(format_args!(
+                "device {device}: its program ended with status {status}; {next}"
+            )),
+            Finished::Failed => self.line(format_args!(
+                "device {device}: its program took no sound any more; {next}"
+            )),
+        }
+    }
+
+    /// When the program of the codec is started again.
+    fn next_start(&self) -> NextStart {
+        NextStart {
+            left: self.starts.get(),
+        }
+    }
+
     /// Begins another second, if there is one, by saying how many lines were left out before it.
     fn begin_second(&self) {
         let second = match self.rt.monotonic() {
@@ -123,6 +215,25 @@ impl<'a> Log<'a> {
                 None => true,
             },
             Err(_) => true,
+        }
+    }
+}
+
+/// When a program is started again, by how many starts it has left.
+#[derive(Clone, Copy)]
+struct NextStart {
+    left: u32,
+}
+
+impl fmt::Display for NextStart {
+    fn fmt<W: Write>(&self, f: &mut Formatter<W>) -> fmt::Result {
+        match self.left {
+            0 => f.write_str("it has no start left"),
+            1 => f.write_str("the next sound starts it again, for the last time"),
+            left => write!(
+                f,
+                "the next sound starts it again, one of {left} starts left"
+            ),
         }
     }
 }

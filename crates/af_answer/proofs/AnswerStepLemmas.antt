@@ -1,5 +1,5 @@
 -- The steps of an answering machine: a request, an event that is waited for, and a child.
-use Rattle.std.proofs.Common.{◌≡◌, ◌≢◌, ℕ, List, [], ◌∷◌, ◌++◌, slice_get, sym, ap, ◌∙◌, append_assoc, refl, subst}
+use Rattle.std.proofs.Common.{◌≡◌, ◌≢◌, ℕ, zero, suc, List, [], ◌∷◌, ◌++◌, slice_get, sym, ap, ◌∙◌, append_assoc, refl, subst}
 use Rattle.std.specs.Prelude.{Result, Ok, Err}
 use Rattle.std.specs.declared.option.Option.{Option}
 use Rattle.std.specs.declared.option.Option.TheVariants.{None, Some}
@@ -8,7 +8,7 @@ use Rattle.af_io.specs.Observed.{Appended}
 use Rattle.af_io.specs.Flow.{AppendedPrefix}
 use Rattle.af_io.proofs.AppendedLemmas.{appended_none}
 use Rattle.af_child.specs.Acts.{Told}
-use Rattle.af_request.specs.Asked.{Asked}
+use Rattle.af_request.specs.Asked.{Asked, change_ac, create_ac, free_ac, get_time, hook_switch, no_op, play_run, query_controls, query_phone, record_run, select_events, set_controls}
 use Rattle.af_request.specs.Requests.{request_bytes}
 use Rattle.af_lib.specs.declared.fault.ConnFault.{ConnFault}
 use Rattle.af_lib.specs.declared.fault.ConnFault.TheVariants as fault
@@ -20,7 +20,7 @@ use Rattle.af_tool.proofs.TracePartLemmas.{Known, asked_known}
 use Rattle.af_answer.specs.declared.child.ChildEnd.{ChildEnd}
 use Rattle.af_answer.specs.declared.end.AnswerEnd.{AnswerEnd}
 use Rattle.af_answer.specs.declared.end.AnswerEnd.TheVariants as end
-use Rattle.af_answer.specs.AnswerTrace.{ToCome, AnswerTrace, awaits_event, having, behind_event, behind_from, event_at_hand, connection_end, by_event, hearing, met_fault, next_event, by_reply, requesting, requests, running, runs_child}
+use Rattle.af_answer.specs.AnswerTrace.{ToCome, AnswerTrace, awaits_event, having, behind_event, behind_from, event_at_hand, connection_end, by_event, hearing, machine_end, met_fault, next_event, by_reply, refusal, requesting, requests, running, runs_child}
 use Rattle.af_answer.specs.AnswerParts.{AnswerPart, PartSeen}
 use Rattle.af_answer.specs.Children.{ChildRun, RunsChild, run_end, run_told, shell_words}
 use Rattle.af_answer.proofs.AnswerPartLemmas.{matches_at_once, matches_early, no_deeds}
@@ -30,8 +30,24 @@ abbrev pub part_of : {X : Type 0} → Result X ConnFault → Result X AnswerEnd
 part_of (Ok x) = Ok x
 part_of (Err f) = Err (connection_end f)
 
+-- whatever request was refused, the machine ends as its fault does
+refusal_end : (asked : Asked) (f : ConnFault) → connection_end f ≡ machine_end (refusal asked f)
+refusal_end no_op f = refl
+refusal_end (get_time device) f = refl
+refusal_end (create_ac device ac ty channels preempt play_gain record_gain) f = refl
+refusal_end (change_ac mask ac preempt play_gain record_gain) f = refl
+refusal_end (free_ac ac) f = refl
+refusal_end (play_run quiet ac start samples) f = refl
+refusal_end (record_run blocking ac start nbytes) f = refl
+refusal_end (select_events device mask) f = refl
+refusal_end (set_controls device mask input_on output_on input_gain output_gain) f = refl
+refusal_end (query_controls device) f = refl
+refusal_end (hook_switch device zero) f = refl
+refusal_end (hook_switch device (suc off)) f = refl
+refusal_end (query_phone device) f = refl
+
 requests_is : (asked : Asked) (b : ToCome) (next : ToCome → AnswerTrace) →
-    requests asked b next ≡ having (requesting (request_bytes b.wire.order asked)) (by_reply (answer_on asked as_done b.wire) (record { wire = after_reply b.wire; runs = b.runs }) next)
+    requests asked b next ≡ having (requesting (request_bytes b.wire.order asked)) (by_reply asked (answer_on asked as_done b.wire) (record { wire = after_reply b.wire; runs = b.runs }) next)
 unfolding requests
 requests_is asked b next = refl
 
@@ -44,7 +60,7 @@ module _ (asked : Asked) (w : ClientState) (left' : Option (List ℕ)) (wire : L
     done = requesting front.front;
     runs = [];
     came = λ more next.
-        let t = by_reply (answer_on asked as_done w) (record { wire = after_reply w; runs = more }) (next tt) in
+        let t = by_reply asked (answer_on asked as_done w) (record { wire = after_reply w; runs = more }) (next tt) in
         let is = requests_is asked (record { wire = w; runs = more }) (next tt) in
         matches_early (requesting front.front) (record { heard = t.heard; sends = front.rest ++ t.sends; told = t.told }) _ end.LinkFault refl
         (ap (λ (x : AnswerTrace). x.heard) is)
@@ -61,9 +77,9 @@ module _ (asked : Asked) (w : ClientState) (left' : Option (List ℕ)) (wire : L
     runs = [];
     came = λ more next.
         let b : ToCome = record { wire = after_reply w; runs = more } in
-        matches_at_once (requesting (request_bytes w.order asked)) _ (met_fault f) (connection_end f)
+        matches_at_once (requesting (request_bytes w.order asked)) _ (refusal asked f) (connection_end f)
         (requests_is asked (record { wire = w; runs = more }) (next tt)
-        ∙ ap (λ (r : Result (Unit {0}) ConnFault). having (requesting (request_bytes w.order asked)) (by_reply r b (next tt))) (sym same)) refl (λ e. absurd (other e));
+        ∙ ap (λ (r : Result (Unit {0}) ConnFault). having (requesting (request_bytes w.order asked)) (by_reply asked r b (next tt))) (sym same)) (refusal_end asked f) (λ e. absurd (other e));
     link = appended;
     children = appended_none acts;
   }
@@ -78,7 +94,7 @@ module _ (asked : Asked) (w : ClientState) (left' : Option (List ℕ)) (wire : L
       told,
       λ more next.
           requests_is asked (record { wire = w; runs = more }) (next tt)
-          ∙ ap (λ (r : Result (Unit {0}) ConnFault). having (requesting (request_bytes w.order asked)) (by_reply r (record { wire = after_reply w; runs = more }) (next tt))) (sym same)
+          ∙ ap (λ (r : Result (Unit {0}) ConnFault). having (requesting (request_bytes w.order asked)) (by_reply asked r (record { wire = after_reply w; runs = more }) (next tt))) (sym same)
           ∙ ap (λ (v : ClientState). having (requesting (request_bytes w.order asked)) (next tt (record { wire = v; runs = more }))) (sym place),
     );
     link = appended;

@@ -1,5 +1,5 @@
 -- The trace of a machine keeps to the acts that its events and the ends of its children ask for.
-use Rattle.std.proofs.Common.{◌≡◌, ℕ, zero, suc, ◌+◌, ◌==◌, if◌then◌else◌, Bool, true, false, List, [], ◌∷◌, ◌++◌, map, drop, slice_get, arith, refl, sym, ap, ◌∙◌, subst, append_assoc, append-nil}
+use Rattle.std.proofs.Common.{◌≡◌, ◌≢◌, ℕ, zero, suc, ◌+◌, ◌==◌, if◌then◌else◌, Bool, true, false, List, [], ◌∷◌, ◌++◌, map, drop, slice_get, arith, refl, sym, ap, ◌∙◌, subst, append_assoc, append-nil}
 use Rattle.std.proofs.lemmas.Bool.{eq-eqb, ne_eqb}
 use Rattle.std.specs.List.{fold}
 use Rattle.std.specs.Prelude.{Result, Ok, Err}
@@ -18,8 +18,8 @@ use Rattle.af_answer.specs.declared.child.ChildEnd.TheVariants as ended
 use Rattle.af_answer.specs.declared.job.AnswerJob.{AnswerJob}
 use Rattle.af_answer.specs.declared.tally.Tally.{Tally}
 use Rattle.af_answer.specs.Acts.{MachineAct, acts_behind, acts_from, call_acts, call_end, greet, later_ends, leaves_off, off_after, off_hook, on_hook, record_message, rings_after, tally_after, write_tally}
-use Rattle.af_answer.specs.AnswerTrace.{ToCome, AnswerTrace, AnswerFinish, attends, awaits_call, awaits_event, having, behind_event, behind_from, child_starved, first_run, by_event, hearing, leaves_message, met_fault, next_event, rang_too_little, by_reply, writes_tally, requesting, requests, running, runs_child, stops, takes_call, unless_starved}
-use Rattle.af_answer.specs.Answered.{IsReplied, children_of, requests_of, text_of_acts}
+use Rattle.af_answer.specs.AnswerTrace.{ToCome, AnswerTrace, AnswerFinish, attends, awaits_call, awaits_event, having, behind_event, behind_from, child_starved, first_run, by_event, hearing, leaves_message, met_fault, off_hook_fault, next_event, rang_too_little, by_reply, writes_tally, requesting, requests, running, runs_child, stops, takes_call, unless_starved}
+use Rattle.af_answer.specs.Answered.{SwitchesHook, bytes_of_act, children_of, requests_of, text_of_acts}
 use Rattle.af_answer.specs.Children.{ChildRun, run_end, run_told, shell_words}
 
 child_is : (text : List ℕ) (w : ClientState) (runs : List ChildRun) (next : ChildEnd → ToCome → AnswerTrace) →
@@ -53,42 +53,49 @@ counts_one ended.Bad t n calls is = omega (arith, is)
 counts_one ended.NoMemory t n calls is = omega (arith, is)
 
 module _ (order : Order) where
-  -- a trace has prefixes of what these acts have, and all of it unless a connection answered a fault
-  pub record KeepsTo (job : AnswerJob) (acts : List MachineAct) (runs : List ChildRun) (t : AnswerTrace) : Type 0 where
+  -- an OffHook was sent last, and the acts before it leave the hook on, which was so before them
+  pub record StopsOff (off : Bool) (job : AnswerJob) (acts : List MachineAct) (sends : List ℕ) : Type 0 where
+    pub before : List MachineAct
+    pub later : List MachineAct
+    pub are : acts ≡ before ++ off_hook ∷ later
+    pub sent : sends ≡ requests_of order job.device (before ++ off_hook ∷ [])
+    pub on : fold off_after off before ≡ false
+
+  -- the same with an act before
+  stops_behind : (off : Bool) (job : AnswerJob) (act : MachineAct) (acts : List MachineAct) (sends : List ℕ) → StopsOff (off_after off act) job acts sends → StopsOff off job (act ∷ acts) (bytes_of_act order job.device act ++ sends)
+  stops_behind off job act acts sends s = record {
+    before = act ∷ s.before;
+    later = s.later;
+    are = ap (λ l. act ∷ l) s.are;
+    sent = ap (λ l. bytes_of_act order job.device act ++ l) s.sent;
+    on = s.on;
+  }
+
+  -- a trace has prefixes of what these acts have, and all of it unless a HookSwitch was answered with a fault
+  pub record KeepsTo (off : Bool) (job : AnswerJob) (acts : List MachineAct) (runs : List ChildRun) (t : AnswerTrace) : Type 0 where
     pub unsent : List ℕ
     pub untold : List Told
     pub unwritten : List ℕ
     pub sent : requests_of order job.device acts ≡ t.sends ++ unsent
     pub children : children_of job acts runs ≡ t.told ++ untold
     pub text : text_of_acts acts ≡ t.output ++ unwritten
-    pub whole : IsReplied t → (unsent ≡ []) × (untold ≡ []) × (unwritten ≡ [])
-
-  -- a trace that has met a fault and did nothing
-  keeps_fault : (job : AnswerJob) (acts : List MachineAct) (runs : List ChildRun) (f : ConnFault) → KeepsTo job acts runs (stops (met_fault f))
-  keeps_fault job acts runs f = record {
-    unsent = requests_of order job.device acts;
-    untold = children_of job acts runs;
-    unwritten = text_of_acts acts;
-    sent = refl;
-    children = refl;
-    text = refl;
-    whole = λ served. absurd (served f refl);
-  }
+    pub whole : SwitchesHook t → (unsent ≡ []) × (untold ≡ []) × (unwritten ≡ [])
+    pub stops : (f : ConnFault) → t.finish ≡ off_hook_fault f → StopsOff off job acts t.sends
 
   -- one that ends where no act is left
-  keeps_end : (job : AnswerJob) (runs : List ChildRun) (finish : AnswerFinish) → KeepsTo job [] runs (stops finish)
-  keeps_end job runs finish = record { unsent = []; untold = []; unwritten = []; sent = refl; children = refl; text = refl; whole = λ served. (refl, refl, refl) }
+  keeps_end : (job : AnswerJob) (runs : List ChildRun) (finish : AnswerFinish) → ((f : ConnFault) → finish ≢ off_hook_fault f) → KeepsTo false job [] runs (stops finish)
+  keeps_end job runs finish other = record { unsent = []; untold = []; unwritten = []; sent = refl; children = refl; text = refl; whole = λ served. (refl, refl, refl); stops = λ f met. absurd (other f met) }
 
-  keeps_report : (job : AnswerJob) (runs : List ChildRun) (t : Tally) → KeepsTo job (write_tally t ∷ []) runs (writes_tally t)
-  keeps_report job runs t = record { unsent = []; untold = []; unwritten = []; sent = refl; children = refl; text = refl; whole = λ served. (refl, refl, refl) }
+  keeps_report : (job : AnswerJob) (runs : List ChildRun) (t : Tally) → KeepsTo false job (write_tally t ∷ []) runs (writes_tally t)
+  keeps_report job runs t = record { unsent = []; untold = []; unwritten = []; sent = refl; children = refl; text = refl; whole = λ served. (refl, refl, refl); stops = λ f met. cc met }
 
   -- the same trace in other words
-  keeps_same : (job : AnswerJob) (acts : List Event → List MachineAct) (runs : List ChildRun) (t t' : AnswerTrace) → t' ≡ t → KeepsTo job (acts t.heard) runs t → KeepsTo job (acts t'.heard) runs t'
-  keeps_same job acts runs t t' is k = subst (λ (x : AnswerTrace). KeepsTo job (acts x.heard) runs x) (sym is) k
+  keeps_same : (off : Bool) (job : AnswerJob) (acts : List Event → List MachineAct) (runs : List ChildRun) (t t' : AnswerTrace) → t' ≡ t → KeepsTo off job (acts t.heard) runs t → KeepsTo off job (acts t'.heard) runs t'
+  keeps_same off job acts runs t t' is k = subst (λ (x : AnswerTrace). KeepsTo off job (acts x.heard) runs x) (sym is) k
 
   -- the hook is taken off, or put on
   keeps_off : (job : AnswerJob) (acts : List Event → List MachineAct) (runs : List ChildRun) (r : Result (Unit {0}) ConnFault) (b : ToCome) (next : ToCome → AnswerTrace) →
-      KeepsTo job (acts (next b).heard) runs (next b) → (let t : AnswerTrace = having (requesting (request_bytes order (hook_switch job.device 1))) (by_reply r b next) in KeepsTo job (off_hook ∷ acts t.heard) runs t)
+      KeepsTo true job (acts (next b).heard) runs (next b) → (let t : AnswerTrace = having (requesting (request_bytes order (hook_switch job.device 1))) (by_reply (hook_switch job.device 1) r b next) in KeepsTo false job (off_hook ∷ acts t.heard) runs t)
   keeps_off job acts runs (Ok u) b next k = record {
     unsent = k.unsent;
     untold = k.untold;
@@ -97,6 +104,7 @@ module _ (order : Order) where
     children = k.children;
     text = k.text;
     whole = k.whole;
+    stops = λ f met. stops_behind false job off_hook (acts (next b).heard) (next b).sends (k.stops f met);
   }
   keeps_off job acts runs (Err f) b next k = record {
     unsent = requests_of order job.device (acts []);
@@ -105,11 +113,12 @@ module _ (order : Order) where
     sent = ap (λ l. l ++ requests_of order job.device (acts [])) (sym (append-nil (request_bytes order (hook_switch job.device 1))));
     children = refl;
     text = refl;
-    whole = λ served. absurd (served f refl);
+    whole = λ switched. absurd (switched.1 f refl);
+    stops = λ f met. record { before = []; later = acts []; are = refl; sent = refl; on = refl };
   }
 
   keeps_on : (job : AnswerJob) (acts : List Event → List MachineAct) (runs : List ChildRun) (r : Result (Unit {0}) ConnFault) (b : ToCome) (next : ToCome → AnswerTrace) →
-      KeepsTo job (acts (next b).heard) runs (next b) → (let t : AnswerTrace = having (requesting (request_bytes order (hook_switch job.device 0))) (by_reply r b next) in KeepsTo job (on_hook ∷ acts t.heard) runs t)
+      KeepsTo false job (acts (next b).heard) runs (next b) → (let t : AnswerTrace = having (requesting (request_bytes order (hook_switch job.device 0))) (by_reply (hook_switch job.device 0) r b next) in KeepsTo true job (on_hook ∷ acts t.heard) runs t)
   keeps_on job acts runs (Ok u) b next k = record {
     unsent = k.unsent;
     untold = k.untold;
@@ -118,6 +127,7 @@ module _ (order : Order) where
     children = k.children;
     text = k.text;
     whole = k.whole;
+    stops = λ f met. stops_behind true job on_hook (acts (next b).heard) (next b).sends (k.stops f met);
   }
   keeps_on job acts runs (Err f) b next k = record {
     unsent = requests_of order job.device (acts []);
@@ -126,12 +136,13 @@ module _ (order : Order) where
     sent = ap (λ l. l ++ requests_of order job.device (acts [])) (sym (append-nil (request_bytes order (hook_switch job.device 0))));
     children = refl;
     text = refl;
-    whole = λ served. absurd (served f refl);
+    whole = λ switched. absurd (switched.0 f refl);
+    stops = λ f met. cc met;
   }
 
   -- the greeting is run, or the message
-  keeps_greeting : (job : AnswerJob) (acts : List MachineAct) (runs : List ChildRun) (t : AnswerTrace) → KeepsTo job acts (drop 1 runs) t →
-      KeepsTo job (greet ∷ acts) runs (having (running (run_told (shell_words job.greeting.bytes) (first_run runs))) t)
+  keeps_greeting : (job : AnswerJob) (acts : List MachineAct) (runs : List ChildRun) (t : AnswerTrace) → KeepsTo true job acts (drop 1 runs) t →
+      KeepsTo true job (greet ∷ acts) runs (having (running (run_told (shell_words job.greeting.bytes) (first_run runs))) t)
   keeps_greeting job acts runs t k = record {
     unsent = k.unsent;
     untold = k.untold;
@@ -140,10 +151,11 @@ module _ (order : Order) where
     children = ap (λ l. run_told (shell_words job.greeting.bytes) (first_run runs) ++ l) k.children ∙ sym (append_assoc (run_told (shell_words job.greeting.bytes) (first_run runs)) t.told k.untold);
     text = k.text;
     whole = k.whole;
+    stops = λ f met. stops_behind true job greet acts t.sends (k.stops f met);
   }
 
-  keeps_message : (job : AnswerJob) (acts : List MachineAct) (runs : List ChildRun) (t : AnswerTrace) → KeepsTo job acts (drop 1 runs) t →
-      KeepsTo job (record_message ∷ acts) runs (having (running (run_told (shell_words job.message.bytes) (first_run runs))) t)
+  keeps_message : (job : AnswerJob) (acts : List MachineAct) (runs : List ChildRun) (t : AnswerTrace) → KeepsTo true job acts (drop 1 runs) t →
+      KeepsTo true job (record_message ∷ acts) runs (having (running (run_told (shell_words job.message.bytes) (first_run runs))) t)
   keeps_message job acts runs t k = record {
     unsent = k.unsent;
     untold = k.untold;
@@ -152,34 +164,35 @@ module _ (order : Order) where
     children = ap (λ l. run_told (shell_words job.message.bytes) (first_run runs) ++ l) k.children ∙ sym (append_assoc (run_told (shell_words job.message.bytes) (first_run runs)) t.told k.untold);
     text = k.text;
     whole = k.whole;
+    stops = λ f met. stops_behind true job record_message acts t.sends (k.stops f met);
   }
 
   requests_is : (device off : ℕ) (w : ClientState) (runs : List ChildRun) (next : ToCome → AnswerTrace) → w.order ≡ order →
-      requests (hook_switch device off) (record { wire = w; runs = runs }) next ≡ having (requesting (request_bytes order (hook_switch device off))) (by_reply (answer_on (hook_switch device off) as_done w) (record { wire = after_reply w; runs = runs }) next)
+      requests (hook_switch device off) (record { wire = w; runs = runs }) next ≡ having (requesting (request_bytes order (hook_switch device off))) (by_reply (hook_switch device off) (answer_on (hook_switch device off) as_done w) (record { wire = after_reply w; runs = runs }) next)
   unfolding requests
   requests_is device off w runs next its =
-      ap (λ (o : Order). having (requesting (request_bytes o (hook_switch device off))) (by_reply (answer_on (hook_switch device off) as_done w) (record { wire = after_reply w; runs = runs }) next)) its
+      ap (λ (o : Order). having (requesting (request_bytes o (hook_switch device off))) (by_reply (hook_switch device off) (answer_on (hook_switch device off) as_done w) (record { wire = after_reply w; runs = runs }) next)) its
 
   -- what follows a call keeps to them, wherever the link stands and however the children run
   abbrev KeepsLater : AnswerJob → Tally → (ChildEnd → ToCome → AnswerTrace) → Type 0
   KeepsLater job t next = (how : ChildEnd) (w : ClientState) (runs : List ChildRun) → w.order ≡ order →
-      (let b : ToCome = record { wire = w; runs = runs } in KeepsTo job (later_acts job t how (map run_end runs) (next how b).heard) runs (next how b))
+      (let b : ToCome = record { wire = w; runs = runs } in KeepsTo false job (later_acts job t how (map run_end runs) (next how b).heard) runs (next how b))
 
   module _ (job : AnswerJob) (t : Tally) (next : ChildEnd → ToCome → AnswerTrace) (later : KeepsLater job t next) where
     abbrev hangs : ChildEnd → ToCome → AnswerTrace
     hangs how b = requests (hook_switch job.device 0) b (λ b. next how b)
 
     call_ends : (how : ChildEnd) (w : ClientState) (runs : List ChildRun) → w.order ≡ order →
-        (let b : ToCome = record { wire = w; runs = runs } in KeepsTo job (on_hook ∷ later_acts job t how (map run_end runs) (hangs how b).heard) runs (hangs how b))
+        (let b : ToCome = record { wire = w; runs = runs } in KeepsTo true job (on_hook ∷ later_acts job t how (map run_end runs) (hangs how b).heard) runs (hangs how b))
     call_ends how w runs its =
         let b : ToCome = record { wire = after_reply w; runs = runs } in
-        keeps_same job (λ events. on_hook ∷ later_acts job t how (map run_end runs) events) runs _ _ (requests_is job.device 0 w runs (λ b. next how b) its)
+        keeps_same true job (λ events. on_hook ∷ later_acts job t how (map run_end runs) events) runs _ _ (requests_is job.device 0 w runs (λ b. next how b) its)
         (keeps_on job (λ events. later_acts job t how (map run_end runs) events) runs (answer_on (hook_switch job.device 0) as_done w) b (λ b. next how b) (later how (after_reply w) runs its))
 
     -- how a call ends behind a good greeting
     message_ends : (runs : List ChildRun) (w : ClientState) → w.order ≡ order →
         (let b : ToCome = record { wire = w; runs = drop 1 runs } in
-        KeepsTo job (on_hook ∷ later_acts job t (run_end (first_run runs)) (map run_end (drop 1 runs)) (hangs (run_end (first_run runs)) b).heard) (drop 1 runs) (hangs (run_end (first_run runs)) b))
+        KeepsTo true job (on_hook ∷ later_acts job t (run_end (first_run runs)) (map run_end (drop 1 runs)) (hangs (run_end (first_run runs)) b).heard) (drop 1 runs) (hangs (run_end (first_run runs)) b))
     message_ends runs w its = call_ends (run_end (first_run runs)) w (drop 1 runs) its
 
     -- the acts of a call behind its greeting
@@ -189,10 +202,10 @@ module _ (order : Order) where
     tail_acts ended.NoMemory runs events = on_hook ∷ later_acts job t ended.NoMemory (map run_end runs) events
 
     tail_keeps : (greeting : ChildEnd) (w : ClientState) (runs : List ChildRun) → w.order ≡ order →
-        (let x : AnswerTrace = leaves_message job greeting (record { wire = w; runs = runs }) hangs in KeepsTo job (tail_acts greeting runs x.heard) runs x)
+        (let x : AnswerTrace = leaves_message job greeting (record { wire = w; runs = runs }) hangs in KeepsTo true job (tail_acts greeting runs x.heard) runs x)
     tail_keeps ended.Good w runs its =
         let b : ToCome = record { wire = w; runs = drop 1 runs } in
-        keeps_same job (λ events. tail_acts ended.Good runs events) runs _ _ (child_is job.message.bytes w runs hangs)
+        keeps_same true job (λ events. tail_acts ended.Good runs events) runs _ _ (child_is job.message.bytes w runs hangs)
         (keeps_message job _ runs (hangs (run_end (first_run runs)) b) (message_ends runs w its))
     tail_keeps ended.Bad w runs its = call_ends ended.Bad w runs its
     tail_keeps ended.NoMemory w runs its = call_ends ended.NoMemory w runs its
@@ -214,40 +227,40 @@ module _ (order : Order) where
     greets : ToCome → AnswerTrace
     greets b = runs_child job.greeting.bytes b (λ greeting b. leaves_message job greeting b hangs)
 
-    pub call_keeps : (w : ClientState) (runs : List ChildRun) → w.order ≡ order → (let x : AnswerTrace = takes_call job (record { wire = w; runs = runs }) next in KeepsTo job (whole_acts runs x.heard) runs x)
+    pub call_keeps : (w : ClientState) (runs : List ChildRun) → w.order ≡ order → (let x : AnswerTrace = takes_call job (record { wire = w; runs = runs }) next in KeepsTo false job (whole_acts runs x.heard) runs x)
     unfolding takes_call
     call_keeps w runs its =
         let b : ToCome = record { wire = after_reply w; runs = runs } in
         let first = run_end (first_run runs) in
-        let inner = keeps_same job (λ events. greet ∷ tail_acts first (drop 1 runs) events) runs _ _ (child_is job.greeting.bytes (after_reply w) runs (λ greeting b. leaves_message job greeting b hangs))
+        let inner = keeps_same true job (λ events. greet ∷ tail_acts first (drop 1 runs) events) runs _ _ (child_is job.greeting.bytes (after_reply w) runs (λ greeting b. leaves_message job greeting b hangs))
         (keeps_greeting job _ runs (leaves_message job first (record { wire = after_reply w; runs = drop 1 runs }) hangs) (tail_keeps first (after_reply w) (drop 1 runs) its)) in
         let x : AnswerTrace = takes_call job (record { wire = w; runs = runs }) next in
-        subst (λ (l : List MachineAct). KeepsTo job l runs x) (sym (acts_of_call runs x.heard))
-        (keeps_same job (λ events. off_hook ∷ greet ∷ tail_acts first (drop 1 runs) events) runs _ x (requests_is job.device 1 w runs (λ b. runs_child job.greeting.bytes b (λ greeting b. leaves_message job greeting b hangs)) its)
+        subst (λ (l : List MachineAct). KeepsTo false job l runs x) (sym (acts_of_call runs x.heard))
+        (keeps_same false job (λ events. off_hook ∷ greet ∷ tail_acts first (drop 1 runs) events) runs _ x (requests_is job.device 1 w runs (λ b. runs_child job.greeting.bytes b (λ greeting b. leaves_message job greeting b hangs)) its)
         (keeps_off job (λ events. greet ∷ tail_acts first (drop 1 runs) events) runs (answer_on (hook_switch job.device 1) as_done w) b (λ b. runs_child job.greeting.bytes b (λ greeting b. leaves_message job greeting b hangs)) inner))
 
   -- What a call comes to keeps to the acts from that ring on, and so does what is awaited before it.
   module _ (job : AnswerJob) (t : Tally) (runs : List ChildRun) (taken : ToCome → AnswerTrace)
       (keeps : (w : ClientState) → w.order ≡ order → (let b : ToCome = record { wire = w; runs = runs } in
-      KeepsTo job (call_acts (map run_end runs) ++ later_acts job t (call_end (map run_end runs)) (later_ends (map run_end runs)) (taken b).heard) runs (taken b))) where
+      KeepsTo false job (call_acts (map run_end runs) ++ later_acts job t (call_end (map run_end runs)) (later_ends (map run_end runs)) (taken b).heard) runs (taken b))) where
     -- what follows an event
     abbrev rung : ℕ → ℕ → Event → ToCome → AnswerTrace
     rung n rings e b = if rings_after job rings e == job.rings then taken b else awaits_call n job (rings_after job rings e) b taken
 
-    heard_one : (rings : ℕ) (e : Event) (x : AnswerTrace) → KeepsTo job (acts_from job rings t (e ∷ x.heard) (map run_end runs)) runs x →
-        (let y : AnswerTrace = having (hearing e) x in KeepsTo job (acts_from job rings t y.heard (map run_end runs)) runs y)
-    heard_one rings e x k = record { unsent = k.unsent; untold = k.untold; unwritten = k.unwritten; sent = k.sent; children = k.children; text = k.text; whole = k.whole }
+    heard_one : (rings : ℕ) (e : Event) (x : AnswerTrace) → KeepsTo false job (acts_from job rings t (e ∷ x.heard) (map run_end runs)) runs x →
+        (let y : AnswerTrace = having (hearing e) x in KeepsTo false job (acts_from job rings t y.heard (map run_end runs)) runs y)
+    heard_one rings e x k = record { unsent = k.unsent; untold = k.untold; unwritten = k.unwritten; sent = k.sent; children = k.children; text = k.text; whole = k.whole; stops = k.stops }
 
     rung_keeps : (n rings : ℕ) (e : Event) (w : ClientState) (is : Bool) → w.order ≡ order → (rings_after job rings e == job.rings) ≡ is →
-        ((rings : ℕ) (w : ClientState) → w.order ≡ order → (let x : AnswerTrace = awaits_call n job rings (record { wire = w; runs = runs }) taken in KeepsTo job (acts_from job rings t x.heard (map run_end runs)) runs x)) →
-        (let x : AnswerTrace = rung n rings e (record { wire = w; runs = runs }) in KeepsTo job (acts_from job rings t (e ∷ x.heard) (map run_end runs)) runs x)
+        ((rings : ℕ) (w : ClientState) → w.order ≡ order → (let x : AnswerTrace = awaits_call n job rings (record { wire = w; runs = runs }) taken in KeepsTo false job (acts_from job rings t x.heard (map run_end runs)) runs x)) →
+        (let x : AnswerTrace = rung n rings e (record { wire = w; runs = runs }) in KeepsTo false job (acts_from job rings t (e ∷ x.heard) (map run_end runs)) runs x)
     unfolding acts_from
     rung_keeps n rings e w true its is more =
         let b : ToCome = record { wire = w; runs = runs } in
         let ends = map run_end runs in
         let same : rung n rings e b ≡ taken b = ap (λ (x : Bool). if x then taken b else awaits_call n job (rings_after job rings e) b taken) is in
-        subst (λ (x : AnswerTrace). KeepsTo job (acts_from job rings t (e ∷ x.heard) ends) runs x) (sym same)
-        (subst (λ (l : List MachineAct). KeepsTo job l runs (taken b))
+        subst (λ (x : AnswerTrace). KeepsTo false job (acts_from job rings t (e ∷ x.heard) ends) runs x) (sym same)
+        (subst (λ (l : List MachineAct). KeepsTo false job l runs (taken b))
         (sym (ap (λ (x : Bool). if x then call_acts ends ++ later_acts job t (call_end ends) (later_ends ends) (taken b).heard else acts_from job (rings_after job rings e) t (taken b).heard ends) is))
         (keeps w its))
     rung_keeps n rings e w false its is more =
@@ -255,42 +268,42 @@ module _ (order : Order) where
         let ends = map run_end runs in
         let y = awaits_call n job (rings_after job rings e) b taken in
         let same : rung n rings e b ≡ y = ap (λ (x : Bool). if x then taken b else y) is in
-        subst (λ (x : AnswerTrace). KeepsTo job (acts_from job rings t (e ∷ x.heard) ends) runs x) (sym same)
-        (subst (λ (l : List MachineAct). KeepsTo job l runs y)
+        subst (λ (x : AnswerTrace). KeepsTo false job (acts_from job rings t (e ∷ x.heard) ends) runs x) (sym same)
+        (subst (λ (l : List MachineAct). KeepsTo false job l runs y)
         (sym (ap (λ (x : Bool). if x then call_acts ends ++ later_acts job t (call_end ends) (later_ends ends) y.heard else acts_from job (rings_after job rings e) t y.heard ends) is))
         (more (rings_after job rings e) w its))
 
-    handed_keeps : (n rings : ℕ) (r : Result Event ConnFault) (w : ClientState) → w.order ≡ order →
-        ((rings : ℕ) (w : ClientState) → w.order ≡ order → (let x : AnswerTrace = awaits_call n job rings (record { wire = w; runs = runs }) taken in KeepsTo job (acts_from job rings t x.heard (map run_end runs)) runs x)) →
-        (let x : AnswerTrace = by_event r (record { wire = w; runs = runs }) (rung n rings) in KeepsTo job (acts_from job rings t x.heard (map run_end runs)) runs x)
-    handed_keeps n rings (Ok e) w its more = heard_one rings e (rung n rings e (record { wire = w; runs = runs })) (rung_keeps n rings e w (rings_after job rings e == job.rings) its refl more)
-    handed_keeps n rings (Err f) w its more = keeps_fault job _ runs f
-
-    none_left : (rings : ℕ) → KeepsTo job (acts_from job rings t [] (map run_end runs)) runs (stops rang_too_little)
+    none_left : (rings : ℕ) (finish : AnswerFinish) → ((f : ConnFault) → finish ≢ off_hook_fault f) → KeepsTo false job (acts_from job rings t [] (map run_end runs)) runs (stops finish)
     unfolding acts_from
-    none_left rings = keeps_end job runs rang_too_little
+    none_left rings finish other = keeps_end job runs finish other
 
-    pub awaited_keeps : (n rings : ℕ) (w : ClientState) → w.order ≡ order → (let x : AnswerTrace = awaits_call n job rings (record { wire = w; runs = runs }) taken in KeepsTo job (acts_from job rings t x.heard (map run_end runs)) runs x)
+    handed_keeps : (n rings : ℕ) (r : Result Event ConnFault) (w : ClientState) → w.order ≡ order →
+        ((rings : ℕ) (w : ClientState) → w.order ≡ order → (let x : AnswerTrace = awaits_call n job rings (record { wire = w; runs = runs }) taken in KeepsTo false job (acts_from job rings t x.heard (map run_end runs)) runs x)) →
+        (let x : AnswerTrace = by_event r (record { wire = w; runs = runs }) (rung n rings) in KeepsTo false job (acts_from job rings t x.heard (map run_end runs)) runs x)
+    handed_keeps n rings (Ok e) w its more = heard_one rings e (rung n rings e (record { wire = w; runs = runs })) (rung_keeps n rings e w (rings_after job rings e == job.rings) its refl more)
+    handed_keeps n rings (Err f) w its more = none_left rings (met_fault f) (λ x e. cc e)
+
+    pub awaited_keeps : (n rings : ℕ) (w : ClientState) → w.order ≡ order → (let x : AnswerTrace = awaits_call n job rings (record { wire = w; runs = runs }) taken in KeepsTo false job (acts_from job rings t x.heard (map run_end runs)) runs x)
     unfolding awaits_call
-    awaited_keeps zero rings w its = none_left rings
+    awaited_keeps zero rings w its = none_left rings rang_too_little (λ x e. cc e)
     awaited_keeps (suc n) rings w its =
         let b : ToCome = record { wire = w; runs = runs } in
-        keeps_same job (λ events. acts_from job rings t events (map run_end runs)) runs _ _ (awaits_is b (rung n rings))
+        keeps_same false job (λ events. acts_from job rings t events (map run_end runs)) runs _ _ (awaits_is b (rung n rings))
         (handed_keeps n rings (next_event w) (behind_event w) (order_behind (slice_get w.ring.events 0) w ∙ its) (λ r v its'. awaited_keeps n r v its'))
 
   abbrev AttendsKept : AnswerJob → ℕ → Tally → Type 0
-  AttendsKept job n t = (w : ClientState) (runs : List ChildRun) → w.order ≡ order → (let x : AnswerTrace = attending job n t (record { wire = w; runs = runs }) in KeepsTo job (acts_at job t x.heard (map run_end runs)) runs x)
+  AttendsKept job n t = (w : ClientState) (runs : List ChildRun) → w.order ≡ order → (let x : AnswerTrace = attending job n t (record { wire = w; runs = runs }) in KeepsTo false job (acts_at job t x.heard (map run_end runs)) runs x)
 
   -- what follows a call, by how it ended
   later_keeps : (job : AnswerJob) (n : ℕ) (t : Tally) → ((how : ChildEnd) → AttendsKept job n (tally_after how t)) → KeepsLater job t (λ how b. unless_starved how (attending job n (tally_after how t) b))
   later_keeps job n t kept ended.Good w runs its = kept ended.Good w runs its
   later_keeps job n t kept ended.Bad w runs its = kept ended.Bad w runs its
-  later_keeps job n t kept ended.NoMemory w runs its = keeps_end job runs child_starved
+  later_keeps job n t kept ended.NoMemory w runs its = keeps_end job runs child_starved (λ x e. cc e)
 
   pub attends_keeps : (job : AnswerJob) (n : ℕ) (t : Tally) → t.answered + n ≡ job.calls → AttendsKept job n t
   unfolding attends
   attends_keeps job zero t all w runs its =
-      subst (λ (l : List MachineAct). KeepsTo job l runs (writes_tally t))
+      subst (λ (l : List MachineAct). KeepsTo false job l runs (writes_tally t))
       (sym (ap (λ (x : Bool). if x then write_tally t ∷ [] else acts_from job 0 t [] (map run_end runs)) (eq-eqb t.answered job.calls (omega (arith, all)))))
       (keeps_report job runs t)
   attends_keeps job (suc n) t all w runs its =
@@ -298,7 +311,7 @@ module _ (order : Order) where
       let taken : ToCome → AnswerTrace = λ b. takes_call job b next in
       let later = later_keeps job n t (λ how. attends_keeps job n (tally_after how t) (counts_one how t n job.calls all)) in
       let x : AnswerTrace = awaits_call 1000000 job 0 (record { wire = w; runs = runs }) taken in
-      subst (λ (l : List MachineAct). KeepsTo job l runs x)
+      subst (λ (l : List MachineAct). KeepsTo false job l runs x)
       (sym (ap (λ (y : Bool). if y then write_tally t ∷ [] else acts_from job 0 t x.heard (map run_end runs)) (ne_eqb t.answered job.calls (λ same. absurd (omega (arith, all, same))))))
       (awaited_keeps job t runs taken (λ v its'. call_keeps job t next later v runs its') 1000000 0 w its)
 

@@ -17,14 +17,15 @@ use Rattle.af_lib.specs.declared.fault.ConnFault.{ConnFault}
 use Rattle.af_lib.specs.declared.fault.ConnFault.TheVariants as fault
 use Rattle.af_lib.specs.Calls.{as_done}
 use Rattle.af_tool.specs.Trace.{ClientState, after_reply, answer_on}
+use Rattle.af_answer.specs.declared.child.ChildEnd.{ChildEnd}
 use Rattle.af_answer.specs.declared.end.AnswerEnd.{AnswerEnd}
 use Rattle.af_answer.specs.declared.end.AnswerEnd.TheVariants as end
 use Rattle.af_answer.specs.declared.job.AnswerJob.{AnswerJob}
 use Rattle.af_answer.specs.declared.tally.Tally.{Tally}
 use Rattle.af_answer.specs.Acts.{MachineAct, acts_from, answer_acts, no_calls, write_tally}
-use Rattle.af_answer.specs.AnswerTrace.{ToCome, AnswerTrace, AnswerFinish, Deeds, all_answered, answer_trace, attends, attends_line, having, child_starved, connection_end, device_missing, line_missing, machine_end, met_fault, rang_too_little, by_reply, writes_tally, requesting, requests, stops, tally_text, if_device, if_line}
+use Rattle.af_answer.specs.AnswerTrace.{ToCome, AnswerTrace, AnswerFinish, Deeds, all_answered, answer_trace, attends, attends_line, having, child_starved, connection_end, device_missing, line_missing, machine_end, met_fault, off_hook_fault, on_hook_fault, rang_too_little, by_reply, writes_tally, requesting, requests, stops, tally_text, if_device, if_line}
 use Rattle.af_answer.specs.AnswerParts.{MatchesAnswer, PartSeen, WritesTo, is_from_outside}
-use Rattle.af_answer.specs.Answered.{HangsUp, HasLine, IsReplied, KeepsToActs, RanAs, children_of, line_if, line_or_end, requests_of, sends_of_job, text_of_acts}
+use Rattle.af_answer.specs.Answered.{HangsUp, HasLine, HookAtEnd, IsReplied, KeepsToActs, LeavesHook, PutsOn, RanAs, StopsAtOffHook, SwitchesHook, hook_at, never_off, children_of, line_if, line_or_end, requests_of, sends_of_job, text_of_acts}
 use Rattle.af_answer.specs.Children.{ChildRun, run_end}
 use Rattle.af_answer.specs.Ways.{is_of_calls, is_of_line}
 use Rattle.af_answer.proofs.AnswerPartLemmas.{matches_at_once, no_deeds}
@@ -38,11 +39,12 @@ pub record KeepsAll (order : Order) (job : AnswerJob) (acts : List MachineAct) (
   pub sent : sends_of_job order job acts ≡ t.sends ++ unsent
   pub children : children_of job acts runs ≡ t.told ++ untold
   pub text : text_of_acts acts ≡ t.output ++ unwritten
-  pub whole : IsReplied t → (unsent ≡ []) × (untold ≡ []) × (unwritten ≡ [])
+  pub whole : SwitchesHook t → (unsent ≡ []) × (untold ≡ []) × (unwritten ≡ [])
+  pub stops : (f : ConnFault) → t.finish ≡ off_hook_fault f → StopsAtOffHook order job acts t.sends
 
-select_keeps : (order : Order) (job : AnswerJob) (acts : List Event → List MachineAct) (runs : List ChildRun) (r : Result (Unit {0}) ConnFault) (b : ToCome) (next : ToCome → AnswerTrace) →
-    KeepsTo order job (acts (next b).heard) runs (next b) → (let t : AnswerTrace = having (requesting (request_bytes order (select_events job.device 3))) (by_reply r b next) in KeepsAll order job (acts t.heard) runs t)
-select_keeps order job acts runs (Ok u) b next k = record {
+select_keeps : (order : Order) (job : AnswerJob) (acts : List Event → List MachineAct) (runs : List ChildRun) (r : Result (Unit {0}) ConnFault) (b : ToCome) (next : ToCome → AnswerTrace) → acts [] ≡ [] →
+    KeepsTo order false job (acts (next b).heard) runs (next b) → (let t : AnswerTrace = having (requesting (request_bytes order (select_events job.device 3))) (by_reply (select_events job.device 3) r b next) in KeepsAll order job (acts t.heard) runs t)
+select_keeps order job acts runs (Ok u) b next none k = record {
   unsent = k.unsent;
   untold = k.untold;
   unwritten = k.unwritten;
@@ -50,16 +52,25 @@ select_keeps order job acts runs (Ok u) b next k = record {
   children = k.children;
   text = k.text;
   whole = k.whole;
+  stops = λ f met.
+      let s = k.stops f met in
+      record { before = s.before; later = s.later; are = s.are; sent = ap (λ l. request_bytes order (select_events job.device 3) ++ l) s.sent; on = s.on };
 }
-select_keeps order job acts runs (Err f) b next k = record {
+select_keeps order job acts runs (Err f) b next none k = record {
   unsent = requests_of order job.device (acts []);
   untold = children_of job (acts []) runs;
   unwritten = text_of_acts (acts []);
   sent = ap (λ l. l ++ requests_of order job.device (acts [])) (sym (append-nil (request_bytes order (select_events job.device 3))));
   children = refl;
   text = refl;
-  whole = λ served. absurd (served f refl);
+  whole = λ switched. (ap (λ l. requests_of order job.device l) none, ap (λ l. children_of job l runs) none, ap text_of_acts none);
+  stops = λ f met. cc met;
 }
+
+-- a machine that has heard nothing has no acts
+no_acts : (job : AnswerJob) (ends : List ChildEnd) → answer_acts job [] ends ≡ []
+unfolding acts_from
+no_acts job ends = refl
 
 line_keeps : (job : AnswerJob) (w : ClientState) (runs : List ChildRun) → 1 ≤ job.calls →
     (let t : AnswerTrace = attends_line job (record { wire = w; runs = runs }) in KeepsAll w.order job (answer_acts job t.heard (map run_end runs)) runs t)
@@ -69,8 +80,8 @@ line_keeps job w runs some =
     let x = attending job job.calls no_calls b in
     let k = attends_keeps w.order job job.calls no_calls (omega arith) (after_reply w) runs refl in
     let first : (0 == job.calls) ≡ false = ne_eqb 0 job.calls (λ e. absurd (omega (arith, some, e))) in
-    select_keeps w.order job (λ events. answer_acts job events (map run_end runs)) runs (answer_on (select_events job.device 3) as_done w) b (λ b. attending job job.calls no_calls b)
-    (subst (λ (l : List MachineAct). KeepsTo w.order job l runs x) (ap (λ (y : Bool). if y then write_tally no_calls ∷ [] else acts_from job 0 no_calls x.heard (map run_end runs)) first) k)
+    select_keeps w.order job (λ events. answer_acts job events (map run_end runs)) runs (answer_on (select_events job.device 3) as_done w) b (λ b. attending job job.calls no_calls b) (no_acts job (map run_end runs))
+    (subst (λ (l : List MachineAct). KeepsTo w.order false job l runs x) (ap (λ (y : Bool). if y then write_tally no_calls ∷ [] else acts_from job 0 no_calls x.heard (map run_end runs)) first) k)
 
 -- no fault of a connection is Done
 fault_is_other : (f : ConnFault) → connection_end f ≡ end.Done → ⊥
@@ -82,8 +93,8 @@ fault_is_other (fault.BadReply header first) is = cc
 fault_is_other fault.OutOfMemory is = cc
 fault_is_other fault.EventFlood is = cc
 
-served_where_done : (t : AnswerTrace) (how : AnswerEnd) → how ≡ end.Done → how ≡ machine_end t.finish → IsReplied t
-served_where_done t how done is = λ f met. fault_is_other f (ap machine_end (sym met) ∙ sym is ∙ done)
+switched_where_done : (t : AnswerTrace) (how : AnswerEnd) → how ≡ end.Done → how ≡ machine_end t.finish → SwitchesHook t
+switched_where_done t how done is = (λ f met. fault_is_other f (ap machine_end (sym met) ∙ sym is ∙ done), λ f met. fault_is_other f (ap machine_end (sym met) ∙ sym is ∙ done))
 
 none_left : {A : Type 0} (a b : List A) → a ≡ [] → b ≡ [] → a ++ b ≡ []
 none_left a b p q = ap₂ (λ x y. x ++ y) p q
@@ -94,7 +105,9 @@ by_finish : (t : AnswerTrace) (how : AnswerEnd) (f : AnswerFinish) → f ≡ t.f
 by_finish t how all_answered is way there line served enough = inl way
 by_finish t how (device_missing n) is way there line served enough = absurd (there n way)
 by_finish t how (line_missing n) is way there line served enough = absurd (line n way)
-by_finish t how (met_fault x) is way there line served enough = absurd (served x (sym is))
+by_finish t how (off_hook_fault x) is way there line served enough = absurd (served.0.1 x (sym is))
+by_finish t how (on_hook_fault x) is way there line served enough = absurd (served.0.0 x (sym is))
+by_finish t how (met_fault x) is way there line served enough = absurd (served.1 x (sym is))
 by_finish t how rang_too_little is way there line served enough = absurd (enough (sym is))
 by_finish t how child_starved is way there line served enough = inr (inl (sym is))
 
@@ -107,7 +120,7 @@ module _ (order : Order) (job : AnswerJob) (t : AnswerTrace) (runs : List ChildR
   all_done : how ≡ end.Done → ((m.undone.sends ++ k.unsent) ≡ []) × ((m.undone.told ++ k.untold) ≡ []) × ((m.unwritten ++ k.unwritten) ≡ [])
   all_done is =
       let w = m.whole (ap is_from_outside is) in
-      let rest = k.whole (served_where_done t how is w.0) in
+      let rest = k.whole (switched_where_done t how is w.0) in
       (none_left _ _ (ap (λ (d : Deeds). d.sends) w.1) rest.0, none_left _ _ (ap (λ (d : Deeds). d.told) w.1) rest.1, none_left _ _ w.2 rest.2)
 
   kept_acts : KeepsToActs order job acts runs how done.sends done.told output
@@ -121,9 +134,9 @@ module _ (order : Order) (job : AnswerJob) (t : AnswerTrace) (runs : List ChildR
     whole = all_done;
   }
 
-  hangs : IsReplied t → done.sends ≡ t.sends → done.told ≡ t.told → HangsUp order job acts runs done.sends done.told
-  hangs served sends told =
-      let rest = k.whole served in
+  hangs : SwitchesHook t → done.sends ≡ t.sends → done.told ≡ t.told → HangsUp order job acts runs done.sends done.told
+  hangs switched sends told =
+      let rest = k.whole switched in
       record {
         sent = sends ∙ sym (append-nil t.sends) ∙ ap (λ l. t.sends ++ l) (sym rest.0) ∙ sym k.sent;
         children = told ∙ sym (append-nil t.told) ∙ ap (λ l. t.told ++ l) (sym rest.1) ∙ sym k.children;
@@ -143,9 +156,9 @@ module _ (order : Order) (job : AnswerJob) (t : AnswerTrace) (runs : List ChildR
   ] refl
 
   pub ran_as : (devices : List DeviceInfo) (s s' : Option (List ℕ)) (a a' : Option (List Told)) (h h' : Option (List ℕ)) →
-      (how ≢ end.LinkFault → (done.sends ≡ t.sends) × (done.told ≡ t.told)) → ((n : ℕ) → how ≢ end.NoDevice n) → ((n : ℕ) → how ≢ end.NoLine n) →
+      (((done.sends ≡ t.sends) × (done.told ≡ t.told) → SwitchesHook t → HangsUp order job acts runs done.sends done.told) → (done.sends ≡ t.sends → (f : ConnFault) → t.finish ≡ off_hook_fault f → StopsAtOffHook order job acts done.sends) → LeavesHook (hook_at how) t (HangsUp order job acts runs done.sends done.told) (StopsAtOffHook order job acts done.sends) done.sends) → ((n : ℕ) → how ≢ end.NoDevice n) → ((n : ℕ) → how ≢ end.NoLine n) →
       Appended s done.sends s' → Appended a done.told a' → Appended h output h' → RanAs order job devices t runs how s s' a a' h h'
-  ran_as devices s s' a a' h h' cut there line sent told wrote = record {
+  ran_as devices s s' a a' h h' hook there line sent told wrote = record {
     done = done;
     output = output;
     link = sent;
@@ -153,7 +166,7 @@ module _ (order : Order) (job : AnswerJob) (t : AnswerTrace) (runs : List ChildR
     sink = wrote;
     followed = m;
     answered = λ _. kept_acts;
-    hung_up = λ _ served sound. let c = cut sound in hangs served c.0 c.1;
+    hung_up = hook (λ all switched. hangs switched all.0 all.1) (λ all f met. subst (λ l. StopsAtOffHook order job acts l) (sym all) (k.stops f met));
     starved = m.starved;
     starves = starved_ends;
     complete = λ _. completes there line;
@@ -168,6 +181,7 @@ record IsLacking (job : AnswerJob) (devices : List DeviceInfo) (b : ToCome) (how
   pub other : how ≢ end.OutOfMemory
   pub fed : finish ≢ child_starved
   pub lineless : HasLine job devices → ⊥
+  pub untouched : hook_at how ≡ never_off
 
 lineless_at : (job : AnswerJob) (n : ℕ) (found : Option DeviceInfo) (how : AnswerEnd) → line_or_end job found n ≡ Err how → (d : DeviceInfo) → found ≡ Some d → d.line ≡ true → ⊥
 lineless_at job n found how is d there line =
@@ -186,6 +200,7 @@ lacking_line job devices b how false d there line is none =
       other = λ e. cc;
       fed = λ e. cc;
       lineless = none;
+      untouched = ap hook_at same;
     }
 
 lacking_at : (job : AnswerJob) (devices : List DeviceInfo) (b : ToCome) (how : AnswerEnd) (found : Option DeviceInfo) → slice_get devices job.device ≡ found → line_or_end job found (length devices) ≡ Err how → (HasLine job devices → ⊥) → IsLacking job devices b how
@@ -200,7 +215,11 @@ lacking_at job devices b how None there is none =
       other = λ e. cc;
       fed = λ e. cc;
       lineless = none;
+      untouched = ap hook_at same;
     }
+
+untouched_hook : (hook : HookAtEnd) (t : AnswerTrace) (hung_up refused_off : Type 0) → hook ≡ never_off → LeavesHook hook t hung_up refused_off []
+untouched_hook hook t hung_up refused_off is = subst (λ (h : HookAtEnd). LeavesHook h t hung_up refused_off []) (sym is) refl
 
 pub lacking_ran : (job : AnswerJob) (devices : List DeviceInfo) (w : ClientState) (how : AnswerEnd) (s : Option (List ℕ)) (a : Option (List Told)) (h : Option (List ℕ)) → line_or_end job (slice_get devices job.device) (length devices) ≡ Err how →
     RanAs w.order job devices (answer_trace job devices (record { wire = w; runs = [] })) [] how s s a a h h
@@ -215,7 +234,7 @@ lacking_ran job devices w how s a h is =
       sink = appended_none h;
       followed = matches_at_once no_deeds _ lack.finish how lack.is lack.ends (λ e. absurd (lack.other e));
       answered = λ l. absurd (none l);
-      hung_up = λ l. absurd (none l);
+      hung_up = untouched_hook (hook_at how) _ _ _ lack.untouched;
       starved = λ e. absurd (lack.other e);
       starves = λ e. absurd (lack.fed (sym (ap (λ (t : AnswerTrace). t.finish) lack.is) ∙ e));
       complete = λ l. absurd (none l);
@@ -254,20 +273,50 @@ calls_no_device how is n e = let bad : false ≡ true = sym (ap is_of_calls e) �
 calls_no_line : (how : AnswerEnd) → is_of_calls how ≡ true → (n : ℕ) → how ≢ end.NoLine n
 calls_no_line how is n e = let bad : false ≡ true = sym (ap is_of_calls e) ∙ is in cc bad
 
--- of the calls only a fault of the link comes from outside
-calls_inner : (how : AnswerEnd) → is_of_calls how ≡ true → how ≢ end.LinkFault → is_from_outside how ≡ false
-calls_inner end.Done is sound = refl
-calls_inner end.Usage is sound = refl
-calls_inner end.DialFault is sound = cc is
-calls_inner end.LinkFault is sound = absurd (sound refl)
-calls_inner end.LinkEnded is sound = refl
-calls_inner (end.NoDevice n) is sound = refl
-calls_inner (end.NoLine n) is sound = refl
-calls_inner (end.Refused code value) is sound = refl
-calls_inner (end.BadReply header first) is sound = refl
-calls_inner end.EventFlood is sound = refl
-calls_inner end.SinkFault is sound = cc is
-calls_inner end.OutOfMemory is sound = refl
+-- a machine that nothing from outside ended has done all that its trace has
+all_deeds : (t : AnswerTrace) (how : AnswerEnd) (done : Deeds) (output : List ℕ) → is_from_outside how ≡ false → MatchesAnswer t how done output → (done.sends ≡ t.sends) × (done.told ≡ t.told)
+all_deeds t how done output inner m =
+    let whole = m.whole inner in (
+      sym (m.sent ∙ ap (λ (d : Deeds). done.sends ++ d.sends) whole.1 ∙ append-nil done.sends),
+      sym (m.told ∙ ap (λ (d : Deeds). done.told ++ d.told) whole.1 ∙ append-nil done.told),
+    )
+
+-- a trace with another finish
+switched_at : (t : AnswerTrace) (finish : AnswerFinish) → ((f : ConnFault) → finish ≢ on_hook_fault f) → ((f : ConnFault) → finish ≢ off_hook_fault f) → finish ≡ t.finish → SwitchesHook t
+switched_at t finish on off is = (λ f met. on f (is ∙ met), λ f met. off f (is ∙ met))
+
+-- if no OnHook was answered with a fault, none of the two was, or an OffHook was
+refused_by : (t : AnswerTrace) (finish : AnswerFinish) → finish ≡ t.finish → PutsOn t → SwitchesHook t ⊎ ((f : ConnFault) × (t.finish ≡ off_hook_fault f))
+refused_by t all_answered is puts_on = inl (switched_at t all_answered (λ f e. cc e) (λ f e. cc e) is)
+refused_by t (device_missing n) is puts_on = inl (switched_at t (device_missing n) (λ f e. cc e) (λ f e. cc e) is)
+refused_by t (line_missing n) is puts_on = inl (switched_at t (line_missing n) (λ f e. cc e) (λ f e. cc e) is)
+refused_by t (off_hook_fault x) is puts_on = inr (x, sym is)
+refused_by t (on_hook_fault x) is puts_on = absurd (puts_on x (sym is))
+refused_by t (met_fault x) is puts_on = inl (switched_at t (met_fault x) (λ f e. cc e) (λ f e. cc e) is)
+refused_by t rang_too_little is puts_on = inl (switched_at t rang_too_little (λ f e. cc e) (λ f e. cc e) is)
+refused_by t child_starved is puts_on = inl (switched_at t child_starved (λ f e. cc e) (λ f e. cc e) is)
+
+-- the hook where a machine ended within its calls
+stopped_hook : (order : Order) (job : AnswerJob) (acts : List MachineAct) (runs : List ChildRun) (t : AnswerTrace) (how : AnswerEnd) (done : Deeds) (output : List ℕ) → is_of_calls how ≡ true → MatchesAnswer t how done output →
+    ((done.sends ≡ t.sends) × (done.told ≡ t.told) → SwitchesHook t → HangsUp order job acts runs done.sends done.told) → (done.sends ≡ t.sends → (f : ConnFault) → t.finish ≡ off_hook_fault f → StopsAtOffHook order job acts done.sends) → LeavesHook (hook_at how) t (HangsUp order job acts runs done.sends done.told) (StopsAtOffHook order job acts done.sends) done.sends
+stopped_hook order job acts runs t end.Done done output way m hangs stops = cc way
+stopped_hook order job acts runs t end.Usage done output way m hangs stops = cc way
+stopped_hook order job acts runs t end.DialFault done output way m hangs stops = cc way
+stopped_hook order job acts runs t end.LinkFault done output way m hangs stops = tt
+stopped_hook order job acts runs t end.LinkEnded done output way m hangs stops = hangs (all_deeds t end.LinkEnded done output refl m)
+stopped_hook order job acts runs t (end.NoDevice n) done output way m hangs stops = cc way
+stopped_hook order job acts runs t (end.NoLine n) done output way m hangs stops = cc way
+stopped_hook order job acts runs t (end.Refused code value) done output way m hangs stops = λ puts_on.
+    let all = all_deeds t (end.Refused code value) done output refl m in
+    elim (refused_by t t.finish refl puts_on) [
+      | inl switched ↦ inl (hangs all switched)
+      | inr off ↦ inr (stops all.0 off.0 off.1)
+    ]
+stopped_hook order job acts runs t (end.BadReply header first) done output way m hangs stops = hangs (all_deeds t (end.BadReply header first) done output refl m)
+stopped_hook order job acts runs t end.EventFlood done output way m hangs stops = hangs (all_deeds t end.EventFlood done output refl m)
+stopped_hook order job acts runs t end.SinkFault done output way m hangs stops = cc way
+stopped_hook order job acts runs t end.OutOfMemory done output way m hangs stops =
+    hangs (all_deeds t end.OutOfMemory done output refl m) (switched_at t child_starved (λ f e. cc e) (λ f e. cc e) (sym (m.starved refl)))
 
 pub stopped_ran : (job : AnswerJob) (devices : List DeviceInfo) (w : ClientState) (how : AnswerEnd) (left : Option (List ℕ)) (wire : List ℕ → ClientState) (s s' : Option (List ℕ)) (a a' : Option (List Told)) (h : Option (List ℕ)) →
     1 ≤ job.calls → line_or_end job (slice_get devices job.device) (length devices) ≡ Ok tt → is_of_calls how ≡ true →
@@ -278,11 +327,7 @@ stopped_ran job devices w how left wire s s' a a' h some line way g =
     let is : t ≡ attending_part job w runs (λ t b. writes_tally t) = on_line job devices (record { wire = w; runs = runs }) line ∙ line_is job w runs in
     let m = subst (λ (x : AnswerTrace). MatchesAnswer x how g.done []) (sym is) (g.came [] (λ t b. writes_tally t)) in
     ran_as w.order job t runs how g.done [] m (line_kept job devices w runs some line) devices s s' a a' h h
-    (λ sound.
-    let whole = m.whole (calls_inner how way sound) in (
-      sym (m.sent ∙ ap (λ (d : Deeds). g.done.sends ++ d.sends) whole.1 ∙ append-nil g.done.sends),
-      sym (m.told ∙ ap (λ (d : Deeds). g.done.told ++ d.told) whole.1 ∙ append-nil g.done.told),
-    ))
+    (stopped_hook w.order job _ runs t how g.done [] way m)
     (calls_no_device how way) (calls_no_line how way) g.link g.children (appended_none h)
 
 -- all calls were taken, and the line was written, or a part of it
@@ -333,6 +378,22 @@ line_no_device how is n e = let bad : false ≡ true = sym (ap is_of_line e) ∙
 line_no_line : (how : AnswerEnd) → is_of_line how ≡ true → (n : ℕ) → how ≢ end.NoLine n
 line_no_line how is n e = let bad : false ≡ true = sym (ap is_of_line e) ∙ is in cc bad
 
+-- the hook where all calls were taken
+reported_hook : (order : Order) (job : AnswerJob) (acts : List MachineAct) (runs : List ChildRun) (t : AnswerTrace) (how : AnswerEnd) (done : Deeds) → is_of_line how ≡ true → (done.sends ≡ t.sends) × (done.told ≡ t.told) → SwitchesHook t →
+    ((done.sends ≡ t.sends) × (done.told ≡ t.told) → SwitchesHook t → HangsUp order job acts runs done.sends done.told) → (done.sends ≡ t.sends → (f : ConnFault) → t.finish ≡ off_hook_fault f → StopsAtOffHook order job acts done.sends) → LeavesHook (hook_at how) t (HangsUp order job acts runs done.sends done.told) (StopsAtOffHook order job acts done.sends) done.sends
+reported_hook order job acts runs t end.Done done way all switched hangs stops = hangs all switched
+reported_hook order job acts runs t end.SinkFault done way all switched hangs stops = hangs all switched
+reported_hook order job acts runs t end.Usage done way all switched hangs stops = cc way
+reported_hook order job acts runs t end.DialFault done way all switched hangs stops = cc way
+reported_hook order job acts runs t end.LinkFault done way all switched hangs stops = tt
+reported_hook order job acts runs t end.LinkEnded done way all switched hangs stops = cc way
+reported_hook order job acts runs t (end.NoDevice n) done way all switched hangs stops = cc way
+reported_hook order job acts runs t (end.NoLine n) done way all switched hangs stops = cc way
+reported_hook order job acts runs t (end.Refused code value) done way all switched hangs stops = cc way
+reported_hook order job acts runs t (end.BadReply header first) done way all switched hangs stops = cc way
+reported_hook order job acts runs t end.EventFlood done way all switched hangs stops = cc way
+reported_hook order job acts runs t end.OutOfMemory done way all switched hangs stops = cc way
+
 pub reported_ran : (job : AnswerJob) (devices : List DeviceInfo) (w : ClientState) (tally : Tally) (how : AnswerEnd) (left : Option (List ℕ)) (wire : List ℕ → ClientState) (s s' : Option (List ℕ)) (a a' : Option (List Told)) (h h' : Option (List ℕ)) →
     1 ≤ job.calls → line_or_end job (slice_get devices job.device) (length devices) ≡ Ok tt → is_of_line how ≡ true → WritesTo (tally_text tally) how h h' →
     (g : PartSeen (attending_part job w) (Ok tally) left wire s s' a a') → RanAs w.order job devices (answer_trace job devices (record { wire = w; runs = g.runs ++ [] })) (g.runs ++ []) how s s' a a' h h'
@@ -342,7 +403,9 @@ reported_ran job devices w tally how left wire s s' a a' h h' some line way wrot
     let is : t ≡ having g.done (writes_tally tally) = on_line job devices (record { wire = w; runs = runs }) line ∙ line_is job w runs ∙ g.came.2 [] (λ t b. writes_tally t) in
     let r = reported t g.done tally how h h' is way wrote in
     ran_as w.order job t runs how g.done r.0 r.2 (line_kept job devices w runs some line) devices s s' a a' h h'
-    (λ sound. (sym (ap (λ (x : AnswerTrace). x.sends) is ∙ append-nil g.done.sends), sym (ap (λ (x : AnswerTrace). x.told) is ∙ append-nil g.done.told)))
+    (reported_hook w.order job _ runs t how g.done way
+    (sym (ap (λ (x : AnswerTrace). x.sends) is ∙ append-nil g.done.sends), sym (ap (λ (x : AnswerTrace). x.told) is ∙ append-nil g.done.told))
+    (switched_at t all_answered (λ f e. cc e) (λ f e. cc e) (sym (ap (λ (x : AnswerTrace). x.finish) is))))
     (line_no_device how way) (line_no_line how way) g.link g.children r.1
 
 -- a machine whose device has no line has another end

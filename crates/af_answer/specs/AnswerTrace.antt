@@ -33,7 +33,10 @@ pub data AnswerFinish : Type 0 where
   all_answered : AnswerFinish
   device_missing : (devices : ℕ) → AnswerFinish
   line_missing : (device : ℕ) → AnswerFinish
-  -- a request was answered with this fault, or a wait for an event
+  -- an OffHook was answered with this fault, or an OnHook
+  off_hook_fault : (fault : ConnFault) → AnswerFinish
+  on_hook_fault : (fault : ConnFault) → AnswerFinish
+  -- another request was, or a wait for an event
   met_fault : (fault : ConnFault) → AnswerFinish
   -- 1000000 events were handed out and no call was taken
   rang_too_little : AnswerFinish
@@ -70,15 +73,21 @@ requesting bytes = record { heard = []; sends = bytes; told = [] }
 abbrev pub running : List Told → Deeds
 running told = record { heard = []; sends = []; told = told }
 
--- what follows an answer: a fault ends the machine
-abbrev pub by_reply : Result (Unit {0}) ConnFault → ToCome → (ToCome → AnswerTrace) → AnswerTrace
-by_reply (Ok x) a next = next a
-by_reply (Err fault) a next = stops (met_fault fault)
+-- why a machine ends whose request was answered with a fault
+abbrev pub refusal : Asked → ConnFault → AnswerFinish
+refusal (hook_switch device zero) fault = on_hook_fault fault
+refusal (hook_switch device (suc off)) fault = off_hook_fault fault
+refusal _ fault = met_fault fault
+
+-- what follows the answer to a request: a fault ends the machine
+abbrev pub by_reply : Asked → Result (Unit {0}) ConnFault → ToCome → (ToCome → AnswerTrace) → AnswerTrace
+by_reply asked (Ok x) a next = next a
+by_reply asked (Err fault) a next = stops (refusal asked fault)
 
 -- a request is sent, and what follows goes by its answer
 unfoldable pub requests : Asked → ToCome → (ToCome → AnswerTrace) → AnswerTrace
 requests asked a next =
-    having (requesting (request_bytes a.wire.order asked)) (by_reply (answer_on asked as_done a.wire) (record { wire = after_reply a.wire; runs = a.runs }) next)
+    having (requesting (request_bytes a.wire.order asked)) (by_reply asked (answer_on asked as_done a.wire) (record { wire = after_reply a.wire; runs = a.runs }) next)
 
 -- the event that a client is handed next: the oldest of its ring, or else the next message
 abbrev pub event_at_hand : Option Event → ClientState → Result Event ConnFault
@@ -188,6 +197,8 @@ abbrev pub machine_end : AnswerFinish → AnswerEnd
 machine_end all_answered = end.Done
 machine_end (device_missing devices) = end.NoDevice devices
 machine_end (line_missing device) = end.NoLine device
+machine_end (off_hook_fault fault) = connection_end fault
+machine_end (on_hook_fault fault) = connection_end fault
 machine_end (met_fault fault) = connection_end fault
 machine_end rang_too_little = end.EventFlood
 machine_end child_starved = end.OutOfMemory

@@ -1,5 +1,5 @@
 -- What an answering machine has done at its end.
-use Rattle.std.specs.Prelude.{◌≡◌, ◌≢◌, ◌≤◌, ◌↔◌, ◌⊎◌, ℕ, Bool, true, false, List, [], ◌∷◌, ◌++◌, map, drop, length, slice_get, Result, Ok, Err}
+use Rattle.std.specs.Prelude.{◌≡◌, ◌≢◌, ◌<◌, ◌≤◌, ◌↔◌, ◌⊎◌, ⊤, ℕ, Bool, true, false, List, [], ◌∷◌, ◌++◌, map, drop, length, slice_get, Result, Ok, Err}
 use Rattle.std.specs.declared.option.Option.{Option}
 use Rattle.std.specs.declared.option.Option.TheVariants.{None, Some}
 use Rattle.af_limits.specs.Limits.{most_devices}
@@ -17,7 +17,7 @@ use Rattle.af_answer.specs.declared.end.AnswerEnd.{AnswerEnd}
 use Rattle.af_answer.specs.declared.end.AnswerEnd.TheVariants as end
 use Rattle.af_answer.specs.declared.job.AnswerJob.{AnswerJob}
 use Rattle.af_answer.specs.Acts.{MachineAct, answer_acts, greet, leaves_off, off_hook, on_hook, record_message, write_tally}
-use Rattle.af_answer.specs.AnswerTrace.{AnswerTrace, Deeds, answer_trace, child_starved, first_run, met_fault, rang_too_little, tally_text}
+use Rattle.af_answer.specs.AnswerTrace.{AnswerTrace, Deeds, answer_trace, child_starved, first_run, met_fault, off_hook_fault, on_hook_fault, rang_too_little, tally_text}
 use Rattle.af_answer.specs.AnswerParts.{MatchesAnswer, is_from_outside}
 use Rattle.af_answer.specs.Children.{ChildRun, run_end, run_told, shell_words}
 
@@ -87,9 +87,60 @@ pub record HangsUp (order : Order) (job : AnswerJob) (acts : List MachineAct) (r
 abbrev pub HasLine : AnswerJob → List DeviceInfo → Type 0
 HasLine job devices = (device : DeviceInfo) × (slice_get devices job.device ≡ Some device) × (device.line ≡ true)
 
+-- each OnHook gets the reply that it awaits, and each OffHook, too
+abbrev pub PutsOn : AnswerTrace → Type 0
+PutsOn trace = (f : ConnFault) → trace.finish ≢ on_hook_fault f
+
+abbrev pub SwitchesHook : AnswerTrace → Type 0
+SwitchesHook trace = PutsOn trace × ((f : ConnFault) → trace.finish ≢ off_hook_fault f)
+
 -- each request gets the reply that it awaits, and each wait an event
 abbrev pub IsReplied : AnswerTrace → Type 0
-IsReplied trace = (f : ConnFault) → trace.finish ≢ met_fault f
+IsReplied trace = SwitchesHook trace × ((f : ConnFault) → trace.finish ≢ met_fault f)
+
+-- the hook at the end of a machine
+pub data HookAtEnd : Type 0 where
+  -- it was never taken off
+  never_off : HookAtEnd
+  -- it was put on again each time
+  put_on : HookAtEnd
+  -- it is on, unless an OnHook was answered so
+  on_if_put_on : HookAtEnd
+  -- it is on, unless an OffHook or an OnHook was answered so
+  on_if_switched : HookAtEnd
+  -- the link failed: it may be off
+  maybe_off : HookAtEnd
+
+-- what it is at each end
+abbrev pub hook_at : AnswerEnd → HookAtEnd
+hook_at end.Usage = never_off
+hook_at end.DialFault = never_off
+hook_at (end.NoDevice devices) = never_off
+hook_at (end.NoLine device) = never_off
+hook_at end.Done = put_on
+hook_at end.OutOfMemory = put_on
+hook_at end.SinkFault = put_on
+hook_at (end.Refused code value) = on_if_put_on
+hook_at end.LinkEnded = on_if_switched
+hook_at (end.BadReply header first) = on_if_switched
+hook_at end.EventFlood = on_if_switched
+hook_at end.LinkFault = maybe_off
+
+-- An OffHook was sent last, and the acts before it leave the hook on.
+pub record StopsAtOffHook (order : Order) (job : AnswerJob) (acts : List MachineAct) (sends : List ℕ) : Type 0 where
+  pub before : List MachineAct
+  pub later : List MachineAct
+  pub are : acts ≡ before ++ off_hook ∷ later
+  pub sent : sends ≡ sends_of_job order job (before ++ off_hook ∷ [])
+  pub on : leaves_off before ≡ false
+
+-- The hook was left so: nothing was sent, or all that hangs up was, or an OffHook was refused last.
+abbrev pub LeavesHook : HookAtEnd → AnswerTrace → (hung_up refused_off : Type 0) → (sends : List ℕ) → Type 0
+LeavesHook never_off trace hung_up refused_off sends = sends ≡ []
+LeavesHook put_on trace hung_up refused_off sends = hung_up
+LeavesHook on_if_put_on trace hung_up refused_off sends = PutsOn trace → hung_up ⊎ refused_off
+LeavesHook on_if_switched trace hung_up refused_off sends = SwitchesHook trace → hung_up
+LeavesHook maybe_off trace hung_up refused_off sends = ⊤
 
 -- A machine did as in this trace, in an order of bytes, with its children running so.
 pub record RanAs (order : Order) (job : AnswerJob) (devices : List DeviceInfo) (trace : AnswerTrace) (runs : List ChildRun) (how : AnswerEnd) (sent sent' : Option (List ℕ)) (acts acts' : Option (List Told)) (held held' : Option (List ℕ)) : Type 0 where
@@ -103,8 +154,9 @@ pub record RanAs (order : Order) (job : AnswerJob) (devices : List DeviceInfo) (
   pub followed : MatchesAnswer trace how done output
   -- it is what the events that were handed out and the ends of the children ask for
   pub answered : HasLine job devices → KeepsToActs order job (answer_acts job trace.heard (map run_end runs)) runs how done.sends done.told output
-  -- the hook is on at the end, unless a call on the connection answered a fault
-  pub hung_up : HasLine job devices → IsReplied trace → how ≢ end.LinkFault → HangsUp order job (answer_acts job trace.heard (map run_end runs)) runs done.sends done.told
+  -- the hook is left as this end has it
+  pub hung_up : LeavesHook (hook_at how) trace (HangsUp order job (answer_acts job trace.heard (map run_end runs)) runs done.sends done.told)
+      (StopsAtOffHook order job (answer_acts job trace.heard (map run_end runs)) done.sends) done.sends
   -- memory ran out exactly where it did for a child, and the hook was put on behind it
   pub starved : how ≡ end.OutOfMemory → trace.finish ≡ child_starved
   pub starves : trace.finish ≡ child_starved → (how ≡ end.OutOfMemory) ⊎ (is_from_outside how ≡ true)

@@ -1,4 +1,4 @@
-//! The answering machine: it takes calls, plays a greeting, records a message, and always hangs up.
+//! The answering machine: it takes calls, plays a greeting, records a message, and hangs up.
 #![tactic(auto)]
 
 mod attend;

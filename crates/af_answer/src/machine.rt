@@ -42,7 +42,7 @@ pub fn answer<L: Link + Drop, S: Spawner, K: Sink>(
     requires usable { conn.old.cause ≡ None }
     requires range { IsAnswerJob job.now }
 
-    // what was sent, which children ran, what was written, that the hook is on, and when it is done
+    // what was sent, which children ran, what was written, what the hook is at the end, and when it is done
     ensures ran { RunsAnswer L.left L.sent S.acts K.held job.now result conn.old conn.new spawner.old spawner.new sink.old sink.new }
 
     // each end has its cause

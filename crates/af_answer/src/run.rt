@@ -88,7 +88,7 @@ pub fn answer_run<K: Sink, D: Dial, S: Spawner>(
     ensures untouched { result ≡ AnswerEnd.Usage → (sink.new ≡ sink.old) × (dial.new ≡ dial.old) × (spawner.new ≡ spawner.old) }
     ensures no_job { answer_words words.now ≡ None → (sink.new ≡ sink.old) × (dial.new ≡ dial.old) × (spawner.new ≡ spawner.old) }
 
-    // which server was dialled; what was sent, which children ran and what was written, that the hook is on, and when it is done
+    // which server was dialled; what was sent, which children ran, what was written, what the hook is at the end, and when it is done
     ensures asked { (a : AnswerWords) → answer_words words.now ≡ Some a → result ≢ AnswerEnd.Usage →
         AskedForServer a.server result (D.asked dial.old) (D.asked dial.new) }
     ensures ran { (a : AnswerWords) → answer_words words.now ≡ Some a → result ≢ AnswerEnd.Usage →

@@ -24,7 +24,7 @@ accepted_at now start samples preempt =
 abbrev pub accepted_by : Next → ℕ → List ℤ → Bool → AcceptedPlay
 accepted_by b start samples preempt = accepted_at (whole_time b.time) start samples preempt
 
--- how many frames from a word on end at most a horizon after a buffer's time
+-- the frames from a word to the horizon: more than a horizon's worth if it is late, 0 if it is beyond
 abbrev pub frames_within : Next → ℕ → ℕ
 frames_within b start = whole_time b.time + b.horizon - unwrap (whole_time b.time) start
 

@@ -74,8 +74,7 @@ impl PlayBuffer {
         self.time
     }
 
-    /// How many frames from a time on end within the horizon: the horizon and more from a late time,
-    /// and none from a time past the horizon.
+    /// The frames from `start` to the horizon: more than a horizon's worth if `start` is late, 0 if it is beyond.
     pub fn frames_within(&self, start: DevTime) -> u32
         ensures { result ≡ frames_within self.now start.0 }
     {
@@ -85,8 +84,7 @@ impl PlayBuffer {
         }
     }
 
-    /// How many sample periods go by until n frames from a time on, at most 16368, end within
-    /// the horizon: none where they do.
+    /// The sample periods until n frames from `start` end within the horizon: 0 if they do now.
     pub fn frames_beyond(&self, start: DevTime, frames: u32) -> u32
         requires { frames ≤ longest_play }
         ensures { result ≡ frames_beyond self.now start.0 frames }

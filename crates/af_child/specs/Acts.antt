@@ -67,6 +67,12 @@ children_after n (finished child status) = n
 abbrev pub children_in : List Told → ℕ
 children_in acts = fold children_after 0 acts
 
+-- how many children were started, behind a start with this answer
+abbrev pub started_after : ℕ → Started → ℕ
+started_after n (started.Child child) = n + 1
+started_after n started.Failed = n
+started_after n started.OutOfMemory = n
+
 -- whether a child runs behind an act: from its start on, until it is finished, whatever that answers
 abbrev pub runs_after : ℕ → Bool → Told → Bool
 runs_after child runs (noted sound) = runs

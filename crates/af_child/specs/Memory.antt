@@ -1,9 +1,7 @@
 -- Child programs in memory, and those of the system.
-use Rattle.std.specs.Prelude.{ℕ, ℤ, pos, ◌+◌, List, slice_get}
+use Rattle.std.specs.Prelude.{ℕ, ℤ, pos, List, slice_get}
 use Rattle.std.specs.declared.option.Option.{Option}
 use Rattle.std.specs.declared.option.Option.TheVariants.{None, Some}
-use Rattle.af_child.specs.declared.spawner.Started.{Started}
-use Rattle.af_child.specs.declared.spawner.Started.TheVariants as started
 use Rattle.af_child.specs.declared.spawner.Finished.{Finished}
 use Rattle.af_child.specs.declared.spawner.Finished.TheVariants as finished
 use Rattle.af_io.specs.Observed.{counted}
@@ -33,12 +31,6 @@ some_status (Some status) = status
 -- the status of the child that ends as the n-th: 0 past those that are stated
 abbrev pub status_at : List ℤ → ℕ → ℤ
 status_at statuses n = some_status (slice_get statuses n)
-
--- how many children were started, behind a start with this answer
-abbrev pub started_after : ℕ → Started → ℕ
-started_after n (started.Child child) = n + 1
-started_after n started.Failed = n
-started_after n started.OutOfMemory = n
 
 -- how many children have ended, behind a finish with this answer
 abbrev pub ended_after : ℕ → Finished → ℕ

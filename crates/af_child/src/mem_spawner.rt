@@ -3,8 +3,8 @@ ghost use Rattle.std.specs.Prelude.{◌≡◌, ◌≢◌, ◌↔◌, ◌⊎◌, 
 ghost use Rattle.std.specs.declared.option.Option.TheVariants.{None, Some};
 ghost use Rattle.arrayvec.specs.ArrayVec.{array_vec_len};
 ghost use Rattle.af_io.specs.Observed.{Appended, CountsOneFault, counted, faults_after};
-ghost use Rattle.af_child.specs.Acts.{told, noted, began, given, finished, began_got, status_of, is_given, words_of, IsNextChild, RunsWhereTold};
-ghost use Rattle.af_child.specs.Memory.{status_at, started_after, ended_after};
+ghost use Rattle.af_child.specs.Acts.{told, noted, began, given, finished, began_got, status_of, is_given, words_of, started_after, IsNextChild, RunsWhereTold};
+ghost use Rattle.af_child.specs.Memory.{status_at, ended_after};
 
 use crate::notes::{self, Notes};
 use crate::{Act, BeganGot, Finished, Spawner, Started, Words};
@@ -83,6 +83,8 @@ impl MemSpawner {
 
 impl Spawner for MemSpawner {
     ghost acts = { λ spawner. spawner.acts };
+
+    ghost started = { λ spawner. spawner.started };
 
     ghost faults = { λ spawner. spawner.faults };
 

@@ -1,5 +1,5 @@
 // Child programs, as a caller has them.
-ghost use Rattle.std.specs.Prelude.{◌≡◌, ◌≤◌, ℕ, List, [], ◌∷◌};
+ghost use Rattle.std.specs.Prelude.{◌≡◌, ◌≤◌, ◌^◌, ◌-◌, ℕ, List, [], ◌∷◌};
 ghost use Rattle.std.specs.declared.option.Option.{Option};
 ghost use Rattle.arrayvec.specs.ArrayVec.{array_vec_len};
 ghost use Rattle.af_child.specs.Acts.{Told};
@@ -27,10 +27,13 @@ pub enum Finished {
 /// No call moves the count of faults down.
 pub trait Spawner {
     ghost use Rattle.af_io.specs.Observed.{Appended, FaultCounted};
-    ghost use Rattle.af_child.specs.Acts.{noted, began, given, finished, began_got, status_of, is_given, words_of, IsNextChild, RunsWhereTold};
+    ghost use Rattle.af_child.specs.Acts.{noted, began, given, finished, began_got, status_of, is_given, words_of, started_after, IsNextChild, RunsWhereTold};
 
     /// All acts so far, in order, if they are observed.
     ghost acts: { Self → Option (List Told) };
+
+    /// How many children were started.
+    ghost started: { Self → ℕ };
 
     /// How often a call has failed.
     ghost faults: { Self → ℕ };
@@ -38,13 +41,18 @@ pub trait Spawner {
     /// Notes a sound that is to be given to a child.
     fn note(&mut self, sound: &[u8])
         ensures acts { Appended (acts self.old) (noted sound.now ∷ []) (acts self.new) }
+        ensures started { started self.new ≡ started self.old }
         ensures count { faults self.old ≤ faults self.new };
 
-    /// Starts a child. Children are numbered 0, 1, .. in the order of their starts, at most 2^32 - 1 of them.
+    /// Starts a child. Children are numbered 0, 1, .. in the order of their starts, at most 2^32 - 1 of them. A start beyond these
+    /// fails.
     fn start(&mut self, alloc: Global, words: &Words) -> Started
         requires { 1 ≤ array_vec_len words.now }
         ensures acts { Appended (acts self.old) (began (words_of words.now) (began_got result) ∷ []) (acts self.new) }
         ensures next { IsNextChild (acts self.old) result }
+        ensures number { (child : ℕ) → result ≡ Started.Child child → child ≡ started self.old }
+        ensures most { started self.old ≡ 2 ^ 32 - 1 → result ≡ Started.Failed }
+        ensures started { started self.new ≡ started_after (started self.old) result }
         ensures count { faults self.old ≤ faults self.new }
         ensures cause { result ≡ Started.Failed → FaultCounted (faults self.old) (faults self.new) };
 
@@ -52,6 +60,7 @@ pub trait Spawner {
     fn give(&mut self, child: u32, bytes: &[u8]) -> Put
         requires { RunsWhereTold child (acts self.old) }
         ensures acts { Appended (acts self.old) (given child bytes.now (is_given result) ∷ []) (acts self.new) }
+        ensures started { started self.new ≡ started self.old }
         ensures count { faults self.old ≤ faults self.new }
         ensures cause { result ≡ Put.Failed → FaultCounted (faults self.old) (faults self.new) };
 
@@ -59,6 +68,7 @@ pub trait Spawner {
     fn finish(&mut self, child: u32) -> Finished
         requires { RunsWhereTold child (acts self.old) }
         ensures acts { Appended (acts self.old) (finished child (status_of result) ∷ []) (acts self.new) }
+        ensures started { started self.new ≡ started self.old }
         ensures count { faults self.old ≤ faults self.new }
         ensures cause { result ≡ Finished.Failed → FaultCounted (faults self.old) (faults self.new) };
 }

@@ -3,7 +3,7 @@ ghost use Rattle.std.specs.Prelude.{◌≡◌, ◌≤◌, ◌^◌, ◌-◌, ℕ}
 ghost use Rattle.std.specs.declared.option.Option.TheVariants.{None};
 ghost use Rattle.arrayvec.specs.ArrayVec.{array_vec_len};
 ghost use Rattle.af_io.specs.Observed.{CountsOneFault};
-ghost use Rattle.af_child.specs.Memory.{started_after};
+ghost use Rattle.af_child.specs.Acts.{started_after};
 
 use crate::running::{RunningChild, finish, give, start};
 use crate::{Finished, Spawner, Started, Words};
@@ -53,6 +53,8 @@ impl<R: Processes + Drop> StdSpawner<R> {
 
 impl<R: Processes + Drop> Spawner for StdSpawner<R> {
     ghost acts = { λ _. None };
+
+    ghost started = { λ spawner. spawner.started };
 
     ghost faults = { λ spawner. spawner.faults };
 

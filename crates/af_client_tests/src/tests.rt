@@ -2,5 +2,6 @@
 mod answer;
 mod checks;
 mod connection;
+mod conversation;
 mod jobs;
 mod tools;

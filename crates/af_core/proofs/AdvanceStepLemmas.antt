@@ -7,6 +7,7 @@ use Rattle.af_wire.specs.Front.{setup_front}
 use Rattle.af_wire.specs.declared.front.SetupFront.TheVariants as front
 use Rattle.af_request.specs.declared.reply.DeviceInfo.{DeviceInfo}
 use Rattle.af_request.specs.Answer.{setup}
+use Rattle.af_request.specs.Opcodes as opcodes
 use Rattle.af_model.specs.State.{OpenLink, EnvironmentState, LinkState, open_link}
 use Rattle.af_model.specs.Waiting.{has_deferral}
 use Rattle.af_model.specs.Reply.{reply_message}
@@ -43,11 +44,11 @@ nothing_there k p none = ap (λ n. advance_by n k p) none
 -- a good setup is taken off and replied to
 pub setup_replied : (env : KeptEnvironment) (order : Order) (l l1 l2 : LinkState) → setup_front l.rest ≡ front.Setup order →
     l1 ≡ record (without_front 8 l) { is_set_up = true; order = order } →
-    l2 ≡ record l1 { pending = l1.pending ++ reply_message l1.order 0 (setup (map {A = KeptDevice} {B = DeviceInfo} kept_info env.devices)) 0 } →
+    l2 ≡ record l1 { pending = l1.pending ++ reply_message l1.order opcodes.setup (setup (map {A = KeptDevice} {B = DeviceInfo} kept_info env.devices)) 0 } →
     (a : EnvironmentState) → StandsForEnvironment env a → AdvancesTo true (after_setup (setup_front l.rest) (open_link a l)) env l2
 setup_replied env order l l1 l2 f e1 e2 a h =
-    let replied : List DeviceInfo → LinkState = λ infos. record (without_front 8 l) { is_set_up = true; order = order; pending = l.pending ++ reply_message order 0 (setup infos) 0 } in
-    let pushed : LinkState → LinkState = λ m. record m { pending = m.pending ++ reply_message m.order 0 (setup (map {A = KeptDevice} {B = DeviceInfo} kept_info env.devices)) 0 } in
+    let replied : List DeviceInfo → LinkState = λ infos. record (without_front 8 l) { is_set_up = true; order = order; pending = l.pending ++ reply_message order opcodes.setup (setup infos) 0 } in
+    let pushed : LinkState → LinkState = λ m. record m { pending = m.pending ++ reply_message m.order opcodes.setup (setup (map {A = KeptDevice} {B = DeviceInfo} kept_info env.devices)) 0 } in
     rw f (h, ap replied (sym (same_infos env.devices a.devices h.0)) ∙ sym (e2 ∙ ap pushed e1))
 
 -- whether a link takes more is what the state says

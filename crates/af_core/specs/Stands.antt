@@ -146,7 +146,7 @@ bounds_after (Line d change) b = bounds_of_all b
 bounds_after Idle b = b
 bounds_after Stop b = b
 
--- A wake that is about a link leaves it alone what the others want, and one of nothing what all do.
+-- A wake for one link does not change what other links want; Idle and Stop change nothing.
 abbrev pub WakesOnly : Wake → List KeptDeferral → List (Option LinkState) → List KeptDeferral → List (Option LinkState) → Type 0
 WakesOnly (Opened k) ks links ks' links' = (j : ℕ) → j ≢ k → wants_at ks' links' j ≡ wants_at ks links j
 WakesOnly (Readable k) ks links ks' links' = (j : ℕ) → j ≢ k → wants_at ks' links' j ≡ wants_at ks links j

@@ -6,6 +6,7 @@ ghost use Rattle.af_wire.specs.declared.front.Front.TheVariants.{Frame};
 ghost use Rattle.af_wire.specs.Front.{setup_front, frame_front};
 ghost use Rattle.af_wire.specs.Message.{error};
 ghost use Rattle.af_request.specs.Answer.{setup};
+ghost use Rattle.af_request.specs.Opcodes as opcodes;
 ghost use Rattle.af_model.specs.State.{stopped};
 ghost use Rattle.af_model.specs.Reply.{reply_message};
 ghost use Rattle.af_model.specs.Advance.{after_setup, after_frame, advance_step, advance, takes_more};
@@ -15,7 +16,7 @@ ghost use Rattle.af_state.specs.Environment.{StepsLink, MayAsk};
 ghost use Rattle.af_core.specs.Stands.{IsSettled, Advances};
 
 use af_perform::perform;
-use af_request::{Devices, Reply, read_request, write_reply};
+use af_request::{Devices, Reply, opcode, read_request, write_reply};
 use af_state::{Device, Environment, Scratch, ServedLink, Work};
 use af_wire::{Front, Order, SetupFront, frame_at, setup_of, write_error};
 use af_world::Why;
@@ -39,22 +40,25 @@ fn reply_setup(devices: &[Device], link: &mut ServedLink, message: &mut [u8])
     requires count { length devices.now ≤ most_devices }
     requires room { length link.old.pending ≤ most_to_send }
     requires size { length message.old ≡ longest_message }
-    ensures { link.new ≡ record link.old { pending = link.old.pending ++ reply_message link.old.order 0 (setup (map kept_info devices.now)) 0 } }
+    ensures { link.new ≡ record link.old {
+      pending = link.old.pending ++ reply_message link.old.order opcodes.setup (setup (map kept_info devices.now)) 0;
+    } }
 {
     let reply = Reply::Setup {
         devices: infos_of(devices),
     };
-    let n = write_reply(link.order(), 0, &reply, 0, message);
+    let n = write_reply(link.order(), opcode::SETUP, &reply, 0, message);
     link.push(&message[..n]);
 }
 
 // A bad setup is answered in an order, and closes the link.
 fn refuse_setup(order: Order, value: u32, link: &mut ServedLink)
     requires room { length link.old.pending ≤ most_to_send }
-    ensures { link.new ≡ record (stopped why.BadSetup link.old) { pending = link.old.pending ++ error order 1 value 0 0 } }
+    ensures { link.new ≡
+        record (stopped why.BadSetup link.old) { pending = link.old.pending ++ error order 1 value opcodes.setup 0 } }
 {
     let mut message = [0; 16];
-    write_error(order, BAD_SETUP, value, 0, 0, &mut message);
+    write_error(order, BAD_SETUP, value, opcode::SETUP, 0, &mut message);
     link.push(&message);
     link.stop(Why::BadSetup);
 }

@@ -71,7 +71,7 @@ fn make_slots(alloc: Global) -> Result<Vec<Slot>, OutOfMemory>
     ensures { IfOk result (λ slots. slots.items ≡ replicate most_links None) }
 {
     let mut slots = Vec::with_capacity(alloc, MOST_LINKS)?;
-    for _number in 0..32u8 {
+    for _number in 0..MOST_LINKS as u8 {
         let slot = Slot::new(alloc)?;
         slots.push(slot)?;
     }

@@ -1,20 +1,22 @@
--- Small runs, computed: link 0 plays and lifts the hook, and link 1 sends what is no request.
-use Rattle.std.proofs.Common.{◌≡◌, ℕ, Bool, true, false, List, [], ◌∷◌, ◌++◌, is_some, refl}
+-- Small runs, computed: link 0 plays and lifts the hook, and link 1 sends what is no request; a guest waits between two others.
+use Rattle.std.proofs.Common.{◌≡◌, ℕ, Bool, true, false, List, [], ◌∷◌, ◌++◌, is_some, map, refl, take}
+use Rattle.std.specs.List.{flat_map}
 use Rattle.std.specs.declared.option.Option.{Option}
 use Rattle.std.specs.declared.option.Option.TheVariants.{None, Some}
 use Rattle.af_sample.specs.declared.sample_type.SampleType.TheVariants.{Lin16}
 use Rattle.af_time.specs.DeviceTime.{unwrap}
 use Rattle.af_sample.specs.Samples.{samples}
 use Rattle.af_wire.specs.Message.{head}
-use Rattle.af_world.specs.declared.happening.Happening.TheVariants.{Woke, Read, Wrote, Closed, Hooked}
+use Rattle.af_world.specs.declared.happening.Happening.TheVariants.{Woke, Read, Wrote, Closed, Captured, Hooked}
 use Rattle.af_world.specs.declared.happening.ReadGot.TheVariants.{Given, NotYet}
-use Rattle.af_world.specs.declared.happening.Wake.TheVariants.{Opened, Readable, Idle}
+use Rattle.af_world.specs.declared.happening.Wake.TheVariants.{Opened, Readable, Ticked, Idle}
 use Rattle.af_world.specs.declared.happening.Why.TheVariants as why
 use Rattle.af_world.specs.declared.script.DeviceSpec.{DeviceSpec}
 use Rattle.af_world.specs.Log.{Log}
-use Rattle.af_model.specs.State.{State}
+use Rattle.af_model.specs.State.{Completion, State, slot_at}
 use Rattle.af_model.specs.Reply.{reply_message}
 use Rattle.af_model.specs.ContextRequests.{creation_refusal}
+use Rattle.af_model.specs.Record.{record_refusal, recorded_bytes}
 use Rattle.af_model.specs.Advance.{advance}
 use Rattle.af_model.specs.Tick.{complete_due}
 use Rattle.af_model.specs.Events.{tell}
@@ -95,3 +97,53 @@ played_alone = Woke (Opened 0) ∷ Woke (Readable 0) ∷ Read 0 (Given plays) �
 play_acts : has_acted_in 0 (end_state config played_alone) ≡ true
 unfolding end_state turn wake_phase serve_from serve_link read_phase close_phase hook_from advance complete_due reply_message head creation_refusal samples unwrap
 play_acts = refl
+
+-- Three links set up and record the frame from time 0 on, which is not there yet: link 0, a guest, which is link 1, and link 2. So they
+-- wait in that order.
+abbrev records : List ℕ
+records = setup
+    ++ 3 ∷ 0 ∷ 0 ∷ 4 ∷ 0 ∷ 0 ∷ 0 ∷ 1 ∷ 2 ∷ 1 ∷ 0 ∷ 0 ∷ 0 ∷ 0 ∷ 0 ∷ 0
+    ∷ 7 ∷ 1 ∷ 0 ∷ 4 ∷ 0 ∷ 0 ∷ 0 ∷ 1 ∷ 0 ∷ 0 ∷ 0 ∷ 0 ∷ 0 ∷ 0 ∷ 0 ∷ 2 ∷ []
+
+abbrev created : List ℕ
+created = setup_reply ++ 1 ∷ 3 ∷ 0 ∷ 1 ∷ 0 ∷ 0 ∷ 0 ∷ 0 ∷ []
+
+-- a link that is opened, asks for its record, and takes all but the last byte that is said to it
+abbrev asks : ℕ → Log
+asks k = Woke (Opened k) ∷ Woke (Readable k) ∷ Read k (Given records) ∷ Wrote k 36 (Some (take 35 created)) ∷ []
+
+-- Then the frame comes, and all three requests fall due. The capture fails, so that silence is recorded.
+abbrev comes : Log
+comes = Woke (Ticked 0 1) ∷ Captured 0 1 None ∷ []
+
+abbrev three : Log
+three = asks 0 ++ asks 1 ++ asks 2 ++ comes ++ Read 0 NotYet ∷ Read 1 NotYet ∷ Read 2 NotYet ∷ []
+
+-- the same without the guest
+abbrev two : Log
+two = asks 0 ++ (Woke Idle ∷ Woke Idle ∷ []) ++ asks 2 ++ comes ++ Read 0 NotYet ∷ Read 2 NotYet ∷ []
+
+without_guest : without 1 three ≡ two
+without_guest = refl
+
+-- the numbers of the links whose requests had waited for a device and were completed, in that order
+abbrev completed_in : Option State → List ℕ
+completed_in None = []
+completed_in (Some s) = flat_map (λ device. map (λ (c : Completion). c.link) device.completed) s.devices
+
+three_complete : completed_in (end_state config three) ≡ 0 ∷ 1 ∷ 2 ∷ []
+unfolding end_state turn wake_phase serve_from serve_link read_phase close_phase hook_from advance complete_due reply_message head creation_refusal record_refusal recorded_bytes unwrap
+three_complete = refl
+
+two_complete : completed_in (end_state config two) ≡ 0 ∷ 2 ∷ []
+unfolding end_state turn wake_phase serve_from serve_link read_phase close_phase hook_from advance complete_due reply_message head creation_refusal record_refusal recorded_bytes unwrap
+two_complete = refl
+
+-- the two others are said the same
+abbrev said_to : ℕ → Option State → List ℕ
+said_to k None = []
+said_to k (Some s) = (slot_at k s).said
+
+said_alike : (said_to 0 (end_state config two) ≡ said_to 0 (end_state config three)) × (said_to 2 (end_state config two) ≡ said_to 2 (end_state config three))
+unfolding end_state turn wake_phase serve_from serve_link read_phase close_phase hook_from advance complete_due reply_message head creation_refusal record_refusal recorded_bytes unwrap
+said_alike = (refl, refl)

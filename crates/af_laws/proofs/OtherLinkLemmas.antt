@@ -13,6 +13,7 @@ use Rattle.af_request.specs.Asked.{Asked, no_op, get_time, create_ac, change_ac,
 use Rattle.af_request.specs.declared.reply.Phone.{Phone}
 use Rattle.af_request.specs.Requests.{asked_in}
 use Rattle.af_request.specs.Answer.{plain, setup}
+use Rattle.af_request.specs.Opcodes as opcodes
 use Rattle.af_phone.specs.Lines.{selects}
 use Rattle.af_wire.specs.declared.event.Event.{Event}
 use Rattle.af_wire.specs.Event.{event_bytes}
@@ -187,7 +188,7 @@ module _ (k j : ℕ) (other : (j == k) ≡ false) (p : OpenLink) where
   play_same : (quiet : Bool) (c : Context) (time : ℕ) (bytes : List ℕ) (device : DeviceState) → play j quiet c time bytes (device_without k device) (open_without k p) ≡ open_without k (play j quiet c time bytes device p)
   play_same quiet c time bytes device =
       let f = accepting j (entry_now c device time bytes) in
-      refused_same k p 6 (play_refusal device.channels c (length bytes)) (start_play j quiet c time bytes device)
+      refused_same k p opcodes.play (play_refusal device.channels c (length bytes)) (start_play j quiet c time bytes device)
       (either_same k p (nat_le (frames_of device.channels c (length bytes)) (frames_within_horizon device time)) (λ q. tell_played quiet device (in_devices c.device f q)) (wait j c.device (deferred_play quiet (unwrap device.now time) (sent_sound c bytes) c.preempt))
       (ap (tell_played quiet device) (in_devices_without k c.device f (λ device. refl) p) ∙ played_without k quiet device (in_devices c.device f p))
       (wait_without k j other c.device (deferred_play quiet (unwrap device.now time) (sent_sound c bytes) c.preempt) p))
@@ -196,7 +197,7 @@ module _ (k j : ℕ) (other : (j == k) ≡ false) (p : OpenLink) where
   record_same : (blocking : Bool) (c : Context) (time bytes : ℕ) (device : DeviceState) → record_sound j blocking c time bytes (device_without k device) (open_without k p) ≡ open_without k (record_sound j blocking c time bytes device p)
   unfolding recorded_bytes
   record_same blocking c time bytes device =
-      refused_same k p 7 (record_refusal device.channels c bytes) (start_record j blocking c time bytes device)
+      refused_same k p opcodes.record (record_refusal device.channels c bytes) (start_record j blocking c time bytes device)
       (either_same k p (is_to_wait blocking device time (frames_of device.channels c bytes)) (wait j c.device (deferred_record c (unwrap device.now time) (frames_of device.channels c bytes)))
       (give_record c (unwrap device.now time) (given_frames blocking device time (frames_of device.channels c bytes)) device)
       (wait_without k j other c.device (deferred_record c (unwrap device.now time) (frames_of device.channels c bytes)) p) refl)
@@ -204,32 +205,32 @@ module _ (k j : ℕ) (other : (j == k) ≡ false) (p : OpenLink) where
 -- whatever another link requests
 pub done_other : (k j : ℕ) → (j == k) ≡ false → (request : Asked) (p : OpenLink) → done j request (open_without k p) ≡ open_without k (done j request p)
 done_other k j other no_op p = refl
-done_other k j other (get_time d) p = device_same k p 2 d tell_time (λ device. refl)
+done_other k j other (get_time d) p = device_same k p opcodes.get_time d tell_time (λ device. refl)
 done_other k j other (create_ac d ac ty channels preempt play_gain record_gain) p =
     let c = described d ac ty preempt play_gain record_gain in
     let q = open_without k p in
-    ap (λ n. refused_or 3 (creation_refusal n d ty channels preempt play_gain record_gain) (create c) q) (channels_without k p.environment.devices d)
-    ∙ refused_same k p 3 (creation_refusal (channels_at p.environment.devices d) d ty channels preempt play_gain record_gain) (create c)
-    (refused_same k p 3 (context_refusal c.ac (creation p.link.contexts c.ac)) (λ q. replied 3 plain (with_contexts (q.link.contexts ++ c ∷ []) q)) refl)
+    ap (λ n. refused_or opcodes.create_ac (creation_refusal n d ty channels preempt play_gain record_gain) (create c) q) (channels_without k p.environment.devices d)
+    ∙ refused_same k p opcodes.create_ac (creation_refusal (channels_at p.environment.devices d) d ty channels preempt play_gain record_gain) (create c)
+    (refused_same k p opcodes.create_ac (context_refusal c.ac (creation p.link.contexts c.ac)) (λ q. replied opcodes.create_ac plain (with_contexts (q.link.contexts ++ c ∷ []) q)) refl)
 done_other k j other (change_ac mask ac preempt play_gain record_gain) p =
-    refused_same k p 4 (change_refusal p.link.contexts mask ac preempt play_gain record_gain) (change mask ac preempt play_gain record_gain) refl
-done_other k j other (free_ac ac) p = refused_same k p 5 (context_refusal ac (reference p.link.contexts ac)) (λ q. replied 5 plain (with_contexts (without_context q.link.contexts ac) q)) refl
-done_other k j other (play_run quiet ac start bytes) p = context_same k p 6 ac (λ c. play j quiet c start bytes) (context_of p.link.contexts ac) (λ c device. play_same k j other p quiet c start bytes device)
+    refused_same k p opcodes.change_ac (change_refusal p.link.contexts mask ac preempt play_gain record_gain) (change mask ac preempt play_gain record_gain) refl
+done_other k j other (free_ac ac) p = refused_same k p opcodes.free_ac (context_refusal ac (reference p.link.contexts ac)) (λ q. replied opcodes.free_ac plain (with_contexts (without_context q.link.contexts ac) q)) refl
+done_other k j other (play_run quiet ac start bytes) p = context_same k p opcodes.play ac (λ c. play j quiet c start bytes) (context_of p.link.contexts ac) (λ c device. play_same k j other p quiet c start bytes device)
 done_other k j other (record_run blocking ac start bytes) p =
-    context_same k p 7 ac (λ c. record_sound j blocking c start bytes) (context_of p.link.contexts ac) (λ c device. record_same k j other p blocking c start bytes device)
+    context_same k p opcodes.record ac (λ c. record_sound j blocking c start bytes) (context_of p.link.contexts ac) (λ c device. record_same k j other p blocking c start bytes device)
 done_other k j other (select_events d mask) p =
-    device_same k p 8 d (λ device. on_line 8 d (λ line. select d mask) device.line) (λ device. line_same k p 8 d (λ line. select d mask) device.line (λ line. refl))
+    device_same k p opcodes.select_events d (λ device. on_line opcodes.select_events d (λ line. select d mask) device.line) (λ device. line_same k p opcodes.select_events d (λ line. select d mask) device.line (λ line. refl))
 done_other k j other (set_controls d mask input_on output_on input_gain output_gain) p =
     let f = controlling j mask input_on output_on input_gain output_gain in
-    device_same k p 9 d (set_device_controls j d mask input_on output_on input_gain output_gain)
-    (λ device. refused_same k p 9 (controls_refusal mask input_on output_on input_gain output_gain) (λ q. replied 9 plain (in_devices d f q)) (ap (replied 9 plain) (in_devices_without k d f (λ device. refl) p)))
-done_other k j other (query_controls d) p = device_same k p 10 d tell_controls (λ device. refl)
+    device_same k p opcodes.set_controls d (set_device_controls j d mask input_on output_on input_gain output_gain)
+    (λ device. refused_same k p opcodes.set_controls (controls_refusal mask input_on output_on input_gain output_gain) (λ q. replied opcodes.set_controls plain (in_devices d f q)) (ap (replied opcodes.set_controls plain) (in_devices_without k d f (λ device. refl) p)))
+done_other k j other (query_controls d) p = device_same k p opcodes.query_controls d tell_controls (λ device. refl)
 done_other k j other (hook_switch d off) p =
     let f = wanting_hook j (off == 1) in
-    device_same k p 11 d (λ device. on_line 11 d (switch_hook j d off) device.line)
-    (λ device. line_same k p 11 d (switch_hook j d off) device.line
-    (λ line. refused_same k p 11 (switch_refusal d off line) (λ q. replied 11 plain (in_devices d f q)) (ap (replied 11 plain) (in_devices_without k d f (λ device. refl) p))))
-done_other k j other (query_phone d) p = device_same k p 12 d (λ device. on_line 12 d tell_phone device.line) (λ device. line_same k p 12 d tell_phone device.line (λ line. refl))
+    device_same k p opcodes.hook_switch d (λ device. on_line opcodes.hook_switch d (switch_hook j d off) device.line)
+    (λ device. line_same k p opcodes.hook_switch d (switch_hook j d off) device.line
+    (λ line. refused_same k p opcodes.hook_switch (switch_refusal d off line) (λ q. replied opcodes.hook_switch plain (in_devices d f q)) (ap (replied opcodes.hook_switch plain) (in_devices_without k d f (λ device. refl) p))))
+done_other k j other (query_phone d) p = device_same k p opcodes.query_phone d (λ device. on_line opcodes.query_phone d tell_phone device.line) (λ device. line_same k p opcodes.query_phone d tell_phone device.line (λ line. refl))
 
 -- and its request is counted
 pub perform_other : (k j : ℕ) → (j == k) ≡ false → (request : Asked) (p : OpenLink) → perform j request (open_without k p) ≡ open_without k (perform j request p)
@@ -253,7 +254,7 @@ module _ (k j : ℕ) (other : (j == k) ≡ false) where
   setup_other : (f : SetupFront) (p : OpenLink) → after_setup f (open_without k p) ≡ option_map (open_without k) (after_setup f p)
   setup_other front.NeedMore p = refl
   setup_other (front.Setup order) p =
-      ap (λ infos. Some (say (open_link (environment_without k p.environment) (record (without_front 8 p.link) { is_set_up = true; order = order })) (reply_message order 0 (setup infos) 0))) (infos_without k p.environment.devices)
+      ap (λ infos. Some (say (open_link (environment_without k p.environment) (record (without_front 8 p.link) { is_set_up = true; order = order })) (reply_message order opcodes.setup (setup infos) 0))) (infos_without k p.environment.devices)
   setup_other (front.BadSetup order value) p = refl
 
   -- either of them

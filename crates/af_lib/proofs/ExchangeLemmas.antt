@@ -17,6 +17,7 @@ use Rattle.af_lib.specs.Answers.{and_then, answer_to, value_or_bad}
 use Rattle.af_lib.specs.Calls.{answered, as_devices, as_recorded, listed, recorded_in, stored_in, value_in, Answers, Sends}
 use Rattle.af_request.specs.declared.reply.DeviceInfo.{DeviceInfo}
 use Rattle.af_request.specs.Answer.{items_of}
+use Rattle.af_request.specs.Opcodes as opcodes
 use Rattle.af_time.specs.declared.DevTime.{DevTime}
 use Rattle.arrayvec.specs.ArrayVec.{ArrayVec}
 use Rattle.af_lib.specs.Exchange.{Finds}
@@ -67,22 +68,22 @@ module _ (order : Order) where
 
   -- the devices of a reply that was read
   pub value_listed : (bytes : List ℕ) (answer : Answer) (value : Option (ArrayVec DeviceInfo)) (result : Result (ArrayVec DeviceInfo) ConnFault) →
-      result ≡ value_or_bad bytes value → option_map items_of value ≡ as_devices answer → Some answer ≡ answer_in order 0 (take (length bytes - 8) (drop 8 bytes)) →
-      listed result ≡ value_in order as_devices 0 bytes
+      result ≡ value_or_bad bytes value → option_map items_of value ≡ as_devices answer → Some answer ≡ answer_in order opcodes.setup (take (length bytes - 8) (drop 8 bytes)) →
+      listed result ≡ value_in order as_devices opcodes.setup bytes
   value_listed bytes answer value result is stated read =
-      ap listed is ∙ listed_bad bytes value ∙ ap (value_or_bad bytes) (stated ∙ ap (option_and_then as_devices) (read ∙ ap (answer_in order 0) (take_rest bytes 8)))
+      ap listed is ∙ listed_bad bytes value ∙ ap (value_or_bad bytes) (stated ∙ ap (option_and_then as_devices) (read ∙ ap (answer_in order opcodes.setup) (take_rest bytes 8)))
 
   -- these are such as the reply to a setup may state
-  pub listed_stated : (bytes : List ℕ) (result : Result (ArrayVec DeviceInfo) ConnFault) → listed result ≡ value_in order as_devices 0 bytes → IfOk result (λ devices. IsReplyTo 0 (setup devices.items))
-  listed_stated bytes (Ok devices) is = setup_stated order (drop 8 bytes) devices.items (only_setup bytes (answer_in order 0 (drop 8 bytes)) devices.items (sym is))
+  pub listed_stated : (bytes : List ℕ) (result : Result (ArrayVec DeviceInfo) ConnFault) → listed result ≡ value_in order as_devices opcodes.setup bytes → IfOk result (λ devices. IsReplyTo opcodes.setup (setup devices.items))
+  listed_stated bytes (Ok devices) is = setup_stated order (drop 8 bytes) devices.items (only_setup bytes (answer_in order opcodes.setup (drop 8 bytes)) devices.items (sym is))
   listed_stated bytes (Err fault) is = tt
 
-  found_stated : (found : Result (List ℕ) ConnFault) (devices : List DeviceInfo) → and_then (value_in order as_devices 0) found ≡ Ok devices → IsReplyTo 0 (setup devices)
-  found_stated (Ok bytes) devices is = setup_stated order (drop 8 bytes) devices (only_setup bytes (answer_in order 0 (drop 8 bytes)) devices is)
+  found_stated : (found : Result (List ℕ) ConnFault) (devices : List DeviceInfo) → and_then (value_in order as_devices opcodes.setup) found ≡ Ok devices → IsReplyTo opcodes.setup (setup devices)
+  found_stated (Ok bytes) devices is = setup_stated order (drop 8 bytes) devices (only_setup bytes (answer_in order opcodes.setup (drop 8 bytes)) devices is)
   found_stated (Err fault) devices is = cc
 
   -- so are those of the answer to a setup
-  pub answered_stated : (found : Result (List ℕ) ConnFault) (devices : List DeviceInfo) → answered order as_devices 0 0 found ≡ Ok devices → IsReplyTo 0 (setup devices)
+  pub answered_stated : (found : Result (List ℕ) ConnFault) (devices : List DeviceInfo) → answered order as_devices opcodes.setup 0 found ≡ Ok devices → IsReplyTo opcodes.setup (setup devices)
   answered_stated found devices is = found_stated (and_then (answer_to order 0 0) found) devices is
 
   -- the samples of a reply that was read

@@ -18,6 +18,7 @@ use Rattle.af_wire.specs.declared.event.Event.{Event}
 use Rattle.af_wire.specs.Front.{setup_bytes}
 use Rattle.arrayvec.specs.ArrayVec.{ArrayVec}
 use Rattle.af_request.specs.Replies.{answer_in}
+use Rattle.af_request.specs.Opcodes as opcodes
 use Rattle.af_lib.specs.declared.fault.Cause.{Cause}
 use Rattle.af_lib.specs.declared.fault.Cause.TheVariants as cause
 use Rattle.af_lib.specs.declared.fault.ConnFault.{ConnFault}
@@ -43,18 +44,18 @@ following sequence = (sequence + 1) % 2 ^ 16
 
 -- the opcode of a request
 abbrev pub opcode_of : Asked → ℕ
-opcode_of no_op = 1
-opcode_of (get_time device) = 2
-opcode_of (create_ac device ac ty channels preempt play_gain record_gain) = 3
-opcode_of (change_ac mask ac preempt play_gain record_gain) = 4
-opcode_of (free_ac ac) = 5
-opcode_of (play_run quiet ac start samples) = 6
-opcode_of (record_run blocking ac start nbytes) = 7
-opcode_of (select_events device mask) = 8
-opcode_of (set_controls device mask input_on output_on input_gain output_gain) = 9
-opcode_of (query_controls device) = 10
-opcode_of (hook_switch device off) = 11
-opcode_of (query_phone device) = 12
+opcode_of no_op = opcodes.no_op
+opcode_of (get_time device) = opcodes.get_time
+opcode_of (create_ac device ac ty channels preempt play_gain record_gain) = opcodes.create_ac
+opcode_of (change_ac mask ac preempt play_gain record_gain) = opcodes.change_ac
+opcode_of (free_ac ac) = opcodes.free_ac
+opcode_of (play_run quiet ac start samples) = opcodes.play
+opcode_of (record_run blocking ac start nbytes) = opcodes.record
+opcode_of (select_events device mask) = opcodes.select_events
+opcode_of (set_controls device mask input_on output_on input_gain output_gain) = opcodes.set_controls
+opcode_of (query_controls device) = opcodes.query_controls
+opcode_of (hook_switch device off) = opcodes.hook_switch
+opcode_of (query_phone device) = opcodes.query_phone
 
 -- what a reply is to a call: that the request was performed
 abbrev pub as_done : Answer → Option Unit
@@ -265,7 +266,7 @@ pub record IsSetUp {L : Type 0} (order : Order) (left sent : L → Option (List 
   -- exactly the setup was sent
   pub sends : Sends result (sent old) (setup_bytes order) (sent new)
   -- exactly its answer was taken
-  pub answers : Answers order as_devices 0 0 result (record { events = []; lost = 0 }) ring (left old) (left new)
+  pub answers : Answers order as_devices opcodes.setup 0 result (record { events = []; lost = 0 }) ring (left old) (left new)
   -- it is neither Spent nor want of memory
   pub fresh : IsFresh result
   -- bytes that are observed stay observed

@@ -8,6 +8,7 @@ ghost use Rattle.af_request.specs.Answer.{Answer, reply_meaning as answered_by, 
 ghost use Rattle.af_request.specs.Asked.{request_meaning};
 ghost use Rattle.af_request.specs.Replies.{IsReplyTo};
 ghost use Rattle.af_request.specs.Requests.{request_bytes, FitsFrame};
+ghost use Rattle.af_request.specs.Opcodes as opcodes;
 ghost use Rattle.af_lib.specs.Answers.{value_or_bad};
 ghost use Rattle.af_lib.specs.Exchange.{HasBuffers};
 ghost use Rattle.af_lib.specs.Ring.{Gained};
@@ -18,7 +19,7 @@ use crate::fault::ConnFault;
 use crate::receive::bad_reply;
 use crate::ring::Ring;
 use af_io::Link;
-use af_request::{Controls, Devices, Phone, Reply, Request, read_reply};
+use af_request::{Controls, Devices, Phone, Reply, Request, opcode, read_reply};
 use af_time::DevTime;
 use af_wire::Order;
 
@@ -227,12 +228,12 @@ fn devices_of(reply: Reply<'_>) -> Option<Devices>
 
 fn devices_in(order: Order, bytes: &[u8]) -> Result<Devices, ConnFault>
     requires { 8 ≤ length bytes.now }
-    ensures value { listed result ≡ value_in order as_devices 0 bytes.now }
-    ensures stated { IfOk result (λ devices. IsReplyTo 0 (setup devices.items)) }
+    ensures value { listed result ≡ value_in order as_devices opcodes.setup bytes.now }
+    ensures stated { IfOk result (λ devices. IsReplyTo opcodes.setup (setup devices.items)) }
     ensures fresh { IsFresh result }
     ensures sound { result ≢ Err ConnFault.LinkFault }
 {
-    match read_reply(order, 0, &bytes[8..]) {
+    match read_reply(order, opcode::SETUP, &bytes[8..]) {
         Some(reply) => or_bad(devices_of(reply), bytes),
         None => Err(bad_reply(bytes)),
     }
@@ -246,8 +247,9 @@ pub fn set_up<L: Link>(
     input: &mut [u8],
 ) -> Result<Devices, ConnFault>
     requires { longest_message ≤ length input.old }
-    ensures answers { Answers order as_devices 0 0 (listed result) ring.old ring.new (L.left link.old) (L.left link.new) }
-    ensures stated { IfOk result (λ devices. IsReplyTo 0 (setup devices.items)) }
+    ensures answers { Answers order as_devices opcodes.setup 0 (listed result) ring.old ring.new
+        (L.left link.old) (L.left link.new) }
+    ensures stated { IfOk result (λ devices. IsReplyTo opcodes.setup (setup devices.items)) }
     ensures fresh { IsFresh result }
     ensures sends { Sends (listed result) (L.sent link.old) (setup_bytes order) (L.sent link.new) }
     ensures tells { IsSome (L.left link.old) → IsSome (L.left link.new) }

@@ -36,6 +36,7 @@ pub struct Conn<L: Link + Drop> {
 
 impl<L: Link + Drop> Model for Conn<L> {
     ghost use Rattle.af_request.specs.Answer.{setup};
+    ghost use Rattle.af_request.specs.Opcodes as opcodes;
     ghost use Rattle.af_request.specs.Replies.{IsReplyTo};
     ghost use Rattle.af_lib.specs.Calls.{ConnState};
     ghost use Rattle.af_lib.specs.Exchange.{HasBuffers};
@@ -44,7 +45,8 @@ impl<L: Link + Drop> Model for Conn<L> {
 
     ghost view = { λ a. record { link = a.exchange.link; order = a.order; devices = a.devices.items; sequence = a.sequence; ring = a.exchange.ring; cause = a.cause } };
 
-    ghost invariant = { λ a. HasBuffers a.exchange.input.items a.exchange.output.items × IsReplyTo 0 (setup a.devices.items) };
+    ghost invariant = { λ a. HasBuffers a.exchange.input.items a.exchange.output.items
+        × IsReplyTo opcodes.setup (setup a.devices.items) };
 }
 
 impl<L: Link + Drop> Conn<L> {

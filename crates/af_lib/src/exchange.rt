@@ -6,6 +6,7 @@ ghost use Rattle.af_io.specs.Flow.{Written};
 ghost use Rattle.af_wire.specs.Front.{setup_bytes};
 ghost use Rattle.af_request.specs.Asked.{request_meaning};
 ghost use Rattle.af_request.specs.Requests.{request_bytes, FitsFrame};
+ghost use Rattle.af_request.specs.Opcodes as opcodes;
 ghost use Rattle.af_lib.specs.Answers.{answer_to, refused_in};
 ghost use Rattle.af_lib.specs.Calls.{cause_of, held_in, opcode_of, IsFresh, Sends};
 ghost use Rattle.af_lib.specs.Exchange.{Finds, HasBuffers};
@@ -16,7 +17,7 @@ use crate::fault::{Cause, ConnFault};
 use crate::receive::{await_message, bad_reply};
 use crate::ring::Ring;
 use af_io::{Link, Put};
-use af_request::{Request, write_request};
+use af_request::{Request, opcode, write_request};
 use af_wire::Order;
 
 /// What a connection exchanges messages by: its link, the ring of events that come before an answer, and a buffer for one message
@@ -47,18 +48,18 @@ pub fn opcode_of(request: &Request<'_>) -> u8
     ensures { result ≡ opcode_of (request_meaning request.now) }
 {
     match request {
-        Request::NoOp => 1,
-        Request::GetTime { .. } => 2,
-        Request::CreateAc { .. } => 3,
-        Request::ChangeAc { .. } => 4,
-        Request::FreeAc { .. } => 5,
-        Request::PlayRun { .. } => 6,
-        Request::RecordRun { .. } => 7,
-        Request::SelectEvents { .. } => 8,
-        Request::SetControls { .. } => 9,
-        Request::QueryControls { .. } => 10,
-        Request::HookSwitch { .. } => 11,
-        Request::QueryPhone { .. } => 12,
+        Request::NoOp => opcode::NO_OP,
+        Request::GetTime { .. } => opcode::GET_TIME,
+        Request::CreateAc { .. } => opcode::CREATE_AC,
+        Request::ChangeAc { .. } => opcode::CHANGE_AC,
+        Request::FreeAc { .. } => opcode::FREE_AC,
+        Request::PlayRun { .. } => opcode::PLAY,
+        Request::RecordRun { .. } => opcode::RECORD,
+        Request::SelectEvents { .. } => opcode::SELECT_EVENTS,
+        Request::SetControls { .. } => opcode::SET_CONTROLS,
+        Request::QueryControls { .. } => opcode::QUERY_CONTROLS,
+        Request::HookSwitch { .. } => opcode::HOOK_SWITCH,
+        Request::QueryPhone { .. } => opcode::QUERY_PHONE,
     }
 }
 
@@ -179,7 +180,7 @@ pub fn await_setup<L: Link>(
 ) -> Result<usize, ConnFault>
     requires { longest_message ≤ length input.old }
     ensures finds { result ≢ Err ConnFault.LinkFault →
-        Finds order 0 0 result input.new ring.old ring.new (L.left link.old) (L.left link.new) }
+        Finds order opcodes.setup 0 result input.new ring.old ring.new (L.left link.old) (L.left link.new) }
     ensures within { IfOk result (λ n. (8 ≤ n) × (n ≤ longest_message)) }
     ensures fresh { IsFresh result }
     ensures sends { Sends result (L.sent link.old) (setup_bytes order) (L.sent link.new) }
@@ -187,7 +188,7 @@ pub fn await_setup<L: Link>(
     ensures faults { CountsFault (result ≡ Err ConnFault.LinkFault) (L.faults link.old) (L.faults link.new) }
 {
     match link.write(&order.setup()) {
-        Put::Done => await_answer(order, link, ring, input, 0, 0),
+        Put::Done => await_answer(order, link, ring, input, opcode::SETUP, 0),
         Put::Failed => Err(ConnFault::LinkFault),
     }
 }

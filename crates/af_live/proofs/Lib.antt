@@ -1,3 +1,5 @@
 pub mod ConsumesLemmas
 pub mod HeldLinksLemmas
 pub mod BehindLemmas
+pub mod PollsLemmas
+pub mod RoundLemmas

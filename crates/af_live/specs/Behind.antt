@@ -1,5 +1,5 @@
 -- What stands behind a device: silence, two files, whose bytes are known where std's readers and writers tell them, or the codec.
-use Rattle.std.specs.Prelude.{◌≡◌, ℕ, List, length, map, replicate, slice_index_or, slice_set, option_map}
+use Rattle.std.specs.Prelude.{◌≡◌, ℕ, Bool, true, false, List, length, map, replicate, slice_index_or, slice_set, option_map}
 use Rattle.std.specs.declared.option.Option.{Option}
 use Rattle.std.specs.declared.option.Option.TheVariants.{None, Some}
 use Rattle.af_limits.specs.Limits.{most_devices}
@@ -85,6 +85,12 @@ EmitsAt d answer sound old new codec codec' =
     (after : Option BehindState) × EmitsBy (behind_at old d) answer sound after codec codec' × (new ≡ slice_set old d after)
 
 -- Attaches
+
+-- a device of this kind opens files, which the system may refuse
+abbrev pub opens_files : Kind → Bool
+opens_files (kind.Files input output) = true
+opens_files kind.Silent = false
+opens_files (kind.Codec restarts words) = false
 
 -- what stands behind a device of this kind and sample type that was just attached
 abbrev pub IsBehind : Kind → SampleType → BehindState → Type 0

@@ -39,11 +39,13 @@ abbrev pub stage_behind : Put → CodecStage
 stage_behind put.Done = stage.Takes
 stage_behind put.Failed = stage.Dead
 
--- One emit of the codec: it adds to the acts exactly the calls that a sound asks for, and answers as they do. Its orders stay.
+-- One emit of the codec: it adds to the acts exactly the calls that a sound asks for, and answers as they do. Its orders stay. From then
+-- on a sound was emitted.
 pub record CodecEmits (answer : Put) (sound : List ℕ) (before after : CodecUse) : Type 0 where
   pub feeds : Feeds before.orders before.feeding after.feeding sound before.acts after.acts answer
   pub all : IsFed after.orders after.feeding true after.acts
   pub orders : after.orders ≡ before.orders
+  pub emitted : after.emitted ≡ true
   pub stage : after.stage ≡ stage_behind answer
 
 -- Sound that is handed to it: one emit where it takes sound. Else none is made, and that has failed.

@@ -1,4 +1,5 @@
 pub mod LinkTable
+pub mod Polls
 pub mod Readings
 pub mod FileBytes
 pub mod CodecUse

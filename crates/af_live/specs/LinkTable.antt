@@ -1,5 +1,5 @@
 -- Links that are held by number, and what is given first of what is ready of them.
-use Rattle.std.specs.Prelude.{◌≡◌, ◌≢◌, ◌⊎◌, ℕ, ◌≤◌, ◌<◌, Bool, true, false, ◌||◌, not, List, length, slice_index_or, slice_set, if◌then◌else◌}
+use Rattle.std.specs.Prelude.{◌≡◌, ◌≢◌, ◌⊎◌, ℕ, ◌≤◌, ◌<◌, nat_lt, Bool, true, false, ◌&&◌, ◌||◌, not, List, length, slice_index_or, slice_set, if◌then◌else◌}
 use Rattle.std.specs.declared.option.Option.{Option}
 use Rattle.std.specs.declared.option.Option.TheVariants.{None, Some}
 use Rattle.af_limits.specs.Limits.{most_links}
@@ -10,6 +10,7 @@ use Rattle.af_world.specs.declared.world.LinkGot.TheVariants as got
 use Rattle.af_world.specs.declared.world.LinkTook.{LinkTook}
 use Rattle.af_world.specs.declared.world.LinkTook.TheVariants as took
 use Rattle.af_live.specs.declared.link_table.LinkEntry.{LinkEntry}
+use Rattle.af_live.specs.declared.link_table.Told.{Told}
 
 -- no link has the number
 abbrev pub free_entry : Option LinkEntry
@@ -93,6 +94,17 @@ new_link key = record { key = key; opened = true; readable = false; writable = f
 abbrev pub TakesIn : List (Option LinkEntry) → List (Option LinkEntry) → Type 0
 TakesIn old new = (new ≡ old) ⊎ ((n : ℕ) × (key : ℕ) × IsLeastFree old (Some n) × (new ≡ slice_set old n (Some (new_link key))))
 
+-- What an event tells of a link is noted: it may be read or written from now on, or may hide more. It is drained no longer if it may
+-- be read. Whether its opening was given stays.
+abbrev pub noted : Told → Option LinkEntry → Option LinkEntry
+noted told None = None
+noted told (Some link) = Some (record link {
+  readable = link.readable || told.may_read;
+  writable = link.writable || told.may_write;
+  drained = link.drained && not told.may_read;
+  hides = link.hides || told.hides;
+})
+
 -- a wake of a link opens one that is not open, or names one that is
 abbrev pub LinkWakeFits : List (Option LinkEntry) → Wake → Type 0
 LinkWakeFits links (wake.Opened k) = (k < most_links) × (is_open (link_at links k) ≡ false)
@@ -125,15 +137,31 @@ abbrev pub to_read : Option LinkEntry → Option LinkEntry
 to_read None = None
 to_read (Some link) = Some (record link { readable = true })
 
--- Behind a read that gave something all that had come may be read; nothing else changes.
+-- all that had come by the link was read; nothing else changes
 abbrev pub to_drain : Option LinkEntry → Option LinkEntry
 to_drain None = None
 to_drain (Some link) = Some (record link { drained = true })
 
-abbrev pub AfterRead : ℕ → LinkGot → List (Option LinkEntry) → List (Option LinkEntry) → Type 0
-AfterRead k (got.Bytes n) old new = (new ≡ old) ⊎ (new ≡ slice_set old k (to_drain (link_at old k)))
-AfterRead k got.NotYet old new = (new ≡ old) ⊎ (new ≡ slice_set old k (to_read (link_at old k)))
-AfterRead k _ old new = new ≡ old
+-- all that had come by the link was read, and no event has told of more
+abbrev pub is_drained : Option LinkEntry → Bool
+is_drained None = false
+is_drained (Some link) = link.drained
+
+-- a read that gives little may hide more of the link, as its end
+abbrev pub may_hide : Option LinkEntry → Bool
+may_hide None = false
+may_hide (Some link) = link.hides
+
+-- A read drained its link: it gave fewer bytes than there was room for, and the link hides nothing after them.
+abbrev pub has_drained : ℕ → ℕ → Option LinkEntry → Bool
+has_drained n room link = nat_lt n room && not (may_hide link)
+
+-- what a read into so much room does to the links
+abbrev pub AfterRead : ℕ → ℕ → LinkGot → List (Option LinkEntry) → List (Option LinkEntry) → Type 0
+AfterRead k room (got.Bytes n) old new =
+    new ≡ (if has_drained n room (link_at old k) then slice_set old k (to_drain (link_at old k)) else old)
+AfterRead k room got.NotYet old new = (new ≡ old) ⊎ (new ≡ slice_set old k (to_read (link_at old k)))
+AfterRead k room _ old new = new ≡ old
 
 -- Behind a write that took nothing a link may be ready for another at once; nothing else changes.
 abbrev pub to_write : Option LinkEntry → Option LinkEntry

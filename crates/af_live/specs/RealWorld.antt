@@ -1,5 +1,5 @@
 -- A real world, which tells nothing of what happened.
-use Rattle.std.specs.Prelude.{◌≡◌, ◌⊎◌, ◌≤◌, ℕ, Bool, true, false, List, replicate}
+use Rattle.std.specs.Prelude.{◌≡◌, ◌==◌, ◌⊎◌, ◌≤◌, ℕ, ◌+◌, Bool, true, false, List, replicate, if◌then◌else◌}
 use Rattle.std.proofs.Common.{refl, ◌∙◌}
 use Rattle.std.proofs.Math.Nat.{le_refl, le_trans}
 use Rattle.std.specs.declared.option.Option.{Option}
@@ -18,7 +18,7 @@ use Rattle.af_live.specs.Behind.{BehindState, none_attached, all_without_bytes}
 use Rattle.af_live.specs.CodecUse.{CodecUse, begun_codec}
 use Rattle.af_live.specs.Readings.{IsReadingBy}
 use Rattle.af_pace.specs.Pacing.{begun}
-use Rattle.af_pace.specs.Rounds.{RoundState, new_round, is_paced, round_begun, round_with, GoesOn}
+use Rattle.af_pace.specs.Rounds.{RoundState, new_round, pace_at, is_paced, round_begun, round_with, due_of, GoesOn}
 
 -- Whether it listens; the links that it holds; what stands behind each device that is attached; its codec; its round over the
 -- devices; and how often each kind of call has failed.
@@ -73,12 +73,28 @@ abbrev pub GivesKept : Option Wake → List (Option LinkEntry) → RoundState �
 GivesKept None links round links' round' = ⊥
 GivesKept (Some w) links round links' round' = GivesFirst links (Some w) links' × (round' ≡ round)
 
--- A tick is that of the next device of the round of which frames are due, at the one reading of the round. Any other wake leaves the
--- round where it is, or comes behind the last of the devices, of which none has a frame due then, and begins a new round.
-abbrev pub LeadsRound : Wake → RoundState → RoundState → Type 0
-LeadsRound (wake.Ticked d n) old new = (nanos : ℕ) × IsReadingBy old.reading nanos × GoesOn nanos old (Some (d, n)) new
-LeadsRound _ old new =
-    (new ≡ old) ⊎ ((nanos : ℕ) × (past : RoundState) × IsReadingBy old.reading nanos × GoesOn nanos old None past × (new ≡ round_begun past))
+-- Each device that the round has left is asked at its one reading, and none has a frame due.
+abbrev pub PassesAll : RoundState → RoundState → Type 0
+PassesAll old past = (nanos : ℕ) × IsReadingBy old.reading nanos × GoesOn nanos old None past
+
+-- A tick is that of the next device of the round of which frames are due, at the one reading of the round. Any other wake was
+-- kept ready, and the round stays where it is; or it comes after the last of the devices, of which none has a frame due then, and a
+-- new round begins. A wait that failed begins none.
+abbrev pub LeadsRound : Option Wake → List (Option LinkEntry) → RoundState → List (Option LinkEntry) → RoundState → Type 0
+LeadsRound None links old links' new = (new ≡ old) ⊎ PassesAll old new
+LeadsRound (Some (wake.Ticked d n)) links old links' new =
+    (nanos : ℕ) × IsReadingBy old.reading nanos × GoesOn nanos old (Some (d, n)) new
+LeadsRound (Some w) links old links' new =
+    GivesKept (Some w) links old links' new ⊎ ((past : RoundState) × PassesAll old past × (new ≡ round_begun past))
+
+-- how many frames of a device a wait gave
+abbrev pub ticked_by : Option Wake → ℕ → ℕ
+ticked_by (Some (wake.Ticked d n)) e = if e == d then n else 0
+ticked_by _ e = 0
+
+-- No frame is lost: what is due of a device at any reading is given, or stays due.
+abbrev pub LosesNoFrame : Option Wake → RoundState → RoundState → Type 0
+LosesNoFrame w old new = (d nanos : ℕ) → due_of nanos (pace_at old d) ≤ ticked_by w d + due_of nanos (pace_at new d)
 
 -- the round behind an attach: where that was done, the device goes on at this rate
 abbrev pub round_after : Ready → RoundState → ℕ → ℕ → RoundState

@@ -1,7 +1,7 @@
 // A device that is attached, and what stands behind it.
-ghost use Rattle.std.specs.Prelude.{◌≡◌, ◌<◌, length, IfOk};
+ghost use Rattle.std.specs.Prelude.{◌≡◌, ◌<◌, length, false, IfOk, IsOk};
 ghost use Rattle.std.specs.declared.option.Option.TheVariants.{Some};
-ghost use Rattle.af_live.specs.Behind.{CapturesBy, EmitsBy, IsBehind, IsSilence};
+ghost use Rattle.af_live.specs.Behind.{opens_files, CapturesBy, EmitsBy, IsBehind, IsSilence};
 
 use crate::codec_device::CodecDevice;
 use crate::file_device::FileDevice;
@@ -45,7 +45,8 @@ impl<F: Read + Write + Drop> AttachedDevice<F> {
         ty: SampleType,
         kind: Kind<'_>,
     ) -> io::Result<AttachedDevice<F>>
-        ensures { IfOk result (λ device. IsBehind kind.entry ty device) }
+        ensures made { IfOk result (λ device. IsBehind kind.entry ty device) }
+        ensures done { opens_files kind.entry ≡ false → IsOk result }
     {
         let behind = match kind {
             Kind::Silent => Behind::Silence(ty),

@@ -3,7 +3,7 @@ ghost use Rattle.std.specs.Prelude.{◌≡◌, ◌≢◌, ◌<◌, [], length, f
 ghost use Rattle.std.specs.declared.option.Option.TheVariants.{Some};
 ghost use Rattle.af_limits.specs.Limits.{most_devices};
 ghost use Rattle.af_codec.specs.Codec.{TellsThese};
-ghost use Rattle.af_live.specs.Behind.{none_attached, CapturesBy, CapturesAt, EmitsBy, EmitsAt, AttachesAt};
+ghost use Rattle.af_live.specs.Behind.{none_attached, opens_files, CapturesBy, CapturesAt, EmitsBy, EmitsAt, AttachesAt};
 ghost use Rattle.af_live.specs.CodecUse.{begun_codec, codec_allows, codec_behind};
 ghost use Rattle.af_live.specs.RealWorld.{round_after};
 ghost use Rattle.af_pace.specs.Rounds.{new_round, is_paced};
@@ -56,6 +56,8 @@ impl<F: Read + Write + Drop, S: Spawner + Drop> Devices<F, S> {
     pub fn attach<R: Files<File = F>>(&mut self, rt: &R, asked: NewDevice<'_>) -> Ready
         ensures attaches { result ≡ Ready.Done → (asked.entry.number < most_devices) × (is_paced self.old.round asked.entry.number ≡ false) }
         ensures allowed { result ≡ Ready.Done → codec_allows self.old.codec asked.entry.kind ≡ true }
+        ensures done { asked.entry.number < most_devices → is_paced self.old.round asked.entry.number ≡ false →
+            codec_allows self.old.codec asked.entry.kind ≡ true → opens_files asked.entry.kind ≡ false → result ≡ Ready.Done }
         ensures round { self.new.round ≡ round_after result self.old.round asked.entry.number asked.entry.rate }
         ensures attached { AttachesAt result asked.entry.kind asked.entry.number asked.entry.ty self.old.attached self.new.attached }
         ensures codec { self.new.codec ≡ codec_behind result asked.entry.kind self.old.codec }

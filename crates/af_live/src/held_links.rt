@@ -3,7 +3,8 @@
 ghost use Rattle.std.specs.Prelude.{◌≡◌, ◌<◌, ◌+◌, min, max, length, replicate, slice_set, IfSome};
 ghost use Rattle.std.specs.declared.option.Option.TheVariants.{Some};
 ghost use Rattle.af_limits.specs.Limits.{most_links};
-ghost use Rattle.af_live.specs.LinkTable.{free_entry, link_at, new_link, to_drain, to_read, to_write, IsLeastFree, GivesFirst, KeepsOpen, LinkWakeFits, Opens};
+ghost use Rattle.af_live.specs.LinkTable.{free_entry, link_at, new_link, to_drain, to_read, to_write, IsLeastFree, GivesFirst, LinkWakeFits, Opens};
+ghost use Rattle.af_live.specs.Polls.{NotesAt};
 
 use crate::link_table::{
     LinkEntry, Told, first_ready, free_number, held_at, least_free, note_told, take_first,
@@ -20,7 +21,10 @@ struct ReadySpan {
 }
 
 /// Nothing is ready of any link.
-const NONE_READY: ReadySpan = ReadySpan { from: MOST_LINKS, below: 0 };
+const NONE_READY: ReadySpan = ReadySpan {
+    from: MOST_LINKS,
+    below: 0,
+};
 
 impl ReadySpan {
     /// Something may be ready of this link too.
@@ -99,7 +103,7 @@ impl HeldLinks {
 
     /// Notes what an event tells of a link.
     pub fn note(&mut self, number: usize, told: Told)
-        ensures { KeepsOpen self.old self.new }
+        ensures { NotesAt number told self.old self.new }
     {
         if number < self.entries.len() {
             note_told(&mut self.entries[number], told);

@@ -1,6 +1,6 @@
 // The links that a world holds, by number, and what is ready of each and was not given yet.
 ghost use Rattle.std.specs.Prelude.{◌≡◌, ◌≤◌, length, slice_set, slice_index_or, true, false};
-ghost use Rattle.af_live.specs.LinkTable.{free_entry, is_open, new_link, something_ready, wake_at, without_first_ready, IsLeastFree, IsFirstReady, NothingReadyBelow, NothingReadyFrom};
+ghost use Rattle.af_live.specs.LinkTable.{free_entry, new_link, noted, something_ready, wake_at, without_first_ready, IsLeastFree, IsFirstReady, NothingReadyBelow, NothingReadyFrom};
 
 use af_world::Wake;
 
@@ -123,7 +123,7 @@ pub(crate) struct Told {
 
 /// Notes what an event tells of a link that is held.
 pub(crate) fn note_told(link: &mut Option<LinkEntry>, told: Told)
-    ensures { is_open link.new ≡ is_open link.old }
+    ensures { link.new ≡ noted told link.old }
 {
     if let Some(held) = link {
         held.readable |= told.may_read;

@@ -1,7 +1,7 @@
 // The calls of a world on its links.
 ghost use Rattle.std.specs.Prelude.{◌≡◌, length, is_some, true};
 ghost use Rattle.af_world.specs.World.{LinkGotFits, TookFits};
-ghost use Rattle.af_live.specs.LinkTable.{is_free, link_at, AfterRead, AfterWrite, KeepsOpen, ClosesOne};
+ghost use Rattle.af_live.specs.LinkTable.{is_drained, is_free, link_at, AfterRead, AfterWrite, KeepsOpen, ClosesOne};
 
 use crate::held_links::HeldLinks;
 use crate::sockets::Sockets;
@@ -20,7 +20,8 @@ pub(crate) fn read_link(
     ensures bound { LinkGotFits result (length into.new) }
     ensures open { KeepsOpen links.old links.new }
     ensures unheld { is_free (link_at links.old link) ≡ true → result ≡ LinkGot.Failed }
-    ensures behind { AfterRead link result links.old links.new }
+    ensures drained { is_some sockets.old ≡ true → is_drained (link_at links.old link) ≡ true → result ≡ LinkGot.NotYet }
+    ensures behind { AfterRead link (length into.new) result links.old links.new }
     ensures listens { is_some sockets.new ≡ is_some sockets.old }
 {
     let (Some(sockets), Some(held)) = (sockets, links.get(link)) else {

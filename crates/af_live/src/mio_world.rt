@@ -9,14 +9,15 @@ ghost use Rattle.std.specs.Duration.{as_nanos};
 ghost use Rattle.af_limits.specs.Limits.{most_links, most_devices, longest_read, output_room};
 ghost use Rattle.af_io.specs.Observed.{FaultCounted};
 ghost use Rattle.af_world.specs.World.{LinkGotFits, TookFits};
-ghost use Rattle.af_live.specs.LinkTable.{is_free, link_at, something_ready, AfterRead, AfterWrite, KeepsOpen, ClosesOne, LinkWakeFits, Opens};
+ghost use Rattle.af_live.specs.LinkTable.{is_drained, is_free, link_at, something_ready, AfterRead, AfterWrite, KeepsOpen, ClosesOne, LinkWakeFits, Opens};
 ghost use Rattle.af_live.specs.Counting.{CountsOne, CountsStand};
 ghost use Rattle.af_codec.specs.Codec.{TellsThese};
-ghost use Rattle.af_live.specs.Behind.{CapturesAt, EmitsAt, AttachesAt};
+ghost use Rattle.af_live.specs.Behind.{opens_files, CapturesAt, EmitsAt, AttachesAt};
 ghost use Rattle.af_live.specs.CodecUse.{codec_allows, codec_behind};
 ghost use Rattle.af_live.specs.Readings.{whole_millis, pause_of, IsReadingBy};
 ghost use Rattle.af_pace.specs.Rounds.{is_paced, round_begun};
-ghost use Rattle.af_live.specs.RealWorld.{RealLeadsTo, begun_world, given, listens_behind, round_after, GivesKept, LeadsRound, WakeFits};
+ghost use Rattle.af_live.specs.Polls.{LeadsLinks, PolledGives, TakesLeast};
+ghost use Rattle.af_live.specs.RealWorld.{RealLeadsTo, begun_world, given, listens_behind, round_after, GivesKept, LeadsRound, LosesNoFrame, WakeFits};
 
 use crate::counting::{count_got, count_put, count_ready, count_took, count_waited};
 use crate::devices::{Devices, NewDevice, refusal};
@@ -146,7 +147,8 @@ impl<R: Net + Clock + Files + Drop, S: Spawner + Drop> World for MioWorld<R, S> 
         ensures leads { RealLeadsTo self.old self.new }
         ensures open { KeepsOpen self.old.links self.new.links }
         ensures unheld { is_free (link_at self.old.links link) ≡ true → result ≡ LinkGot.Failed }
-        ensures behind { AfterRead link result self.old.links self.new.links }
+        ensures drained { self.old.listens ≡ true → is_drained (link_at self.old.links link) ≡ true → result ≡ LinkGot.NotYet }
+        ensures behind { AfterRead link (length into.new) result self.old.links self.new.links }
         ensures rest { self.new ≡ record self.old { links = self.new.links; link_faults = self.new.link_faults } }
     {
         let got = read_link(&mut self.sockets, &mut self.links, link, into);
@@ -245,6 +247,8 @@ impl<R: Net + Clock + Files + Drop, S: Spawner + Drop> Live for MioWorld<R, S> {
         ensures attaches { result ≡ Ready.Done → (device < most_devices) × (is_paced self.old.round device ≡ false) }
         ensures round { self.new.round ≡ round_after result self.old.round device spec.now.rate }
         ensures allowed { result ≡ Ready.Done → codec_allows self.old.codec kind.entry ≡ true }
+        ensures done { device < most_devices → is_paced self.old.round device ≡ false →
+            codec_allows self.old.codec kind.entry ≡ true → opens_files kind.entry ≡ false → result ≡ Ready.Done }
         ensures behind { AttachesAt result kind.entry device spec.now.ty self.old.behind self.new.behind }
         ensures codec { self.new.codec ≡ codec_behind result kind.entry self.old.codec }
         ensures rest { self.new ≡ record self.old
@@ -270,7 +274,10 @@ impl<R: Net + Clock + Files + Drop, S: Spawner + Drop> Live for MioWorld<R, S> {
         ensures fits { IfSome (given result) (λ wake. WakeFits self.old.links self.old.round wake) }
         ensures opens { MatchOption (given result) (KeepsOpen self.old.links self.new.links)
             (λ wake. Opens wake self.old.links self.new.links) }
-        ensures round { IfSome (given result) (λ wake. LeadsRound wake self.old.round self.new.round) }
+        ensures links { LeadsLinks (given result) self.old.links self.new.links }
+        ensures least { TakesLeast self.old.links self.new.links }
+        ensures round { LeadsRound (given result) self.old.links self.old.round self.new.links self.new.round }
+        ensures frames { LosesNoFrame (given result) self.old.round self.new.round }
         ensures rest { self.new
             ≡ record self.old { links = self.new.links; round = self.new.round; wait_faults = self.new.wait_faults } }
         ensures counts { CountsStand self.old self.new }
@@ -338,7 +345,8 @@ fn poll_once(
 ) -> Option<Wake>
     ensures fits { IfSome result (λ wake. LinkWakeFits links.old wake) }
     ensures opens { MatchOption result (KeepsOpen links.old links.new) (λ wake. Opens wake links.old links.new) }
-    ensures round { IfSome result (λ wake. round.new ≡ round_begun round.old) }
+    ensures links { MatchOption result (links.new ≡ links.old) (λ wake. PolledGives wake links.old links.new) }
+    ensures round { MatchOption result (round.new ≡ round.old) (λ wake. round.new ≡ round_begun round.old) }
 {
     if !sockets.poll(pause, links) {
         return None;
@@ -365,7 +373,8 @@ fn next_wake<R: Clock>(
         GivesKept result links.old round.old links.new round.new }
     ensures fits { IfSome result (λ wake. WakeFits links.old round.old wake) }
     ensures opens { MatchOption result (KeepsOpen links.old links.new) (λ wake. Opens wake links.old links.new) }
-    ensures round { IfSome result (λ wake. LeadsRound wake round.old round.new) }
+    ensures links { LeadsLinks result links.old links.new }
+    ensures round { LeadsRound result links.old round.old links.new round.new }
 {
     let Some(sockets) = sockets else {
         return None;

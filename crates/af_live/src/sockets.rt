@@ -1,11 +1,13 @@
 // A listener and the links that came in by it, none of which makes a call wait.
-ghost use Rattle.std.specs.Prelude.{◌≡◌, ◌≤◌};
+ghost use Rattle.std.specs.Prelude.{◌≡◌, ◌≤◌, false};
 ghost use Rattle.std.specs.Io.{ReadsAtMost, WritesAtMost};
-ghost use Rattle.af_live.specs.LinkTable.{TakesIn, KeepsOpen};
+ghost use Rattle.af_live.specs.LinkTable.{TakesIn};
+ghost use Rattle.af_live.specs.Polls.{told_by, PollsTo};
 
 use crate::held_links::HeldLinks;
 use crate::link_table::Told;
 use af_limits::MOST_LINKS;
+use mio::event::Event;
 use mio::net::{TcpListener, TcpStream};
 use mio::{Events, Interest, Poll, Token};
 use slab::Slab;
@@ -58,7 +60,8 @@ impl Sockets {
     /// Waits for at most so long until something is ready, and notes it. New links are accepted. The answer is whether the
     /// system could be asked; a signal is no refusal.
     pub(crate) fn poll(&mut self, pause: Duration, links: &mut HeldLinks) -> bool
-        ensures { KeepsOpen links.old links.new }
+        ensures polls { PollsTo links.old links.new }
+        ensures refused { result ≡ false → links.new ≡ links.old }
     {
         match self.poll.poll(&mut self.events, Some(pause)) {
             Ok(()) => {}
@@ -77,7 +80,7 @@ impl Sockets {
     /// Accepts the connections that wait. Where the system refuses one for the time being, as with no descriptor left, those that
     /// wait are tried again behind the next poll.
     fn accept_all(&mut self, links: &mut HeldLinks)
-        ensures { KeepsOpen links.old links.new }
+        ensures { PollsTo links.old links.new }
     {
         for _ in 0..MOST_ACCEPTS {
             match self.listener.accept() {
@@ -95,8 +98,7 @@ impl Sockets {
 
     /// Holds a new link under the least number that is free. If none is, or the system does not watch it, it is closed.
     fn take_in(&mut self, mut stream: TcpStream, links: &mut HeldLinks)
-        ensures takes_in { TakesIn links.old links.new }
-        ensures open { KeepsOpen links.old links.new }
+        ensures { TakesIn links.old links.new }
     {
         let Some(number) = links.least_free() else {
             self.turned_away = self.turned_away.saturating_add(1);
@@ -162,24 +164,30 @@ fn bind<R: Net>(rt: &R, address: &str) -> io::Result<TcpListener> {
     Err(last)
 }
 
+/// What an event tells of its link.
+fn told_by(event: &Event) -> Told
+    ensures { result ≡ told_by event.now }
+{
+    let ends = event.is_read_closed() || event.is_error();
+    Told {
+        may_read: event.is_readable() || ends,
+        may_write: event.is_writable() || event.is_write_closed() || event.is_error(),
+        // the end and a fault come behind the last bytes, and a read stops at an urgent byte
+        hides: ends || event.is_priority(),
+    }
+}
+
 /// Notes what is ready of the links. The answer is whether connections wait.
 fn note_events(events: &Events<Global>, links: &mut HeldLinks) -> bool
-    ensures { KeepsOpen links.old links.new }
+    ensures { PollsTo links.old links.new }
 {
     let mut waiting = false;
     for event in events {
         let Token(number) = event.token();
-        let ends = event.is_read_closed() || event.is_error();
-        let told = Told {
-            may_read: event.is_readable() || ends,
-            may_write: event.is_writable() || event.is_write_closed() || event.is_error(),
-            // the end and a fault come behind the last bytes, and a read stops at an urgent byte
-            hides: ends || event.is_priority(),
-        };
         if event.token() == LISTENER {
             waiting = true;
         } else {
-            links.note(number, told);
+            links.note(number, told_by(event));
         }
     }
     waiting

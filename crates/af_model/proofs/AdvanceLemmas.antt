@@ -29,11 +29,11 @@ setup_within xs = grind arith
 
 pub perform_rest : (k : ℕ) (request : Asked) (p : OpenLink) → (perform k request p).link.rest ≡ p.link.rest
 perform_rest k request p =
-    done_both k (open_link p.environment (request_counted p.link)) p.link.rest (most_asked request) (λ u v. u.link.rest ≡ p.link.rest) refl (λ contexts selections bytes. refl) (λ d device f there l. refl) (λ d device f bytes there l. refl) (λ d device deferred there w. refl) request (omega arith)
+    done_both k (open_link p.environment (request_counted p.link)) p.link.rest (most_asked request) (λ u v. u.link.rest ≡ p.link.rest) refl (λ contexts selections bytes short. refl) (λ d device f there l. refl) (λ d device f bytes short there l. refl) (λ d device deferred there w. refl) request (omega arith)
 
 pub perform_closing : (k : ℕ) (request : Asked) (p : OpenLink) → (perform k request p).link.closing ≡ p.link.closing
 perform_closing k request p =
-    done_both k (open_link p.environment (request_counted p.link)) p.link.rest (most_asked request) (λ u v. u.link.closing ≡ p.link.closing) refl (λ contexts selections bytes. refl) (λ d device f there l. refl) (λ d device f bytes there l. refl) (λ d device deferred there w. refl) request (omega arith)
+    done_both k (open_link p.environment (request_counted p.link)) p.link.rest (most_asked request) (λ u v. u.link.closing ≡ p.link.closing) refl (λ contexts selections bytes short. refl) (λ d device f there l. refl) (λ d device f bytes short there l. refl) (λ d device deferred there w. refl) request (omega arith)
 
 requested_rest : (k : ℕ) (o : Option Asked) (p : OpenLink) → length (requested k o p).link.rest ≤ length p.link.rest
 requested_rest k None p = omega arith
@@ -84,6 +84,20 @@ by_some n k p q e = ap (λ o. or_else p (advance_by n k) o) e
 by_none : (n k : ℕ) (p : OpenLink) → advance_step k p ≡ None → advance_by n k p ≡ p
 by_none zero k p e = refl
 by_none (suc n) k p e = ap (λ o. or_else p (advance_by n k) o) e
+
+-- behind an advance there is none to take
+by_ends : (n k : ℕ) (p : OpenLink) → length p.link.rest ≤ n → advance_step k (advance_by n k p) ≡ None
+by_ends zero k p h =
+    elim (advance_step k p) as (λ o. IsShorter (length p.link.rest) o → o ≡ None) [ None ↦ λ s. refl | Some q ↦ λ s. absurd (omega (arith, s, h)) ] (step_shorter k p)
+by_ends (suc n) k p h =
+    elim (advance_step k p) as (λ o. advance_step k p ≡ o → IsShorter (length p.link.rest) o → advance_step k (or_else p (advance_by n k) o) ≡ None) [
+      | None ↦ λ e s. e
+      | Some q ↦ λ e s. by_ends n k q (omega (arith, s, h))
+    ] refl (step_shorter k p)
+
+pub advance_ends : (k : ℕ) (p : OpenLink) → advance_step k (advance k p) ≡ None
+unfolding advance
+advance_ends k p = by_ends (length p.link.rest) k p (omega arith)
 
 -- if there is one to take, advancing goes on behind it
 pub advance-some : (k : ℕ) (p q : OpenLink) → advance_step k p ≡ Some q → advance k p ≡ advance k q

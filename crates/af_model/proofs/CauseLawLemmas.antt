@@ -21,7 +21,7 @@ shown k g said None waiting h =
       | None ↦ λ c. tt
       | Some cause ↦ λ c. subst (IsCause cause g) (sym (owed_is g.took h.0 said h.1)) c
     ] h.2
-shown k g said (Some l) waiting h = subst (λ o. IfSome o (λ cause. IsCause cause g (owed_of g said))) (sym h.unclosed) tt
+shown k g said (Some l) waiting h = subst (λ o. IfSome o (λ cause. IsCause cause g (owed_of g said))) (sym h.0.unclosed) tt
 
 pub shows_causes : (config : List DeviceSpec) (log : Log) → ShowsCauses config log
 unfolding end_state

@@ -11,7 +11,7 @@ use Rattle.af_world.specs.declared.happening.Why.TheVariants as why
 use Rattle.af_model.specs.State.{LinkState}
 use Rattle.af_model.specs.LinkHistory.{LinkHistory}
 use Rattle.af_model.specs.Prefix.{is_dropped}
-use Rattle.af_model.specs.Causes.{IsCause, IsServedTo}
+use Rattle.af_model.specs.Causes.{AreServed, IsCause, IsServedTo}
 use Rattle.af_model.proofs.InputLemmas.{IsInput, IsBadInput}
 
 -- the input of a link that nothing has ended
@@ -35,8 +35,8 @@ Shows h owed l = ShowsBy h owed l.is_set_up l.order l.rest l.closing
 -- a history that differs in what was taken, or in a close, shows the same cause
 pub cause_alike : (cause : Why) (h g : LinkHistory) (n : ℕ) → g.gave ≡ h.gave → g.has_ended ≡ h.has_ended → g.has_failed ≡ h.has_failed → IsCause cause h n → IsCause cause g n
 cause_alike why.LinkFault h g n gave ended failed c = failed ∙ c
-cause_alike why.Overrun h g n gave ended failed c = (failed ∙ c.0, c.1)
-cause_alike why.Ended h g n gave ended failed c = (failed ∙ c.0, ended ∙ c.1, c.2)
+cause_alike why.Overrun h g n gave ended failed c = (failed ∙ c.0, ended ∙ c.1, c.2)
+cause_alike why.Ended h g n gave ended failed c = (failed ∙ c.0, ended ∙ c.1, c.2, subst AreServed (sym gave) c.3)
 cause_alike why.BadSetup h g n gave ended failed c =
     (record { failed = failed ∙ c.0.failed; ended = ended ∙ c.0.ended; all_taken = c.0.all_taken }, c.1, c.2, subst (λ l. setup_front l ≡ front.BadSetup c.1 c.2) (sym gave) c.3)
 cause_alike why.Malformed h g n gave ended failed c =
@@ -54,15 +54,6 @@ shows_taken h bytes owed other is_set_up order rest None stays s = record { fail
 shows_taken h bytes owed other is_set_up order rest (Some cause) stays s =
     subst (λ t. IsCause cause (record h { took = h.took ++ bytes }) (owed_at_close t other)) (sym stays)
     (cause_alike cause h (record h { took = h.took ++ bytes }) 0 refl refl refl (subst (λ t. IsCause cause h (owed_at_close t owed)) stays s))
-
--- no call of a link failed that was not dropped
-pub shows_unfailed : (h : LinkHistory) (owed : List ℕ) (is_set_up : Bool) (order : Order) (rest : List ℕ) (closing : Option Why) → is_dropped closing ≡ false → ShowsBy h owed is_set_up order rest closing → h.has_failed ≡ false
-shows_unfailed h owed is_set_up order rest None stays s = s.failed
-shows_unfailed h owed is_set_up order rest (Some why.LinkFault) stays s = absurd cc
-shows_unfailed h owed is_set_up order rest (Some why.Overrun) stays s = absurd cc
-shows_unfailed h owed is_set_up order rest (Some why.Ended) stays s = s.0
-shows_unfailed h owed is_set_up order rest (Some why.BadSetup) stays s = s.0.failed
-shows_unfailed h owed is_set_up order rest (Some why.Malformed) stays s = s.0.failed
 
 -- bytes at the front of the input close a link
 pub shows_bad : (h : LinkHistory) (owed : List ℕ) (cause : Why) (l : LinkState) → IsBadInput cause l → IsUnended h l.is_set_up l.order l.rest → ShowsBy h owed l.is_set_up l.order [] (Some cause)
@@ -121,21 +112,21 @@ one_cause a b h n s t = one a b s t
     one why.LinkFault why.Malformed s t = not_failed s t.0.failed
     one why.Overrun why.LinkFault s t = not_failed t s.0
     one why.Overrun why.Overrun s t = refl
-    one why.Overrun why.Ended s t = no_owed s.1 t.2
-    one why.Overrun why.BadSetup s t = no_owed s.1 t.0.all_taken
-    one why.Overrun why.Malformed s t = no_owed s.1 t.0.all_taken
+    one why.Overrun why.Ended s t = not_ended t.1 s.1
+    one why.Overrun why.BadSetup s t = no_owed s.2 t.0.all_taken
+    one why.Overrun why.Malformed s t = no_owed s.2 t.0.all_taken
     one why.Ended why.LinkFault s t = not_failed t s.0
-    one why.Ended why.Overrun s t = no_owed t.1 s.2
+    one why.Ended why.Overrun s t = not_ended s.1 t.1
     one why.Ended why.Ended s t = refl
     one why.Ended why.BadSetup s t = not_ended s.1 t.0.ended
     one why.Ended why.Malformed s t = not_ended s.1 t.0.ended
     one why.BadSetup why.LinkFault s t = not_failed t s.0.failed
-    one why.BadSetup why.Overrun s t = no_owed t.1 s.0.all_taken
+    one why.BadSetup why.Overrun s t = no_owed t.2 s.0.all_taken
     one why.BadSetup why.Ended s t = not_ended t.1 s.0.ended
     one why.BadSetup why.BadSetup s t = refl
     one why.BadSetup why.Malformed s t = not_set_up s.1 t.1 s.2 s.3 t.3.setup
     one why.Malformed why.LinkFault s t = not_failed t s.0.failed
-    one why.Malformed why.Overrun s t = no_owed t.1 s.0.all_taken
+    one why.Malformed why.Overrun s t = no_owed t.2 s.0.all_taken
     one why.Malformed why.Ended s t = not_ended t.1 s.0.ended
     one why.Malformed why.BadSetup s t = not_set_up t.1 s.1 t.2 t.3 s.3.setup
     one why.Malformed why.Malformed s t = refl

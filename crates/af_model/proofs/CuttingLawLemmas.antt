@@ -15,6 +15,7 @@ use Rattle.af_wire.specs.Order.{u16_of, u32_of}
 use Rattle.af_request.specs.Asked.{Asked}
 use Rattle.af_request.specs.Requests.{asked_in}
 use Rattle.af_request.specs.Answer.{setup}
+use Rattle.af_request.specs.Opcodes as opcodes
 use Rattle.af_model.specs.State.{OpenLink, open_link, say}
 use Rattle.af_model.specs.Waiting.{has_deferral}
 use Rattle.af_model.specs.Reply.{infos_of, reply_message}
@@ -87,7 +88,7 @@ perform_more : (k : ℕ) (request : Asked) (p : OpenLink) (b : List ℕ) → is_
 perform_more k request p b e =
     let q = open_link p.environment (request_counted p.link) in
     let both : perform k request (more_bytes p b) ≡ more_bytes (perform k request p) b =
-    done_both k q (p.link.rest ++ b) (most_asked request) (λ (u v : OpenLink). v ≡ more_bytes u b) refl (λ contexts selections bytes. refl) (λ d device f there l. refl) (λ d device f bytes there l. refl) (λ d device deferred there w. refl) request (omega arith) in
+    done_both k q (p.link.rest ++ b) (most_asked request) (λ (u v : OpenLink). v ≡ more_bytes u b) refl (λ contexts selections bytes short. refl) (λ d device f there l. refl) (λ d device f bytes short there l. refl) (λ d device deferred there w. refl) request (omega arith) in
     both ∙ sym (open_bytes (perform k request p) b (ap is_none (perform_closing k request p) ∙ e))
 
 requested_more : (k : ℕ) (o : Option Asked) (p : OpenLink) (b : List ℕ) → is_none p.link.closing ≡ true → requested k o (more_bytes p b) ≡ then_bytes (requested k o p) b
@@ -115,7 +116,7 @@ setup_more p b front.NeedMore g e w s = tt
 setup_more p b (front.BadSetup order value) g e w s = ap (λ x. after_setup x (more_bytes p b)) s
 setup_more p b (front.Setup order) g e w s =
     let d : drop 8 (p.link.rest ++ b) ≡ drop 8 p.link.rest ++ b = drop-append-le 8 p.link.rest b w in
-    let set_up : List ℕ → OpenLink = λ rest. say (open_link p.environment (record p.link { is_set_up = true; order = order; rest = rest })) (reply_message order 0 (setup (infos_of p.environment.devices)) 0) in
+    let set_up : List ℕ → OpenLink = λ rest. say (open_link p.environment (record p.link { is_set_up = true; order = order; rest = rest })) (reply_message order opcodes.setup (setup (infos_of p.environment.devices)) 0) in
     ap (λ x. after_setup x (more_bytes p b)) s ∙ ap (λ x. Some x) (ap set_up d ∙ sym (open_bytes (set_up (drop 8 p.link.rest)) b e))
 
 front_more : (t : Bool) (k : ℕ) (p : OpenLink) (b : List ℕ) → is_none p.link.closing ≡ true →

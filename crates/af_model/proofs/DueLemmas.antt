@@ -1,7 +1,7 @@
 -- What a request is like that begins to wait: it is due later than its device's time, and it has not more samples than it may.
-use Rattle.std.proofs.Common.{◌≡◌, ℕ, ◌+◌, ◌-◌, ◌/◌, ◌<◌, ◌≤◌, Bool, true, false, not, List, [], ◌∷◌, length, nat_le, nat_lt, refl, sym, ap, ◌∙◌, arith}
+use Rattle.std.proofs.Common.{◌≡◌, ℕ, ◌+◌, ◌*◌, ◌-◌, ◌/◌, ◌<◌, ◌≤◌, Bool, true, false, not, List, [], ◌∷◌, length, nat_le, nat_lt, refl, sym, ap, ◌∙◌, arith}
 use Rattle.std.proofs.lemmas.List.{length-map}
-use Rattle.std.proofs.Math.Nat.{div-le_self, div-div-eq-div-mul}
+use Rattle.std.proofs.Math.Nat.{div-le_self, div-mul-le_self, div-div-eq-div-mul}
 use Rattle.std.specs.declared.option.Option.TheVariants.{None}
 use Rattle.af_time.specs.DeviceTime.{unwrap}
 use Rattle.af_sample.specs.Gains.{gained}
@@ -32,9 +32,15 @@ most_asked (play_run quiet ac start bytes) = length bytes
 most_asked (record_run blocking ac start bytes) = longest_record
 most_asked _ = 0
 
+-- how many bytes the answer of a record has
+abbrev pub answer_size : ℕ → Deferred → ℕ
+answer_size channels (deferred_play quiet start sound preempt) = 0
+answer_size channels (deferred_record c start frames) = frames * frame_bytes c.ty channels
+
 pub record IsToWait (most : ℕ) (device : DeviceState) (deferred : Deferred) : Type 0 where
   pub later : device.now < due device.channels (horizon_of device) deferred
   pub short : frames_deferred deferred ≤ most
+  pub answered : answer_size device.channels deferred ≤ longest_record
 
 -- a check that refuses nothing did not fail
 unfailed : (fails : Bool) (value : ℕ) → check fails BadValue value ≡ None → fails ≡ false
@@ -62,27 +68,35 @@ pub play_waits : (quiet : Bool) (c : Context) (device : DeviceState) (time : ℕ
 play_waits quiet c device time bytes most short beyond = record {
   later = past device.now (horizon_of device) (unwrap device.now time) (frame_count device.channels (sent_sound c bytes)) (frames_of device.channels c (length bytes)) (sent_frames device.channels c bytes) beyond;
   short = omega (arith, sent_few c bytes, short);
+  answered = omega arith;
 }
   where
     past : (now horizon start sound frames : ℕ) → sound ≡ frames → nat_le frames (now + horizon - start) ≡ false → now < start + sound - horizon
     past now horizon start sound frames same e = grind arith
 
--- a record of what is not there yet
-pub record_waits : (blocking : Bool) (c : Context) (device : DeviceState) (time bytes most : ℕ) → record_refusal device.channels c bytes ≡ None → longest_record ≤ most →
-    is_to_wait blocking device time (frames_of device.channels c bytes) ≡ true → IsToWait most device (deferred_record c (unwrap device.now time) (frames_of device.channels c bytes))
+-- a record that is not refused has few bytes
+pub record_few : (channels : ℕ) (c : Context) (bytes : ℕ) → record_refusal channels c bytes ≡ None → bytes ≤ longest_record
 unfolding record_refusal
-record_waits blocking c device time bytes most allowed most_is waits =
-    let test = (both-true blocking (nat_lt (frames_before_now device time) (frames_of device.channels c bytes)) waits).1 in
-    let few : nat_lt longest_record bytes ≡ false = first (check (not (are_frames device.channels c bytes)) BadValue bytes ∷ []) (nat_lt longest_record bytes) allowed in
-    let fewer = div-le_self bytes (frame_bytes c.ty device.channels) in
-    record { later = past device.now (unwrap device.now time) (frames_of device.channels c bytes) test; short = bounded bytes (frames_of device.channels c bytes) few fewer }
+record_few channels c bytes allowed = few bytes (first (check (not (are_frames channels c bytes)) BadValue bytes ∷ []) (nat_lt longest_record bytes) allowed)
   where
     first : (rest : _) (fails : Bool) → first_refusal (check fails BadValue bytes ∷ rest) ≡ None → fails ≡ false
     first rest true e = absurd (none_some (sym e))
     first rest false e = refl
 
+    few : (bytes : ℕ) → nat_lt longest_record bytes ≡ false → bytes ≤ longest_record
+    few bytes e = grind arith
+
+-- a record of what is not there yet
+pub record_waits : (blocking : Bool) (c : Context) (device : DeviceState) (time bytes most : ℕ) → record_refusal device.channels c bytes ≡ None → longest_record ≤ most →
+    is_to_wait blocking device time (frames_of device.channels c bytes) ≡ true → IsToWait most device (deferred_record c (unwrap device.now time) (frames_of device.channels c bytes))
+record_waits blocking c device time bytes most allowed most_is waits =
+    let test = (both-true blocking (nat_lt (frames_before_now device time) (frames_of device.channels c bytes)) waits).1 in
+    let few = record_few device.channels c bytes allowed in
+    record {
+      later = past device.now (unwrap device.now time) (frames_of device.channels c bytes) test;
+      short = omega (arith, few, most_is, div-le_self bytes (frame_bytes c.ty device.channels));
+      answered = omega (arith, few, div-mul-le_self bytes (frame_bytes c.ty device.channels));
+    }
+  where
     past : (now start frames : ℕ) → nat_lt (now - start) frames ≡ true → now < start + frames
     past now start frames e = grind arith
-
-    bounded : (bytes frames : ℕ) → nat_lt longest_record bytes ≡ false → frames ≤ bytes → frames ≤ most
-    bounded bytes frames e le = let m : longest_record ≤ most = most_is in grind arith

@@ -11,6 +11,7 @@ use Rattle.af_wire.specs.Front.{frame_front}
 use Rattle.af_request.specs.Asked.{Asked}
 use Rattle.af_request.specs.Fields.{u8_at, u32_at}
 use Rattle.af_request.specs.Requests.{Row, asked_by, asked_in, row_of}
+use Rattle.af_request.specs.Opcodes as opcodes
 use Rattle.af_model.proofs.BoolTestLemmas.{cond-some, none_some, some_is}
 use Rattle.af_model.proofs.DueLemmas.{most_asked}
 
@@ -42,8 +43,8 @@ row_asks : (order : Order) (opcode : ℕ) (frame : List ℕ) → length frame �
 row_asks order opcode frame short =
     let within = slice_within frame 16 (16 + u32_at order 12 frame) in
     let none : 0 ≤ longest_frame = omega arith in
-    either (opcode == 1) _ _ none (either (opcode == 2) _ _ none (either (opcode == 3) _ _ none (either (opcode == 4) _ _ none (either (opcode == 5) _ _ none (either (opcode == 6) _ _ (omega (arith, within, short))
-    (either (opcode == 7) _ _ (omega arith) (either (opcode == 8) _ _ none (either (opcode == 9) _ _ none (either (opcode == 10) _ _ none (either (opcode == 11) _ _ none (either (opcode == 12) _ _ none tt)))))))))))
+    either (opcode == opcodes.no_op) _ _ none (either (opcode == opcodes.get_time) _ _ none (either (opcode == opcodes.create_ac) _ _ none (either (opcode == opcodes.change_ac) _ _ none (either (opcode == opcodes.free_ac) _ _ none (either (opcode == opcodes.play) _ _ (omega (arith, within, short))
+    (either (opcode == opcodes.record) _ _ (omega arith) (either (opcode == opcodes.select_events) _ _ none (either (opcode == opcodes.set_controls) _ _ none (either (opcode == opcodes.query_controls) _ _ none (either (opcode == opcodes.hook_switch) _ _ none (either (opcode == opcodes.query_phone) _ _ none tt)))))))))))
 
 -- a request that is a frame at the front of some bytes has few frames
 pub frame_asks : (order : Order) (xs : List ℕ) (n : ℕ) (request : Asked) → frame_front order xs ≡ Frame n → asked_in order (take n xs) ≡ Some request → most_asked request ≤ longest_frame

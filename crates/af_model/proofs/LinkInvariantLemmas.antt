@@ -15,6 +15,7 @@ use Rattle.af_wire.specs.Message.{error}
 use Rattle.af_request.specs.Asked.{Asked}
 use Rattle.af_request.specs.Requests.{asked_in}
 use Rattle.af_request.specs.Answer.{setup}
+use Rattle.af_request.specs.Opcodes as opcodes
 use Rattle.af_model.specs.State.{DeviceState, Deferred, deferred_play, deferred_record, LinkState, OpenLink, open_link, say, stopped}
 use Rattle.af_model.specs.Waiting.{has_deferral, wait}
 use Rattle.af_model.specs.Reply.{infos_of, reply_message}
@@ -58,9 +59,9 @@ module _ (k : ℕ) (May : Option Why → Type 0) (I : OpenLink → Type 0) (kept
       let i : I q = kept.link p (request_counted p.link) none none refl refl refl refl h in
       let may = kept.may p.link.closing (open_undropped p.link.closing none) in
       done_both k q q.link.rest longest_frame (λ u v. I u) i
-      (λ contexts selections bytes. kept.says (chosen contexts selections q) bytes may (kept.link q (chosen contexts selections q).link none none refl refl refl refl i))
+      (λ contexts selections bytes few. kept.says (chosen contexts selections q) bytes may (kept.link q (chosen contexts selections q).link none none refl refl refl refl i))
       (λ d device f there l. kept.becomes q d device f there l i)
-      (λ d device f bytes there l. kept.says (in_devices d f q) bytes may (kept.becomes q d device f there l i))
+      (λ d device f bytes few there l. kept.says (in_devices d f q) bytes may (kept.becomes q d device f there l i))
       (λ d device deferred there w. kept.waits q d device deferred there w none i) request short
 
   -- a frame is a request, or closes the link
@@ -78,9 +79,9 @@ module _ (k : ℕ) (May : Option Why → Type 0) (I : OpenLink → Type 0) (kept
   setup_keeps front.NeedMore p e unset none h = tt
   setup_keeps (front.Setup order) p e unset none h =
       let q = open_link p.environment (record (without_front 8 p.link) { is_set_up = true; order = order }) in
-      kept.says q (reply_message order 0 (setup (infos_of p.environment.devices)) 0) (kept.may p.link.closing (open_undropped p.link.closing none)) (kept.sets_up p order none unset e h)
+      kept.says q (reply_message order opcodes.setup (setup (infos_of p.environment.devices)) 0) (kept.may p.link.closing (open_undropped p.link.closing none)) (kept.sets_up p order none unset e h)
   setup_keeps (front.BadSetup order value) p e unset none h =
-      kept.says (open_link p.environment (stopped why.BadSetup p.link)) (error order 1 value 0 0) (kept.may (Some why.BadSetup) refl) (kept.stops p why.BadSetup none (unset, order, value, e) h)
+      kept.says (open_link p.environment (stopped why.BadSetup p.link)) (error order 1 value opcodes.setup 0) (kept.may (Some why.BadSetup) refl) (kept.stops p why.BadSetup none (unset, order, value, e) h)
 
   front_keeps : (t : Bool) (p : OpenLink) → p.link.is_set_up ≡ t → p.link.closing ≡ None → I p → IfSome (cond t (after_frame k (frame_front p.link.order p.link.rest) p) (after_setup (setup_front p.link.rest) p)) I
   front_keeps true p set none h = frame_keeps (frame_front p.link.order p.link.rest) p refl set none h

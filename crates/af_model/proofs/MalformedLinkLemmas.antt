@@ -14,6 +14,7 @@ use Rattle.af_wire.specs.Message.{error}
 use Rattle.af_request.specs.Asked.{Asked}
 use Rattle.af_request.specs.Requests.{asked_in}
 use Rattle.af_request.specs.Answer.{setup}
+use Rattle.af_request.specs.Opcodes as opcodes
 use Rattle.af_model.specs.State.{State, LinkState, OpenLink, SlotLink, open_link, say, stopped, some_slot, slot_at, slot_link_at, with_slot_link}
 use Rattle.af_model.specs.Waiting.{has_deferral}
 use Rattle.af_model.specs.Reply.{infos_of, reply_message}
@@ -50,10 +51,10 @@ other_cause e = cc
 setup_alone : (f : SetupFront) (p q : OpenLink) → p.link.closing ≡ None → after_setup f p ≡ Some q → ClosesAlone p q
 setup_alone front.NeedMore p q none e c = absurd (none_some e)
 setup_alone (front.Setup order) p q none e c =
-    let same : say (open_link p.environment (record (without_front 8 p.link) { is_set_up = true; order = order })) (reply_message order 0 (setup (infos_of p.environment.devices)) 0) ≡ q = cc in
+    let same : say (open_link p.environment (record (without_front 8 p.link) { is_set_up = true; order = order })) (reply_message order opcodes.setup (setup (infos_of p.environment.devices)) 0) ≡ q = cc in
     absurd (none_some (sym none ∙ ap (λ (r : OpenLink). r.link.closing) same ∙ c))
 setup_alone (front.BadSetup order value) p q none e c =
-    let same : say (open_link p.environment (stopped why.BadSetup p.link)) (error order 1 value 0 0) ≡ q = cc in
+    let same : say (open_link p.environment (stopped why.BadSetup p.link)) (error order 1 value opcodes.setup 0) ≡ q = cc in
     absurd (other_cause (ap (λ (r : OpenLink). r.link.closing) same ∙ c))
 
 front_alone : (b : Bool) (k : ℕ) (p q : OpenLink) → p.link.closing ≡ None → cond b (after_frame k (frame_front p.link.order p.link.rest) p) (after_setup (setup_front p.link.rest) p) ≡ Some q → ClosesAlone p q

@@ -1,5 +1,5 @@
 -- What is queued for a link: behind what it took, what was said to it. And what its history shows: why it is to be closed, if it is.
-use Rattle.std.proofs.Common.{◌≡◌, ℕ, zero, suc, ◌+◌, ◌<◌, ◌==◌, ◌||◌, Bool, true, false, not, cond, List, [], ◌∷◌, ◌++◌, length, drop, find, nat_le, replicate, slice_get, IfSome, refl, sym, ap, ◌∙◌, subst, append_assoc, arith, eqb-true}
+use Rattle.std.proofs.Common.{◌≡◌, ℕ, zero, suc, ◌+◌, ◌<◌, ◌==◌, ◌||◌, Bool, true, false, not, cond, List, [], ◌∷◌, ◌++◌, length, drop, find, nat_le, replicate, slice_get, is_none, IfSome, refl, sym, ap, ◌∙◌, subst, append_assoc, arith, eqb-true}
 use Rattle.std.proofs.lemmas.Bool.{or_parts}
 use Rattle.std.specs.declared.option.Option.{Option}
 use Rattle.std.specs.declared.option.Option.TheVariants.{None, Some}
@@ -11,20 +11,21 @@ use Rattle.af_world.specs.declared.happening.Why.{Why}
 use Rattle.af_world.specs.declared.happening.Why.TheVariants as why
 use Rattle.af_wait.specs.Waits.{without_first}
 use Rattle.af_model.specs.State.{DeviceState, LinkState, OpenLink, SlotLink, State, Deferral, open_link, none_selected, slot_at, stopped}
-use Rattle.af_model.specs.Tick.{enter}
 use Rattle.af_model.specs.Waiting.{has_deferral}
 use Rattle.af_model.specs.Events.{dropped, mask_of, some_mask, without_waiter}
-use Rattle.af_model.specs.Advance.{without_front}
+use Rattle.af_model.specs.Advance.{takes_more, without_front}
 use Rattle.af_model.specs.Turn.{close_due}
 use Rattle.af_model.specs.LinkHistory.{LinkHistory}
 use Rattle.af_model.specs.Prefix.{is_dropped}
 use Rattle.af_model.specs.Causes.{IsCause, IsServedTo}
-use Rattle.af_model.proofs.BoolTestLemmas.{cond-some, same_number}
+use Rattle.af_model.proofs.BoolTestLemmas.{cond-some, none_some, same_number}
 use Rattle.af_model.proofs.InputLemmas.{IsBadInput, IsInput, input_more, input_set_up, input_taken}
-use Rattle.af_model.proofs.CauseLemmas.{IsUnended, Shows, ShowsBy, cause_alike, no_room, owed_at_close, shows_at_close, shows_bad, shows_owed, shows_taken, shows_unfailed}
+use Rattle.af_model.proofs.AdvancedLemmas.{IsAdvanced, NoneAtFront, advanced_closing, are_served}
+use Rattle.af_model.proofs.CauseLemmas.{IsUnended, Shows, ShowsBy, cause_alike, no_room, owed_at_close, shows_at_close, shows_bad, shows_owed, shows_taken}
 use Rattle.af_model.proofs.DeviceHistoryLemmas.{AllLive, Lives, all_live_refl, all_live_trans, all_live_with}
 use Rattle.af_model.proofs.SafeLemmas.{SafeIn, safe_dropped, safe_keeps}
 use Rattle.af_model.proofs.LinkInvariantLemmas.{Keeps, open_undropped}
+use Rattle.af_model.proofs.PendingLemmas.{RoomOf, room_dropped}
 
 pub not_both : {A : Type 0} (t : Bool) → t ≡ false → t ≡ true → A
 not_both true e f = absurd cc
@@ -78,8 +79,17 @@ other_waits (w ∷ ws) k j other =
       | false ↦ λ e. ap (λ t. (w.link == j) || t) (other_waits ws k j other)
     ] refl
 
-pub still_waits : (ws vs : List Deferral) (k j : ℕ) → (k == j) ≡ false → without_waiter k vs ≡ without_waiter k ws → has_deferral ws j ≡ false → has_deferral vs j ≡ false
-still_waits ws vs k j other same e = sym (other_waits vs k j other) ∙ ap (λ l. has_deferral l j) same ∙ other_waits ws k j other ∙ e
+pub still_waits : (ws vs : List Deferral) (k j : ℕ) → (k == j) ≡ false → without_waiter k vs ≡ without_waiter k ws → has_deferral vs j ≡ has_deferral ws j
+still_waits ws vs k j other same = sym (other_waits vs k j other) ∙ ap (λ l. has_deferral l j) same ∙ other_waits ws k j other
+
+-- so does another than the one that leaves
+pub others_left : (passes : Deferral → Bool) (ws : List Deferral) (w : Deferral) (j : ℕ) → find passes ws ≡ Some w → (w.link == j) ≡ false → has_deferral (without_first passes ws) j ≡ has_deferral ws j
+others_left passes [] w j e other = absurd cc
+others_left passes (v ∷ ws) w j e other =
+    elim (passes v) as (λ t. cond t (Some v) (find passes ws) ≡ Some w → has_deferral (cond t ws (v ∷ without_first passes ws)) j ≡ has_deferral (v ∷ ws) j) [
+      | true ↦ λ e. let same : v ≡ w = cc in sym (ap (λ t. t || has_deferral ws j) (ap (λ (u : Deferral). u.link == j) same ∙ other))
+      | false ↦ λ e. ap (λ t. (v.link == j) || t) (others_left passes ws w j e other)
+    ] e
 
 -- the link of a request that waits does
 pub found_waits : (passes : Deferral → Bool) (ws : List Deferral) (w : Deferral) → find passes ws ≡ Some w → has_deferral ws w.link ≡ true
@@ -97,24 +107,25 @@ found_waits passes (v ∷ ws) w e =
 -- A link
 
 -- What was said is what was taken and a rest, which waits to be sent unless the link was dropped. One that was dropped neither
--- sends nor waits nor selects events. If a link is closing, its history shows the cause, and else nothing of an end.
+-- sends nor waits. If a link is closing, it selects no events and its history shows the cause, and else nothing of an end.
 pub record Owed (k : ℕ) (h : LinkHistory) (said : List ℕ) (l : LinkState) (waiting : List Deferral) : Type 0 where
   pub rest : List ℕ
   pub whole : said ≡ h.took ++ rest
   pub queued : is_dropped l.closing ≡ false → rest ≡ l.pending
   pub sends : is_dropped l.closing ≡ true → l.pending ≡ []
   pub waits : is_dropped l.closing ≡ true → has_deferral waiting k ≡ false
-  pub wants : is_dropped l.closing ≡ true → l.selections ≡ none_selected
+  pub wants : is_none l.closing ≡ false → l.selections ≡ none_selected
   pub shows : Shows h rest l
   pub unclosed : h.closed ≡ None
 
 abbrev pub Owing : ℕ → LinkHistory → OpenLink → Type 0
 Owing k h p = Owed k h p.environment.said p.link p.environment.waiting
 
--- the same of a number whose link may be closed: then its history shows the cause
+-- The same of a number whose link may be closed: then its history shows the cause. All was taken off the input of an open one that
+-- can be.
 abbrev pub OwingLink : ℕ → LinkHistory → List ℕ → Option LinkState → List Deferral → Type 0
 OwingLink k h said None waiting = (rest : List ℕ) × (said ≡ h.took ++ rest) × IfSome h.closed (λ cause. IsCause cause h (length rest))
-OwingLink k h said (Some l) waiting = Owed k h said l waiting
+OwingLink k h said (Some l) waiting = Owed k h said l waiting × IsAdvanced k l waiting
 
 abbrev pub QueuedSlot : ℕ → LinkHistory → SlotLink → Type 0
 QueuedSlot k h d = OwingLink k h d.environment.said d.link d.environment.waiting
@@ -123,9 +134,8 @@ abbrev pub OwingAt : ℕ → LinkHistory → State → Type 0
 OwingAt k h s = OwingLink k h (slot_at k s).said (slot_at k s).link s.waiting
 
 -- fewer wait
-pub queueing_fewer : (k : ℕ) (g : LinkHistory) (said : List ℕ) (link : Option LinkState) (ws vs : List Deferral) → (has_deferral ws k ≡ false → has_deferral vs k ≡ false) → OwingLink k g said link ws → OwingLink k g said link vs
-queueing_fewer k g said None ws vs less h = h
-queueing_fewer k g said (Some l) ws vs less h = record {
+pub owed_fewer : (k : ℕ) (g : LinkHistory) (said : List ℕ) (l : LinkState) (ws vs : List Deferral) → (has_deferral ws k ≡ false → has_deferral vs k ≡ false) → Owed k g said l ws → Owed k g said l vs
+owed_fewer k g said l ws vs less h = record {
   rest = h.rest;
   whole = h.whole;
   queued = h.queued;
@@ -135,6 +145,21 @@ queueing_fewer k g said (Some l) ws vs less h = record {
   shows = h.shows;
   unclosed = h.unclosed;
 }
+
+-- others wait
+pub queueing_same : (k : ℕ) (g : LinkHistory) (said : List ℕ) (link : Option LinkState) (ws vs : List Deferral) → has_deferral vs k ≡ has_deferral ws k → OwingLink k g said link ws → OwingLink k g said link vs
+queueing_same k g said None ws vs same h = h
+queueing_same k g said (Some l) ws vs same h = (owed_fewer k g said l ws vs (λ e. same ∙ e) h.0, λ more. h.1 (sym (ap (λ t. takes_more t l) same) ∙ more))
+
+-- a request leaves, whose link is not open
+pub queueing_left : (passes : Deferral → Bool) (w : Deferral) (k : ℕ) (g : LinkHistory) (said : List ℕ) (link : Option LinkState) (ws : List Deferral) → find passes ws ≡ Some w → ((w.link == k) ≡ true → link ≡ None) → OwingLink k g said link ws →
+    OwingLink k g said link (without_first passes ws)
+queueing_left passes w k g said None ws found closed h = h
+queueing_left passes w k g said (Some l) ws found closed h =
+    elim (w.link == k) as (λ t. (w.link == k) ≡ t → OwingLink k g said (Some l) (without_first passes ws)) [
+      | true ↦ λ own. absurd (none_some (sym (closed own)))
+      | false ↦ λ other. queueing_same k g said (Some l) ws (without_first passes ws) (others_left passes ws w k found other) h
+    ] refl
 
 -- nothing has ended a link that is not closing
 unended : (k : ℕ) (g : LinkHistory) (p : OpenLink) → p.link.closing ≡ None → (h : Owing k g p) → IsUnended g p.link.is_set_up p.link.order p.link.rest
@@ -150,15 +175,15 @@ becomes_unended k g p l none behind same input h =
       queued = λ e. h.queued (open_undropped p.link.closing none) ∙ sym same;
       sends = λ e. not_both (is_dropped l.closing) undropped e;
       waits = λ e. not_both (is_dropped l.closing) undropped e;
-      wants = λ e. not_both (is_dropped l.closing) undropped e;
+      wants = λ e. not_both (is_none l.closing) e (ap is_none behind);
       shows = subst (ShowsBy g h.rest l.is_set_up l.order l.rest) (sym behind) input;
       unclosed = h.unclosed;
     }
 
 -- a link that is not closing becomes one that is, and was not dropped
-becomes_closing : (k : ℕ) (g : LinkHistory) (p : OpenLink) (l : LinkState) (cause : Why) → p.link.closing ≡ None → l.closing ≡ Some cause → is_dropped (Some cause) ≡ false → l.pending ≡ p.link.pending →
+becomes_closing : (k : ℕ) (g : LinkHistory) (p : OpenLink) (l : LinkState) (cause : Why) → p.link.closing ≡ None → l.closing ≡ Some cause → is_dropped (Some cause) ≡ false → l.pending ≡ p.link.pending → l.selections ≡ none_selected →
     ((owed : List ℕ) → ShowsBy g owed l.is_set_up l.order l.rest (Some cause)) → Owing k g p → Owing k g (open_link p.environment l)
-becomes_closing k g p l cause none closes stays same shows h =
+becomes_closing k g p l cause none closes stays same unselected shows h =
     let undropped : is_dropped l.closing ≡ false = ap is_dropped closes ∙ stays in
     record {
       rest = h.rest;
@@ -166,7 +191,7 @@ becomes_closing k g p l cause none closes stays same shows h =
       queued = λ e. h.queued (open_undropped p.link.closing none) ∙ sym same;
       sends = λ e. not_both (is_dropped l.closing) undropped e;
       waits = λ e. not_both (is_dropped l.closing) undropped e;
-      wants = λ e. not_both (is_dropped l.closing) undropped e;
+      wants = λ e. unselected;
       shows = subst (ShowsBy g h.rest l.is_set_up l.order l.rest) (sym closes) (shows h.rest);
       unclosed = h.unclosed;
     }
@@ -193,14 +218,14 @@ queueing_keeps k g = record {
       let same : p.link.rest ≡ g.gave = subst (λ b. IsInput b p.link.order g.gave p.link.rest) unset u.input in
       becomes_unended k g p (record (without_front 8 p.link) { is_set_up = true; order = order }) none none refl (record { failed = u.failed; ended = u.ended; input = input_set_up order g.gave p.link.rest e same }) h;
   stops = λ p cause none bad h.
-      becomes_closing k g p (stopped cause p.link) cause none refl (bad_undropped cause p.link bad) refl (λ owed. shows_bad g owed cause p.link bad (unended k g p none h)) h;
+      becomes_closing k g p (stopped cause p.link) cause none refl (bad_undropped cause p.link bad) refl refl (λ owed. shows_bad g owed cause p.link bad (unended k g p none h)) h;
   says = λ p bytes stays h. record {
     rest = h.rest ++ bytes;
     whole = ap (λ x. x ++ bytes) h.whole ∙ append_assoc g.took h.rest bytes;
     queued = λ e. ap (λ x. x ++ bytes) (h.queued stays);
     sends = λ e. not_both (is_dropped p.link.closing) stays e;
     waits = λ e. not_both (is_dropped p.link.closing) stays e;
-    wants = λ e. not_both (is_dropped p.link.closing) stays e;
+    wants = h.wants;
     shows = shows_owed g h.rest (h.rest ++ bytes) p.link.is_set_up p.link.order p.link.rest p.link.closing stays h.shows;
     unclosed = h.unclosed;
   };
@@ -236,9 +261,9 @@ queued_given k g bytes p none h =
     }
 
 -- a link that is not closing has ended
-pub queued_ended : (k : ℕ) (g : LinkHistory) (p : OpenLink) → p.link.closing ≡ None → Owing k g p →
+pub queued_ended : (k : ℕ) (g : LinkHistory) (p : OpenLink) → p.link.closing ≡ None → NoneAtFront p.link.is_set_up p.link.order p.link.rest → Owing k g p →
     Owing k (record g { has_ended = true }) (open_link p.environment (stopped why.Ended (record p.link { is_ready = false })))
-queued_ended k g p none h =
+queued_ended k g p none front h =
     let u = unended k g p none h in
     record {
       rest = h.rest;
@@ -246,15 +271,15 @@ queued_ended k g p none h =
       queued = λ e. h.queued (open_undropped p.link.closing none);
       sends = λ e. absurd cc;
       waits = λ e. absurd cc;
-      wants = λ e. absurd cc;
-      shows = (u.failed, refl, refl);
+      wants = λ e. refl;
+      shows = (u.failed, refl, refl, are_served p.link.is_set_up p.link.order g.gave p.link.rest u.input front);
       unclosed = h.unclosed;
     }
 
 -- some of what waited is taken
-pub queued_taken : (k : ℕ) (g : LinkHistory) (bytes : List ℕ) (p : OpenLink) (l : LinkState) → is_dropped p.link.closing ≡ false → l.closing ≡ p.link.closing → l.rest ≡ p.link.rest → l.is_set_up ≡ p.link.is_set_up → l.order ≡ p.link.order →
+pub queued_taken : (k : ℕ) (g : LinkHistory) (bytes : List ℕ) (p : OpenLink) (l : LinkState) → is_dropped p.link.closing ≡ false → l.closing ≡ p.link.closing → l.rest ≡ p.link.rest → l.is_set_up ≡ p.link.is_set_up → l.order ≡ p.link.order → l.selections ≡ p.link.selections →
     p.link.pending ≡ bytes ++ l.pending → Owing k g p → Owing k (record g { took = g.took ++ bytes }) (open_link p.environment l)
-queued_taken k g bytes p l stays same input set ordered front h =
+queued_taken k g bytes p l stays same input set ordered selected front h =
     let undropped : is_dropped l.closing ≡ false = ap is_dropped same ∙ stays in
     let f : LinkHistory = record g { took = g.took ++ bytes } in
     record {
@@ -263,7 +288,7 @@ queued_taken k g bytes p l stays same input set ordered front h =
       queued = λ e. refl;
       sends = λ e. not_both (is_dropped l.closing) undropped e;
       waits = λ e. not_both (is_dropped l.closing) undropped e;
-      wants = λ e. not_both (is_dropped l.closing) undropped e;
+      wants = λ e. selected ∙ h.wants (sym (ap is_none same) ∙ e);
       shows = subst (λ c. ShowsBy f l.pending l.is_set_up l.order l.rest c) (sym same) (subst (λ b. ShowsBy f l.pending b l.order l.rest p.link.closing) (sym set)
           (subst (λ o. ShowsBy f l.pending p.link.is_set_up o l.rest p.link.closing) (sym ordered)
           (subst (λ x. ShowsBy f l.pending p.link.is_set_up p.link.order x p.link.closing) (sym input) (shows_taken g bytes h.rest l.pending p.link.is_set_up p.link.order p.link.rest p.link.closing stays h.shows))));
@@ -288,10 +313,11 @@ pub queued_failed : (k : ℕ) (g : LinkHistory) (p : OpenLink) → Owing k g p �
 queued_failed k g p h = queued_dropped k g (record g { has_failed = true }) why.LinkFault p refl refl refl h refl
 
 -- an event found no room
-pub queued_overrun : (k : ℕ) (g : LinkHistory) (p : OpenLink) → is_dropped p.link.closing ≡ false → nat_le (length p.link.pending + 20) event_limit ≡ false → Owing k g p → Owing k g (dropped k why.Overrun p)
-queued_overrun k g p stays full h =
+pub queued_overrun : (k : ℕ) (g : LinkHistory) (p : OpenLink) → p.link.closing ≡ None → nat_le (length p.link.pending + 20) event_limit ≡ false → Owing k g p → Owing k g (dropped k why.Overrun p)
+queued_overrun k g p none full h =
+    let u = unended k g p none h in
     queued_dropped k g g why.Overrun p refl refl refl h
-    (shows_unfailed g h.rest p.link.is_set_up p.link.order p.link.rest p.link.closing stays h.shows, subst (λ l. event_limit < length l + 20) (sym (h.queued stays)) (no_room (length p.link.pending) full))
+    (u.failed, u.ended, subst (λ l. event_limit < length l + 20) (sym (h.queued (open_undropped p.link.closing none))) (no_room (length p.link.pending) full))
 
 -- a link to which nothing waits to be sent is closed for its cause
 pub queued_closed : (k : ℕ) (g : LinkHistory) (p : OpenLink) (cause : Why) → close_due p.link ≡ Some cause → Owing k g p → OwingLink k (record g { closed = Some cause }) p.environment.said None p.environment.waiting
@@ -310,7 +336,7 @@ queued_closed k g p cause due h =
     no_bytes [] e = refl
     no_bytes (x ∷ xs) e = let z : length (x ∷ xs) ≡ 0 = eqb-true (length (x ∷ xs)) 0 e in absurd (omega (arith, z))
 
--- a link that selects an event was not dropped
+-- a link that selects an event is not closing
 none_masked : (n d : ℕ) → some_mask (slice_get (replicate n 0) d) ≡ 0
 none_masked zero d = refl
 none_masked (suc n) zero = refl
@@ -322,13 +348,13 @@ none_selects kind.Current = refl
 none_selects kind.Digit = refl
 none_selects kind.Hook = refl
 
-pub selects_undropped : (k d : ℕ) (kind : EventKind) (g : LinkHistory) (p : OpenLink) → selects (mask_of p.link d) kind ≡ true → Owing k g p → is_dropped p.link.closing ≡ false
-selects_undropped k d kind g p e h =
-    elim (is_dropped p.link.closing) as (λ t. (t ≡ true → p.link.selections ≡ none_selected) → t ≡ false) [
-      | true ↦ λ w.
+pub selects_open : (k d : ℕ) (kind : EventKind) (g : LinkHistory) (p : OpenLink) → selects (mask_of p.link d) kind ≡ true → Owing k g p → p.link.closing ≡ None
+selects_open k d kind g p e h =
+    elim p.link.closing as (λ o. (is_none o ≡ false → p.link.selections ≡ none_selected) → o ≡ None) [
+      | None ↦ λ w. refl
+      | Some cause ↦ λ w.
           let none : selects (mask_of p.link d) kind ≡ false = ap (λ x. selects (some_mask (slice_get x d)) kind) (w refl) ∙ ap (λ m. selects m kind) (none_masked 8 d) ∙ none_selects kind in
           not_both (selects (mask_of p.link d) kind) none e
-      | false ↦ λ w. refl
     ] h.wants
 
 -- a link that waits was not dropped
@@ -380,27 +406,33 @@ others_keep k ws = record {
   waits = λ p d device deferred there w open' h. own_waits p.environment.waiting k (record { link = k; device = d; deferred = deferred }) (same_number k) ∙ h;
 }
 
--- What becomes of a link and its environment, if nothing is taken: devices become later, what is queued for it stays so, and
--- the others wait as they did.
-pub record Moved (j : ℕ) (d e : SlotLink) : Type 0 where
-  pub devices : AllLive d.environment.devices e.environment.devices
-  pub own : (g : LinkHistory) → QueuedSlot j g d → QueuedSlot j g e
-  pub others : SameOthers j d.environment.waiting e.environment.waiting
-  pub safe : SafeIn 0 0 d.environment → SafeIn 0 0 e.environment
+-- What becomes of a link and its environment, if nothing is taken: devices become later, what is queued for it stays so and within its
+-- room, all stays taken off its input that was, and the others wait as they did.
+pub record Moved (j : ℕ) (p q : OpenLink) : Type 0 where
+  pub devices : AllLive p.environment.devices q.environment.devices
+  pub own : (g : LinkHistory) → Owing j g p → Owing j g q
+  pub advanced : IsAdvanced j p.link p.environment.waiting → IsAdvanced j q.link q.environment.waiting
+  pub others : SameOthers j p.environment.waiting q.environment.waiting
+  pub safe : SafeIn 0 0 p.environment → SafeIn 0 0 q.environment
+  pub room : RoomOf j p → RoomOf j q
 
-pub moved_of : (j : ℕ) (p q : OpenLink) → ((May : Option Why → Type 0) (I : OpenLink → Type 0) → Keeps j May I → I p → I q) → Moved j (enter p) (enter q)
-moved_of j p q go = record {
+pub moved_of : (j : ℕ) (p q : OpenLink) → IsAdvanced j q.link q.environment.waiting → (RoomOf j p → RoomOf j q) → ((May : Option Why → Type 0) (I : OpenLink → Type 0) → Keeps j May I → I p → I q) → Moved j p q
+moved_of j p q ends room go = record {
   devices = go (λ closing. Unit {0}) (λ x. AllLive p.environment.devices x.environment.devices) (grows_keeps j p.environment.devices) (all_live_refl p.environment.devices);
   own = λ g h. go (λ closing. is_dropped closing ≡ false) (Owing j g) (queueing_keeps j g) h;
+  advanced = λ h. ends;
   others = go (λ closing. Unit {0}) (λ x. SameOthers j p.environment.waiting x.environment.waiting) (others_keep j p.environment.waiting) refl;
   safe = λ h. go (λ closing. Unit {0}) (λ x. SafeIn 0 0 x.environment) (safe_keeps j 0 0) h;
+  room = room;
 }
 
 -- an event found no room
-pub moved_overrun : (k : ℕ) (p : OpenLink) → ((g : LinkHistory) → Owing k g p → is_dropped p.link.closing ≡ false) → nat_le (length p.link.pending + 20) event_limit ≡ false → Moved k (enter p) (enter (dropped k why.Overrun p))
-moved_overrun k p stays full = record {
+pub moved_overrun : (k : ℕ) (p : OpenLink) → ((g : LinkHistory) → Owing k g p → p.link.closing ≡ None) → nat_le (length p.link.pending + 20) event_limit ≡ false → Moved k p (dropped k why.Overrun p)
+moved_overrun k p opens full = record {
   devices = all_live_refl p.environment.devices;
-  own = λ g h. queued_overrun k g p (stays g h) full h;
+  own = λ g h. queued_overrun k g p (opens g h) full h;
+  advanced = λ h. advanced_closing k (dropped k why.Overrun p).link (dropped k why.Overrun p).environment.waiting why.Overrun refl;
   others = own_left p.environment.waiting k;
   safe = λ h. safe_dropped k p.environment.devices p.environment.waiting h;
+  room = λ h. room_dropped k why.Overrun p h;
 }

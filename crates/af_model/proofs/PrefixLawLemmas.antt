@@ -27,7 +27,7 @@ run_queued (suc n) k g s log e h r =
     let rest = run_queued n k (fold (noted k) g a.part) i.0.state i.0.log e (a.holds.goes.queued k g h) i.2 in
     subst (λ l. OwingAt k (fold (noted k) g l) e) (sym a.whole) (subst (λ x. OwingAt k x e) (sym (fold-append (noted k) g a.part i.0.log)) rest)
 
-first_slot : (n k : ℕ) → some_slot (slice_get (replicate n closed_slot) k) ≡ closed_slot
+pub first_slot : (n k : ℕ) → some_slot (slice_get (replicate n closed_slot) k) ≡ closed_slot
 first_slot zero k = refl
 first_slot (suc n) zero = refl
 first_slot (suc n) (suc k) = first_slot n k
@@ -37,7 +37,7 @@ opening_queued config k = subst (λ (x : SlotState). OwingLink k no_history x.sa
 
 shown : (k : ℕ) (g : LinkHistory) (said : List ℕ) (link : Option LinkState) (waiting : List Deferral) → OwingLink k g said link waiting → IsFrontOf g.took said link
 shown k g said None waiting h = record { rest = h.0; whole = h.1; queued = tt }
-shown k g said (Some l) waiting h = record { rest = h.rest; whole = h.whole; queued = h.queued }
+shown k g said (Some l) waiting h = record { rest = h.0.rest; whole = h.0.whole; queued = h.0.queued }
 
 pub takes_in_order : (config : List DeviceSpec) (log : Log) → TakesInOrder config log
 unfolding end_state

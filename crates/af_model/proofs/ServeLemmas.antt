@@ -1,11 +1,13 @@
 -- What serving the links makes of a state, and the part of a log that it takes off.
-use Rattle.std.proofs.Common.{◌≡◌, ℕ, zero, suc, ◌+◌, ◌==◌, Bool, true, false, not, cond, ◌&&◌, List, [], ◌∷◌, ◌++◌, take, drop, length, is_none, slice_get, slice_set, refl, sym, ap, ◌∙◌, subst, eqb-true}
+use Rattle.std.proofs.Common.{◌≡◌, ℕ, zero, suc, ◌+◌, ◌==◌, Bool, true, false, not, cond, ◌&&◌, List, [], ◌∷◌, ◌++◌, take, drop, length, is_none, slice_get, slice_set, IfSome, ◌*◌, ◌≤◌, refl, sym, ap, ◌∙◌, subst, eqb-true, arith, length-drop}
 use Rattle.std.proofs.lemmas.Bool.{eqb-false}
 use Rattle.std.proofs.lemmas.List.{take-append-drop}
 use Rattle.std.proofs.lemmas.List.Sums.{fold-append}
-use Rattle.std.specs.List.{fold}
+use Rattle.std.proofs.lemmas.List.Elements.{All-append, All-cons, All-from_recursion, All-nil}
+use Rattle.std.specs.List.{All, fold}
 use Rattle.std.specs.declared.option.Option.{Option}
 use Rattle.std.specs.declared.option.Option.TheVariants.{None, Some}
+use Rattle.af_limits.specs.Limits.{longest_message, most_pending}
 use Rattle.af_world.specs.declared.happening.Happening.{Happening}
 use Rattle.af_world.specs.declared.happening.Happening.TheVariants.{Woke, Read, Wrote, Closed, Captured, Emitted, Hooked}
 use Rattle.af_world.specs.declared.happening.ReadGot.{ReadGot}
@@ -21,13 +23,16 @@ use Rattle.af_model.specs.Events.{dropped}
 use Rattle.af_model.specs.Turn.{parsed, parse_then, wants_read, read_phase, after_read, wants_write, sent, write_by, write_offered, write_taken, write_phase, after_write, close_phase, serve_link, serve_open, serve_at, serve_from}
 use Rattle.af_model.specs.LinkHistory.{LinkHistory, noted, read_noted, write_noted}
 use Rattle.af_model.specs.Dead.{fails_device, fails_line}
+use Rattle.af_model.specs.Offers.{IsOfferWithin}
 use Rattle.af_model.proofs.BoolTestLemmas.{both-true, cond-some, none_some, same_bytes-true, same_number, some_is}
 use Rattle.af_model.proofs.ListLemmas.{get-set_other, get-set_same}
 use Rattle.af_model.proofs.DeviceHistoryLemmas.{AllLive, Laters, all_live_refl, all_live_trans, laters_refl, laters_trans, live_laters}
 use Rattle.af_model.proofs.DeadLemmas.{DeadAs, DeadIn, NoneFails, died, died_device, died_line, lives_dead, none_fails-append}
+use Rattle.af_model.proofs.AdvancedLemmas.{advanced_behind, advanced_closing}
 use Rattle.af_model.proofs.LinkInvariantLemmas.{advance_keeps, takes_more_open}
+use Rattle.af_model.proofs.PendingLemmas.{IsPending, RoomIn, RoomOf, RoomOfSlot, advance_room, room_dropped, waiters, waiters_same}
 use Rattle.af_model.proofs.SafeLemmas.{SafeIn, SafeState, safe_dropped}
-use Rattle.af_model.proofs.OwedBytesLemmas.{Moved, Owing, OwingAt, QueuedSlot, OwingLink, moved_of, queued_closed, queued_ended, queued_failed, queued_given, queued_taken, queueing_fewer, queueing_keeps, sending_undropped, own_left, still_waits, SameOthers}
+use Rattle.af_model.proofs.OwedBytesLemmas.{Moved, OwingAt, QueuedSlot, OwingLink, moved_of, queued_closed, queued_ended, queued_failed, queued_given, queued_taken, queueing_keeps, queueing_same, sending_undropped, own_left, still_waits, SameOthers}
 use Rattle.af_model.proofs.PhasePartLemmas.{Takes, close_takes, read_takes, takes_chain, takes_nothing, takes_then, write_takes}
 
 -- A happening within a turn, behind its wake and its emit
@@ -48,8 +53,8 @@ inner-append (h ∷ p) q a b = let both = both-true (is_inner h) (inner p) a in 
 -- One link
 
 -- What serving link j makes of it and its environment, and of its history: what is queued for it and what its history shows stay so; of
--- other links nothing is shown, and they wait as they did; no device and no line fails; and nothing
--- that waits is due.
+-- other links nothing is shown, and they wait as they did; no device and no line fails; nothing that waits is due; and no write offers
+-- more than may wait to be sent.
 pub record Served (j : ℕ) (d : SlotLink) (part : Log) (e : SlotLink) : Type 0 where
   pub inside : inner part ≡ true
   pub alive : NoneFails part
@@ -58,6 +63,7 @@ pub record Served (j : ℕ) (d : SlotLink) (part : Log) (e : SlotLink) : Type 0 
   pub others : (k : ℕ) → (j == k) ≡ false → (g : LinkHistory) → fold (noted k) g part ≡ g
   pub waits : SameOthers j d.environment.waiting e.environment.waiting
   pub safe : SafeIn 0 0 d.environment → SafeIn 0 0 e.environment
+  pub room : RoomOfSlot j d → RoomOfSlot j e × All IsOfferWithin part
 
 -- nothing happens
 served_refl : (j : ℕ) (d : SlotLink) → Served j d [] d
@@ -69,6 +75,7 @@ served_refl j d = record {
   others = λ k other g. refl;
   waits = refl;
   safe = λ h. h;
+  room = λ h. (h, All-nil IsOfferWithin);
 }
 
 served_trans : (j : ℕ) (a : SlotLink) (p : Log) (b : SlotLink) (q : Log) (c : SlotLink) → Served j a p b → Served j b q c → Served j a (p ++ q) c
@@ -80,40 +87,60 @@ served_trans j a p b q c s t = record {
   others = λ k other g. fold-append (noted k) g p q ∙ t.others k other (fold (noted k) g p) ∙ s.others k other g;
   waits = t.waits ∙ s.waits;
   safe = λ h. t.safe (s.safe h);
+  room = λ h. let x = s.room h in let y = t.room x.0 in (y.0, All-append IsOfferWithin p q x.1 y.1);
 }
 
 -- Reads
 
--- a link that is read is not closing
+-- more may be taken off a link that is read, and it is not closing
+read_more : (k : ℕ) (p : OpenLink) → wants_read (has_deferral p.environment.waiting k) p.link ≡ true → takes_more (has_deferral p.environment.waiting k) p.link ≡ true
+read_more k p w = (both-true p.link.is_ready (takes_more (has_deferral p.environment.waiting k) p.link) w).1
+
 read_open : (k : ℕ) (p : OpenLink) → wants_read (has_deferral p.environment.waiting k) p.link ≡ true → p.link.closing ≡ None
-read_open k p w = takes_more_open (has_deferral p.environment.waiting k) p.link (both-true p.link.is_ready (takes_more (has_deferral p.environment.waiting k) p.link) w).1
+read_open k p w = takes_more_open (has_deferral p.environment.waiting k) p.link (read_more k p w)
 
 -- what a read makes of a link and its environment, and of its history
 record HasRead (k : ℕ) (p : OpenLink) (got : ReadGot) (q : OpenLink) : Type 0 where
   devices : AllLive p.environment.devices q.environment.devices
-  own : (g : LinkHistory) → Owing k g p → Owing k (read_noted got g) q
+  own : (g : LinkHistory) → QueuedSlot k g (enter p) → QueuedSlot k (read_noted got g) (enter q)
   waits : SameOthers k p.environment.waiting q.environment.waiting
   safe : SafeIn 0 0 p.environment → SafeIn 0 0 q.environment
+  room : RoomOf k p → RoomOf k q
 
 has_read : (k : ℕ) (p : OpenLink) (got : ReadGot) → wants_read (has_deferral p.environment.waiting k) p.link ≡ true → HasRead k p got (after_read k got p)
 has_read k p (Given bytes) w =
     let none = read_open k p w in
     let q : OpenLink = open_link p.environment (record p.link { rest = p.link.rest ++ bytes }) in
-    let m : Moved k (enter q) (enter (advance k q)) = moved_of k q (advance k q) (λ May I kept h. advance_keeps k May I kept q h) in
+    let m : Moved k q (advance k q) = moved_of k q (advance k q) (advanced_behind k q) (advance_room k q) (λ May I kept h. advance_keeps k May I kept q h) in
     let same : absorb k bytes p ≡ advance k q = ap (λ t. cond t (advance k q) p) (ap is_none none) in
-    subst (HasRead k p (Given bytes)) (sym same) (record { devices = m.devices; own = λ g h. m.own (read_noted (Given bytes) g) (queued_given k g bytes p none h); waits = m.others; safe = m.safe })
+    subst (HasRead k p (Given bytes)) (sym same) (record { devices = m.devices; own = λ g h. (m.own (read_noted (Given bytes) g) (queued_given k g bytes p none h.0), advanced_behind k q); waits = m.others; safe = m.safe; room = λ h. m.room h })
 has_read k p NotYet w =
     let none = read_open k p w in
     record {
       devices = all_live_refl p.environment.devices;
-      own = λ g h. (queueing_keeps k g).link p (after_read k NotYet p).link none none refl refl refl refl h;
+      own = λ g h. ((queueing_keeps k g).link p (after_read k NotYet p).link none none refl refl refl refl h.0, h.1);
       waits = refl;
       safe = λ h. h;
+      room = λ h. h;
     }
 has_read k p Ended w =
-    record { devices = all_live_refl p.environment.devices; own = λ g h. queued_ended k g p (read_open k p w) h; waits = refl; safe = λ h. h }
+    let ended = after_read k Ended p in
+    record {
+      devices = all_live_refl p.environment.devices;
+      own = λ g h. (queued_ended k g p (read_open k p w) (h.1 (read_more k p w)) h.0, advanced_closing k ended.link ended.environment.waiting why.Ended refl);
+      waits = refl;
+      safe = λ h. h;
+      room = λ h. h;
+    }
 has_read k p Failed w =
-    record { devices = all_live_refl p.environment.devices; own = λ g h. queued_failed k g p h; waits = own_left p.environment.waiting k; safe = λ h. safe_dropped k p.environment.devices p.environment.waiting h }
+    let failed = after_read k Failed p in
+    record {
+      devices = all_live_refl p.environment.devices;
+      own = λ g h. (queued_failed k g p h.0, advanced_closing k failed.link failed.environment.waiting why.LinkFault refl);
+      waits = own_left p.environment.waiting k;
+      safe = λ h. safe_dropped k p.environment.devices p.environment.waiting h;
+      room = λ h. room_dropped k why.LinkFault p h;
+    }
 
 served_got : (k : ℕ) (p q : OpenLink) (got : ReadGot) → HasRead k p got q → Served k (enter p) (Read k got ∷ []) (enter q)
 served_got k p q got r = record {
@@ -124,6 +151,7 @@ served_got k p q got r = record {
   others = λ j other g. ap (λ t. cond t (read_noted got g) g) other;
   waits = r.waits;
   safe = r.safe;
+  room = λ h. (r.room h, All-from_recursion IsOfferWithin (Read k got ∷ []) (tt, tt));
 }
 
 served_read : (k : ℕ) (p : OpenLink) → Takes (read_phase k p) (λ part q. Served k (enter p) part (enter q))
@@ -137,11 +165,11 @@ front_back : (xs ys : List ℕ) → same_bytes xs (take (length xs) ys) ≡ true
 front_back xs ys e = sym (take-append-drop (length xs) ys) ∙ ap (λ z. z ++ drop (length xs) ys) (sym (same_bytes-true xs (take (length xs) ys) e))
 
 -- a write that took something, and what follows it
-served_wrote : (k : ℕ) (p : OpenLink) (offered : ℕ) (bytes : List ℕ) (part : Log) (r : SlotLink) → wants_write p.link ≡ true → same_bytes bytes (take (length bytes) p.link.pending) ≡ true →
+served_wrote : (k : ℕ) (p : OpenLink) (offered : ℕ) (bytes : List ℕ) (part : Log) (r : SlotLink) → wants_write p.link ≡ true → offered ≡ length p.link.pending → same_bytes bytes (take (length bytes) p.link.pending) ≡ true →
     Served k (enter (after_write k bytes p)) part r → Served k (enter p) (Wrote k offered (Some bytes) ∷ part) r
-served_wrote k p offered bytes part r w front s =
+served_wrote k p offered bytes part r w all front s =
     let left : OpenLink = open_link p.environment (sent (length bytes) p.link) in
-    let m : Moved k (enter left) (enter (advance k left)) = moved_of k left (advance k left) (λ May I kept h. advance_keeps k May I kept left h) in
+    let m : Moved k left (advance k left) = moved_of k left (advance k left) (advanced_behind k left) (advance_room k left) (λ May I kept h. advance_keeps k May I kept left h) in
     let some = (both-true (not (length p.link.pending == 0)) (not p.link.is_stuck) w).0 in
     record {
       inside = s.inside;
@@ -149,25 +177,31 @@ served_wrote k p offered bytes part r w front s =
       devices = all_live_trans p.environment.devices (advance k left).environment.devices r.environment.devices m.devices s.devices;
       own = λ g h.
           let f = write_noted (Some bytes) g in
-          let undropped = sending_undropped k g p.environment.said p.link p.environment.waiting some h in
-          subst (λ t. QueuedSlot k (fold (noted k) (cond t f g) part) r) (sym (same_number k)) (s.own f (m.own f (queued_taken k g bytes p left.link undropped refl refl refl refl (front_back bytes p.link.pending front) h)));
+          let undropped = sending_undropped k g p.environment.said p.link p.environment.waiting some h.0 in
+          subst (λ t. QueuedSlot k (fold (noted k) (cond t f g) part) r) (sym (same_number k)) (s.own f (m.own f (queued_taken k g bytes p left.link undropped refl refl refl refl refl (front_back bytes p.link.pending front) h.0), advanced_behind k left));
       others = λ j other g. ap (λ t. fold (noted j) (cond t (write_noted (Some bytes) g) g) part) other ∙ s.others j other g;
       waits = s.waits ∙ m.others;
       safe = λ h. s.safe (m.safe h);
+      room = λ h.
+          let fewer = length-drop (length bytes) p.link.pending in
+          let x = s.room (m.room (h.0, omega (arith, h.1, fewer))) in
+          (x.0, All-cons IsOfferWithin (Wrote k offered (Some bytes)) part (omega (arith, h.1, all)) x.1);
     }
 
 -- a write that failed, and what follows it
-served_failed : (k : ℕ) (p : OpenLink) (offered : ℕ) (part : Log) (r : SlotLink) → Served k (enter (dropped k why.LinkFault p)) part r → Served k (enter p) (Wrote k offered None ∷ part) r
-served_failed k p offered part r s = record {
+served_failed : (k : ℕ) (p : OpenLink) (offered : ℕ) (part : Log) (r : SlotLink) → offered ≡ length p.link.pending → Served k (enter (dropped k why.LinkFault p)) part r → Served k (enter p) (Wrote k offered None ∷ part) r
+served_failed k p offered part r all s = record {
   inside = s.inside;
   alive = s.alive;
   devices = s.devices;
   own = λ g h.
       let f = write_noted None g in
-      subst (λ t. QueuedSlot k (fold (noted k) (cond t f g) part) r) (sym (same_number k)) (s.own f (queued_failed k g p h));
+      let failed = dropped k why.LinkFault p in
+      subst (λ t. QueuedSlot k (fold (noted k) (cond t f g) part) r) (sym (same_number k)) (s.own f (queued_failed k g p h.0, advanced_closing k failed.link failed.environment.waiting why.LinkFault refl));
   others = λ j other g. ap (λ t. fold (noted j) (cond t (write_noted None g) g) part) other ∙ s.others j other g;
   waits = s.waits ∙ own_left p.environment.waiting k;
   safe = λ h. s.safe (safe_dropped k p.environment.devices p.environment.waiting h);
+  room = λ h. let x = s.room (room_dropped k why.LinkFault p h) in (x.0, All-cons IsOfferWithin (Wrote k offered None) part (omega (arith, h.1, all)) x.1);
 }
 
 served_one : (k : ℕ) (p q : OpenLink) (h : Happening) → wants_write p.link ≡ true → write_by k p h ≡ Some q → (part : Log) (r : OpenLink) → Served k (enter q) part (enter r) → Served k (enter p) (h ∷ part) (enter r)
@@ -182,11 +216,16 @@ served_one k p q (Wrote j offered took) w e part r s =
     let t = cond-some (offered == length p.link.pending) (write_taken k took p) q i.1 in
     subst (λ n. Served k (enter p) (Wrote n offered took ∷ part) (enter r)) (sym (eqb-true j k i.0)) (wrote took t.1)
   where
+    all : offered ≡ length p.link.pending
+    all =
+        let i = cond-some (j == k) (write_offered k offered took p) q e in
+        eqb-true offered (length p.link.pending) (cond-some (offered == length p.link.pending) (write_taken k took p) q i.1).0
+
     wrote : (took : Option (List ℕ)) → write_taken k took p ≡ Some q → Served k (enter p) (Wrote k offered took ∷ part) (enter r)
-    wrote None e = served_failed k p offered part (enter r) (subst (λ x. Served k (enter x) part (enter r)) (sym (some_is e)) s)
+    wrote None e = served_failed k p offered part (enter r) all (subst (λ x. Served k (enter x) part (enter r)) (sym (some_is e)) s)
     wrote (Some bytes) e =
         let t = cond-some (same_bytes bytes (take (length bytes) p.link.pending)) (Some (after_write k bytes p)) q e in
-        served_wrote k p offered bytes part (enter r) w t.0 (subst (λ x. Served k (enter x) part (enter r)) (sym (some_is t.1)) s)
+        served_wrote k p offered bytes part (enter r) w all t.0 (subst (λ x. Served k (enter x) part (enter r)) (sym (some_is t.1)) s)
 
 served_write : (k : ℕ) (p : OpenLink) → Takes (write_phase k p) (λ part q. Served k (enter p) part (enter q))
 served_write k p log b e =
@@ -199,10 +238,11 @@ served_close k p =
       inside = refl;
       alive = λ c sofar. (refl, refl);
       devices = all_live_refl p.environment.devices;
-      own = λ g h. subst (λ x. QueuedSlot k x (link_in_slot p.environment None)) (sym (ap (λ t. cond t (record g { closed = Some cause }) g) (same_number k))) (queued_closed k g p cause due h);
+      own = λ g h. subst (λ x. QueuedSlot k x (link_in_slot p.environment None)) (sym (ap (λ t. cond t (record g { closed = Some cause }) g) (same_number k))) (queued_closed k g p cause due h.0);
       others = λ j other g. ap (λ t. cond t (record g { closed = Some cause }) g) other;
       waits = refl;
       safe = λ h. h;
+      room = λ h. ((h.0, tt), All-from_recursion IsOfferWithin (Closed k cause ∷ []) (tt, tt));
     })
 
 pub served_link : (k : ℕ) (p : OpenLink) → Takes (serve_link k p) (λ part d. Served k (enter p) part d)
@@ -216,15 +256,16 @@ served_link k p =
 -- A state
 
 -- What a part of a log makes of a state: devices become later, and are dead where the part shows it; what is queued for each link, and
--- what its history shows, stay so; and nothing that waits is due.
+-- what its history shows, stay so; nothing that waits is due; and no write offers more than may wait to be sent.
 pub record Goes (s : State) (part : Log) (t : State) : Type 0 where
   pub devices : Laters s.devices t.devices
   pub deaths : (d : ℕ) (x y : Bool) → DeadAs d x y s → DeadAs d (died_device d x part) (died_line d y part) t
   pub queued : (k : ℕ) (g : LinkHistory) → OwingAt k g s → OwingAt k (fold (noted k) g part) t
   pub safe : SafeState 0 0 s → SafeState 0 0 t
+  pub room : RoomIn s → RoomIn t × All IsOfferWithin part
 
 pub goes_refl : (s : State) → Goes s [] s
-goes_refl s = record { devices = laters_refl s.devices; deaths = λ d x y h. h; queued = λ k g h. h; safe = λ h. h }
+goes_refl s = record { devices = laters_refl s.devices; deaths = λ d x y h. h; queued = λ k g h. h; safe = λ h. h; room = λ h. (h, All-nil IsOfferWithin) }
 
 pub goes_trans : (s : State) (p : Log) (t : State) (q : Log) (u : State) → Goes s p t → Goes t q u → Goes s (p ++ q) u
 goes_trans s p t q u a b = record {
@@ -234,6 +275,7 @@ goes_trans s p t q u a b = record {
       (b.deaths d (died_device d x p) (died_line d y p) (a.deaths d x y h)));
   queued = λ k g h. subst (λ x. OwingAt k x u) (sym (fold-append (noted k) g p q)) (b.queued k (fold (noted k) g p) (a.queued k g h));
   safe = λ h. b.safe (a.safe h);
+  room = λ h. let x = a.room h in let y = b.room x.0 in (y.0, All-append IsOfferWithin p q x.1 y.1);
 }
 
 -- devices that are as dead as they were, behind a part in which nothing fails
@@ -261,10 +303,26 @@ slot_same (y ∷ slots) (suc k) = ap (λ l. y ∷ l) (slot_same slots k)
 pub same_door : (k : ℕ) (s : State) → with_slot_link k s (slot_link_at k s) ≡ s
 same_door k s = ap (λ slots. record s { slots = slots }) (slot_same s.slots k)
 
+-- how much waits to be sent to each link, if another is in the slot of an open one
+put_room : (j : ℕ) (s : State) (l : LinkState) (d : SlotLink) → (slot_at j s).link ≡ Some l → ((k : ℕ) → (j == k) ≡ false → waiters k d.environment.waiting ≡ waiters k s.waiting) → RoomIn s → RoomOfSlot j d → RoomIn (with_slot_link j s d)
+put_room j s l d is counts h r =
+    let slot : SlotState = record { link = d.link; said = d.environment.said } in
+    let ws = d.environment.waiting in (
+      r.0,
+      λ k. elim (j == k) as (λ t. (j == k) ≡ t → IfSome (slot_at k (with_slot_link j s d)).link (λ l. IsPending k ws l)) [
+        | true ↦ λ e.
+            subst (λ n. IfSome (slot_at n (with_slot_link j s d)).link (λ l. IsPending n ws l)) (eqb-true j k e) (subst (λ (x : SlotState). IfSome x.link (λ l. IsPending j ws l)) (sym (slot_own s.slots j l slot is)) r.1)
+        | false ↦ λ e.
+            subst (λ (x : SlotState). IfSome x.link (λ l. IsPending k ws l)) (sym (slot_other s.slots j k slot e))
+            (subst (λ n. IfSome (slot_at k s).link (λ l. length l.pending + longest_message * n ≤ most_pending)) (sym (counts k e)) (h.1 k))
+      ] refl,
+    )
+
 -- another link in the slot of an open one
 pub put_goes : (j : ℕ) (s : State) (l : LinkState) (d : SlotLink) (part : Log) → (slot_at j s).link ≡ Some l → NoneFails part → AllLive s.devices d.environment.devices → ((g : LinkHistory) → OwingAt j g s → QueuedSlot j (fold (noted j) g part) d) →
-    ((k : ℕ) → (j == k) ≡ false → (g : LinkHistory) → fold (noted k) g part ≡ g) → ((k : ℕ) → (j == k) ≡ false → has_deferral s.waiting k ≡ false → has_deferral d.environment.waiting k ≡ false) → (SafeState 0 0 s → SafeIn 0 0 d.environment) → Goes s part (with_slot_link j s d)
-put_goes j s l d part is alive devices own others fewer safe =
+    ((k : ℕ) → (j == k) ≡ false → (g : LinkHistory) → fold (noted k) g part ≡ g) → ((k : ℕ) → (j == k) ≡ false → has_deferral d.environment.waiting k ≡ has_deferral s.waiting k) → (SafeState 0 0 s → SafeIn 0 0 d.environment) →
+    ((k : ℕ) → (j == k) ≡ false → waiters k d.environment.waiting ≡ waiters k s.waiting) → (RoomOfSlot j (link_in_slot (slot_link_at j s).environment (Some l)) → RoomOfSlot j d × All IsOfferWithin part) → Goes s part (with_slot_link j s d)
+put_goes j s l d part is alive devices own others same safe counts room =
     let slot : SlotState = record { link = d.link; said = d.environment.said } in
     record {
       devices = live_laters s.devices d.environment.devices devices;
@@ -277,9 +335,10 @@ put_goes j s l d part is alive devices own others fewer safe =
         | false ↦ λ e.
             subst (λ x. OwingAt k x (with_slot_link j s d)) (sym (others k e g))
             (subst (λ (x : SlotState). OwingLink k g x.said x.link d.environment.waiting) (sym (slot_other s.slots j k slot e))
-            (queueing_fewer k g (slot_at k s).said (slot_at k s).link s.waiting d.environment.waiting (fewer k e) h))
+            (queueing_same k g (slot_at k s).said (slot_at k s).link s.waiting d.environment.waiting (same k e) h))
       ] refl;
       safe = safe;
+      room = λ h. let x = room (h.0, subst (λ o. IfSome o (λ m. IsPending j s.waiting m)) is (h.1 j)) in (put_room j s l d is counts h x.0, x.1);
     }
 
 -- the same within a turn
@@ -308,7 +367,7 @@ served_at k s =
           (within_trans s part (with_slot_link k s d) [] (with_slot_link k s d)
           (record {
             inside = h.inside;
-            goes = put_goes k s l d part is h.alive h.devices (λ g queueing. h.own g (subst (λ o. OwingLink k g a.said o s.waiting) is queueing)) h.others (λ j other e. still_waits s.waiting d.environment.waiting k j other h.waits e) h.safe;
+            goes = put_goes k s l d part is h.alive h.devices (λ g queueing. h.own g (subst (λ o. OwingLink k g a.said o s.waiting) is queueing)) h.others (λ j other. still_waits s.waiting d.environment.waiting k j other h.waits) h.safe (λ j other. waiters_same s.waiting d.environment.waiting k j other h.waits) h.room;
           }) (within_refl (with_slot_link k s d))))
     ] refl
 

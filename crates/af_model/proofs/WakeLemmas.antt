@@ -17,21 +17,26 @@ use Rattle.af_world.specs.declared.happening.Wake.{Wake}
 use Rattle.af_world.specs.declared.happening.Wake.TheVariants.{Opened, Readable, Writable, Ticked, Line, Idle, Stop}
 use Rattle.af_world.specs.Log.{Log}
 use Rattle.af_wait.specs.Waits.{without_first}
-use Rattle.af_model.specs.State.{State, DeviceState, SlotState, LinkState, OpenLink, SlotLink, Deferral, link_in_slot, slot_link_at, lines_of, links_of, opened, outline, open_link, say, slot_at, some_slot, with_slot_link, with_device, with_slot}
-use Rattle.af_model.specs.Waiting.{falls_due}
+use Rattle.af_model.specs.State.{State, DeviceState, SlotState, LinkState, OpenLink, Deferral, link_in_slot, slot_link_at, lines_of, links_of, opened, outline, open_link, say, slot_at, some_slot, with_slot_link, with_device, with_slot}
+use Rattle.af_model.specs.Waiting.{due, falls_due}
+use Rattle.af_model.specs.Reply.{horizon_of}
 use Rattle.af_model.specs.Advance.{or_else}
 use Rattle.af_model.specs.Tick.{captured_samples, complete, complete_at, complete_by, complete_due, complete_first, complete_for, complete_step, completing, enter, later, sound, tick}
 use Rattle.af_model.specs.Events.{dropped, event_at, hook_given, hook_refused, line_becomes, line_changes, mask_of, tell, tell_at, tell_from, tell_link, tell_open, tell_selected}
 use Rattle.af_model.specs.Turn.{Parsed, parsed, parse_then, parse_one, capture_by, after_capture, tick_phase, line_phase, wake_phase, ready, writable, in_open, in_slot, is_closed_at, fits, hook_at, hook_from, hook_all, serve_all, serve_and_hook, turn}
 use Rattle.af_model.specs.LinkHistory.{LinkHistory, no_history, noted}
 use Rattle.af_model.specs.Prefix.{is_dropped}
-use Rattle.af_model.proofs.BoolTestLemmas.{both-true, cond-some, none_some}
+use Rattle.af_model.proofs.BoolTestLemmas.{both-true, cond-some, none_some, some_is}
 use Rattle.af_model.proofs.DeviceHistoryLemmas.{AllLive, Later, Laters, Lives, all_live_refl, all_live_trans, all_live_with, later_passed, later_line, later_trans, laters_get, laters_lines, laters_refl, laters_trans, laters_with, live_laters, lives_completing, lives_line, with_there}
 use Rattle.af_model.proofs.DeadLemmas.{DeadAs, lives_dead, with_dead}
 use Rattle.af_model.proofs.SafeLemmas.{AwaitedIn, SafeIn, SafeState, all_without_first, loses_alike, safe_becomes, safe_completing, safe_fewer, safe_keeps}
 use Rattle.af_model.proofs.CompletionLemmas.{found_all, ticks_safe}
-use Rattle.af_model.proofs.LinkInvariantLemmas.{complete_keeps}
-use Rattle.af_model.proofs.OwedBytesLemmas.{Moved, Owed, moved_overrun, OwingAt, OwingLink, Owing, SameOthers, found_waits, grows_keeps, queueing_fewer, queueing_keeps, others_keep, still_waits, selects_undropped, waiting_undropped, waits_left}
+use Rattle.af_model.proofs.AdvancedLemmas.{IsAdvanced, advanced_complete, advanced_says}
+use Rattle.af_model.proofs.LinkInvariantLemmas.{complete_keeps, open_undropped}
+use Rattle.af_model.proofs.OwedBytesLemmas.{Moved, Owed, moved_overrun, OwingAt, OwingLink, Owing, SameOthers, found_waits, grows_keeps, owed_fewer, queueing_keeps, queueing_left, others_keep, others_left, still_waits, selects_open, waiting_undropped, waits_left}
+use Rattle.af_model.proofs.PendingLemmas.{IsPending, RoomIn, room_complete, room_found, room_told, room_with, waiters_left_other, waiters_same}
+use Rattle.af_model.specs.Offers.{IsOfferWithin}
+use Rattle.std.proofs.lemmas.List.Elements.{All-from_recursion, All-nil}
 use Rattle.af_model.proofs.PhasePartLemmas.{Takes, hook_takes, live_takes, takes_chain, takes_map, takes_nothing, takes_then}
 use Rattle.af_model.proofs.ServeLemmas.{Goes, Within, goes_refl, goes_trans, inner, put_goes, same_door, served_from, slot_other, within_refl, within_trans}
 
@@ -46,13 +51,15 @@ becomes_goes d f s l same =
       deaths = λ c x y h. lives_dead c x y s.devices (with_device d f s.devices) all h;
       queued = λ k g h. h;
       safe = λ h. safe_becomes 0 0 d f s.devices s.waiting (λ x there. ((l x).now, (l x).rate, (l x).channels)) (λ x there safe. loses_alike x (f x) (l x).rate (same x) safe) h;
+      room = λ h. ((room_with d f s.devices s.waiting (λ x there. (l x).channels) h.0, h.1), All-nil IsOfferWithin);
     }
 
 -- Completions
 
--- the first that is due leaves the list, and completes
-completed : (passes : Deferral → Bool) (s : State) (w : Deferral) → find passes s.waiting ≡ Some w → Goes s [] (complete w (record s { waiting = without_first passes s.waiting }))
-completed passes s w found =
+-- the first that is due, of a device that is there, leaves the list, and completes
+completed : (passes : Deferral → Bool) (s : State) (w : Deferral) (x : DeviceState) → find passes s.waiting ≡ Some w → slice_get s.devices w.device ≡ Some x →
+    Goes s [] (complete w (record s { waiting = without_first passes s.waiting }))
+completed passes s w x found there =
     let fewer : State = record s { waiting = without_first passes s.waiting } in
     let a = (slot_link_at w.link fewer).environment in
     let k = w.link in
@@ -60,40 +67,52 @@ completed passes s w found =
     elim (slot_at k s).link as (λ o. (slot_at k s).link ≡ o → Goes s [] (with_slot_link k fewer (complete_at w a o))) [
       | None ↦ λ is.
           let back : with_slot_link k fewer (link_in_slot a None) ≡ fewer = ap (λ o. with_slot_link k fewer (link_in_slot a o)) (sym is) ∙ same_door k fewer in
-          subst (Goes s []) (sym back) (record { devices = laters_refl s.devices; deaths = λ c x y h. h; queued = λ j g h. queueing_fewer j g (slot_at j s).said (slot_at j s).link s.waiting fewer.waiting (waits_left passes s.waiting j) h; safe = λ h. left h })
+          subst (Goes s []) (sym back) (record { devices = laters_refl s.devices; deaths = λ c x y h. h; queued = λ j g h. queueing_left passes w j g (slot_at j s).said (slot_at j s).link s.waiting found (λ own. subst (λ n. (slot_at n s).link ≡ None) (eqb-true k j own) is) h; safe = λ h. left h; room = λ h. (room_found passes s w found h, All-nil IsOfferWithin) })
       | Some l ↦ λ is.
           let p = open_link a l in
           let device = slice_get s.devices w.device in
+          let q = complete_for w device p in
+          let same : SameOthers k fewer.waiting q.environment.waiting =
+          complete_keeps k (λ closing. Unit {0}) (λ q. SameOthers k fewer.waiting q.environment.waiting) (others_keep k fewer.waiting) w.device w.deferred device p refl (λ x there h. h) tt refl in
           put_goes k s l (enter (complete_for w device p)) [] is (λ c sofar. (refl, refl))
           (complete_keeps k (λ closing. Unit {0}) (λ q. AllLive s.devices q.environment.devices) (grows_keeps k s.devices) w.device w.deferred device p refl
           (λ x there h. all_live_trans s.devices s.devices (with_device w.device (completing w.link w.deferred) s.devices) h (all_live_with w.device (completing w.link w.deferred) s.devices (λ d is. lives_completing w.link d w.deferred))) tt (all_live_refl s.devices))
           (λ g h.
           let here : OwingLink k g a.said (Some l) s.waiting = subst (λ o. OwingLink k g a.said o s.waiting) is h in
-          let undropped = waiting_undropped k g a.said l s.waiting (found_waits passes s.waiting w found) here in
-          complete_keeps k (λ closing. is_dropped closing ≡ false) (Owing k g) (queueing_keeps k g) w.device w.deferred device p refl (λ x there h. h) undropped
-          (queueing_fewer k g a.said (Some l) s.waiting fewer.waiting (waits_left passes s.waiting k) here))
+          let undropped = waiting_undropped k g a.said l s.waiting (found_waits passes s.waiting w found) here.0 in (
+            complete_keeps k (λ closing. is_dropped closing ≡ false) (Owing k g) (queueing_keeps k g) w.device w.deferred device p refl (λ x there h. h) undropped
+                (owed_fewer k g a.said l s.waiting fewer.waiting (waits_left passes s.waiting k) here.0),
+            advanced_complete w device x p there,
+          ))
           (λ j other g. refl)
-          (λ j other e.
-          let q = complete_for w device p in
-          let same : SameOthers k fewer.waiting q.environment.waiting =
-          complete_keeps k (λ closing. Unit {0}) (λ q. SameOthers k fewer.waiting q.environment.waiting) (others_keep k fewer.waiting) w.device w.deferred device p refl (λ x there h. h) tt refl in
-          still_waits fewer.waiting q.environment.waiting k j other same (waits_left passes s.waiting j e))
+          (λ j other. still_waits fewer.waiting q.environment.waiting k j other same ∙ others_left passes s.waiting w j found other)
           (λ h. complete_keeps k (λ closing. Unit {0}) (λ q. SafeIn 0 0 q.environment) (safe_keeps k 0 0) w.device w.deferred device p refl
           (λ x there g. safe_completing 0 0 w s.devices fewer.waiting (omega arith) (found_all passes s.waiting w (λ v. AwaitedIn 0 0 s.devices v) found h.waiting) g) tt (left h))
+          (λ j other. waiters_same fewer.waiting q.environment.waiting k j other same ∙ waiters_left_other passes s.waiting w j found other)
+          (λ h. (room_complete passes s.devices s.waiting a.said l w x found there h.0 h.1, All-nil IsOfferWithin))
     ] refl
 
 abbrev GoesTo : State → Option State → Type 0
 GoesTo s o = IfSome o (λ t. Goes s [] t)
 
-first_goes : (d : ℕ) (s : State) (device : DeviceState) → GoesTo s (complete_first d s device)
-first_goes d s device =
+-- a request that falls due waits for that device
+falls_due_there : (d : ℕ) (device : DeviceState) (ws : List Deferral) (w : Deferral) → find (falls_due d device) ws ≡ Some w → w.device ≡ d
+falls_due_there d device [] w e = absurd (none_some e)
+falls_due_there d device (v ∷ ws) w e =
+    elim (falls_due d device v) as (λ t. falls_due d device v ≡ t → cond t (Some v) (find (falls_due d device) ws) ≡ Some w → w.device ≡ d) [
+      | true ↦ λ t e. let same : v ≡ w = some_is e in subst (λ (u : Deferral). u.device ≡ d) same (eqb-true v.device d (both-true (v.device == d) (nat_le (due device.channels (horizon_of device) v.deferred) device.now) t).0)
+      | false ↦ λ t e. falls_due_there d device ws w e
+    ] refl e
+
+first_goes : (d : ℕ) (s : State) (device : DeviceState) → slice_get s.devices d ≡ Some device → GoesTo s (complete_first d s device)
+first_goes d s device there =
     elim (find (falls_due d device) s.waiting) as (λ o. find (falls_due d device) s.waiting ≡ o → GoesTo s (option_map (λ w. complete w (record s { waiting = without_first (falls_due d device) s.waiting })) o)) [
       | None ↦ λ found. tt
-      | Some w ↦ λ found. completed (falls_due d device) s w found
+      | Some w ↦ λ found. completed (falls_due d device) s w device found (subst (λ n. slice_get s.devices n ≡ Some device) (sym (falls_due_there d device s.waiting w found)) there)
     ] refl
 
 step_goes : (d : ℕ) (s : State) → GoesTo s (complete_step d s)
-step_goes d s = elim (slice_get s.devices d) as (λ o. GoesTo s (option_and_then (complete_first d s) o)) [ None ↦ tt | Some device ↦ first_goes d s device ]
+step_goes d s = elim (slice_get s.devices d) as (λ o. slice_get s.devices d ≡ o → GoesTo s (option_and_then (complete_first d s) o)) [ None ↦ λ there. tt | Some device ↦ λ there. first_goes d s device there ] refl
 
 pub by_goes : (n d : ℕ) (s : State) → Goes s [] (complete_by n d s)
 by_goes zero d s = goes_refl s
@@ -113,6 +132,7 @@ record Ticks (d : ℕ) (is_dead : Bool) (s t : State) : Type 0 where
   deaths : (c : ℕ) (x y : Bool) → DeadAs c x y s → DeadAs c (cond (d == c) is_dead x) y t
   queued : (k : ℕ) (g : LinkHistory) → OwingAt k g s → OwingAt k g t
   safe : SafeState 0 0 s → SafeState 0 0 t
+  room : RoomIn s → RoomIn t
 
 ticks : (d n : ℕ) (captured : List ℤ) (is_dead : Bool) (s : State) (device : DeviceState) → slice_get s.devices d ≡ Some device → n ≤ longest_tick → Ticks d is_dead s (tick d n captured is_dead s)
 ticks d n captured is_dead s device there few =
@@ -125,36 +145,42 @@ ticks d n captured is_dead s device there few =
           (with_dead d f s.devices c x y (cond (d == c) is_dead x) y (λ device same was. (sym (ap (λ b. cond b is_dead x) same), was.1)) (λ other. (sym (ap (λ b. cond b is_dead x) other), refl)) h);
       queued = goes.queued;
       safe = λ h. ticks_safe d n captured is_dead s device few there h;
+      room = λ h. (goes.room (room_with d f s.devices s.waiting (λ x there. refl) h.0, h.1)).0;
     }
 
 -- Events
 
-told : (k : ℕ) (e : Event) (p : OpenLink) → Moved k (enter p) (enter (tell_link k e p))
+told : (k : ℕ) (e : Event) (p : OpenLink) → Moved k p (tell_link k e p)
 told k e p =
-    elim (selects (mask_of p.link e.device) e.kind) as (λ t. selects (mask_of p.link e.device) e.kind ≡ t → Moved k (enter p) (enter (cond t (tell_selected k e p) p))) [
-      | true ↦ λ t. elim (nat_le (length p.link.pending + 20) event_limit) as (λ u. nat_le (length p.link.pending + 20) event_limit ≡ u → Moved k (enter p) (enter (cond u (say p (event_bytes p.link.order e p.link.sequence)) (dropped k why.Overrun p)))) [
+    elim (selects (mask_of p.link e.device) e.kind) as (λ t. selects (mask_of p.link e.device) e.kind ≡ t → Moved k p (cond t (tell_selected k e p) p)) [
+      | true ↦ λ t. elim (nat_le (length p.link.pending + 20) event_limit) as (λ u. nat_le (length p.link.pending + 20) event_limit ≡ u → Moved k p (cond u (say p (event_bytes p.link.order e p.link.sequence)) (dropped k why.Overrun p))) [
         | true ↦ λ u. record {
           devices = all_live_refl p.environment.devices;
-          own = λ g h. (queueing_keeps k g).says p (event_bytes p.link.order e p.link.sequence) (selects_undropped k e.device e.kind g p t h) h;
+          own = λ g h. (queueing_keeps k g).says p (event_bytes p.link.order e p.link.sequence) (open_undropped p.link.closing (selects_open k e.device e.kind g p t h)) h;
+          advanced = advanced_says k p (event_bytes p.link.order e p.link.sequence);
           others = refl;
           safe = λ h. h;
+          room = λ h. room_told k e p u h;
         }
-        | false ↦ λ u. moved_overrun k p (λ g h. selects_undropped k e.device e.kind g p t h) u
+        | false ↦ λ u. moved_overrun k p (λ g h. selects_open k e.device e.kind g p t h) u
       ] refl
-      | false ↦ λ t. record { devices = all_live_refl p.environment.devices; own = λ g h. h; others = refl; safe = λ h. h }
+      | false ↦ λ t. record { devices = all_live_refl p.environment.devices; own = λ g h. h; advanced = λ h. h; others = refl; safe = λ h. h; room = λ h. h }
     ] refl
 
 -- an open link moves, and nothing is taken
-moves_goes : (k : ℕ) (s : State) (l : LinkState) (d : SlotLink) → (slot_at k s).link ≡ Some l → Moved k (enter (open_link (slot_link_at k s).environment l)) d → Goes s [] (with_slot_link k s d)
-moves_goes k s l d is m =
-    put_goes k s l d [] is (λ c sofar. (refl, refl)) m.devices (λ g h. m.own g (subst (λ o. OwingLink k g (slot_at k s).said o s.waiting) is h)) (λ j other g. refl) (λ j other e. still_waits s.waiting d.environment.waiting k j other m.others e) m.safe
+moves_goes : (k : ℕ) (s : State) (l : LinkState) (q : OpenLink) → (slot_at k s).link ≡ Some l → Moved k (open_link (slot_link_at k s).environment l) q → Goes s [] (with_slot_link k s (enter q))
+moves_goes k s l q is m =
+    put_goes k s l (enter q) [] is (λ c sofar. (refl, refl)) m.devices
+    (λ g h. let here : OwingLink k g (slot_at k s).said (Some l) s.waiting = subst (λ o. OwingLink k g (slot_at k s).said o s.waiting) is h in (m.own g here.0, m.advanced here.1))
+    (λ j other g. refl) (λ j other. still_waits s.waiting q.environment.waiting k j other m.others) m.safe
+    (λ j other. waiters_same s.waiting q.environment.waiting k j other m.others) (λ h. (m.room h, All-nil IsOfferWithin))
 
 tell_at-goes : (k : ℕ) (e : Event) (s : State) → Goes s [] (tell_at k e s)
 tell_at-goes k e s =
     let a = (slot_link_at k s).environment in
     elim (slot_at k s).link as (λ o. (slot_at k s).link ≡ o → Goes s [] (with_slot_link k s (tell_open k e a o))) [
       | None ↦ λ is. subst (Goes s []) (sym (ap (λ o. with_slot_link k s (link_in_slot a o)) (sym is) ∙ same_door k s)) (goes_refl s)
-      | Some l ↦ λ is. moves_goes k s l (enter (tell_link k e (open_link a l))) is (told k e (open_link a l))
+      | Some l ↦ λ is. moves_goes k s l (tell_link k e (open_link a l)) is (told k e (open_link a l))
     ] refl
 
 tell_from-goes : (n k : ℕ) (e : Event) (s : State) → Goes s [] (tell_from n k e s)
@@ -181,6 +207,7 @@ refused_goes d off s =
           (λ other. (refl, sym (ap (λ b. b || y) other))) h;
       queued = λ k g h. h;
       safe = λ h. safe_becomes 0 0 d f s.devices s.waiting (λ x there. (refl, refl, refl)) (λ x there safe. loses_alike x (f x) refl refl safe) h;
+      room = λ h. ((room_with d f s.devices s.waiting (λ x there. refl) h.0, h.1), All-from_recursion IsOfferWithin (Hooked d off false ∷ []) (tt, tt));
     }
   where
     dies : (line : Option Phone) → IfSome (option_map (hooked false) line) (λ line. line.dead ≡ true)
@@ -190,7 +217,7 @@ refused_goes d off s =
 hook_goes : (d : ℕ) (wanted off done : Bool) (device : DeviceState) (s : State) → Goes s (Hooked d wanted done ∷ []) (cond done (hook_given off d device s) (hook_refused d s))
 hook_goes d wanted off true device s =
     let g = becomes_told (hooked true) (λ line. refl) kind.Hook (flag_value off) d device s in
-    record { devices = g.devices; deaths = g.deaths; queued = g.queued; safe = g.safe }
+    record { devices = g.devices; deaths = g.deaths; queued = g.queued; safe = g.safe; room = λ h. ((g.room h).0, All-from_recursion IsOfferWithin (Hooked d wanted true ∷ []) (tt, tt)) }
 hook_goes d wanted off false device s = refused_goes d wanted s
 
 hooked_at : (d : ℕ) (o : Option DeviceState) (s : State) → Takes (hook_at d o s) (Within s)
@@ -267,6 +294,7 @@ dead_goes d n device s few there dead =
       deaths = λ c x y h. subst (λ z. DeadAs c z y t) (stays (d == c) x (λ same. as_dead d device s c x y there h same ∙ dead)) (g.deaths c x y h);
       queued = g.queued;
       safe = g.safe;
+      room = λ h. (g.room h, All-from_recursion IsOfferWithin (Woke (Ticked d n) ∷ []) (tt, tt));
     }
   where
     stays : (same x : Bool) → (same ≡ true → x ≡ true) → cond same true x ≡ x
@@ -278,7 +306,7 @@ failed_goes : (d n : ℕ) (device : DeviceState) (s : State) → n ≤ longest_t
 failed_goes d n device s few there =
     let t = tick d n (captured_samples device n None) true s in
     let g = ticks d n (captured_samples device n None) true s device there few in
-    record { devices = g.devices; deaths = λ c x y h. subst (λ z. DeadAs c z y t) (either (d == c) x) (g.deaths c x y h); queued = g.queued; safe = g.safe }
+    record { devices = g.devices; deaths = λ c x y h. subst (λ z. DeadAs c z y t) (either (d == c) x) (g.deaths c x y h); queued = g.queued; safe = g.safe; room = λ h. (g.room h, All-from_recursion IsOfferWithin (Woke (Ticked d n) ∷ Captured d n None ∷ []) (tt, (tt, tt))) }
   where
     either : (same x : Bool) → cond same true x ≡ (same || x)
     either true x = refl
@@ -295,6 +323,7 @@ sounded_goes d n device s bytes sent done few there alive =
       deaths = λ c x y h. subst (λ z. DeadAs c z y t) (sound_dead (d == c) done x (λ same. as_dead d device s c x y there h same ∙ alive)) (g.deaths c x y h);
       queued = g.queued;
       safe = g.safe;
+      room = λ h. (g.room h, All-from_recursion IsOfferWithin (Woke (Ticked d n) ∷ Captured d n (Some bytes) ∷ Emitted d sent done ∷ []) (tt, (tt, (tt, tt))));
     }
 
 woken_ticked : (d n : ℕ) (o : Option DeviceState) (s : State) → n ≤ longest_tick → slice_get s.devices d ≡ o → Takes (tick_phase d n o s) (Woken s (Ticked d n))
@@ -315,6 +344,19 @@ slot_opened [] k x e = absurd cc
 slot_opened (y ∷ slots) zero x e = refl
 slot_opened (y ∷ slots) (suc k) x e = slot_opened slots k x e
 
+-- a link is opened: nothing waits to be sent to it
+opened_room : (j : ℕ) (s : State) → fits (outline s) (Opened j) ≡ true → RoomIn s → RoomIn (with_slot j (record { link = Some opened; said = [] }) s)
+opened_room j s fit h =
+    let slot : SlotState = record { link = Some opened; said = [] } in (
+      h.0,
+      λ k. elim (j == k) as (λ t. (j == k) ≡ t → IfSome (slot_at k (with_slot j slot s)).link (λ l. IsPending k s.waiting l)) [
+        | true ↦ λ e.
+            subst (λ n. IfSome (slot_at n (with_slot j slot s)).link (λ l. IsPending n s.waiting l)) (eqb-true j k e)
+            (subst (λ (x : SlotState). IfSome x.link (λ l. IsPending j s.waiting l)) (sym (slot_opened s.slots j slot fit)) (omega (arith, h.0.once j)))
+        | false ↦ λ e. subst (λ (x : SlotState). IfSome x.link (λ l. IsPending k s.waiting l)) (sym (slot_other s.slots j k slot e)) (h.1 k)
+      ] refl,
+    )
+
 -- a link is opened: nothing was said to it since
 opened_goes : (k : ℕ) (s : State) → fits (outline s) (Opened k) ≡ true → Goes s (Woke (Opened k) ∷ []) (with_slot k (record { link = Some opened; said = [] }) s)
 opened_goes j s fit =
@@ -323,36 +365,40 @@ opened_goes j s fit =
       devices = laters_refl s.devices;
       deaths = λ d x y h. h;
       safe = λ h. h;
+      room = λ h. (opened_room j s fit h, All-from_recursion IsOfferWithin (Woke (Opened j) ∷ []) (tt, tt));
       queued = λ k g h. elim (j == k) as (λ t. (j == k) ≡ t → OwingAt k (cond t no_history g) (with_slot j slot s)) [
         | true ↦ λ e.
-            subst (λ n. OwingAt n no_history (with_slot j slot s)) (eqb-true j k e) (subst (λ (x : SlotState). OwingLink j no_history x.said x.link s.waiting) (sym (slot_opened s.slots j slot fit))
-            (record {
-              rest = [];
-              whole = refl;
-              queued = λ e. refl;
-              sends = λ e. refl;
-              waits = λ e. absurd cc;
-              wants = λ e. refl;
-              shows = record { failed = refl; ended = refl; input = refl };
-              unclosed = refl;
-            }))
+            subst (λ n. OwingAt n no_history (with_slot j slot s)) (eqb-true j k e) (subst (λ (x : SlotState). OwingLink j no_history x.said x.link s.waiting) (sym (slot_opened s.slots j slot fit)) (
+              record {
+                rest = [];
+                whole = refl;
+                queued = λ e. refl;
+                sends = λ e. refl;
+                waits = λ e. absurd cc;
+                wants = λ e. refl;
+                shows = record { failed = refl; ended = refl; input = refl };
+                unclosed = refl;
+              },
+              λ more. refl,
+            ))
         | false ↦ λ e. subst (λ (x : SlotState). OwingLink k g x.said x.link s.waiting) (sym (slot_other s.slots j k slot e)) h
       ] refl;
     }
 
--- something of an open link changes, but nothing that is queued for it
-opens_goes : (f : LinkState → LinkState) (k : ℕ) (s : State) → ((g : LinkHistory) (said : List ℕ) (l : LinkState) (waiting : List Deferral) → Owed k g said l waiting → Owed k g said (f l) waiting) → Goes s [] (with_slot k (in_slot f (slot_at k s)) s)
-opens_goes f k s queued =
+-- something of an open link changes, but nothing that is queued for it or taken off its input
+opens_goes : (f : LinkState → LinkState) (k : ℕ) (s : State) → ((g : LinkHistory) (said : List ℕ) (l : LinkState) (waiting : List Deferral) → Owed k g said l waiting → Owed k g said (f l) waiting) →
+    ((l : LinkState) (waiting : List Deferral) → IsAdvanced k l waiting → IsAdvanced k (f l) waiting) → ((l : LinkState) (waiting : List Deferral) → IsPending k waiting l → IsPending k waiting (f l)) → Goes s [] (with_slot k (in_slot f (slot_at k s)) s)
+opens_goes f k s queued advanced room =
     let a = (slot_link_at k s).environment in
     elim (slot_at k s).link as (λ o. (slot_at k s).link ≡ o → Goes s [] (with_slot_link k s (link_in_slot a (in_open f o)))) [
       | None ↦ λ is. subst (Goes s []) (sym (ap (λ o. with_slot_link k s (link_in_slot a o)) (sym is) ∙ same_door k s)) (goes_refl s)
-      | Some l ↦ λ is. moves_goes k s l (link_in_slot a (Some (f l))) is (record { devices = all_live_refl s.devices; own = λ g h. queued g a.said l s.waiting h; others = refl; safe = λ h. h })
+      | Some l ↦ λ is. moves_goes k s l (open_link a (f l)) is (record { devices = all_live_refl s.devices; own = λ g h. queued g a.said l s.waiting h; advanced = advanced l s.waiting; others = refl; safe = λ h. h; room = λ h. (h.0, room l s.waiting h.1) })
     ] refl
 
 -- a wake that no link is opened by, and that takes nothing off
 woken_quiet : (w : Wake) (s t : State) → ((k : ℕ) (g : LinkHistory) → noted k g (Woke w) ≡ g) → Goes s [] t → Takes (λ log. parsed t log) (Woken s w)
 woken_quiet w s t still g =
-    takes_nothing t (Woken s w) (record { goes = record { devices = g.devices; deaths = g.deaths; queued = λ k f h. subst (λ x. OwingAt k x t) (sym (still k f)) (g.queued k f h); safe = g.safe }; emits = inl refl })
+    takes_nothing t (Woken s w) (record { goes = record { devices = g.devices; deaths = g.deaths; queued = λ k f h. subst (λ x. OwingAt k x t) (sym (still k f)) (g.queued k f h); safe = g.safe; room = λ h. ((g.room h).0, All-from_recursion IsOfferWithin (Woke w ∷ []) (tt, tt)) }; emits = inl refl })
 
 -- a change of a line leaves it as dead as it was
 changed_alike : (change : LineChange) (line : Phone) → (changed change line).dead ≡ line.dead
@@ -370,10 +416,10 @@ unfolding wake_phase
 woken (Opened k) s fit = takes_nothing (with_slot k (record { link = Some opened; said = [] }) s) (Woken s (Opened k)) (record { goes = opened_goes k s fit; emits = inl refl })
 woken (Readable k) s fit =
     woken_quiet (Readable k) s (with_slot k (in_slot ready (slot_at k s)) s) (λ k f. refl)
-    (opens_goes ready k s (λ g said l waiting h. record { rest = h.rest; whole = h.whole; queued = h.queued; sends = h.sends; waits = h.waits; wants = h.wants; shows = h.shows; unclosed = h.unclosed }))
+    (opens_goes ready k s (λ g said l waiting h. record { rest = h.rest; whole = h.whole; queued = h.queued; sends = h.sends; waits = h.waits; wants = h.wants; shows = h.shows; unclosed = h.unclosed }) (λ l waiting h. h) (λ l waiting h. h))
 woken (Writable k) s fit =
     woken_quiet (Writable k) s (with_slot k (in_slot writable (slot_at k s)) s) (λ k f. refl)
-    (opens_goes writable k s (λ g said l waiting h. record { rest = h.rest; whole = h.whole; queued = h.queued; sends = h.sends; waits = h.waits; wants = h.wants; shows = h.shows; unclosed = h.unclosed }))
+    (opens_goes writable k s (λ g said l waiting h. record { rest = h.rest; whole = h.whole; queued = h.queued; sends = h.sends; waits = h.waits; wants = h.wants; shows = h.shows; unclosed = h.unclosed }) (λ l waiting h. h) (λ l waiting h. h))
 woken (Ticked d n) s fit = woken_ticked d n (slice_get s.devices d) s (few_frames n (both-true (nat_lt d (length (outline s).lines) && nat_le 1 n) (nat_le n longest_tick) fit).1) refl
   where
     few_frames : (n : ℕ) → nat_le n longest_tick ≡ true → n ≤ longest_tick

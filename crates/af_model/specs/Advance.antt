@@ -13,6 +13,7 @@ use Rattle.af_wire.specs.Message.{error}
 use Rattle.af_request.specs.Asked.{Asked}
 use Rattle.af_request.specs.Requests.{asked_in}
 use Rattle.af_request.specs.Answer.{setup}
+use Rattle.af_request.specs.Opcodes as opcodes
 use Rattle.af_model.specs.State.{LinkState, OpenLink, open_link, say, stopped}
 use Rattle.af_model.specs.Waiting.{has_deferral}
 use Rattle.af_model.specs.Reply.{reply_message, infos_of}
@@ -34,14 +35,14 @@ after_frame k Malformed p = Some (open_link p.environment (stopped why.Malformed
 after_frame k (Frame n) p = Some (requested k (asked_in p.link.order (take n p.link.rest)) (open_link p.environment (without_front n p.link)))
 
 -- What becomes of a link with a setup at the front of its input: its order becomes the link's. A bad one is refused and closes
--- the link. Setups have the opcode 0 and the number 0.
+-- the link. Its answer has the number 0.
 abbrev pub after_setup : SetupFront → OpenLink → Option OpenLink
 after_setup front.NeedMore p = None
 after_setup (front.Setup order) p =
     Some (say (open_link p.environment (record (without_front 8 p.link) { is_set_up = true; order = order }))
-    (reply_message order 0 (setup (infos_of p.environment.devices)) 0))
+    (reply_message order opcodes.setup (setup (infos_of p.environment.devices)) 0))
 after_setup (front.BadSetup order value) p =
-    Some (say (open_link p.environment (stopped why.BadSetup p.link)) (error order 1 value 0 0))
+    Some (say (open_link p.environment (stopped why.BadSetup p.link)) (error order 1 value opcodes.setup 0))
 
 -- nothing is taken off while a link waits or is closing, or while more than 16384 bytes wait to be sent to it
 abbrev pub takes_more : Bool → LinkState → Bool

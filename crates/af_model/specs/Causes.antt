@@ -1,5 +1,5 @@
 -- That each link is closed for the cause that the log shows.
-use Rattle.std.specs.Prelude.{◌≡◌, ℕ, ◌+◌, ◌-◌, ◌<◌, Bool, true, false, List, [], ◌∷◌, ◌++◌, length, take, drop, is_none, is_some, IfSome}
+use Rattle.std.specs.Prelude.{◌≡◌, ◌⊎◌, ℕ, ◌+◌, ◌-◌, ◌<◌, Bool, true, false, List, [], ◌∷◌, ◌++◌, length, take, drop, is_none, is_some, IfSome}
 use Rattle.af_limits.specs.Limits.{event_limit}
 use Rattle.af_wire.specs.declared.order.Order.{Order}
 use Rattle.af_wire.specs.declared.front.Front.{Front}
@@ -27,6 +27,12 @@ pub record IsServedTo (order : Order) (bytes rest : List ℕ) : Type 0 where
   pub sizes : List ℕ
   pub requests : AreRequests order sizes (drop 8 bytes) rest
 
+-- All that stands whole in these bytes is served: they are less than a setup, or behind a good setup and requests in its order less
+-- than a frame.
+abbrev pub AreServed : List ℕ → Type 0
+AreServed bytes =
+    (setup_front bytes ≡ front.NeedMore) ⊎ ((order : Order) × (rest : List ℕ) × IsServedTo order bytes rest × (frame_front order rest ≡ NeedMore))
+
 -- whether bytes begin with what is no frame in an order, or with a frame that is no request
 abbrev pub is_malformed : Order → Front → List ℕ → Bool
 is_malformed order NeedMore bytes = false
@@ -40,12 +46,13 @@ pub record ShowsNoOther (h : LinkHistory) (owed : ℕ) : Type 0 where
   pub all_taken : owed ≡ 0
 
 -- What a link shows that is closed for a cause, of which so many bytes were said to it and not taken: a read or a write of it failed; an
--- event of 20 bytes found no room beside what was to be sent; a read said that it ended; its first bytes are no good setup;
--- behind a good setup and requests in its order its bytes are malformed.
+-- event of 20 bytes found no room beside what was to be sent, and no read had said that it ended; a read said that it ended, and all
+-- that its reads gave is served; its first bytes are no good setup; behind a good setup and requests in its order its bytes are
+-- malformed.
 abbrev pub IsCause : Why → LinkHistory → ℕ → Type 0
 IsCause why.LinkFault h owed = h.has_failed ≡ true
-IsCause why.Overrun h owed = (h.has_failed ≡ false) × (event_limit < owed + 20)
-IsCause why.Ended h owed = (h.has_failed ≡ false) × (h.has_ended ≡ true) × (owed ≡ 0)
+IsCause why.Overrun h owed = (h.has_failed ≡ false) × (h.has_ended ≡ false) × (event_limit < owed + 20)
+IsCause why.Ended h owed = (h.has_failed ≡ false) × (h.has_ended ≡ true) × (owed ≡ 0) × AreServed h.gave
 IsCause why.BadSetup h owed = ShowsNoOther h owed × (order : Order) × (value : ℕ) × (setup_front h.gave ≡ front.BadSetup order value)
 IsCause why.Malformed h owed =
     ShowsNoOther h owed × (order : Order) × (rest : List ℕ) × IsServedTo order h.gave rest × (is_malformed order (frame_front order rest) rest ≡ true)

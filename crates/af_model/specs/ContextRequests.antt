@@ -8,6 +8,7 @@ use Rattle.af_sample.specs.declared.sample_type.SampleType.TheVariants.{Lin16}
 use Rattle.af_context.specs.declared.Context.{Context}
 use Rattle.af_context.specs.Contexts.{creation, reference, is_in_use, with_changed, with_settings, without_context}
 use Rattle.af_request.specs.Answer.{plain}
+use Rattle.af_request.specs.Opcodes as opcodes
 use Rattle.af_model.specs.declared.refusal.RefusalCause.TheVariants.{BadValue, BadDevice, BadAc, BadMatch}
 use Rattle.af_model.specs.declared.refusal.Refusal.{Refusal}
 use Rattle.af_model.specs.State.{OpenLink, open_link}
@@ -46,7 +47,8 @@ described device ac ty preempt play_gain record_gain = record {
 
 -- one context more, if the number is free and there is room
 abbrev pub create : Context → OpenLink → OpenLink
-create c p = refused_or 3 (context_refusal c.ac (creation p.link.contexts c.ac)) (λ q. replied 3 plain (with_contexts (q.link.contexts ++ c ∷ []) q)) p
+create c p = refused_or opcodes.create_ac (context_refusal c.ac (creation p.link.contexts c.ac))
+    (λ q. replied opcodes.create_ac plain (with_contexts (q.link.contexts ++ c ∷ []) q)) p
 
 -- the fields that the mask names are looked at: 1 play gain, 2 record gain, 4 preempt
 unfoldable pub change_refusal : List Context → ℕ → ℕ → ℕ → ℤ → ℤ → Option Refusal
@@ -63,9 +65,10 @@ abbrev pub named_preempt : ℕ → ℕ → Option Bool
 named_preempt mask preempt = if names mask 4 then Some (preempt == 1) else None
 
 abbrev pub change : ℕ → ℕ → ℕ → ℤ → ℤ → OpenLink → OpenLink
-change mask ac preempt play_gain record_gain p = replied 4 plain
+change mask ac preempt play_gain record_gain p = replied opcodes.change_ac plain
     (with_contexts (with_changed p.link.contexts ac (with_settings (named_gain mask 1 play_gain) (named_gain mask 2 record_gain) (named_preempt mask preempt))) p)
 
 -- a context is no more; what it had accepted stays
 abbrev pub free : ℕ → OpenLink → OpenLink
-free ac p = refused_or 5 (context_refusal ac (reference p.link.contexts ac)) (λ q. replied 5 plain (with_contexts (without_context q.link.contexts ac) q)) p
+free ac p = refused_or opcodes.free_ac (context_refusal ac (reference p.link.contexts ac))
+    (λ q. replied opcodes.free_ac plain (with_contexts (without_context q.link.contexts ac) q)) p

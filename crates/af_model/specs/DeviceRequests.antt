@@ -5,6 +5,7 @@ use Rattle.std.specs.declared.option.Option.TheVariants.{None, Some}
 use Rattle.af_request.specs.declared.reply.Controls.{Controls}
 use Rattle.af_request.specs.declared.reply.Phone.{Phone}
 use Rattle.af_request.specs.Answer.{plain, controls, phone}
+use Rattle.af_request.specs.Opcodes as opcodes
 use Rattle.af_phone.specs.Lines.{wanting}
 use Rattle.af_model.specs.declared.refusal.RefusalCause.TheVariants.{BadLine, BadValue}
 use Rattle.af_model.specs.declared.refusal.Refusal.{Refusal}
@@ -21,7 +22,8 @@ on_line opcode d f (Some line) p = f line p
 
 -- SelectEvents: the mask of events of a device is replaced
 abbrev pub select : ℕ → ℕ → OpenLink → OpenLink
-select d mask p = replied 8 plain (open_link p.environment (record p.link { selections = slice_set p.link.selections d mask }))
+select d mask p = replied opcodes.select_events plain
+    (open_link p.environment (record p.link { selections = slice_set p.link.selections d mask }))
 
 -- SetControls: the fields that the mask names are looked at: 1 input gain, 2 output gain, 4 input on, 8 output on
 unfoldable pub controls_refusal : ℕ → ℕ → ℕ → ℤ → ℤ → Option Refusal
@@ -47,12 +49,12 @@ controlling k mask input_on output_on input_gain output_gain device =
 
 abbrev pub set_device_controls : ℕ → ℕ → ℕ → ℕ → ℕ → ℤ → ℤ → DeviceState → OpenLink → OpenLink
 set_device_controls k d mask input_on output_on input_gain output_gain device p =
-    refused_or 9 (controls_refusal mask input_on output_on input_gain output_gain)
-    (λ q. replied 9 plain (in_devices d (controlling k mask input_on output_on input_gain output_gain) q)) p
+    refused_or opcodes.set_controls (controls_refusal mask input_on output_on input_gain output_gain)
+    (λ q. replied opcodes.set_controls plain (in_devices d (controlling k mask input_on output_on input_gain output_gain) q)) p
 
 -- QueryControls
 abbrev pub tell_controls : DeviceState → OpenLink → OpenLink
-tell_controls device p = replied 10 (controls device.controls) p
+tell_controls device p = replied opcodes.query_controls (controls device.controls) p
 
 -- HookSwitch: a line that is dead is as one that is not there; link k wants the hook off or on
 abbrev pub switch_refusal : ℕ → ℕ → Phone → Option Refusal
@@ -63,8 +65,9 @@ wanting_hook k off device = record device { line = option_map (wanting off) devi
 
 abbrev pub switch_hook : ℕ → ℕ → ℕ → Phone → OpenLink → OpenLink
 switch_hook k d off line p =
-    refused_or 11 (switch_refusal d off line) (λ q. replied 11 plain (in_devices d (wanting_hook k (off == 1)) q)) p
+    refused_or opcodes.hook_switch (switch_refusal d off line)
+    (λ q. replied opcodes.hook_switch plain (in_devices d (wanting_hook k (off == 1)) q)) p
 
 -- QueryPhone
 abbrev pub tell_phone : Phone → OpenLink → OpenLink
-tell_phone line p = replied 12 (phone line) p
+tell_phone line p = replied opcodes.query_phone (phone line) p

@@ -18,6 +18,7 @@ pub mod NoLoss
 pub mod Cutting
 pub mod LinkHistory
 pub mod Prefix
+pub mod Offers
 pub mod Causes
 pub mod Dead
 pub mod Fold

@@ -6,6 +6,7 @@ use Rattle.af_context.specs.declared.Context.{Context}
 use Rattle.af_context.specs.Contexts.{context_of}
 use Rattle.af_request.specs.Asked.{Asked, no_op, get_time, create_ac, change_ac, free_ac, play_run, record_run, select_events, set_controls, query_controls, hook_switch, query_phone}
 use Rattle.af_request.specs.Answer.{time}
+use Rattle.af_request.specs.Opcodes as opcodes
 use Rattle.af_model.specs.declared.refusal.RefusalCause.TheVariants.{BadAc}
 use Rattle.af_model.specs.State.{DeviceState, LinkState, OpenLink, open_link}
 use Rattle.af_model.specs.Reply.{refusal, refused, replied}
@@ -21,7 +22,7 @@ request_counted l = record l { sequence = (l.sequence + 1) % 2 ^ 16 }
 
 -- the time of a device is replied, modulo 2^32
 abbrev pub tell_time : DeviceState → OpenLink → OpenLink
-tell_time device p = replied 2 (time (device.now % 2 ^ 32)) p
+tell_time device p = replied opcodes.get_time (time (device.now % 2 ^ 32)) p
 
 -- a request that names a context is done with it and its device, or refused where it is not in use
 abbrev pub in_context : ℕ → ℕ → (Context → DeviceState → OpenLink → OpenLink) → Option Context → OpenLink → OpenLink
@@ -35,21 +36,32 @@ channels_at devices d = option_map (λ device. device.channels) (slice_get devic
 -- what a request of link k does
 abbrev pub done : ℕ → Asked → OpenLink → OpenLink
 done k no_op p = p
-done k (get_time d) p = in_device 2 d tell_time (slice_get p.environment.devices d) p
+done k (get_time d) p = in_device opcodes.get_time d tell_time (slice_get p.environment.devices d) p
 done k (create_ac d ac ty channels preempt play_gain record_gain) p =
-    refused_or 3 (creation_refusal (channels_at p.environment.devices d) d ty channels preempt play_gain record_gain)
+    refused_or opcodes.create_ac
+    (creation_refusal (channels_at p.environment.devices d) d ty channels preempt play_gain record_gain)
     (create (described d ac ty preempt play_gain record_gain)) p
 done k (change_ac mask ac preempt play_gain record_gain) p =
-    refused_or 4 (change_refusal p.link.contexts mask ac preempt play_gain record_gain) (change mask ac preempt play_gain record_gain) p
+    refused_or opcodes.change_ac (change_refusal p.link.contexts mask ac preempt play_gain record_gain)
+    (change mask ac preempt play_gain record_gain) p
 done k (free_ac ac) p = free ac p
-done k (play_run quiet ac start bytes) p = in_context 6 ac (λ c. play k quiet c start bytes) (context_of p.link.contexts ac) p
-done k (record_run blocking ac start bytes) p = in_context 7 ac (λ c. record_sound k blocking c start bytes) (context_of p.link.contexts ac) p
-done k (select_events d mask) p = in_device 8 d (λ device. on_line 8 d (λ line. select d mask) device.line) (slice_get p.environment.devices d) p
+done k (play_run quiet ac start bytes) p =
+    in_context opcodes.play ac (λ c. play k quiet c start bytes) (context_of p.link.contexts ac) p
+done k (record_run blocking ac start bytes) p =
+    in_context opcodes.record ac (λ c. record_sound k blocking c start bytes) (context_of p.link.contexts ac) p
+done k (select_events d mask) p =
+    in_device opcodes.select_events d (λ device. on_line opcodes.select_events d (λ line. select d mask) device.line)
+    (slice_get p.environment.devices d) p
 done k (set_controls d mask input_on output_on input_gain output_gain) p =
-    in_device 9 d (set_device_controls k d mask input_on output_on input_gain output_gain) (slice_get p.environment.devices d) p
-done k (query_controls d) p = in_device 10 d tell_controls (slice_get p.environment.devices d) p
-done k (hook_switch d off) p = in_device 11 d (λ device. on_line 11 d (switch_hook k d off) device.line) (slice_get p.environment.devices d) p
-done k (query_phone d) p = in_device 12 d (λ device. on_line 12 d tell_phone device.line) (slice_get p.environment.devices d) p
+    in_device opcodes.set_controls d (set_device_controls k d mask input_on output_on input_gain output_gain)
+    (slice_get p.environment.devices d) p
+done k (query_controls d) p = in_device opcodes.query_controls d tell_controls (slice_get p.environment.devices d) p
+done k (hook_switch d off) p =
+    in_device opcodes.hook_switch d (λ device. on_line opcodes.hook_switch d (switch_hook k d off) device.line)
+    (slice_get p.environment.devices d) p
+done k (query_phone d) p =
+    in_device opcodes.query_phone d (λ device. on_line opcodes.query_phone d tell_phone device.line)
+    (slice_get p.environment.devices d) p
 
 -- link k makes a request
 abbrev pub perform : ℕ → Asked → OpenLink → OpenLink

@@ -8,6 +8,7 @@ use Rattle.af_sample.specs.SampleTypes.{frame_bytes}
 use Rattle.af_sample.specs.Heard.{AcceptedPlay}
 use Rattle.af_context.specs.declared.Context.{Context}
 use Rattle.af_request.specs.Answer.{played}
+use Rattle.af_request.specs.Opcodes as opcodes
 use Rattle.af_model.specs.declared.refusal.RefusalCause.TheVariants.{BadValue}
 use Rattle.af_model.specs.declared.refusal.Refusal.{Refusal}
 use Rattle.af_model.specs.State.{DeviceState, OpenLink, open_link, with_device, deferred_play}
@@ -58,7 +59,7 @@ in_devices d f p = open_link (record p.environment { devices = with_device d f p
 
 -- it is replied to with the device's time, unless it is quiet
 abbrev pub tell_played : Bool → DeviceState → OpenLink → OpenLink
-tell_played quiet device p = if quiet then p else replied 6 (played (device.now % 2 ^ 32)) p
+tell_played quiet device p = if quiet then p else replied opcodes.play (played (device.now % 2 ^ 32)) p
 
 -- A play that ends within the horizon is accepted now, and so is one without a frame; any other waits, whole.
 abbrev pub start_play : ℕ → Bool → Context → ℕ → List ℕ → DeviceState → OpenLink → OpenLink
@@ -68,4 +69,5 @@ start_play k quiet c time bytes device p =
     else wait k c.device (deferred_play quiet (unwrap device.now time) (sent_sound c bytes) c.preempt) p
 
 abbrev pub play : ℕ → Bool → Context → ℕ → List ℕ → DeviceState → OpenLink → OpenLink
-play k quiet c time bytes device p = refused_or 6 (play_refusal device.channels c (length bytes)) (start_play k quiet c time bytes device) p
+play k quiet c time bytes device p =
+    refused_or opcodes.play (play_refusal device.channels c (length bytes)) (start_play k quiet c time bytes device) p

@@ -8,6 +8,7 @@ use Rattle.af_sample.specs.Samples.{bytes_of}
 use Rattle.af_sample.specs.Window.{window}
 use Rattle.af_context.specs.declared.Context.{Context}
 use Rattle.af_request.specs.Answer.{recorded}
+use Rattle.af_request.specs.Opcodes as opcodes
 use Rattle.af_model.specs.declared.refusal.RefusalCause.TheVariants.{BadValue}
 use Rattle.af_model.specs.declared.refusal.Refusal.{Refusal}
 use Rattle.af_model.specs.State.{DeviceState, OpenLink, deferred_record}
@@ -35,7 +36,7 @@ recorded_bytes c device start n = bytes_of c.ty (map (λ x. gained x c.record_ga
 
 -- a record is answered with n frames
 abbrev pub give_record : Context → ℕ → ℕ → DeviceState → OpenLink → OpenLink
-give_record c start n device p = replied 7 (recorded (device.now % 2 ^ 32) (recorded_bytes c device start n)) p
+give_record c start n device p = replied opcodes.record (recorded (device.now % 2 ^ 32) (recorded_bytes c device start n)) p
 
 -- a record waits where it blocks and has a frame that is not before now
 abbrev pub is_to_wait : Bool → DeviceState → ℕ → ℕ → Bool
@@ -48,4 +49,5 @@ start_record k blocking c time bytes device p =
     else give_record c (unwrap device.now time) (given_frames blocking device time (frames_of device.channels c bytes)) device p
 
 abbrev pub record_sound : ℕ → Bool → Context → ℕ → ℕ → DeviceState → OpenLink → OpenLink
-record_sound k blocking c time bytes device p = refused_or 7 (record_refusal device.channels c bytes) (start_record k blocking c time bytes device) p
+record_sound k blocking c time bytes device p =
+    refused_or opcodes.record (record_refusal device.channels c bytes) (start_record k blocking c time bytes device) p

@@ -20,6 +20,7 @@ ghost use Rattle.af_model.specs.Script.{ScriptLog};
 ghost use Rattle.af_model.specs.Cutting.{CutsAlike};
 ghost use Rattle.af_model.specs.LinkHistory.{LinkHistory};
 ghost use Rattle.af_model.specs.Prefix.{TakesInOrder};
+ghost use Rattle.af_model.specs.Offers.{OffersWithin};
 ghost use Rattle.af_model.specs.Causes.{ClosesForCauses, IsCause};
 ghost use Rattle.af_model.specs.Dead.{IsDeadWhereFailed};
 ghost use Rattle.af_model.specs.Fold.{MixesAll};
@@ -55,6 +56,12 @@ pub fn prefix_law()
     ensures { (config : List DeviceSpec) (log : Log) → TakesInOrder config log }
 {}
 
+/// A law of the definitions alone, of what is offered: with at most eight devices, no write of a run offers more than 65168 bytes. So
+/// much may wait to be sent where a request is answered that had waited behind events.
+pub fn offer_law()
+    ensures { (config : List DeviceSpec) (log : Log) → OffersWithin config log }
+{}
+
 /// A law of the definitions alone, of what is heard: each emit in a run has the sound of all plays that its device has accepted at
 /// the end of the run, at the times that it hands out, behind the controls that the device had before that turn.
 pub fn fold_law()
@@ -62,8 +69,9 @@ pub fn fold_law()
 {}
 
 /// A law of the definitions alone, of closes: each link in a run is closed for the one cause that its part of the log shows. A read or
-/// a write of it failed; or an event found no room beside what was to be sent to it; or a read said that it ended; or its first bytes
-/// are no good setup; or, behind a good setup and requests, its bytes are malformed.
+/// a write of it failed; or an event found no room beside what was to be sent to it, and no read had said that it ended; or a read
+/// said that it ended, and all that its reads gave was served; or its first bytes are no good setup; or, behind a good setup and
+/// requests, its bytes are malformed.
 pub fn cause_law()
     ensures shown { (config : List DeviceSpec) (log : Log) → ClosesForCauses config log }
     ensures one { (a b : Why) (h : LinkHistory) (owed : ℕ) → IsCause a h owed → IsCause b h owed → a ≡ b }

@@ -43,7 +43,7 @@ pub(crate) fn closed_links(alloc: Global, steps: &[Step]) -> Result<Vec<Scripted
     ensures room { IfOk result (λ links. HasRoomForSteps links.items steps.now) }
 {
     let mut links = Vec::with_capacity(alloc, MOST_LINKS)?;
-    for link in 0..32u8 {
+    for link in 0..MOST_LINKS as u8 {
         let room = all_bytes_sent(steps, link)?;
         links.push(ScriptedLink::new(alloc, room)?)?;
     }

@@ -5,6 +5,7 @@ use Rattle.std.specs.declared.option.Option.TheVariants.{None, Some}
 use Rattle.af_request.specs.declared.reply.Controls.{Controls}
 use Rattle.af_request.specs.declared.reply.Phone.{Phone}
 use Rattle.af_request.specs.Answer.{Answer, controls}
+use Rattle.af_request.specs.Opcodes as opcodes
 use Rattle.af_model.specs.declared.refusal.RefusalCause.TheVariants.{BadDevice, BadLine}
 use Rattle.af_model.specs.declared.refusal.Refusal.{Refusal}
 use Rattle.af_model.specs.State.{DeviceState, LinkState, EnvironmentState, OpenLink, open_link}
@@ -86,9 +87,9 @@ hook_wanted k off x x' line s h is e =
     whoever_acted x' (record s { line = option_map (wanting off) s.line }) (s.actors ++ k ∷ []) (relined (wanting off) x x' line s h is e)
 
 -- the controls that are kept are those that are told
-pub controls_told : (l l' : LinkState) (x : KeptDevice) (c : Controls) → c ≡ x.controls → l' ≡ record l { pending = l.pending ++ reply_message l.order 10 (controls c) l.sequence } → (s : DeviceState) → StandsForDevice x s → ChangesLink (tell_controls s) l l'
+pub controls_told : (l l' : LinkState) (x : KeptDevice) (c : Controls) → c ≡ x.controls → l' ≡ record l { pending = l.pending ++ reply_message l.order opcodes.query_controls (controls c) l.sequence } → (s : DeviceState) → StandsForDevice x s → ChangesLink (tell_controls s) l l'
 controls_told l l' x c is e s h a =
-    let said : Controls → LinkState = λ c. record l { pending = l.pending ++ reply_message l.order 10 (controls c) l.sequence } in
+    let said : Controls → LinkState = λ c. record l { pending = l.pending ++ reply_message l.order opcodes.query_controls (controls c) l.sequence } in
     (ap said (sym h.controls ∙ sym is) ∙ sym e, refl, refl)
 
 -- Requests that name the line of a device

@@ -11,6 +11,7 @@ use Rattle.af_request.specs.declared.request.Request.TheVariants as code
 use Rattle.af_request.specs.Asked.{Asked, request_meaning}
 use Rattle.af_request.specs.Fields.{u8_at, u32_at}
 use Rattle.af_request.specs.Requests.{Row, row_of, asked_by, asked_in, FitsFrame, no_op_row, get_time_row, create_ac_row, change_ac_row, free_ac_row, play_run_row, record_run_row, select_events_row, set_controls_row, query_controls_row, hook_switch_row, query_phone_row}
+use Rattle.af_request.specs.Opcodes as opcodes
 use Rattle.af_perform.specs.Asked.{is_done_at_once}
 use denote.Bor.{Bor}
 
@@ -51,18 +52,18 @@ play_room frame count few =
 
 row_room : (order : Order) (opcode : ℕ) (frame : List ℕ) → length frame ≤ longest_frame → Fits frame (row_of order opcode frame)
 row_room order opcode frame few =
-    either frame (opcode == 1) _ _ (a_row frame (no_op_row frame) tt)
-    (either frame (opcode == 2) _ _ (a_row frame (get_time_row frame) tt)
-    (either frame (opcode == 3) _ _ (a_row frame (create_ac_row order frame) tt)
-    (either frame (opcode == 4) _ _ (a_row frame (change_ac_row order frame) tt)
-    (either frame (opcode == 5) _ _ (a_row frame (free_ac_row order frame) tt)
-    (either frame (opcode == 6) _ _ (a_row frame (play_run_row order frame) (play_room frame (u32_at order 12 frame) few))
-    (either frame (opcode == 7) _ _ (a_row frame (record_run_row order frame) tt)
-    (either frame (opcode == 8) _ _ (a_row frame (select_events_row order frame) tt)
-    (either frame (opcode == 9) _ _ (a_row frame (set_controls_row order frame) tt)
-    (either frame (opcode == 10) _ _ (a_row frame (query_controls_row frame) tt)
-    (either frame (opcode == 11) _ _ (a_row frame (hook_switch_row order frame) tt)
-    (either frame (opcode == 12) _ _ (a_row frame (query_phone_row frame) tt) tt)))))))))))
+    either frame (opcode == opcodes.no_op) _ _ (a_row frame (no_op_row frame) tt)
+    (either frame (opcode == opcodes.get_time) _ _ (a_row frame (get_time_row frame) tt)
+    (either frame (opcode == opcodes.create_ac) _ _ (a_row frame (create_ac_row order frame) tt)
+    (either frame (opcode == opcodes.change_ac) _ _ (a_row frame (change_ac_row order frame) tt)
+    (either frame (opcode == opcodes.free_ac) _ _ (a_row frame (free_ac_row order frame) tt)
+    (either frame (opcode == opcodes.play) _ _ (a_row frame (play_run_row order frame) (play_room frame (u32_at order 12 frame) few))
+    (either frame (opcode == opcodes.record) _ _ (a_row frame (record_run_row order frame) tt)
+    (either frame (opcode == opcodes.select_events) _ _ (a_row frame (select_events_row order frame) tt)
+    (either frame (opcode == opcodes.set_controls) _ _ (a_row frame (set_controls_row order frame) tt)
+    (either frame (opcode == opcodes.query_controls) _ _ (a_row frame (query_controls_row frame) tt)
+    (either frame (opcode == opcodes.hook_switch) _ _ (a_row frame (hook_switch_row order frame) tt)
+    (either frame (opcode == opcodes.query_phone) _ _ (a_row frame (query_phone_row frame) tt) tt)))))))))))
 
 pub asked_room : (order : Order) (frame : List ℕ) (a : Asked) → length frame ≤ longest_frame → Some a ≡ asked_in order frame → FitsFrame a
 asked_room order frame a few e = subst (λ o. IfSome o FitsFrame) (sym e) (row_room order (u8_at 0 frame) frame few)

@@ -13,6 +13,7 @@ use Rattle.af_context.specs.declared.ContextFault.TheVariants.{BadAc as BadAc'}
 use Rattle.af_context.specs.Contexts.{is_in_use, reference, with_changed, with_settings}
 use Rattle.af_wire.specs.Message.{error}
 use Rattle.af_request.specs.Answer.{plain, time, played, recorded}
+use Rattle.af_request.specs.Opcodes as opcodes
 use Rattle.af_buffers.specs.PlayBuffer.{accepted_at, frames_beyond as play_beyond, frames_within}
 use Rattle.af_buffers.specs.RecordBuffer.{frames_before, frames_until_past as record_beyond}
 use Rattle.af_model.specs.declared.refusal.RefusalCause.TheVariants.{BadAc, BadValue}
@@ -120,18 +121,18 @@ any_device ds ds' ks ks' l l' opcode d f there step a h =
     subst (λ o. StandsForLink (kept ds' ks') l' (in_device opcode d f o (open_link a l))) (sym r.1) (step a r.0 h r.1)
 
 -- the time that is kept is the time that is told
-pub time_told : (l l' : LinkState) (x : KeptDevice) (t : ℕ) → t ≡ x.next.time → l' ≡ record l { pending = l.pending ++ reply_message l.order 2 (time t) l.sequence } →
+pub time_told : (l l' : LinkState) (x : KeptDevice) (t : ℕ) → t ≡ x.next.time → l' ≡ record l { pending = l.pending ++ reply_message l.order opcodes.get_time (time t) l.sequence } →
     (s : DeviceState) → StandsForDevice x s → ChangesLink (tell_time s) l l'
 time_told l l' x t is e s h a =
-    let said : ℕ → LinkState = λ t. record l { pending = l.pending ++ reply_message l.order 2 (time t) l.sequence } in
+    let said : ℕ → LinkState = λ t. record l { pending = l.pending ++ reply_message l.order opcodes.get_time (time t) l.sequence } in
     (ap said (sym h.hears.time ∙ sym is) ∙ sym e, refl, refl)
 
 -- ChangeAC
 
 pub changed : (l l1 l2 : LinkState) (mask ac preempt : ℕ) (play_gain record_gain : ℤ) (p r : Option ℤ) (b : Option Bool) → p ≡ named_gain mask 1 play_gain → r ≡ named_gain mask 2 record_gain → b ≡ named_preempt mask preempt →
-    l1 ≡ record l { contexts = with_changed l.contexts ac (with_settings p r b) } → l2 ≡ record l1 { pending = l1.pending ++ reply_message l1.order 4 plain l1.sequence } → ChangesLink (change mask ac preempt play_gain record_gain) l l2
+    l1 ≡ record l { contexts = with_changed l.contexts ac (with_settings p r b) } → l2 ≡ record l1 { pending = l1.pending ++ reply_message l1.order opcodes.change_ac plain l1.sequence } → ChangesLink (change mask ac preempt play_gain record_gain) l l2
 changed l l1 l2 mask ac preempt play_gain record_gain p r b e1 e2 e3 e4 e5 a =
-    let told : LinkState → LinkState = λ m. record m { pending = m.pending ++ reply_message m.order 4 plain m.sequence } in
+    let told : LinkState → LinkState = λ m. record m { pending = m.pending ++ reply_message m.order opcodes.change_ac plain m.sequence } in
     let set : Option ℤ → Option ℤ → Option Bool → LinkState = λ p r b. record l { contexts = with_changed l.contexts ac (with_settings p r b) } in
     (sym (e5 ∙ ap told (e4 ∙ ap (λ p. set p r b) e1 ∙ ap (λ r. set (named_gain mask 1 play_gain) r b) e2 ∙ ap (set (named_gain mask 1 play_gain) (named_gain mask 2 record_gain)) e3)), refl, refl)
 
@@ -159,9 +160,9 @@ either_at ds ks l test b p q is at = subst (λ t. StandsForLink (kept ds ks) l (
 
 -- what a play that is accepted is told
 told_at : (ds : List KeptDevice) (ks : List KeptDeferral) (a : EnvironmentState) (l l' : LinkState) (quiet : Bool) (s : DeviceState) (t : ℕ) → StandsForEnvironment (kept ds ks) a → t ≡ s.now % 2 ^ 32 →
-    l' ≡ cond quiet l (record l { pending = l.pending ++ reply_message l.order 6 (played t) l.sequence }) → StandsForLink (kept ds ks) l' (tell_played quiet s (open_link a l))
+    l' ≡ cond quiet l (record l { pending = l.pending ++ reply_message l.order opcodes.play (played t) l.sequence }) → StandsForLink (kept ds ks) l' (tell_played quiet s (open_link a l))
 told_at ds ks a l l' true s t h is e = (h, sym e)
-told_at ds ks a l l' false s t h is e = (h, ap (λ t. record l { pending = l.pending ++ reply_message l.order 6 (played t) l.sequence }) (sym is) ∙ sym e)
+told_at ds ks a l l' false s t h is e = (h, ap (λ t. record l { pending = l.pending ++ reply_message l.order opcodes.play (played t) l.sequence }) (sym is) ∙ sym e)
 
 -- one device changes, but not its time, its rate and its channels
 pub device_changes : (ds : List KeptDevice) (ks : List KeptDeferral) (d : ℕ) (x' : KeptDevice) (a : EnvironmentState) (s : DeviceState) (f : DeviceState → DeviceState) → StandsForEnvironment (kept ds ks) a → slice_get a.devices d ≡ Some s →
@@ -172,7 +173,7 @@ device_changes ds ks d x' a s f h there stands same =
 
 -- a device that changed in answer to a play, of which the link is told
 pub play_told : (ds : List KeptDevice) (ks : List KeptDeferral) (i : ℕ) (x' : KeptDevice) (l l' : LinkState) (quiet : Bool) (d t : ℕ) (f : DeviceState → DeviceState) (a : EnvironmentState) (s : DeviceState) → i ≡ d → StandsForEnvironment (kept ds ks) a →
-    slice_get a.devices d ≡ Some s → StandsForDevice x' (f s) → SameClock s (f s) → t ≡ x'.next.time → l' ≡ cond quiet l (record l { pending = l.pending ++ reply_message l.order 6 (played t) l.sequence }) →
+    slice_get a.devices d ≡ Some s → StandsForDevice x' (f s) → SameClock s (f s) → t ≡ x'.next.time → l' ≡ cond quiet l (record l { pending = l.pending ++ reply_message l.order opcodes.play (played t) l.sequence }) →
     StandsForLink (kept (slice_set ds i x') ks) l' (tell_played quiet s (in_devices d f (open_link a l)))
 play_told ds ks i x' l l' quiet d t f a s number h there stands same is e =
     let time : t ≡ s.now % 2 ^ 32 = is ∙ stands.hears.time ∙ ap (λ n. n % 2 ^ 32) same.0 in
@@ -230,7 +231,7 @@ play_waits ds ks ks' x l k quiet c start bytes sound left a s word h there stand
 -- a play that had waited
 play_completed : (k : ℕ) (ds : List KeptDevice) (ks : List KeptDeferral) (i : ℕ) (x' : KeptDevice) (x : KeptDevice) (l l' : LinkState) (quiet : Bool) (d start t : ℕ) (sound : List ℤ) (preempt : Bool) (a : EnvironmentState) (s : DeviceState) (whole : ℕ) → i ≡ d → StandsForEnvironment (kept ds ks) a →
     slice_get a.devices d ≡ Some s → StandsForDevice x s → start ≡ whole % 2 ^ 32 → IsNear (s.rate * 4) s.now (deferred_play quiet whole sound preempt) → StandsForDevice x' (accepting k (accepted_at s.now start sound preempt) s) → t ≡ x'.next.time →
-    l' ≡ cond quiet l (record l { pending = l.pending ++ reply_message l.order 6 (played t) l.sequence }) → StandsForLink (kept (slice_set ds i x') ks) l' (answer_deferred (deferred_play quiet whole sound preempt) s (in_devices d (completing k (deferred_play quiet whole sound preempt)) (open_link a l)))
+    l' ≡ cond quiet l (record l { pending = l.pending ++ reply_message l.order opcodes.play (played t) l.sequence }) → StandsForLink (kept (slice_set ds i x') ks) l' (answer_deferred (deferred_play quiet whole sound preempt) s (in_devices d (completing k (deferred_play quiet whole sound preempt)) (open_link a l)))
 play_completed k ds ks i x' x l l' quiet d start t sound preempt a s whole number h there stands word near accepted is e =
     let deferred : Deferred = deferred_play quiet whole sound preempt in
     let early = near.0 in
@@ -241,7 +242,7 @@ play_completed k ds ks i x' x l l' quiet d start t sound preempt a s whole numbe
 
 pub play_completes : (k : ℕ) (ds : List KeptDevice) (ks : List KeptDeferral) (i : ℕ) (x' : KeptDevice) (x : KeptDevice) (l l' : LinkState) (quiet : Bool) (d start t : ℕ) (sound : List ℤ) (preempt : Bool) (a : EnvironmentState) (s : DeviceState) (deferred : Deferred) → i ≡ d → StandsForEnvironment (kept ds ks) a →
     slice_get a.devices d ≡ Some s → StandsForDevice x s → deferred_play quiet start sound preempt ≡ worded deferred → IsNear (s.rate * 4) s.now deferred → StandsForDevice x' (accepting k (accepted_at s.now start sound preempt) s) → t ≡ x'.next.time →
-    l' ≡ cond quiet l (record l { pending = l.pending ++ reply_message l.order 6 (played t) l.sequence }) → StandsForLink (kept (slice_set ds i x') ks) l' (answer_deferred deferred s (in_devices d (completing k deferred) (open_link a l)))
+    l' ≡ cond quiet l (record l { pending = l.pending ++ reply_message l.order opcodes.play (played t) l.sequence }) → StandsForLink (kept (slice_set ds i x') ks) l' (answer_deferred deferred s (in_devices d (completing k deferred) (open_link a l)))
 play_completes k ds ks i x' x l l' quiet d start t sound preempt a s deferred number h there stands word near accepted is e =
     let r = play_is deferred quiet start sound preempt word in
     subst (λ (y : Deferred). StandsForLink (kept (slice_set ds i x') ks) l' (answer_deferred y s (in_devices d (completing k y) (open_link a l)))) (sym r.1)
@@ -250,9 +251,9 @@ play_completes k ds ks i x' x l l' quiet d start t sound preempt a s deferred nu
 -- Records
 
 pub frames_given : (l l' : LinkState) (c : Context) (start : ℕ) (x : KeptDevice) (t n : ℕ) (given : List ℕ) → t ≡ x.next.time → ((s : DeviceState) → StandsForDevice x s → given ≡ recorded_bytes c s (unwrap s.now start) n) →
-    l' ≡ record l { pending = l.pending ++ reply_message l.order 7 (recorded t given) l.sequence } → (s : DeviceState) → StandsForDevice x s → ChangesLink (give_record c (unwrap s.now start) n s) l l'
+    l' ≡ record l { pending = l.pending ++ reply_message l.order opcodes.record (recorded t given) l.sequence } → (s : DeviceState) → StandsForDevice x s → ChangesLink (give_record c (unwrap s.now start) n s) l l'
 frames_given l l' c start x t n given is gives e s h a =
-    let said : ℕ → List ℕ → LinkState = λ t given. record l { pending = l.pending ++ reply_message l.order 7 (recorded t given) l.sequence } in
+    let said : ℕ → List ℕ → LinkState = λ t given. record l { pending = l.pending ++ reply_message l.order opcodes.record (recorded t given) l.sequence } in
     (sym (e ∙ ap (λ t. said t given) (is ∙ h.hears.time) ∙ ap (said (s.now % 2 ^ 32)) (gives s h)), refl, refl)
 
 pub record_given : (l l' : LinkState) (blocking : Bool) (c : Context) (start frames : ℕ) (x : KeptDevice) (n : ℕ) → start < 2 ^ 32 → n ≡ cond blocking frames (min (frames_before x.last start) frames) →

@@ -13,10 +13,9 @@ ghost use Rattle.af_perform.specs.Asked.{new_context, new_settings};
 use crate::checks::{
     check, check_gain, context_refusal, first_refusal, named_gain, names, where_named,
 };
-use crate::opcode;
 use af_context::Context;
 use af_model::{Refusal, RefusalCause};
-use af_request::Reply;
+use af_request::{Reply, opcode};
 use af_sample::{Gain, SampleType};
 use af_state::{Device, ServedLink, Work};
 

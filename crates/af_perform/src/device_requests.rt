@@ -5,6 +5,7 @@ ghost use Rattle.af_limits.specs.Limits.{most_to_send};
 ghost use Rattle.af_phone.specs.Lines.{wanting};
 ghost use Rattle.af_request.specs.Answer.{plain};
 ghost use Rattle.af_request.specs.Asked.{select_events, query_controls, hook_switch, query_phone};
+ghost use Rattle.af_request.specs.Opcodes as opcodes;
 ghost use Rattle.af_model.specs.State.{DeviceState};
 ghost use Rattle.af_model.specs.Reply.{replied};
 ghost use Rattle.af_model.specs.Checks.{names};
@@ -20,10 +21,9 @@ use crate::checks::{
     check, check_gain, first_refusal, is_missing, named_gain, names, no_device, no_line,
     where_named,
 };
-use crate::opcode;
 use af_model::{Refusal, RefusalCause};
 use af_phone::Line;
-use af_request::{Controls, Phone, Reply};
+use af_request::{Controls, Phone, Reply, opcode};
 use af_state::{Device, ServedLink, Work};
 
 /// What SetControls asks, as it came.
@@ -203,8 +203,8 @@ fn wanting(off: bool, line: Option<Line>) -> Option<Line>
 fn want_hook(device: u8, off: bool, devices: &mut [Device], link: &mut ServedLink, work: &mut Work)
     requires room { length link.old.pending ≤ most_to_send }
     requires there { device < length devices.old }
-    ensures step { (k : ℕ) (ks : List KeptDeferral) → StepsLinkFor device (λ s p. replied 11 plain (in_devices device (wanting_hook k off) p))
-        (kept devices.old ks) link.old (kept devices.new ks) link.new }
+    ensures step { (k : ℕ) (ks : List KeptDeferral) → StepsLinkFor device (λ s p. replied opcodes.hook_switch plain
+        (in_devices device (wanting_hook k off) p)) (kept devices.old ks) link.old (kept devices.new ks) link.new }
     ensures rest { link.new.rest ≡ link.old.rest }
 {
     let device = &mut devices[usize::from(device)];

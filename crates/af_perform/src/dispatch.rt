@@ -12,10 +12,9 @@ use crate::context_requests::{NewContext, NewSettings, change_ac, create_ac, fre
 use crate::device_requests::{
     NewControls, hook_switch, query_controls, query_phone, select_events, set_controls,
 };
-use crate::opcode;
 use crate::play::{NewPlay, perform_play};
 use crate::record::{NewRecord, perform_record};
-use af_request::{Reply, Request};
+use af_request::{Reply, Request, opcode};
 use af_state::{Device, Environment, ServedLink, Work};
 
 // The time of a device is replied, or the device is not there.

@@ -6,7 +6,6 @@ mod complete;
 mod context_requests;
 mod device_requests;
 mod dispatch;
-mod opcode;
 mod play;
 mod record;
 

@@ -5,6 +5,7 @@ ghost use Rattle.af_sample.specs.Channels.{AreWholeFrames, IsChannelCount};
 ghost use Rattle.af_sample.specs.SampleTypes.{width_of};
 ghost use Rattle.af_context.specs.declared.Context.{Context};
 ghost use Rattle.af_request.specs.Answer.{played};
+ghost use Rattle.af_request.specs.Opcodes as opcodes;
 ghost use Rattle.af_model.specs.Reply.{reply_message};
 ghost use Rattle.af_model.specs.Play.{play_refusal, sent_sound, start_play};
 ghost use Rattle.af_model.specs.Perform.{done};
@@ -16,10 +17,9 @@ ghost use Rattle.af_perform.specs.Asked.{new_play};
 ghost use Rattle.af_perform.specs.Sounds.{play_by_context, start_play_of, with_named_device, AcceptsPlay, CompletesDeferred, IsSoundOf, WholeBytes};
 
 use crate::checks::{check, is_missing, no_context, no_device};
-use crate::opcode;
 use af_context::Context;
 use af_model::{Refusal, RefusalCause};
-use af_request::Reply;
+use af_request::{Reply, opcode};
 use af_sample::{convert_in, gain_run};
 use af_state::{Device, Environment, Play, ServedLink, Work};
 use af_time::DevTime;
@@ -42,7 +42,7 @@ pub struct ContextPlay<'a> {
     pub bytes: &'a [u8],
 }
 
-// A play has whole frames.
+// Refuses a play whose bytes are not whole frames.
 fn play_refusal(context: &Context, channels: u8, bytes: usize) -> Option<Refusal>
     requires few { bytes ≤ longest_play }
     requires count { IsChannelCount channels }
@@ -71,8 +71,9 @@ fn read_sound(context: &Context, bytes: &[u8], samples: &mut [i16])
 fn tell_played(quiet: bool, time: DevTime, link: &mut ServedLink, message: &mut [u8])
     requires room { length link.old.pending ≤ event_limit }
     requires size { length message.old ≡ longest_message }
-    ensures { link.new ≡ (if quiet then link.old else
-        record link.old { pending = link.old.pending ++ reply_message link.old.order 6 (played time.0) link.old.sequence }) }
+    ensures { link.new ≡ (if quiet then link.old else record link.old {
+      pending = link.old.pending ++ reply_message link.old.order opcodes.play (played time.0) link.old.sequence;
+    }) }
 {
     if !quiet {
         link.reply(opcode::PLAY, &Reply::Played { time }, message);
@@ -163,7 +164,7 @@ fn check_play(
 )
     requires asks { MayAsk number environment.old link.old }
     requires few { length asked.now.bytes.now ≤ longest_play }
-    ensures step { StepsLink (with_named_device 6 asked.now.context.device (play_by_context number asked.now))
+    ensures step { StepsLink (with_named_device opcodes.play asked.now.context.device (play_by_context number asked.now))
         environment.old link.old environment.new link.new }
     ensures leaves { Leaves number environment.old link.old environment.new link.new }
 {

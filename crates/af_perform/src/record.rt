@@ -1,6 +1,7 @@
 // Record: sound of a device from a time on.
 ghost use Rattle.std.specs.Prelude.{◌≡◌, ℕ, ◌≤◌, ◌<◌, ◌*◌, ◌&&◌, nat_lt, drop, length, min, take, if◌then◌else◌};
 ghost use Rattle.af_limits.specs.Limits.{longest_frame, longest_record, longest_message, most_to_send, event_limit};
+ghost use Rattle.af_request.specs.Opcodes as opcodes;
 ghost use Rattle.af_time.specs.DeviceTime.{unwrap};
 ghost use Rattle.af_sample.specs.Channels.{IsChannelCount};
 ghost use Rattle.af_sample.specs.SampleTypes.{frame_bytes};
@@ -13,11 +14,10 @@ ghost use Rattle.af_perform.specs.Asked.{new_record};
 ghost use Rattle.af_perform.specs.Sounds.{record_by_context, with_named_device, IsRecordOn};
 
 use crate::checks::{check, first_refusal, is_missing, no_context, no_device};
-use crate::opcode;
 use af_context::Context;
 use af_limits::LONGEST_RECORD;
 use af_model::{Refusal, RefusalCause};
-use af_request::RECORDED_AT;
+use af_request::{RECORDED_AT, opcode};
 use af_state::{Device, Environment, Record, ServedLink, Work};
 use af_time::DevTime;
 
@@ -150,7 +150,7 @@ fn check_record(
     work: &mut Work,
 )
     requires asks { MayAsk number environment.old link.old }
-    ensures step { StepsLink (with_named_device 7 asked.context.device (record_by_context number asked))
+    ensures step { StepsLink (with_named_device opcodes.record asked.context.device (record_by_context number asked))
         environment.old link.old environment.new link.new }
     ensures leaves { Leaves number environment.old link.old environment.new link.new }
 {

@@ -155,9 +155,9 @@ fn pair_of<L: Link + Drop, M: Link + Drop>(
 }
 
 /// Passes blocks from a device of one server to a device of another that has the same rate and as many channels: each block is
-/// recorded, and played ahead of the other server's time by the delay. Where the two clocks drift apart by more than the slack,
-/// the relay falls in step anew. Then it writes how many blocks were passed, and how often it fell in step again. The connections
-/// are ones that were just made; room for 16000 bytes is handed in.
+/// recorded, and played ahead of the other server's time by the delay. If the two clocks drift apart by more than the slack, the
+/// relay resynchronises. At the end it writes how many blocks were passed, and how often it resynchronised. The connections are
+/// ones that were just made, and the room has the bytes of the greatest block.
 pub fn apass<L: Link + Drop, M: Link + Drop, K: Sink>(
     job: &PassJob,
     from: &mut Conn<L>,

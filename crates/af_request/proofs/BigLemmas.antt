@@ -14,6 +14,7 @@ use Rattle.af_request.specs.Fields.{u16_at, u32_at, words_for}
 use Rattle.af_request.specs.Replies.{answer_in, body_bytes, body_words, controls_in, device_then, device_in, devices_in, is_zero, is_plain, phone_in, plain_in, played_in, recorded_body, reply_bytes, setup_in, time_in}
 use Rattle.af_request.specs.Requests.{request_bytes}
 use Rattle.af_request.specs.big as big
+use Rattle.af_request.specs.Opcodes as opcodes
 use Rattle.af_request.proofs.FieldRoundTrips.{ap_2, ap_3}
 
 pub same_requests : (a : Asked) → request_bytes Big a ≡ big.request_bytes a
@@ -54,12 +55,12 @@ pub same_answers : (opcode : ℕ) (body : List ℕ) → answer_in Big opcode bod
 same_answers opcode body =
     ap_2 (λ devices samples.
     if is_plain opcode then plain_in body
-    else if opcode == 0 then devices
-    else if opcode == 2 then time_in Big body
-    else if opcode == 6 then played_in Big body
-    else if opcode == 7 then samples
-    else if opcode == 10 then controls_in Big body
-    else if opcode == 12 then phone_in body
+    else if opcode == opcodes.setup then devices
+    else if opcode == opcodes.get_time then time_in Big body
+    else if opcode == opcodes.play then played_in Big body
+    else if opcode == opcodes.record then samples
+    else if opcode == opcodes.query_controls then controls_in Big body
+    else if opcode == opcodes.query_phone then phone_in body
     else None)
     (same_setup body) (same_record body)
 

@@ -14,6 +14,7 @@ use Rattle.af_wire.proofs.MessageRoundTrips.{head_framed, head_one}
 use Rattle.af_request.specs.Answer.{Answer, setup, plain, time, played, recorded, controls, phone}
 use Rattle.af_request.specs.Fields.{words_for}
 use Rattle.af_request.specs.Replies.{body_bytes, body_words, is_plain, reply_bytes, IsReplyTo}
+use Rattle.af_request.specs.Opcodes as opcodes
 use Rattle.af_request.proofs.ReplyRoundTrips.{length-body}
 
 -- the opcode of a reply that a client takes
@@ -32,11 +33,11 @@ opcode_within : (opcode : ℕ) (a : Answer) → IsReplyTo opcode a → IsOpcode 
 unfolding IsOpcode
 opcode_within opcode (setup devices) is = inl is.0
 opcode_within opcode plain is = inr (plain_within opcode is)
-opcode_within opcode (time now) is = let e : opcode ≡ 2 = is.0 in inr (omega arith, omega arith)
-opcode_within opcode (played now) is = let e : opcode ≡ 6 = is.0 in inr (omega arith, omega arith)
-opcode_within opcode (recorded now samples) is = let e : opcode ≡ 7 = is.0 in inr (omega arith, omega arith)
-opcode_within opcode (controls c) is = let e : opcode ≡ 10 = is.0 in inr (omega arith, omega arith)
-opcode_within opcode (phone p) is = let e : opcode ≡ 12 = is in inr (omega arith, omega arith)
+opcode_within opcode (time now) is = let e : opcode ≡ opcodes.get_time = is.0 in inr (omega arith, omega arith)
+opcode_within opcode (played now) is = let e : opcode ≡ opcodes.play = is.0 in inr (omega arith, omega arith)
+opcode_within opcode (recorded now samples) is = let e : opcode ≡ opcodes.record = is.0 in inr (omega arith, omega arith)
+opcode_within opcode (controls c) is = let e : opcode ≡ opcodes.query_controls = is.0 in inr (omega arith, omega arith)
+opcode_within opcode (phone p) is = let e : opcode ≡ opcodes.query_phone = is in inr (omega arith, omega arith)
 
 few_words : (opcode : ℕ) (a : Answer) → IsReplyTo opcode a → body_words a ≤ 4002
 few_words opcode (setup devices) is = let few : length devices ≤ most_devices = is.2 in omega arith

@@ -23,6 +23,7 @@ use Rattle.af_request.specs.declared.reply.Phone.{Phone}
 use Rattle.af_request.specs.Answer.{Answer, setup, plain, time, played, recorded, controls, phone}
 use Rattle.af_request.specs.Fields.{flag_byte, words_for, padded}
 use Rattle.af_request.specs.Replies.{answer_in, body_bytes, body_words, controls_of, phone_of, reply_bytes, device_bytes, device_in, device_info_of, device_then, devices_in, flag_of, is_padded, is_plain, is_zero, IsReplyTo, IsDeviceInfo}
+use Rattle.af_request.specs.Opcodes as opcodes
 use Rattle.af_request.proofs.FieldRoundTrips.{ap_2, ap_3, length-padded, take-padded}
 
 pub rate_below : (rate : ℕ) → IsListedRate rate → rate ≤ 48000
@@ -40,13 +41,13 @@ module _ (order : Order) where
   gain_again : (g : ℤ) → IsGain g → gain_of (i16_of order (i16_bytes order g)) ≡ Some g
   gain_again g within = ap gain_of (i16_again order g (gain_fits g within)) ∙ grind arith
 
-  controls_again : (c : Controls) → IsGain c.input_gain → IsGain c.output_gain → answer_in order 10 (body_bytes order (controls c)) ≡ Some (controls c)
+  controls_again : (c : Controls) → IsGain c.input_gain → IsGain c.output_gain → answer_in order opcodes.query_controls (body_bytes order (controls c)) ≡ Some (controls c)
   controls_again c input output =
       ap_2 (λ a b. controls_of a b (gain_of (i16_of order (i16_bytes order c.input_gain))) (gain_of (i16_of order (i16_bytes order c.output_gain))))
       (flag_again c.input_on) (flag_again c.output_on)
       ∙ ap_2 (λ g h. controls_of (Some c.input_on) (Some c.output_on) g h) (gain_again c.input_gain input) (gain_again c.output_gain output)
 
-  phone_again : (p : Phone) → answer_in order 12 (body_bytes order (phone p)) ≡ Some (phone p)
+  phone_again : (p : Phone) → answer_in order opcodes.query_phone (body_bytes order (phone p)) ≡ Some (phone p)
   phone_again p =
       ap_3 (λ a b c. option_map phone (phone_of a b c (flag_of (flag_byte p.current)) (flag_of (flag_byte p.dead))))
       (flag_again p.wanted_off) (flag_again p.given_off) (flag_again p.ringing)
@@ -67,7 +68,7 @@ module _ (order : Order) where
       ap_2 (λ a b. a && b) (eq-eqb _ _ (length-padded samples)) (ap is_zero rest ∙ is_zero-replicate (4 * words_for n - n))
 
   recorded_again : (now : ℕ) (samples : List ℕ) → now < 2 ^ 32 → length samples ≤ longest_record →
-      answer_in order 7 (body_bytes order (recorded now samples)) ≡ Some (recorded now samples)
+      answer_in order opcodes.record (body_bytes order (recorded now samples)) ≡ Some (recorded now samples)
   recorded_again now samples low most =
       let n : ℕ = length samples in
       let rest : List ℕ = padded samples in
@@ -110,7 +111,7 @@ module _ (order : Order) where
   counted count n size e some most whole = grind (arith, nat_tests)
 
   setup_again : (devices : List DeviceInfo) → 1 ≤ length devices → length devices ≤ most_devices → All IsDeviceInfo devices →
-      answer_in order 0 (body_bytes order (setup devices)) ≡ Some (setup devices)
+      answer_in order opcodes.setup (body_bytes order (setup devices)) ≡ Some (setup devices)
   setup_again devices some most each =
       let n : ℕ = length devices in
       let count : ℕ = u32_of order (u32_bytes order n) in
@@ -131,13 +132,13 @@ module _ (order : Order) where
   at_opcode opcode only a e h = ap (λ n. answer_in order n (body_bytes order a)) e ∙ h
 
   pub answer_again : (opcode : ℕ) (a : Answer) → IsReplyTo opcode a → answer_in order opcode (body_bytes order a) ≡ Some a
-  answer_again opcode (setup devices) fits = at_opcode opcode 0 (setup devices) fits.0 (setup_again devices fits.1 fits.2 fits.3)
+  answer_again opcode (setup devices) fits = at_opcode opcode opcodes.setup (setup devices) fits.0 (setup_again devices fits.1 fits.2 fits.3)
   answer_again opcode plain fits = first_of_two (is_plain opcode) (Some plain) _ fits
-  answer_again opcode (time now) fits = at_opcode opcode 2 (time now) fits.0 (ap (λ n. Some (time n)) (u32_again order now fits.1))
-  answer_again opcode (played now) fits = at_opcode opcode 6 (played now) fits.0 (ap (λ n. Some (played n)) (u32_again order now fits.1))
-  answer_again opcode (recorded now samples) fits = at_opcode opcode 7 (recorded now samples) fits.0 (recorded_again now samples fits.1 fits.2)
-  answer_again opcode (controls c) fits = at_opcode opcode 10 (controls c) fits.0 (controls_again c fits.1 fits.2)
-  answer_again opcode (phone p) fits = at_opcode opcode 12 (phone p) fits (phone_again p)
+  answer_again opcode (time now) fits = at_opcode opcode opcodes.get_time (time now) fits.0 (ap (λ n. Some (time n)) (u32_again order now fits.1))
+  answer_again opcode (played now) fits = at_opcode opcode opcodes.play (played now) fits.0 (ap (λ n. Some (played n)) (u32_again order now fits.1))
+  answer_again opcode (recorded now samples) fits = at_opcode opcode opcodes.record (recorded now samples) fits.0 (recorded_again now samples fits.1 fits.2)
+  answer_again opcode (controls c) fits = at_opcode opcode opcodes.query_controls (controls c) fits.0 (controls_again c fits.1 fits.2)
+  answer_again opcode (phone p) fits = at_opcode opcode opcodes.query_phone (phone p) fits (phone_again p)
 
   -- the body of a reply has as many words as its head order states
   pub length-body : (a : Answer) → length (body_bytes order a) ≡ 4 * body_words a

@@ -12,6 +12,7 @@ use Rattle.af_wire.proofs.OrderLemmas.{i16_again, u16_again, u32_again}
 use Rattle.af_request.specs.Asked.{Asked, no_op, get_time, create_ac, change_ac, free_ac, play_run, record_run, select_events, set_controls, query_controls, hook_switch, query_phone}
 use Rattle.af_request.specs.Fields.{flag_byte, words_for, padded}
 use Rattle.af_request.specs.Requests.{row, asked_by, asked_in, request_bytes, front, IsOneRequest, IsWritable}
+use Rattle.af_request.specs.Opcodes as opcodes
 use Rattle.af_request.proofs.FieldRoundTrips.{ap_2, ap_3, length-padded, take-padded}
 
 module _ (order : Order) where
@@ -21,7 +22,7 @@ module _ (order : Order) where
 
   -- what a play has before its samples
   abbrev play_head : (quiet ac time count : ℕ) → List ℕ
-  play_head quiet ac time count = front order 6 quiet (4 + words_for count) ++ u32_bytes order ac ++ u32_bytes order time ++ u32_bytes order count
+  play_head quiet ac time count = front order opcodes.play quiet (4 + words_for count) ++ u32_bytes order ac ++ u32_bytes order time ++ u32_bytes order count
 
   -- a play has the length that it states
   length-play : (quiet ac time : ℕ) (samples : List ℕ) →

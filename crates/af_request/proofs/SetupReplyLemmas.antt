@@ -14,6 +14,7 @@ use Rattle.af_request.specs.declared.reply.DeviceInfo.{DeviceInfo}
 use Rattle.af_request.specs.Answer.{setup}
 use Rattle.af_request.specs.Fields.{u8_at, u16_at, u32_at}
 use Rattle.af_request.specs.Replies.{answer_in, device_in, device_info_of, device_then, devices_in, flag_of, IsReplyTo, IsDeviceInfo}
+use Rattle.af_request.specs.Opcodes as opcodes
 
 fits_stated : (ty : SampleType) (channels rate horizon : ℕ) (line b : Bool) (d : DeviceInfo) → (is_channel_count channels && is_listed_rate rate && horizon == rate * 4) ≡ b →
     (let o : Option DeviceInfo = if b then Some (record { ty = ty; channels = channels; line = line; rate = rate; horizon = horizon }) else None in o ≡ Some d) → IsDeviceInfo d
@@ -70,7 +71,7 @@ module _ (order : Order) where
   tested n major minor size b is good = (grind (arith, nat_tests), grind (arith, nat_tests))
 
   body_stated : (n : ℕ) (b : Bool) (o : Option (List DeviceInfo)) (devices : List DeviceInfo) → (b ≡ true → (1 ≤ n) × (n ≤ most_devices)) → ((ds : List DeviceInfo) → o ≡ Some ds → AreStated n ds) →
-      (if b then option_map setup o else None) ≡ Some (setup devices) → IsReplyTo 0 (setup devices)
+      (if b then option_map setup o else None) ≡ Some (setup devices) → IsReplyTo opcodes.setup (setup devices)
   body_stated n true (Some ds) devices few all is =
       let same : ds ≡ devices = cc in
       let s : AreStated n devices = subst (λ (l : List DeviceInfo). AreStated n l) same (all ds refl) in
@@ -81,7 +82,7 @@ module _ (order : Order) where
   body_stated n true None devices few all is = cc
   body_stated n false o devices few all is = cc
 
-  pub setup_stated : (body : List ℕ) (devices : List DeviceInfo) → answer_in order 0 body ≡ Some (setup devices) → IsReplyTo 0 (setup devices)
+  pub setup_stated : (body : List ℕ) (devices : List DeviceInfo) → answer_in order opcodes.setup body ≡ Some (setup devices) → IsReplyTo opcodes.setup (setup devices)
   setup_stated body devices is =
       let count : ℕ = u32_at order 4 body in
       let test : Bool = u16_at order 0 body == 1 && u16_at order 2 body == 0 && nat_le 1 count && nat_le count most_devices && length body == 8 + 12 * count in

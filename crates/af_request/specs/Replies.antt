@@ -14,6 +14,7 @@ use Rattle.af_request.specs.declared.reply.DeviceInfo.{DeviceInfo}
 use Rattle.af_request.specs.declared.reply.Phone.{Phone}
 use Rattle.af_request.specs.Answer.{Answer, setup, plain, time, played, recorded, controls, phone}
 use Rattle.af_request.specs.Fields.{u8_at, u16_at, u32_at, i16_at, flag_byte, words_for, padded}
+use Rattle.af_request.specs.Opcodes as opcodes
 
 -- whether all bytes are zero, as padding is
 abbrev pub is_zero : List ℕ → Bool
@@ -103,18 +104,19 @@ phone_in body =
 
 -- CreateAC, ChangeAC, FreeAC, SelectEvents, SetControls and HookSwitch are not answered with a value
 abbrev pub is_plain : ℕ → Bool
-is_plain opcode = list_any (λ o. opcode == o) (3 ∷ 4 ∷ 5 ∷ 8 ∷ 9 ∷ 11 ∷ [])
+is_plain opcode = list_any (λ o. opcode == o) (opcodes.create_ac ∷ opcodes.change_ac ∷ opcodes.free_ac
+    ∷ opcodes.select_events ∷ opcodes.set_controls ∷ opcodes.hook_switch ∷ [])
 
--- what a body answers to a request of an opcode, if it is a body of that opcode; 0 stands for a setup
+-- what a body answers to a request of an opcode, or to a setup, if it is such a body
 abbrev pub answer_in : Order → ℕ → List ℕ → Option Answer
 answer_in order opcode body =
     if is_plain opcode then plain_in body
-    else if opcode == 0 then setup_in order body
-    else if opcode == 2 then time_in order body
-    else if opcode == 6 then played_in order body
-    else if opcode == 7 then recorded_body order body
-    else if opcode == 10 then controls_in order body
-    else if opcode == 12 then phone_in body
+    else if opcode == opcodes.setup then setup_in order body
+    else if opcode == opcodes.get_time then time_in order body
+    else if opcode == opcodes.play then played_in order body
+    else if opcode == opcodes.record then recorded_body order body
+    else if opcode == opcodes.query_controls then controls_in order body
+    else if opcode == opcodes.query_phone then phone_in body
     else None
 
 -- what the reply to a setup says of a device
@@ -164,10 +166,10 @@ pub record IsDeviceInfo (d : DeviceInfo) : Type 0 where
 
 -- a reply that a request of an opcode may get
 abbrev pub IsReplyTo : ℕ → Answer → Type 0
-IsReplyTo opcode (setup devices) = (opcode ≡ 0) × (1 ≤ length devices) × (length devices ≤ most_devices) × All IsDeviceInfo devices
+IsReplyTo opcode (setup devices) = (opcode ≡ opcodes.setup) × (1 ≤ length devices) × (length devices ≤ most_devices) × All IsDeviceInfo devices
 IsReplyTo opcode plain = IsTrue (is_plain opcode)
-IsReplyTo opcode (time now) = (opcode ≡ 2) × (now < 2 ^ 32)
-IsReplyTo opcode (played now) = (opcode ≡ 6) × (now < 2 ^ 32)
-IsReplyTo opcode (recorded now samples) = (opcode ≡ 7) × (now < 2 ^ 32) × (length samples ≤ longest_record)
-IsReplyTo opcode (controls c) = (opcode ≡ 10) × IsGain c.input_gain × IsGain c.output_gain
-IsReplyTo opcode (phone p) = opcode ≡ 12
+IsReplyTo opcode (time now) = (opcode ≡ opcodes.get_time) × (now < 2 ^ 32)
+IsReplyTo opcode (played now) = (opcode ≡ opcodes.play) × (now < 2 ^ 32)
+IsReplyTo opcode (recorded now samples) = (opcode ≡ opcodes.record) × (now < 2 ^ 32) × (length samples ≤ longest_record)
+IsReplyTo opcode (controls c) = (opcode ≡ opcodes.query_controls) × IsGain c.input_gain × IsGain c.output_gain
+IsReplyTo opcode (phone p) = opcode ≡ opcodes.query_phone

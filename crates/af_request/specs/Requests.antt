@@ -8,6 +8,7 @@ use Rattle.af_wire.specs.Front.{frame_front}
 use Rattle.af_wire.specs.Order.{i16_bytes, u16_bytes, u32_bytes}
 use Rattle.af_request.specs.Asked.{Asked, no_op, get_time, create_ac, change_ac, free_ac, play_run, record_run, select_events, set_controls, query_controls, hook_switch, query_phone}
 use Rattle.af_request.specs.Fields.{u8_at, u32_at, i16_at, flag_byte, words_for, padded}
+use Rattle.af_request.specs.Opcodes as opcodes
 
 -- a row of the grammar, at the bytes of a frame: how many words such a request has, and what it asks
 pub record Row : Type 0 where
@@ -19,23 +20,23 @@ abbrev pub row : ℕ → Asked → Row
 row words asked = record { words = words; asked = asked }
 
 -- Every request has its opcode at 0, a detail at 1 and its length at 2.
--- NoOp, opcode 1
+-- NoOp
 abbrev pub no_op_row : List ℕ → Row
 no_op_row frame = row 1 no_op
 
--- GetTime, opcode 2; the detail is the device
+-- GetTime; the detail is the device
 abbrev pub get_time_row : List ℕ → Row
 get_time_row frame = row 1 (get_time (u8_at 1 frame))
 
--- CreateAC, opcode 3; the detail is the device
+-- CreateAC; the detail is the device
 abbrev pub create_ac_row : Order → List ℕ → Row
 create_ac_row order frame = row 4 (create_ac (u8_at 1 frame) (u32_at order 4 frame) (u8_at 8 frame) (u8_at 9 frame) (u8_at 10 frame) (i16_at order 12 frame) (i16_at order 14 frame))
 
--- ChangeAC, opcode 4; the detail is the mask of what changes
+-- ChangeAC; the detail is the mask of what changes
 abbrev pub change_ac_row : Order → List ℕ → Row
 change_ac_row order frame = row 4 (change_ac (u8_at 1 frame) (u32_at order 4 frame) (u8_at 8 frame) (i16_at order 12 frame) (i16_at order 14 frame))
 
--- FreeAC, opcode 5
+-- FreeAC
 abbrev pub free_ac_row : Order → List ℕ → Row
 free_ac_row order frame = row 2 (free_ac (u32_at order 4 frame))
 
@@ -43,50 +44,50 @@ free_ac_row order frame = row 2 (free_ac (u32_at order 4 frame))
 abbrev pub low_bit : List ℕ → Bool
 low_bit frame = bit_and (u8_at 1 frame) 1 == 1
 
--- Play, opcode 6; bit 0 of the detail asks for no reply, and the data are padded to a word
+-- Play; bit 0 of the detail asks for no reply, and the data are padded to a word
 abbrev pub play_run_row : Order → List ℕ → Row
 play_run_row order frame = let count = u32_at order 12 frame in
     row (4 + words_for count) (play_run (low_bit frame) (u32_at order 4 frame) (u32_at order 8 frame) (slice_range frame 16 (16 + count)))
 
--- Record, opcode 7; bit 0 of the detail asks to wait for all samples
+-- Record; bit 0 of the detail asks to wait for all samples
 abbrev pub record_run_row : Order → List ℕ → Row
 record_run_row order frame = row 4 (record_run (low_bit frame) (u32_at order 4 frame) (u32_at order 8 frame) (u32_at order 12 frame))
 
--- SelectEvents, opcode 8; the detail is the device
+-- SelectEvents; the detail is the device
 abbrev pub select_events_row : Order → List ℕ → Row
 select_events_row order frame = row 2 (select_events (u8_at 1 frame) (u32_at order 4 frame))
 
--- SetControls, opcode 9; the detail is the device
+-- SetControls; the detail is the device
 abbrev pub set_controls_row : Order → List ℕ → Row
 set_controls_row order frame = row 3 (set_controls (u8_at 1 frame) (u8_at 4 frame) (u8_at 5 frame) (u8_at 6 frame) (i16_at order 8 frame) (i16_at order 10 frame))
 
--- QueryControls, opcode 10; the detail is the device
+-- QueryControls; the detail is the device
 abbrev pub query_controls_row : List ℕ → Row
 query_controls_row frame = row 1 (query_controls (u8_at 1 frame))
 
--- HookSwitch, opcode 11; the detail is the device
+-- HookSwitch; the detail is the device
 abbrev pub hook_switch_row : Order → List ℕ → Row
 hook_switch_row order frame = row 2 (hook_switch (u8_at 1 frame) (u32_at order 4 frame))
 
--- QueryPhone, opcode 12; the detail is the device
+-- QueryPhone; the detail is the device
 abbrev pub query_phone_row : List ℕ → Row
 query_phone_row frame = row 1 (query_phone (u8_at 1 frame))
 
 -- the row of an opcode, if there is one
 abbrev pub row_of : Order → ℕ → List ℕ → Option Row
 row_of order opcode frame =
-    if opcode == 1 then Some (no_op_row frame)
-    else if opcode == 2 then Some (get_time_row frame)
-    else if opcode == 3 then Some (create_ac_row order frame)
-    else if opcode == 4 then Some (change_ac_row order frame)
-    else if opcode == 5 then Some (free_ac_row order frame)
-    else if opcode == 6 then Some (play_run_row order frame)
-    else if opcode == 7 then Some (record_run_row order frame)
-    else if opcode == 8 then Some (select_events_row order frame)
-    else if opcode == 9 then Some (set_controls_row order frame)
-    else if opcode == 10 then Some (query_controls_row frame)
-    else if opcode == 11 then Some (hook_switch_row order frame)
-    else if opcode == 12 then Some (query_phone_row frame)
+    if opcode == opcodes.no_op then Some (no_op_row frame)
+    else if opcode == opcodes.get_time then Some (get_time_row frame)
+    else if opcode == opcodes.create_ac then Some (create_ac_row order frame)
+    else if opcode == opcodes.change_ac then Some (change_ac_row order frame)
+    else if opcode == opcodes.free_ac then Some (free_ac_row order frame)
+    else if opcode == opcodes.play then Some (play_run_row order frame)
+    else if opcode == opcodes.record then Some (record_run_row order frame)
+    else if opcode == opcodes.select_events then Some (select_events_row order frame)
+    else if opcode == opcodes.set_controls then Some (set_controls_row order frame)
+    else if opcode == opcodes.query_controls then Some (query_controls_row frame)
+    else if opcode == opcodes.hook_switch then Some (hook_switch_row order frame)
+    else if opcode == opcodes.query_phone then Some (query_phone_row frame)
     else None
 
 -- what a frame asks by a row, if it has the row's length
@@ -107,23 +108,27 @@ front order opcode detail words = opcode ∷ detail ∷ u16_bytes order words
 
 -- how a request is spelled: what no field needs is zero
 abbrev pub request_bytes : Order → Asked → List ℕ
-request_bytes order no_op = front order 1 0 1
-request_bytes order (get_time device) = front order 2 device 1
+request_bytes order no_op = front order opcodes.no_op 0 1
+request_bytes order (get_time device) = front order opcodes.get_time device 1
 request_bytes order (create_ac device ac ty channels preempt play_gain record_gain) =
-    front order 3 device 4 ++ u32_bytes order ac ++ (ty ∷ channels ∷ preempt ∷ 0 ∷ []) ++ i16_bytes order play_gain ++ i16_bytes order record_gain
+    front order opcodes.create_ac device 4 ++ u32_bytes order ac ++ (ty ∷ channels ∷ preempt ∷ 0 ∷ [])
+    ++ i16_bytes order play_gain ++ i16_bytes order record_gain
 request_bytes order (change_ac mask ac preempt play_gain record_gain) =
-    front order 4 mask 4 ++ u32_bytes order ac ++ (preempt ∷ 0 ∷ 0 ∷ 0 ∷ []) ++ i16_bytes order play_gain ++ i16_bytes order record_gain
-request_bytes order (free_ac ac) = front order 5 0 2 ++ u32_bytes order ac
+    front order opcodes.change_ac mask 4 ++ u32_bytes order ac ++ (preempt ∷ 0 ∷ 0 ∷ 0 ∷ [])
+    ++ i16_bytes order play_gain ++ i16_bytes order record_gain
+request_bytes order (free_ac ac) = front order opcodes.free_ac 0 2 ++ u32_bytes order ac
 request_bytes order (play_run quiet ac time samples) =
-    front order 6 (flag_byte quiet) (4 + words_for (length samples)) ++ u32_bytes order ac ++ u32_bytes order time ++ u32_bytes order (length samples) ++ padded samples
+    front order opcodes.play (flag_byte quiet) (4 + words_for (length samples))
+    ++ u32_bytes order ac ++ u32_bytes order time ++ u32_bytes order (length samples) ++ padded samples
 request_bytes order (record_run blocking ac time nbytes) =
-    front order 7 (flag_byte blocking) 4 ++ u32_bytes order ac ++ u32_bytes order time ++ u32_bytes order nbytes
-request_bytes order (select_events device mask) = front order 8 device 2 ++ u32_bytes order mask
+    front order opcodes.record (flag_byte blocking) 4 ++ u32_bytes order ac ++ u32_bytes order time ++ u32_bytes order nbytes
+request_bytes order (select_events device mask) = front order opcodes.select_events device 2 ++ u32_bytes order mask
 request_bytes order (set_controls device mask input_on output_on input_gain output_gain) =
-    front order 9 device 3 ++ (mask ∷ input_on ∷ output_on ∷ 0 ∷ []) ++ i16_bytes order input_gain ++ i16_bytes order output_gain
-request_bytes order (query_controls device) = front order 10 device 1
-request_bytes order (hook_switch device off) = front order 11 device 2 ++ u32_bytes order off
-request_bytes order (query_phone device) = front order 12 device 1
+    front order opcodes.set_controls device 3 ++ (mask ∷ input_on ∷ output_on ∷ 0 ∷ [])
+    ++ i16_bytes order input_gain ++ i16_bytes order output_gain
+request_bytes order (query_controls device) = front order opcodes.query_controls device 1
+request_bytes order (hook_switch device off) = front order opcodes.hook_switch device 2 ++ u32_bytes order off
+request_bytes order (query_phone device) = front order opcodes.query_phone device 1
 
 -- a request whose play has at most the samples that the longest frame has room for
 abbrev pub FitsFrame : Asked → Type 0

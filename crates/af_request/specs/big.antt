@@ -11,6 +11,7 @@ use Rattle.af_request.specs.declared.reply.DeviceInfo.{DeviceInfo}
 use Rattle.af_request.specs.Answer.{Answer, setup, plain, time, played, recorded, controls, phone}
 use Rattle.af_request.specs.Asked.{Asked, no_op, get_time, create_ac, change_ac, free_ac, play_run, record_run, select_events, set_controls, query_controls, hook_switch, query_phone}
 use Rattle.af_request.specs.Fields.{u8_at, flag_byte, words_for, padded}
+use Rattle.af_request.specs.Opcodes as opcodes
 use Rattle.af_request.specs.Requests.{Row, row, asked_by, low_bit, no_op_row, get_time_row, query_controls_row, query_phone_row}
 use Rattle.af_request.specs.Replies.{body_words, controls_of, device_info_of, device_then, flag_of, is_plain, is_zero, phone_bytes, phone_in, plain_in}
 
@@ -34,54 +35,54 @@ u32_bytes n = to_be_bytes w32 n
 abbrev pub i16_bytes : ℤ → List ℕ
 i16_bytes x = to_be_bytes w16 (cast_unsigned w16 x)
 
--- CreateAC, opcode 3; the detail is the device
+-- CreateAC; the detail is the device
 abbrev pub create_ac_row : List ℕ → Row
 create_ac_row frame = row 4 (create_ac (u8_at 1 frame) (u32_at 4 frame) (u8_at 8 frame) (u8_at 9 frame) (u8_at 10 frame) (i16_at 12 frame) (i16_at 14 frame))
 
--- ChangeAC, opcode 4; the detail is the mask of what changes
+-- ChangeAC; the detail is the mask of what changes
 abbrev pub change_ac_row : List ℕ → Row
 change_ac_row frame = row 4 (change_ac (u8_at 1 frame) (u32_at 4 frame) (u8_at 8 frame) (i16_at 12 frame) (i16_at 14 frame))
 
--- FreeAC, opcode 5
+-- FreeAC
 abbrev pub free_ac_row : List ℕ → Row
 free_ac_row frame = row 2 (free_ac (u32_at 4 frame))
 
--- Play, opcode 6; bit 0 of the detail asks for no reply, and the data are padded to a word
+-- Play; bit 0 of the detail asks for no reply, and the data are padded to a word
 abbrev pub play_run_row : List ℕ → Row
 play_run_row frame = let count = u32_at 12 frame in
     row (4 + words_for count) (play_run (low_bit frame) (u32_at 4 frame) (u32_at 8 frame) (slice_range frame 16 (16 + count)))
 
--- Record, opcode 7; bit 0 of the detail asks to wait for all samples
+-- Record; bit 0 of the detail asks to wait for all samples
 abbrev pub record_run_row : List ℕ → Row
 record_run_row frame = row 4 (record_run (low_bit frame) (u32_at 4 frame) (u32_at 8 frame) (u32_at 12 frame))
 
--- SelectEvents, opcode 8; the detail is the device
+-- SelectEvents; the detail is the device
 abbrev pub select_events_row : List ℕ → Row
 select_events_row frame = row 2 (select_events (u8_at 1 frame) (u32_at 4 frame))
 
--- SetControls, opcode 9; the detail is the device
+-- SetControls; the detail is the device
 abbrev pub set_controls_row : List ℕ → Row
 set_controls_row frame = row 3 (set_controls (u8_at 1 frame) (u8_at 4 frame) (u8_at 5 frame) (u8_at 6 frame) (i16_at 8 frame) (i16_at 10 frame))
 
--- HookSwitch, opcode 11; the detail is the device
+-- HookSwitch; the detail is the device
 abbrev pub hook_switch_row : List ℕ → Row
 hook_switch_row frame = row 2 (hook_switch (u8_at 1 frame) (u32_at 4 frame))
 
 -- the row of an opcode, if there is one
 abbrev pub row_of : ℕ → List ℕ → Option Row
 row_of opcode frame =
-    if opcode == 1 then Some (no_op_row frame)
-    else if opcode == 2 then Some (get_time_row frame)
-    else if opcode == 3 then Some (create_ac_row frame)
-    else if opcode == 4 then Some (change_ac_row frame)
-    else if opcode == 5 then Some (free_ac_row frame)
-    else if opcode == 6 then Some (play_run_row frame)
-    else if opcode == 7 then Some (record_run_row frame)
-    else if opcode == 8 then Some (select_events_row frame)
-    else if opcode == 9 then Some (set_controls_row frame)
-    else if opcode == 10 then Some (query_controls_row frame)
-    else if opcode == 11 then Some (hook_switch_row frame)
-    else if opcode == 12 then Some (query_phone_row frame)
+    if opcode == opcodes.no_op then Some (no_op_row frame)
+    else if opcode == opcodes.get_time then Some (get_time_row frame)
+    else if opcode == opcodes.create_ac then Some (create_ac_row frame)
+    else if opcode == opcodes.change_ac then Some (change_ac_row frame)
+    else if opcode == opcodes.free_ac then Some (free_ac_row frame)
+    else if opcode == opcodes.play then Some (play_run_row frame)
+    else if opcode == opcodes.record then Some (record_run_row frame)
+    else if opcode == opcodes.select_events then Some (select_events_row frame)
+    else if opcode == opcodes.set_controls then Some (set_controls_row frame)
+    else if opcode == opcodes.query_controls then Some (query_controls_row frame)
+    else if opcode == opcodes.hook_switch then Some (hook_switch_row frame)
+    else if opcode == opcodes.query_phone then Some (query_phone_row frame)
     else None
 
 -- what a frame asks, if it is a request
@@ -94,23 +95,25 @@ front opcode detail words = opcode ∷ detail ∷ to_be_bytes w16 words
 
 -- how a request is spelled: what no field needs is zero
 abbrev pub request_bytes : Asked → List ℕ
-request_bytes no_op = front 1 0 1
-request_bytes (get_time device) = front 2 device 1
+request_bytes no_op = front opcodes.no_op 0 1
+request_bytes (get_time device) = front opcodes.get_time device 1
 request_bytes (create_ac device ac ty channels preempt play_gain record_gain) =
-    front 3 device 4 ++ u32_bytes ac ++ (ty ∷ channels ∷ preempt ∷ 0 ∷ []) ++ i16_bytes play_gain ++ i16_bytes record_gain
+    front opcodes.create_ac device 4 ++ u32_bytes ac ++ (ty ∷ channels ∷ preempt ∷ 0 ∷ [])
+    ++ i16_bytes play_gain ++ i16_bytes record_gain
 request_bytes (change_ac mask ac preempt play_gain record_gain) =
-    front 4 mask 4 ++ u32_bytes ac ++ (preempt ∷ 0 ∷ 0 ∷ 0 ∷ []) ++ i16_bytes play_gain ++ i16_bytes record_gain
-request_bytes (free_ac ac) = front 5 0 2 ++ u32_bytes ac
+    front opcodes.change_ac mask 4 ++ u32_bytes ac ++ (preempt ∷ 0 ∷ 0 ∷ 0 ∷ []) ++ i16_bytes play_gain ++ i16_bytes record_gain
+request_bytes (free_ac ac) = front opcodes.free_ac 0 2 ++ u32_bytes ac
 request_bytes (play_run quiet ac start samples) =
-    front 6 (flag_byte quiet) (4 + words_for (length samples)) ++ u32_bytes ac ++ u32_bytes start ++ u32_bytes (length samples) ++ padded samples
+    front opcodes.play (flag_byte quiet) (4 + words_for (length samples))
+    ++ u32_bytes ac ++ u32_bytes start ++ u32_bytes (length samples) ++ padded samples
 request_bytes (record_run blocking ac start nbytes) =
-    front 7 (flag_byte blocking) 4 ++ u32_bytes ac ++ u32_bytes start ++ u32_bytes nbytes
-request_bytes (select_events device mask) = front 8 device 2 ++ u32_bytes mask
+    front opcodes.record (flag_byte blocking) 4 ++ u32_bytes ac ++ u32_bytes start ++ u32_bytes nbytes
+request_bytes (select_events device mask) = front opcodes.select_events device 2 ++ u32_bytes mask
 request_bytes (set_controls device mask input_on output_on input_gain output_gain) =
-    front 9 device 3 ++ (mask ∷ input_on ∷ output_on ∷ 0 ∷ []) ++ i16_bytes input_gain ++ i16_bytes output_gain
-request_bytes (query_controls device) = front 10 device 1
-request_bytes (hook_switch device off) = front 11 device 2 ++ u32_bytes off
-request_bytes (query_phone device) = front 12 device 1
+    front opcodes.set_controls device 3 ++ (mask ∷ input_on ∷ output_on ∷ 0 ∷ []) ++ i16_bytes input_gain ++ i16_bytes output_gain
+request_bytes (query_controls device) = front opcodes.query_controls device 1
+request_bytes (hook_switch device off) = front opcodes.hook_switch device 2 ++ u32_bytes off
+request_bytes (query_phone device) = front opcodes.query_phone device 1
 
 -- what 12 bytes of the reply to a setup say of a device
 abbrev pub device_in : List ℕ → Option DeviceInfo
@@ -153,16 +156,16 @@ controls_in body =
     then controls_of (flag_of (u8_at 0 body)) (flag_of (u8_at 1 body)) (gain_of (i16_at 4 body)) (gain_of (i16_at 6 body))
     else None
 
--- what a body answers to a request of an opcode, if it is a body of that opcode; 0 stands for a setup
+-- what a body answers to a request of an opcode, or to a setup, if it is such a body
 abbrev pub answer_in : ℕ → List ℕ → Option Answer
 answer_in opcode body =
     if is_plain opcode then plain_in body
-    else if opcode == 0 then setup_in body
-    else if opcode == 2 then time_in body
-    else if opcode == 6 then played_in body
-    else if opcode == 7 then recorded_body body
-    else if opcode == 10 then controls_in body
-    else if opcode == 12 then phone_in body
+    else if opcode == opcodes.setup then setup_in body
+    else if opcode == opcodes.get_time then time_in body
+    else if opcode == opcodes.play then played_in body
+    else if opcode == opcodes.record then recorded_body body
+    else if opcode == opcodes.query_controls then controls_in body
+    else if opcode == opcodes.query_phone then phone_in body
     else None
 
 -- what the reply to a setup says of a device

@@ -2,6 +2,7 @@
 #![tactic(auto)]
 
 pub mod laws;
+pub mod opcode;
 mod put;
 mod reply;
 mod reply_reader;

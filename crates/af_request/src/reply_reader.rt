@@ -7,14 +7,16 @@ ghost use Rattle.af_sample.specs.Gains.{gain_of};
 ghost use Rattle.af_request.specs.Answer.{reply_meaning, items_of};
 ghost use Rattle.af_request.specs.Replies.{answer_in, controls_in, device_in, devices_in, flag_of, is_padded, is_plain, phone_in, phone_of, plain_in, played_in, recorded_body, setup_in, time_in, is_zero};
 
+use crate::opcode;
 use crate::reply::{Controls, DeviceInfo, Devices, Phone, Reply};
 use af_sample::{Gain, SampleType, is_listed_rate};
 use af_time::DevTime;
 use af_wire::Order;
 
-/// Reads the body, in the order of its link, of a reply to a request of this opcode, 0 standing for a setup. None exactly where it is no such body:
-/// a length that does not fit, a flag above 1, a gain outside -30..30, a type above 3, channels other than 1 and 2, a rate
-/// that is not listed, a horizon that is not 4 seconds, fewer than 1 or more than 8 devices, or padding that is not zero.
+/// Reads the body, in the order of its link, of a reply to a request of this opcode, or to a setup (`SETUP`). None exactly
+/// where it is no such body: a length that does not fit, a flag above 1, a gain outside -30..30, a type above 3, channels other
+/// than 1 and 2, a rate that is not listed, a horizon that is not 4 seconds, fewer than 1 or more than 8 devices, or padding
+/// that is not zero.
 pub fn read_reply<'a>(order: Order, opcode: u8, body: &'a [u8]) -> Option<Reply<'a>>
     ensures { option_map reply_meaning result ≡ answer_in order opcode body.entry.now }
 {
@@ -22,12 +24,12 @@ pub fn read_reply<'a>(order: Order, opcode: u8, body: &'a [u8]) -> Option<Reply<
         return plain(body);
     }
     match opcode {
-        0 => setup(order, body),
-        2 => time(order, body),
-        6 => played(order, body),
-        7 => recorded(order, body),
-        10 => controls(order, body),
-        12 => phone(body),
+        opcode::SETUP => setup(order, body),
+        opcode::GET_TIME => time(order, body),
+        opcode::PLAY => played(order, body),
+        opcode::RECORD => recorded(order, body),
+        opcode::QUERY_CONTROLS => controls(order, body),
+        opcode::QUERY_PHONE => phone(body),
         _ => None,
     }
 }
@@ -36,7 +38,15 @@ pub fn read_reply<'a>(order: Order, opcode: u8, body: &'a [u8]) -> Option<Reply<
 fn is_plain(opcode: u8) -> bool
     ensures { result ≡ is_plain opcode }
 {
-    matches!(opcode, 3 | 4 | 5 | 8 | 9 | 11)
+    matches!(
+        opcode,
+        opcode::CREATE_AC
+            | opcode::CHANGE_AC
+            | opcode::FREE_AC
+            | opcode::SELECT_EVENTS
+            | opcode::SET_CONTROLS
+            | opcode::HOOK_SWITCH
+    )
 }
 
 fn plain<'a>(body: &'a [u8]) -> Option<Reply<'a>>

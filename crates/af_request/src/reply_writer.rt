@@ -6,17 +6,19 @@ ghost use Rattle.af_wire.specs.MessageFront.{IsOneMessage};
 ghost use Rattle.af_request.specs.Answer.{reply_meaning, recorded, setup};
 ghost use Rattle.af_request.specs.Answer.{controls as controls_answer};
 ghost use Rattle.af_request.specs.Fields.{words_for};
+ghost use Rattle.af_request.specs.Opcodes as opcodes;
 ghost use Rattle.af_wire.specs.Order.{i16_bytes};
 ghost use Rattle.af_request.specs.Replies.{answer_in, body_bytes, body_words, device_bytes, phone_bytes, reply_bytes, FitsMessage, IsReplyTo};
 
+use crate::opcode;
 use crate::put::{put, put_zeros};
 use crate::reply::{Controls, DeviceInfo, Phone, Reply};
 use af_sample::Gain;
 use af_time::DevTime;
 use af_wire::{Order, write_head};
 
-/// Writes the reply, in an order, to a request of this opcode, 0 standing for a setup, and answers how many bytes that are. Recorded
-/// samples have at most 16000 bytes.
+/// Writes the reply, in an order, to a request of this opcode, or to a setup (`SETUP`), and answers how many bytes that are.
+/// Recorded samples have at most 16000 bytes.
 pub fn write_reply(
     order: Order,
     opcode: u8,
@@ -46,11 +48,11 @@ pub fn write_recorded(order: Order, time: DevTime, n: usize, sequence: u16, out:
     requires samples { n ≤ longest_record }
     requires room { longest_message ≤ length out.old }
     ensures most { result ≤ longest_message }
-    ensures bytes { take result out.new ≡ reply_bytes order 7 (recorded time.0 (take n (drop 16 out.old))) sequence }
+    ensures bytes { take result out.new ≡ reply_bytes order opcodes.record (recorded time.0 (take n (drop 16 out.old))) sequence }
 {
     let words = 2 + n.div_ceil(4) as u32;
     let (front, samples) = out.split_at_mut(RECORDED_AT);
-    let at = put_head(order, front, 7, sequence, words);
+    let at = put_head(order, front, opcode::RECORD, sequence, words);
     let at = put(front, at, &order.u32_bytes(time.0));
     put(front, at, &order.u32_bytes(n as u32));
     RECORDED_AT + put_zeros(samples, n, 4 * n.div_ceil(4) - n)

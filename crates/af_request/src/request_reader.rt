@@ -5,7 +5,7 @@ ghost use Rattle.af_request.specs.Requests.{asked_in, asked_by, row_of, IsNoRequ
 ghost use Rattle.af_request.specs.Requests.{no_op_row, get_time_row, create_ac_row, change_ac_row, free_ac_row, play_run_row};
 ghost use Rattle.af_request.specs.Requests.{record_run_row, select_events_row, set_controls_row, query_controls_row, hook_switch_row, query_phone_row};
 
-use crate::Request;
+use crate::{Request, opcode};
 use af_time::DevTime;
 use af_wire::Order;
 
@@ -23,18 +23,18 @@ fn request_of<'a>(order: Order, opcode: u8, frame: &'a [u8]) -> Option<Request<'
     ensures { option_map request_meaning result ≡ option_and_then (asked_by frame.entry.now) (row_of order opcode frame.entry.now) }
 {
     match opcode {
-        1 => no_op(frame),
-        2 => get_time(frame),
-        3 => create_ac(order, frame),
-        4 => change_ac(order, frame),
-        5 => free_ac(order, frame),
-        6 => play_run(order, frame),
-        7 => record_run(order, frame),
-        8 => select_events(order, frame),
-        9 => set_controls(order, frame),
-        10 => query_controls(frame),
-        11 => hook_switch(order, frame),
-        12 => query_phone(frame),
+        opcode::NO_OP => no_op(frame),
+        opcode::GET_TIME => get_time(frame),
+        opcode::CREATE_AC => create_ac(order, frame),
+        opcode::CHANGE_AC => change_ac(order, frame),
+        opcode::FREE_AC => free_ac(order, frame),
+        opcode::PLAY => play_run(order, frame),
+        opcode::RECORD => record_run(order, frame),
+        opcode::SELECT_EVENTS => select_events(order, frame),
+        opcode::SET_CONTROLS => set_controls(order, frame),
+        opcode::QUERY_CONTROLS => query_controls(frame),
+        opcode::HOOK_SWITCH => hook_switch(order, frame),
+        opcode::QUERY_PHONE => query_phone(frame),
         _ => None,
     }
 }

@@ -6,8 +6,8 @@ ghost use Rattle.af_request.specs.Fields.{words_for};
 ghost use Rattle.af_wire.specs.Order.{i16_bytes, u32_bytes};
 ghost use Rattle.af_request.specs.Requests.{asked_in, front, request_bytes, FitsFrame, IsOneRequest};
 
-use crate::Request;
 use crate::put::{put, put_zeros};
+use crate::{Request, opcode};
 use af_wire::Order;
 
 /// Writes a request as a frame in an order, its padding as zeros, and answers how many bytes that are. A Play has at most 16368 bytes
@@ -23,8 +23,8 @@ pub fn write_request(order: Order, request: &Request<'_>, out: &mut [u8]) -> usi
     ensures again { asked_in order (take result out.new) ≡ Some (request_meaning request.now) }
 {
     match request {
-        Request::NoOp => put_front(order, out, 1, 0, 1),
-        Request::GetTime { device } => put_front(order, out, 2, *device, 1),
+        Request::NoOp => put_front(order, out, opcode::NO_OP, 0, 1),
+        Request::GetTime { device } => put_front(order, out, opcode::GET_TIME, *device, 1),
         Request::CreateAc {
             device,
             ac,
@@ -34,7 +34,7 @@ pub fn write_request(order: Order, request: &Request<'_>, out: &mut [u8]) -> usi
             play_gain,
             record_gain,
         } => {
-            let at = put_front_and_word(order, out, [3, *device], 4, *ac);
+            let at = put_front_and_word(order, out, [opcode::CREATE_AC, *device], 4, *ac);
             put_gains(
                 order,
                 out,
@@ -51,7 +51,7 @@ pub fn write_request(order: Order, request: &Request<'_>, out: &mut [u8]) -> usi
             play_gain,
             record_gain,
         } => {
-            let at = put_front_and_word(order, out, [4, *mask], 4, *ac);
+            let at = put_front_and_word(order, out, [opcode::CHANGE_AC, *mask], 4, *ac);
             put_gains(
                 order,
                 out,
@@ -61,7 +61,7 @@ pub fn write_request(order: Order, request: &Request<'_>, out: &mut [u8]) -> usi
                 *record_gain,
             )
         }
-        Request::FreeAc { ac } => put_front_and_word(order, out, [5, 0], 2, *ac),
+        Request::FreeAc { ac } => put_front_and_word(order, out, [opcode::FREE_AC, 0], 2, *ac),
         Request::PlayRun {
             quiet,
             ac,
@@ -77,7 +77,7 @@ pub fn write_request(order: Order, request: &Request<'_>, out: &mut [u8]) -> usi
         Request::SelectEvents { device, mask } => put_front_and_word(
             order,
             out,
-            [8, *device],
+            [opcode::SELECT_EVENTS, *device],
             2,
             *mask,
         ),
@@ -89,7 +89,7 @@ pub fn write_request(order: Order, request: &Request<'_>, out: &mut [u8]) -> usi
             input_gain,
             output_gain,
         } => {
-            let at = put_front(order, out, 9, *device, 3);
+            let at = put_front(order, out, opcode::SET_CONTROLS, *device, 3);
             put_gains(
                 order,
                 out,
@@ -99,15 +99,21 @@ pub fn write_request(order: Order, request: &Request<'_>, out: &mut [u8]) -> usi
                 *output_gain,
             )
         }
-        Request::QueryControls { device } => put_front(order, out, 10, *device, 1),
+        Request::QueryControls { device } => put_front(
+            order,
+            out,
+            opcode::QUERY_CONTROLS,
+            *device,
+            1,
+        ),
         Request::HookSwitch { device, off } => put_front_and_word(
             order,
             out,
-            [11, *device],
+            [opcode::HOOK_SWITCH, *device],
             2,
             *off,
         ),
-        Request::QueryPhone { device } => put_front(order, out, 12, *device, 1),
+        Request::QueryPhone { device } => put_front(order, out, opcode::QUERY_PHONE, *device, 1),
     }
 }
 
@@ -175,7 +181,13 @@ fn put_play(order: Order, out: &mut [u8], quiet: bool, ac: u32, time: u32, sampl
 {
     let words = samples.len().div_ceil(4);
     let run = [ac, time, samples.len() as u32];
-    let at = put_run(order, out, [6, u8::from(quiet)], 4 + words as u16, run);
+    let at = put_run(
+        order,
+        out,
+        [opcode::PLAY, u8::from(quiet)],
+        4 + words as u16,
+        run,
+    );
     let at = put(out, at, samples);
     put_zeros(out, at, 4 * words - samples.len())
 }
@@ -195,5 +207,11 @@ fn put_record(
     ensures one { IsOneRequest order (record_run blocking ac time nbytes) (take result out.new) }
     ensures again { asked_in order (take result out.new) ≡ Some (record_run blocking ac time nbytes) }
 {
-    put_run(order, out, [7, u8::from(blocking)], 4, [ac, time, nbytes])
+    put_run(
+        order,
+        out,
+        [opcode::RECORD, u8::from(blocking)],
+        4,
+        [ac, time, nbytes],
+    )
 }

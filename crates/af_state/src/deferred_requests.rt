@@ -43,7 +43,7 @@ fn make_room(alloc: Global) -> Result<Vec<DeferredRequest>, OutOfMemory>
     ensures { IfOk result (λ room. length room.items ≡ most_links) }
 {
     let mut room = Vec::with_capacity(alloc, MOST_LINKS)?;
-    for _number in 0..32u8 {
+    for _number in 0..MOST_LINKS as u8 {
         let deferred = DeferredRequest::new(alloc)?;
         room.push(deferred)?;
     }

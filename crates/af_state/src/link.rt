@@ -10,6 +10,7 @@ ghost use Rattle.af_limits.specs.Limits.{longest_record, longest_message, most_u
 ghost use Rattle.af_context.specs.Contexts.{context_of, creation, is_in_use, reference, with_changed, with_settings, without_context};
 ghost use Rattle.af_request.specs.Answer.{recorded, reply_meaning};
 ghost use Rattle.af_request.specs.Replies.{FitsMessage};
+ghost use Rattle.af_request.specs.Opcodes as opcodes;
 ghost use Rattle.af_wire.specs.Message.{error};
 ghost use Rattle.af_wire.specs.Event.{event_bytes};
 ghost use Rattle.af_phone.specs.Lines.{selects};
@@ -236,7 +237,7 @@ impl ServedLink {
         requires size { length message.old ≡ longest_message }
         ensures { self.new ≡ record self.old {
           pending = self.old.pending
-              ++ reply_message self.old.order 7 (recorded time.0 (take n (drop 16 message.old))) self.old.sequence;
+              ++ reply_message self.old.order opcodes.record (recorded time.0 (take n (drop 16 message.old))) self.old.sequence;
         } }
     {
         let size = write_recorded(self.order, time, n, self.sequence, message);

@@ -9,6 +9,7 @@ use Rattle.af_time.specs.declared.DevTime.{DevTime}
 use Rattle.af_request.specs.Asked.{Asked, get_time}
 use Rattle.af_request.specs.Answer.{Answer}
 use Rattle.af_request.specs.Requests.{request_bytes}
+use Rattle.af_request.specs.Opcodes as opcodes
 use Rattle.af_lib.specs.declared.fault.ConnFault.{ConnFault}
 use Rattle.af_lib.specs.declared.fault.ConnFault.TheVariants as fault
 use Rattle.af_lib.specs.Ring.{RingState}
@@ -109,7 +110,7 @@ set_up order input = begun order (next_message (unused order input)).ring (next_
 
 -- what the link answers to the setup
 abbrev pub setup_answer : Order → List ℕ → Result (List DeviceInfo) ConnFault
-setup_answer order input = answered order as_devices 0 0 (next_message (unused order input)).found
+setup_answer order input = answered order as_devices opcodes.setup 0 (next_message (unused order input)).found
 
 -- the setup of an order is sent, and what follows goes by the devices of its answer
 unfoldable pub connects : Order → List ℕ → (List DeviceInfo → ClientState → Trace) → Trace

@@ -24,3 +24,4 @@ pub mod SoundEndLemmas
 pub mod SoundFitLemmas
 pub mod SourceCountLemmas
 pub mod SourceUseLemmas
+pub mod UnreadLemmas

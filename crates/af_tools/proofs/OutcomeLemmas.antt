@@ -9,6 +9,7 @@ use Rattle.af_io.specs.Observed.{Appended}
 use Rattle.af_io.specs.Dial.{ToldLink}
 use Rattle.af_request.specs.declared.reply.DeviceInfo.{DeviceInfo}
 use Rattle.af_request.specs.Replies.{IsDeviceInfo}
+use Rattle.af_request.specs.Opcodes as opcodes
 use Rattle.af_lib.specs.declared.fault.ConnFault.{ConnFault}
 use Rattle.af_wire.specs.declared.order.Order.{Order}
 use Rattle.af_wire.specs.Front.{setup_bytes}
@@ -113,7 +114,7 @@ module _ (order : Order) where
       }
 
   -- a device of a connection that was set up is one that may be stated
-  answered_at : (k : ℕ) (found : Result (List ℕ) ConnFault) (devices : List DeviceInfo) → answered order as_devices 0 0 found ≡ Ok devices → (d : DeviceInfo) → slice_get devices k ≡ Some d → IsDeviceInfo d
+  answered_at : (k : ℕ) (found : Result (List ℕ) ConnFault) (devices : List DeviceInfo) → answered order as_devices opcodes.setup 0 found ≡ Ok devices → (d : DeviceInfo) → slice_get devices k ≡ Some d → IsDeviceInfo d
   answered_at k found devices is d there =
       subst IsDeviceInfo (get_or_from_slice_get devices k d d there) ((answered_stated order found devices is).3 k d (slice_get_within devices k d there))
 

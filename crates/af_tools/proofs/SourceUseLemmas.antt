@@ -33,6 +33,7 @@ module _ {S : Type 0} (left : S → Option (List ℕ)) (faults : S → ℕ) (for
   played_use spent within counts is = record {
     untouched = λ e. cc e;
     memory = λ same. absurd (never is_of_report how end.OutOfMemory is refl same);
+    unfound = λ n same. absurd (never is_of_report how (end.NoDevice n) is refl same);
     spent = λ _ _. sound_spent form n len _ _ _ h spent;
     long = λ same. absurd (never is_of_report how end.TooLong is refl same);
     within = λ _. head_within form n len _ _ _ h within;
@@ -52,6 +53,7 @@ module _ {S : Type 0} (left : S → Option (List ℕ)) (faults : S → ℕ) (for
       record {
         untouched = λ e. cc e;
         memory = λ same. absurd (never is_of_blocks how end.OutOfMemory is refl same);
+        unfound = λ n same. absurd (never is_of_blocks how (end.NoDevice n) is refl same);
         spent = λ same _. absurd (never is_of_blocks how end.Done is refl same);
         long = λ same. head_beyond form n len _ _ _ h (long same);
         within = λ other. head_within form n len _ _ _ h (within other);
@@ -68,6 +70,7 @@ pub unsound_use : {S : Type 0} (left : S → Option (List ℕ)) (faults : S → 
 unsound_use left faults form how source source' is bad cut long within counts = record {
   untouched = λ e. cc e;
   memory = λ same. absurd (never is_of_sound how end.OutOfMemory is refl same);
+  unfound = λ n same. absurd (never is_of_sound how (end.NoDevice n) is refl same);
   spent = λ same _. absurd (never is_of_sound how end.Done is refl same);
   long = long;
   within = within;

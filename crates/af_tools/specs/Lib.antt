@@ -11,6 +11,7 @@ pub mod Ways
 pub mod Fill
 pub mod SoundReads
 pub mod Reading
+pub mod Unread
 pub mod Ran
 pub mod Dialled
 pub mod Run

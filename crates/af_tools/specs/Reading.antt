@@ -13,12 +13,13 @@ use Rattle.af_tool.specs.Trace.{Trace, ClientState}
 use Rattle.af_tool.specs.Ends.{client_of, ObservedTrace, ObservedPart, TracePart}
 use Rattle.af_tools.specs.Fill.{ConsumedBeyondMost, ConsumedCut, ConsumedFault, ConsumedSound, ConsumedWithinMost}
 
--- Only a tool that reads its source touches it, and not where memory ran out; if it is done it has read it to its end, or a sound file
+-- Only a tool that reads its source touches it, and not where memory ran out or its device is not there; if it is done it has read it to its end, or a sound file
 -- to that of the stated length. The source gave more than a tool takes exactly where that ends as too long, a read failed only where
 -- the count of its faults rose, and for a sound file that is bad or cut the tool ends only behind bytes that show it.
 pub record UsesSource {S : Type 0} (left : S → Option (List ℕ)) (faults : S → ℕ) (reads : Bool) (form : Option SoundForm) (how : ToolEnd) (source source' : S) : Type 0 where
   pub untouched : reads ≡ false → source' ≡ source
   pub memory : how ≡ end.OutOfMemory → source' ≡ source
+  pub unfound : (n : ℕ) → how ≡ end.NoDevice n → source' ≡ source
   pub spent : how ≡ end.Done → reads ≡ true → IsSpent (left source') ⊎ ConsumedSound form (left source) (left source')
   pub long : how ≡ end.TooLong → ConsumedBeyondMost (left source) (left source')
   pub within : how ≢ end.TooLong → ConsumedWithinMost (left source) (left source')

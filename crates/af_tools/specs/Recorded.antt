@@ -13,8 +13,7 @@ use Rattle.af_lib.specs.Calls.{ConnState}
 use Rattle.af_tools.specs.Files.{as_raw, recording_of}
 use Rattle.af_tools.specs.Record.{arecord_output, arecord_sends}
 
--- A job is done on a device. What was sent is what the same job sends that writes its samples as they are; and of what that one writes
--- the sink gained the recording: a sound file of it, if the job writes one.
+-- A job is done on a device. It sent the same requests as a raw recording, and wrote that recording as a sound file, if it writes one.
 pub record IsRecorded (job : RecordJob) (devices : List DeviceInfo) (w : ClientState) (sent sent' held held' : Option (List ℕ)) : Type 0 where
   pub device : DeviceInfo
   pub is_there : slice_get devices job.device ≡ Some device

@@ -1,19 +1,20 @@
 // aplay: what a source gives is played, and what was played is written to the sink.
-ghost use Rattle.std.specs.Prelude.{ℕ, ◌≡◌, ◌≤◌, ◌⊎◌, ◌-◌, true, length, IfErr, IfOk, IsErrOf};
-ghost use Rattle.std.specs.declared.option.Option.TheVariants.{None};
+ghost use Rattle.std.specs.Prelude.{ℕ, List, ◌≡◌, ◌≤◌, ◌⊎◌, ◌-◌, true, length, IfErr, IfOk, IsErrOf};
+ghost use Rattle.std.specs.declared.option.Option.TheVariants.{None, Some};
 ghost use Rattle.af_time.specs.DeviceTime.{frames_lasting};
 ghost use Rattle.af_io.specs.Observed.{CountsFault};
 ghost use Rattle.af_io.specs.Flow.{IsSpent};
 ghost use Rattle.af_sample.specs.Channels.{IsChannelCount};
 ghost use Rattle.af_lib.specs.Calls.{device_channels};
 ghost use Rattle.af_tool.specs.Talk.{creates};
-ghost use Rattle.af_tool.specs.Ends.{KeepsConnection};
+ghost use Rattle.af_tool.specs.Ends.{client_of, KeepsConnection};
 ghost use Rattle.af_tools.specs.Play.{play_context, played_on, start_at};
 ghost use Rattle.af_tools.specs.Ways.{is_of_blocks, is_of_play};
 ghost use Rattle.af_tools.specs.Fill.{ConsumedBeyond, ConsumedStated, ConsumedUpTo};
 ghost use Rattle.af_tools.specs.Most.{most_bytes};
 ghost use Rattle.af_tools.specs.Sounds.{IsServedAs};
 ghost use Rattle.af_tools.specs.Reading.{ObservedPartReading, UsesSource};
+ghost use Rattle.af_tools.specs.Unread.{GivesReply, ReadsBehindContext};
 ghost use Rattle.af_tools.specs.Ran.{LacksDevice, RunsAplay};
 ghost use Rattle.af_options.specs.Sizes.{greatest_block};
 
@@ -88,6 +89,8 @@ fn play_on<L: Link + Drop, S: Source>(
         ConsumedBeyond (most_bytes - plan.sound.head) (S.left source.old) (S.left source.new) }
     ensures within { (IsErrOf result ToolEnd.TooLong → ⊥) →
         ConsumedUpTo (most_bytes - plan.sound.head) (S.left source.old) (S.left source.new) }
+    ensures unread { (source.new ≡ source.old) ⊎ ((input : List ℕ) → L.left conn.old.link ≡ Some input →
+        GivesReply (play_context plan.job plan.sound.ty plan.sound.channels) (client_of conn.old input)) }
     ensures holds { KeepsConnection L.left L.faults conn.old conn.new result }
     ensures end { IfErr result (λ how. is_of_blocks how ≡ true) }
     ensures fault { CountsFault (IsErrOf result ToolEnd.ReadFault) (S.faults source.old) (S.faults source.new) }
@@ -126,12 +129,13 @@ pub fn aplay<L: Link + Drop, S: Source, K: Sink>(
     ensures end { is_of_play result ≡ true }
     ensures no_device { LacksDevice job.now.device conn.old.devices result }
     ensures source { UsesSource S.left S.faults true job.now.form result source.old source.new }
+    ensures unread { ReadsBehindContext L.left job.now conn.old source.old source.new }
     ensures link { CountsFault (result ≡ ToolEnd.LinkFault) (L.faults conn.old.link) (L.faults conn.new.link) }
     ensures sink { CountsFault (result ≡ ToolEnd.SinkFault) (K.faults sink.old) (K.faults sink.new) }
 {
     let device = match device_with(conn, job.device) {
         Ok(device) => device,
-        Err(end) => return end,
+        Err(missing) => return missing,
     };
     let sound = match sound_of(job, device, source) {
         Ok(sound) => sound,

@@ -9,6 +9,7 @@ ghost use Rattle.af_options.specs.Call.{job_of_call, IsCall};
 ghost use Rattle.af_options.specs.Ranges.{IsAddress, IsRanged};
 ghost use Rattle.af_tools.specs.Ways.{is_of_tool};
 ghost use Rattle.af_tools.specs.Reading.{FollowsTrace, UsesSource};
+ghost use Rattle.af_tools.specs.Unread.{DialReadsLate, JobReadsLate, LinkReadsLate, TaskReadsLate};
 ghost use Rattle.af_tools.specs.Run.{form_of, is_of_af, is_of_far, is_of_job, is_of_one, job_form, job_reads, reads_of, reads_source, servers_of, source_form, task_trace, AskedFor, DoesJob, RunsJob};
 ghost use Rattle.af_options.specs.Sizes.{greatest_block};
 
@@ -39,6 +40,7 @@ fn perform<L: Link + Drop, S: Source, K: Sink>(
         source.old source.new sink.old sink.new (λ input bytes. task_trace task.now conn.old.devices bytes (client_of conn.old input)) }
     ensures end { is_of_tool (reads_source task.now) result ≡ true }
     ensures source { UsesSource S.left S.faults (reads_source task.now) (source_form task.now) result source.old source.new }
+    ensures unread { TaskReadsLate L.left task.now conn.old source.old source.new }
     ensures link { CountsFault (result ≡ ToolEnd.LinkFault) (L.faults conn.old.link) (L.faults conn.new.link) }
     ensures sink { CountsFault (result ≡ ToolEnd.SinkFault) (K.faults sink.old) (K.faults sink.new) }
 {
@@ -65,6 +67,7 @@ fn perform_over<L: Link + Drop, S: Source, K: Sink>(
     ensures memory { result.0 ≡ ToolEnd.OutOfMemory → (L.sent result.1 ≡ L.sent far) × (sink.new ≡ sink.old) }
     ensures end { is_of_far (reads_source task.now) result.0 ≡ true }
     ensures source { UsesSource S.left S.faults (reads_source task.now) (source_form task.now) result.0 source.old source.new }
+    ensures unread { LinkReadsLate L.left order task.now far source.old source.new }
     ensures link { result.0 ≡ ToolEnd.LinkFault → FaultCounted (L.faults far) (L.faults result.1) }
     ensures sink { CountsFault (result.0 ≡ ToolEnd.SinkFault) (K.faults sink.old) (K.faults sink.new) }
 {
@@ -94,6 +97,7 @@ fn run_one<S: Source, K: Sink, D: Dial>(
     ensures memory { result ≡ ToolEnd.OutOfMemory → sink.new ≡ sink.old }
     ensures end { is_of_one (reads_source call.now.task) result ≡ true }
     ensures source { UsesSource S.left S.faults (reads_source call.now.task) (source_form call.now.task) result source.old source.new }
+    ensures unread { DialReadsLate D.links call.now.order call.now.task dial.old source.old source.new }
     ensures dialled { CountsFault (result ≡ ToolEnd.DialFault) (D.faults dial.old) (D.faults dial.new) }
     ensures undialled { result ≡ ToolEnd.DialFault → (source.new ≡ source.old) × (sink.new ≡ sink.old) }
     ensures link { CountsFault (result ≡ ToolEnd.LinkFault) (D.hurt dial.old) (D.hurt dial.new) }
@@ -125,6 +129,7 @@ fn run_call<S: Source, K: Sink, D: Dial>(
     ensures memory { result ≡ ToolEnd.OutOfMemory → sink.new ≡ sink.old }
     ensures end { is_of_job (job_of_call call.now) result ≡ true }
     ensures source { UsesSource S.left S.faults (job_reads (job_of_call call.now)) (job_form (job_of_call call.now)) result source.old source.new }
+    ensures unread { JobReadsLate D.links (job_of_call call.now) dial.old source.old source.new }
     ensures dialled { CountsFault (result ≡ ToolEnd.DialFault) (D.faults dial.old) (D.faults dial.new) }
     ensures undialled { result ≡ ToolEnd.DialFault → (source.new ≡ source.old) × (sink.new ≡ sink.old) }
     ensures link { CountsFault (result ≡ ToolEnd.LinkFault) (D.hurt dial.old) (D.hurt dial.new) }
@@ -165,6 +170,7 @@ pub fn af_run<S: Source, K: Sink, D: Dial>(
     ensures end { is_of_af (job words.now) result ≡ true }
     ensures memory { result ≡ ToolEnd.OutOfMemory → sink.new ≡ sink.old }
     ensures source { UsesSource S.left S.faults (reads_of (job words.now)) (form_of (job words.now)) result source.old source.new }
+    ensures unread { (j : Job) → job words.now ≡ Some j → JobReadsLate D.links j dial.old source.old source.new }
     ensures dialled { CountsFault (result ≡ ToolEnd.DialFault) (D.faults dial.old) (D.faults dial.new) }
     ensures undialled { result ≡ ToolEnd.DialFault → (source.new ≡ source.old) × (sink.new ≡ sink.old) }
     ensures link { CountsFault (result ≡ ToolEnd.LinkFault) (D.hurt dial.old) (D.hurt dial.new) }

@@ -121,6 +121,7 @@ pub fn sound_of<S: Source>(
     ensures read { IfOk result (λ sound. ConsumedHead job.now.form sound.head sound.length (S.left source.old) (S.left source.new)) }
     ensures served { IfOk result (λ sound. IsServedAs sound.coding sound.ty) }
     ensures channels { IfOk result (λ sound. sound.channels ≡ device.channels) }
+    ensures raw { job.now.form ≡ None → (source.new ≡ source.old) × IfOk result (λ sound. sound.ty ≡ unwrap_or job.now.ty device.ty) }
     ensures end { IfErr result (λ how. is_of_sound how ≡ true) }
     ensures bad { (fault : SoundFault) → IsErrOf result (ToolEnd.BadSound fault) →
         ConsumedFault job.now.form fault (S.left source.old) (S.left source.new) }

@@ -1,4 +1,4 @@
-// A world that a server runs in on real time: it is listened in, devices are attached to it, and it gives the wakes.
+// The outside of a server on real time: it accepts connections, opens devices and reports wakes.
 ghost use Rattle.std.specs.Prelude.{◌≡◌, ◌≤◌, ℕ, List, [], IsSome};
 ghost use Rattle.std.specs.declared.option.Option.{Option};
 ghost use Rattle.af_world.specs.declared.outer.Outer.{Outer};

@@ -1,4 +1,4 @@
-// The start of a server: its configuration is read, it is listened in, and its devices are attached.
+// The start of a server: it reads its configuration, listens, and attaches its devices.
 ghost use Rattle.std.specs.Prelude.{◌≡◌, ◌≤◌, length, All, IfOk, IfErr};
 ghost use Rattle.std.specs.declared.result.Result.TheVariants.{Err};
 ghost use Rattle.af_limits.specs.Limits.{most_devices};

@@ -16,12 +16,16 @@ enum Seen {
     Other,
 }
 
-// The calls of the spawner that fail, the status of its first child, and what comes of a machine.
+// What a machine is given: its words, what its link replies, how many events stand behind that, which call of the link, which
+// starts of children and which writes of the sink fail, and the status of its first child. Then what comes of it.
 #[derive(Clone, Copy)]
 struct Row<'a> {
     words: &'a [&'a str],
     replies: &'a str,
-    fails: &'a [u64],
+    events: u32,
+    fails: u64,
+    starts: &'a [u64],
+    writes: &'a [u64],
     status: i32,
     end: AnswerEnd,
     sent: &'a str,
@@ -33,6 +37,25 @@ struct Row<'a> {
 const RUNG: &str =
     "01000000 00000005 00010000 00000001 02010100 00001f40 00007d00 01080001 00000000 \
     02010001 00000003 00000000 00000000 00000001 010b0002 00000000 010b0003 00000000";
+
+// The same without the last reply, and with a refusal of it for a dead line, or one to another request.
+const OFF: &str =
+    "01000000 00000005 00010000 00000001 02010100 00001f40 00007d00 01080001 00000000 \
+    02010001 00000003 00000000 00000000 00000001 010b0002 00000000";
+
+const REFUSED: &str =
+    "01000000 00000005 00010000 00000001 02010100 00001f40 00007d00 01080001 00000000 \
+    02010001 00000003 00000000 00000000 00000001 010b0002 00000000 \
+    00080003 00000002 00000000 0b000000";
+
+const OF_ANOTHER: &str =
+    "01000000 00000005 00010000 00000001 02010100 00001f40 00007d00 01080001 00000000 \
+    02010001 00000003 00000000 00000000 00000001 010b0002 00000000 010b0004 00000000";
+
+// A reply where a ring is awaited.
+const REPLIED: &str =
+    "01000000 00000005 00010000 00000001 02010100 00001f40 00007d00 01080001 00000000 \
+    010b0002 00000000";
 
 const NO_LINE: &str = "01000000 00000005 00010000 00000001 02010000 00001f40 00007d00";
 
@@ -47,65 +70,127 @@ const ONE_CALL: [&str; 6] = [
     "--message=m",
 ];
 
-static ROWS: [Row<'static>; 5] = [
+const BOTH: [Seen; 4] = [
+    Seen::Began(b'g', BeganGot::Child(0)),
+    Seen::Finished(0, Some(0)),
+    Seen::Began(b'm', BeganGot::Child(1)),
+    Seen::Finished(1, Some(0)),
+];
+
+// A call whose message is recorded.
+const RECORDED: Row<'static> = Row {
+    words: &ONE_CALL,
+    replies: RUNG,
+    events: 0,
+    fails: u64::MAX,
+    starts: &[],
+    writes: &[],
+    status: 0,
+    end: AnswerEnd::Done,
+    sent: SENT,
+    acts: &BOTH,
+    held: b"answered 1 recorded 1 failed 0\n",
+};
+
+// Calls that are taken.
+static TAKEN: [Row<'static>; 3] = [
+    RECORDED,
     Row {
-        words: &ONE_CALL,
-        replies: RUNG,
-        fails: &[],
-        status: 0,
-        end: AnswerEnd::Done,
-        sent: SENT,
-        acts: &[
-            Seen::Began(b'g', BeganGot::Child(0)),
-            Seen::Finished(0, Some(0)),
-            Seen::Began(b'm', BeganGot::Child(1)),
-            Seen::Finished(1, Some(0)),
-        ],
-        held: b"answered 1 recorded 1 failed 0\n",
-    },
-    Row {
-        words: &ONE_CALL,
-        replies: RUNG,
-        fails: &[0],
-        status: 0,
-        end: AnswerEnd::Done,
-        sent: SENT,
+        starts: &[0],
         acts: &[Seen::Began(b'g', BeganGot::Failed)],
         held: b"answered 1 recorded 0 failed 1\n",
+        ..RECORDED
     },
     Row {
-        words: &ONE_CALL,
-        replies: RUNG,
-        fails: &[],
         status: 3,
-        end: AnswerEnd::Done,
-        sent: SENT,
         acts: &[
             Seen::Began(b'g', BeganGot::Child(0)),
             Seen::Finished(0, Some(3)),
         ],
         held: b"answered 1 recorded 0 failed 1\n",
+        ..RECORDED
     },
+];
+
+// Other ends: of want of a line and of words, and behind each OffHook an OnHook is sent.
+static ENDED: [Row<'static>; 7] = [
     Row {
-        words: &ONE_CALL,
         replies: NO_LINE,
-        fails: &[],
-        status: 0,
         end: AnswerEnd::NoLine { device: 0 },
         sent: "41464200 00010000",
         acts: &[],
         held: b"",
+        ..RECORDED
     },
     Row {
         words: &["answer", "h:1", "--greeting=g", "--message=m"],
-        replies: RUNG,
-        fails: &[],
-        status: 0,
         end: AnswerEnd::Usage,
         sent: "",
         acts: &[],
         held: b"",
+        ..RECORDED
     },
+    Row {
+        replies: REFUSED,
+        end: AnswerEnd::Refused { code: 8, value: 0 },
+        held: b"",
+        ..RECORDED
+    },
+    Row {
+        replies: OF_ANOTHER,
+        end: AnswerEnd::BadReply {
+            header: [1, 11, 0, 4, 0, 0, 0, 0],
+            first: [0; 8],
+        },
+        held: b"",
+        ..RECORDED
+    },
+    Row {
+        replies: REPLIED,
+        end: AnswerEnd::BadReply {
+            header: [1, 11, 0, 2, 0, 0, 0, 0],
+            first: [0; 8],
+        },
+        sent: "41464200 00010000 08000002 00000003",
+        acts: &[],
+        held: b"",
+        ..RECORDED
+    },
+    Row {
+        replies: OFF,
+        events: 4096,
+        end: AnswerEnd::EventFlood,
+        held: b"",
+        ..RECORDED
+    },
+    Row {
+        writes: &[0],
+        end: AnswerEnd::SinkFault,
+        held: b"",
+        ..RECORDED
+    },
+];
+
+// The calls of the link in a call that is taken, from the first to the last with one number: what was sent where one of them
+// fails, and whether the children have run. A request is one write, and a message two reads of its head and one for each 7
+// bytes of its body.
+static CUT: [(u64, u64, &str, bool); 6] = [
+    (0, 0, "", false),
+    (1, 6, "41464200 00010000", false),
+    (7, 13, "41464200 00010000 08000002 00000003", false),
+    (
+        14,
+        15,
+        "41464200 00010000 08000002 00000003 0b000002 00000001",
+        false,
+    ),
+    (
+        16,
+        16,
+        "41464200 00010000 08000002 00000003 0b000002 00000001",
+        true,
+    ),
+    (17, 18, SENT, true),
 ];
 
 fn as_seen(act: &Act) -> Seen {
@@ -133,15 +218,25 @@ fn had_run(rt: &impl Abort, spawner: &MemSpawner, wanted: &[Seen]) {
     }
 }
 
+// What a link gives: these replies, and so many events, each of current that flows.
+fn gives(alloc: Global, replies: &str, events: u32) -> Result<Vec<u8>, Fail> {
+    let mut bytes = bytes_of(alloc, replies)?;
+    let event = bytes_of(alloc, "02040003 00000003 00000000 00000000 00000001")?;
+    for _ in 0..events {
+        bytes.extend_from_slice(event.as_slice())?;
+    }
+    Ok(bytes)
+}
+
 fn comes_to(rt: &impl Abort, alloc: Global, row: &Row<'_>) -> Result<(), Fail> {
     let words = words_of(alloc, row.words)?;
-    let replies = bytes_of(alloc, row.replies)?;
+    let replies = gives(alloc, row.replies, row.events)?;
     let sent = bytes_of(alloc, row.sent)?;
-    let link = MemLink::new(alloc, replies.as_slice(), 7, 1000, &[])?;
+    let link = MemLink::new(alloc, replies.as_slice(), 7, 1000, &[row.fails])?;
     let mut dial = MemDial::new(Some(link), None);
-    let mut spawner = MemSpawner::new(alloc, row.fails, &[row.status])?;
+    let mut spawner = MemSpawner::new(alloc, row.starts, &[row.status])?;
     let mut room = [0u8; 100];
-    let mut sink = MemSink::new(&mut room, &[]);
+    let mut sink = MemSink::new(&mut room, row.writes);
     let end = answer_run(alloc, &words, &mut sink, &mut dial, &mut spawner);
     holds(rt, "the end", end == row.end);
     same_bytes(rt, "the line", sink.held(), row.held);
@@ -154,10 +249,51 @@ fn comes_to(rt: &impl Abort, alloc: Global, row: &Row<'_>) -> Result<(), Fail> {
     Ok(())
 }
 
+fn come_to(rt: &impl Abort, alloc: Global, rows: &[Row<'_>]) -> Result<(), Fail> {
+    for row in rows {
+        comes_to(rt, alloc, row)?;
+    }
+    Ok(())
+}
+
 #[test]
 fn a_machine_takes_a_call_and_hangs_up(rt: HostRuntime) -> Result<(), Fail> {
-    for row in &ROWS {
-        comes_to(&rt, rt.alloc(), row)?;
+    come_to(&rt, rt.alloc(), &TAKEN)
+}
+
+#[test]
+fn a_machine_ends_for_what_it_meets(rt: HostRuntime) -> Result<(), Fail> {
+    come_to(&rt, rt.alloc(), &ENDED)
+}
+
+// A call whose link fails at each of some calls in turn.
+fn cut_at(rt: &impl Abort, alloc: Global, row: &Row<'_>, calls: (u64, u64)) -> Result<(), Fail> {
+    for fails in calls.0..=calls.1 {
+        comes_to(rt, alloc, &Row { fails, ..*row })?;
+    }
+    Ok(())
+}
+
+// A call that is taken, with each read and each write of its link failing once.
+fn cut_each(rt: &impl Abort, alloc: Global, row: &Row<'_>) -> Result<(), Fail> {
+    for (first, last, sent, run) in &CUT {
+        let acts: &[Seen] = if *run { row.acts } else { &[] };
+        let cut = Row {
+            end: AnswerEnd::LinkFault,
+            sent,
+            acts,
+            held: b"",
+            ..*row
+        };
+        cut_at(rt, alloc, &cut, (*first, *last))?;
+    }
+    Ok(())
+}
+
+#[test]
+fn a_machine_ends_where_a_read_or_a_write_fails(rt: HostRuntime) -> Result<(), Fail> {
+    for row in &TAKEN {
+        cut_each(&rt, rt.alloc(), row)?;
     }
     Ok(())
 }

@@ -1,5 +1,6 @@
 use Rattle.std.proofs.Common.{◌∙◌, ap, refl, sym, rules}
 use Rattle.std.specs.declared.option.Option.TheVariants.{Some}
+use Rattle.af_request.specs.Opcodes as opcodes
 use Rattle.af_model.specs.DeviceRequests.{tell_controls}
 use Rattle.af_state.proofs.DeviceLemmas.{device_at}
 use Rattle.af_perform.proofs.LinkRequestLemmas.{device_missing, device_found, leads_at, with_error}
@@ -8,10 +9,10 @@ use Rattle.af_perform.proofs.device_requests.query_controls.Goals as goal
 
 pub returns-then-is_missing-clause-step : goal.returns-then-is_missing-clause-step
 returns-then-is_missing-clause-step c = λ k ks.
-    device_missing c.args.devices.now ks c.args.link.now _ 10 c.args.device c.args.device tell_controls (c.if-is_missing.ensures.missing refl) refl (c.refuse.ensures ∙ ap (λ q. with_error 10 q c.args.link.now) c.no_device.ensures)
+    device_missing c.args.devices.now ks c.args.link.now _ opcodes.query_controls c.args.device c.args.device tell_controls (c.if-is_missing.ensures.missing refl) refl (c.refuse.ensures ∙ ap (λ q. with_error opcodes.query_controls q c.args.link.now) c.no_device.ensures)
 
 pub returns-clause-step : goal.returns-clause-step
 returns-clause-step c = λ k ks.
-    device_found c.args.devices.now c.args.devices.now ks ks c.args.link.now _ 10 c.args.device _ tell_controls
+    device_found c.args.devices.now c.args.devices.now ks ks c.args.link.now _ opcodes.query_controls c.args.device _ tell_controls
     (device_at c.args.devices.now _ _ c.index-devices-from.result c.from.ensures (search rules) ∙ ap (λ x. Some x) (sym c.index-devices-from.is))
     (λ a s h here st. leads_at c.args.devices.now ks c.args.link.now _ (tell_controls s) a (controls_told c.args.link.now _ c.index-devices-from.result _ c.controls-controls.ensures c.reply.ensures s st a) h)

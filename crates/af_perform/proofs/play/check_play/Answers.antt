@@ -1,5 +1,6 @@
 use Rattle.std.proofs.Common.{◌≡◌, ℕ, ◌<◌, ◌≤◌, ◌∙◌, ap, sym, subst, length, refl, slice_get}
 use Rattle.std.specs.declared.option.Option.TheVariants.{Some}
+use Rattle.af_request.specs.Opcodes as opcodes
 use Rattle.af_model.specs.State.{DeviceState, EnvironmentState}
 use Rattle.af_model.specs.Play.{play, play_refusal, start_play}
 use Rattle.af_state.specs.Kept.{KeptDevice}
@@ -13,8 +14,8 @@ pub returns-then-is_missing-clause-step : goal.returns-then-is_missing-clause-st
 returns-then-is_missing-clause-step c =
     let p = c.args.asked.now in
     let e = c.args.environment.now in
-    device_missing e.devices e.waits c.args.link.now _ 6 p.context.device p.context.device (play c.args.number p.quiet p.context p.start.0 p.bytes.now) (subst (λ (v : KeptEnvironment). length v.devices ≤ p.context.device) c.environment.view_is (subst (λ xs. length xs ≤ p.context.device) c.deref.ensures.value (c.if-is_missing.ensures.missing refl))) refl
-    (c.refuse.ensures ∙ ap (λ q. with_error 6 q c.args.link.now) c.no_device.ensures)
+    device_missing e.devices e.waits c.args.link.now _ opcodes.play p.context.device p.context.device (play c.args.number p.quiet p.context p.start.0 p.bytes.now) (subst (λ (v : KeptEnvironment). length v.devices ≤ p.context.device) c.environment.view_is (subst (λ xs. length xs ≤ p.context.device) c.deref.ensures.value (c.if-is_missing.ensures.missing refl))) refl
+    (c.refuse.ensures ∙ ap (λ q. with_error opcodes.play q c.args.link.now) c.no_device.ensures)
 
 pub returns-in-Some-clause-step : goal.returns-in-Some-clause-step
 returns-in-Some-clause-step c =
@@ -24,8 +25,8 @@ returns-in-Some-clause-step c =
     let refusal = λ (n : ℕ). play_refusal n p.context (length p.bytes.now) in
     let known : (a : EnvironmentState) (s : DeviceState) → StandsForEnvironment e a → slice_get a.devices p.context.device ≡ Some s → refusal s.channels ≡ refusal c.channels-channels.result =
     λ a s h here. ap refusal (sym (c.channels-channels.ensures.value ∙ (device_here _ c.environment.inside.devices.items c.environment.inside.waits a _ p.context.device _ s c.environment.view_is c.from.ensures there c.index.ensures h here).1.hears.channels)) in
-    any_device e.devices e.devices e.waits e.waits c.args.link.now _ 6 p.context.device (play c.args.number p.quiet p.context p.start.0 p.bytes.now) there
-    (λ a s h here. at_refused e.devices e.waits c.args.link.now _ 6 (play_refusal s.channels p.context (length p.bytes.now)) c.in-Some.refusal (start_play c.args.number p.quiet p.context p.start.0 p.bytes.now s) a (known a s h here ∙ sym c.play_refusal.ensures ∙ c.in-Some.is) c.refuse-in-Some.ensures h)
+    any_device e.devices e.devices e.waits e.waits c.args.link.now _ opcodes.play p.context.device (play c.args.number p.quiet p.context p.start.0 p.bytes.now) there
+    (λ a s h here. at_refused e.devices e.waits c.args.link.now _ opcodes.play (play_refusal s.channels p.context (length p.bytes.now)) c.in-Some.refusal (start_play c.args.number p.quiet p.context p.start.0 p.bytes.now s) a (known a s h here ∙ sym c.play_refusal.ensures ∙ c.in-Some.is) c.refuse-in-Some.ensures h)
 
 pub returns-in-None-clause-step : goal.returns-in-None-clause-step
 returns-in-None-clause-step c =
@@ -36,8 +37,8 @@ returns-in-None-clause-step c =
     let known : (a : EnvironmentState) (s : DeviceState) → StandsForEnvironment e a → slice_get a.devices p.context.device ≡ Some s → refusal s.channels ≡ refusal c.channels-channels.result =
     λ a s h here. ap refusal (sym (c.channels-channels.ensures.value ∙ (device_here _ c.environment.inside.devices.items c.environment.inside.waits a _ p.context.device _ s c.environment.view_is c.from.ensures there c.index.ensures h here).1.hears.channels)) in
     let e' = c.convert_play.new.environment in
-    any_device e.devices e'.devices e.waits e'.waits c.args.link.now _ 6 p.context.device (play c.args.number p.quiet p.context p.start.0 p.bytes.now) there
-    (λ a s h here. at_passed e'.devices e'.waits c.args.link.now _ 6 (play_refusal s.channels p.context (length p.bytes.now)) (start_play c.args.number p.quiet p.context p.start.0 p.bytes.now s) a (known a s h here ∙ sym c.play_refusal.ensures ∙ c.in-None.is) (c.convert_play.ensures.step a s h here))
+    any_device e.devices e'.devices e.waits e'.waits c.args.link.now _ opcodes.play p.context.device (play c.args.number p.quiet p.context p.start.0 p.bytes.now) there
+    (λ a s h here. at_passed e'.devices e'.waits c.args.link.now _ opcodes.play (play_refusal s.channels p.context (length p.bytes.now)) (start_play c.args.number p.quiet p.context p.start.0 p.bytes.now s) a (known a s h here ∙ sym c.play_refusal.ensures ∙ c.in-None.is) (c.convert_play.ensures.step a s h here))
 
 pub convert_play-requires-clause-whole : goal.convert_play-requires-clause-whole
 convert_play-requires-clause-whole c = λ d here.

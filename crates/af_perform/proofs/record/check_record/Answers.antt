@@ -1,6 +1,7 @@
 use Rattle.std.proofs.Common.{◌≡◌, ℕ, ◌<◌, ◌≤◌, ◌*◌, ◌/◌, ◌∙◌, ap, sym, subst, length, slice_get, refl, arith}
 use Rattle.std.specs.declared.option.Option.TheVariants.{Some}
 use Rattle.af_limits.specs.Limits.{longest_record}
+use Rattle.af_request.specs.Opcodes as opcodes
 use Rattle.af_sample.specs.SampleTypes.{frame_bytes}
 use Rattle.af_model.specs.State.{DeviceState, EnvironmentState}
 use Rattle.af_model.specs.Record.{record_refusal, record_sound, start_record}
@@ -33,8 +34,8 @@ pub returns-then-is_missing-clause-step : goal.returns-then-is_missing-clause-st
 returns-then-is_missing-clause-step c =
     let r = c.args.asked in
     let e = c.args.environment.now in
-    device_missing e.devices e.waits c.args.link.now _ 7 r.context.device r.context.device (record_sound c.args.number r.blocking r.context r.start.0 r.bytes) (subst (λ (v : KeptEnvironment). length v.devices ≤ r.context.device) c.environment.view_is (subst (λ xs. length xs ≤ r.context.device) c.deref.ensures.value (c.if-is_missing.ensures.missing refl))) refl
-    (c.refuse.ensures ∙ ap (λ q. with_error 7 q c.args.link.now) c.no_device.ensures)
+    device_missing e.devices e.waits c.args.link.now _ opcodes.record r.context.device r.context.device (record_sound c.args.number r.blocking r.context r.start.0 r.bytes) (subst (λ (v : KeptEnvironment). length v.devices ≤ r.context.device) c.environment.view_is (subst (λ xs. length xs ≤ r.context.device) c.deref.ensures.value (c.if-is_missing.ensures.missing refl))) refl
+    (c.refuse.ensures ∙ ap (λ q. with_error opcodes.record q c.args.link.now) c.no_device.ensures)
 
 pub returns-in-Some-clause-step : goal.returns-in-Some-clause-step
 returns-in-Some-clause-step c =
@@ -44,8 +45,8 @@ returns-in-Some-clause-step c =
     let refusal = λ (n : ℕ). record_refusal n r.context r.bytes in
     let own : (a : EnvironmentState) (s : DeviceState) → StandsForEnvironment e a → slice_get a.devices r.context.device ≡ Some s → c.channels-channels.result ≡ s.channels =
     λ a s h here. c.channels-channels.ensures.value ∙ (device_here _ c.environment.inside.devices.items c.environment.inside.waits a _ r.context.device _ s c.environment.view_is c.from.ensures there c.index.ensures h here).1.hears.channels in
-    any_device e.devices e.devices e.waits e.waits c.args.link.now _ 7 r.context.device (record_sound c.args.number r.blocking r.context r.start.0 r.bytes) there
-    (λ a s h here. at_refused e.devices e.waits c.args.link.now _ 7 (record_refusal s.channels r.context r.bytes) c.in-Some.refusal (start_record c.args.number r.blocking r.context r.start.0 r.bytes s) a (ap refusal (sym (own a s h here)) ∙ sym c.record_refusal.ensures ∙ c.in-Some.is) c.refuse-in-Some.ensures h)
+    any_device e.devices e.devices e.waits e.waits c.args.link.now _ opcodes.record r.context.device (record_sound c.args.number r.blocking r.context r.start.0 r.bytes) there
+    (λ a s h here. at_refused e.devices e.waits c.args.link.now _ opcodes.record (record_refusal s.channels r.context r.bytes) c.in-Some.refusal (start_record c.args.number r.blocking r.context r.start.0 r.bytes s) a (ap refusal (sym (own a s h here)) ∙ sym c.record_refusal.ensures ∙ c.in-Some.is) c.refuse-in-Some.ensures h)
 
 pub returns-in-None-clause-step : goal.returns-in-None-clause-step
 returns-in-None-clause-step c =
@@ -58,6 +59,6 @@ returns-in-None-clause-step c =
     let own : (a : EnvironmentState) (s : DeviceState) → StandsForEnvironment e a → slice_get a.devices r.context.device ≡ Some s → c.channels-channels.result ≡ s.channels =
     λ a s h here. c.channels-channels.ensures.value ∙ (device_here _ c.environment.inside.devices.items c.environment.inside.waits a _ r.context.device _ s c.environment.view_is c.from.ensures there c.index.ensures h here).1.hears.channels in
     let e' = c.answer_or_defer.new.environment in
-    any_device e.devices e'.devices e.waits e'.waits c.args.link.now _ 7 r.context.device (record_sound c.args.number r.blocking r.context r.start.0 r.bytes) there
-    (λ a s h here. at_passed e'.devices e'.waits c.args.link.now _ 7 (record_refusal s.channels r.context r.bytes) (start_record c.args.number r.blocking r.context r.start.0 r.bytes s) a (ap refusal (sym (own a s h here)) ∙ sym c.record_refusal.ensures ∙ c.in-None.is)
+    any_device e.devices e'.devices e.waits e'.waits c.args.link.now _ opcodes.record r.context.device (record_sound c.args.number r.blocking r.context r.start.0 r.bytes) there
+    (λ a s h here. at_passed e'.devices e'.waits c.args.link.now _ opcodes.record (record_refusal s.channels r.context r.bytes) (start_record c.args.number r.blocking r.context r.start.0 r.bytes s) a (ap refusal (sym (own a s h here)) ∙ sym c.record_refusal.ensures ∙ c.in-None.is)
     (c.answer_or_defer.ensures.step r.bytes (λ d at. ap (λ w. r.bytes / w) (c.frame_bytes.ensures ∙ ap (frame_bytes r.context.ty) (known d at))) a s h here))

@@ -1,4 +1,4 @@
-use Rattle.std.proofs.Common.{◌≡◌, ◌∙◌, ◌-◌, ℕ, List, length, ap, sym, subst}
+use Rattle.std.proofs.Common.{inl, ◌≡◌, ◌∙◌, ◌-◌, ℕ, List, length, ap, sym, subst}
 use Rattle.af_io.proofs.ConsumedLemmas.{consumed_told}
 use Rattle.af_tool.specs.declared.end.ToolEnd.TheVariants as end
 use Rattle.af_sample.specs.Channels.{IsChannelCount}
@@ -14,17 +14,18 @@ use Rattle.af_tools.proofs.HavingRun.{aplay_ran}
 use Rattle.af_tools.proofs.DeviceChoiceLemmas.{aplay_missing, aplay_there, followed_missing, followed_same, is_missing, is_there, missing_at, missing_iff, never_blocks, never_report, never_sound, stated_at, there_iff}
 use Rattle.af_tools.proofs.SoundFitLemmas.{followed_unsound}
 use Rattle.af_tools.proofs.SourceCountLemmas.{told_before}
+use Rattle.af_tools.proofs.UnreadLemmas.{read_late}
 use Rattle.af_tools.proofs.SourceUseLemmas.{err_of, of_err, played_use, refused_use, unsound_use}
 use Rattle.af_tools.proofs.player.aplay.Goals as goal
 
 pub returns-in-Err-clause-ran : goal.returns-in-Err-clause-ran
 returns-in-Err-clause-ran g c input bytes told is tells =
-    let m = is_missing c.args.conn.now.devices c.args.job.now.device c.in-Err.end c.in-Err.ensures.value in
+    let m = is_missing c.args.conn.now.devices c.args.job.now.device c.in-Err.missing c.in-Err.ensures.value in
     aplay_ran c.args.job.now c.args.conn.now.devices bytes (client_of c.args.conn.now input) _ _ _ _ _ c.requires.block.0 (missing_at c.args.conn.now.devices c.args.job.now.device m.get)
     (followed_missing _ (length c.args.conn.now.devices) _ _ _ (aplay_missing c.args.conn.now.devices (client_of c.args.conn.now input) c.args.job.now bytes m.get) m.way)
 
 pub returns-in-Err-clause-no_device : goal.returns-in-Err-clause-no_device
-returns-in-Err-clause-no_device g c n = missing_iff _ _ _ (is_missing c.args.conn.now.devices c.args.job.now.device c.in-Err.end c.in-Err.ensures.value) n
+returns-in-Err-clause-no_device g c n = missing_iff _ _ _ (is_missing c.args.conn.now.devices c.args.job.now.device c.in-Err.missing c.in-Err.ensures.value) n
 
 pub returns-in-Err-sound_of-clause-ran : goal.returns-in-Err-sound_of-clause-ran
 returns-in-Err-sound_of-clause-ran g c input bytes told is tells =
@@ -109,3 +110,18 @@ pub play_on-requires-clause-count : goal.play_on-requires-clause-count
 play_on-requires-clause-count g c =
     let same : c.in-Ok-sound_of.sound.channels ≡ c.in-Ok.device.channels = c.in-Ok-sound_of.ensures.channels in
     subst IsChannelCount (sym same) c.in-Ok.ensures.stated.channels
+
+pub returns-in-Err-sound_of-clause-unread : goal.returns-in-Err-sound_of-clause-unread
+returns-in-Err-sound_of-clause-unread g c raw = inl (c.in-Err-sound_of.ensures.raw raw).0
+
+pub returns-in-Ok-play_on-clause-unread : goal.returns-in-Ok-play_on-clause-unread
+returns-in-Ok-play_on-clause-unread g c raw =
+    let s = c.in-Ok-sound_of.ensures in
+    let t = is_there c.args.conn.now.devices c.args.job.now.device c.in-Ok.device c.in-Ok.ensures.value in
+    read_late g.L.Link.left c.args.job.now c.in-Ok.device c.args.conn.now t.get c.in-Ok-sound_of.sound.ty c.in-Ok-sound_of.sound.channels (s.raw raw).1 s.channels (s.raw raw).0 c.in-Ok-play_on.ensures.unread
+
+pub returns-in-Err-play_on-clause-unread : goal.returns-in-Err-play_on-clause-unread
+returns-in-Err-play_on-clause-unread g c raw =
+    let s = c.in-Ok-sound_of.ensures in
+    let t = is_there c.args.conn.now.devices c.args.job.now.device c.in-Ok.device c.in-Ok.ensures.value in
+    read_late g.L.Link.left c.args.job.now c.in-Ok.device c.args.conn.now t.get c.in-Ok-sound_of.sound.ty c.in-Ok-sound_of.sound.channels (s.raw raw).1 s.channels (s.raw raw).0 c.in-Err-play_on.ensures.unread

@@ -1,5 +1,6 @@
-use Rattle.std.proofs.Common.{rules, ◌≡◌, ◌≤◌, ◌<◌, ◌*◌, ◌∙◌, ℕ, ap, sym, subst}
+use Rattle.std.proofs.Common.{rules, inr, ◌≡◌, ◌≤◌, ◌<◌, ◌*◌, ◌∙◌, ℕ, ap, sym, subst}
 use Rattle.std.specs.Prelude.{Err}
+use Rattle.std.specs.declared.option.Option.TheVariants.{None}
 use Rattle.af_time.specs.DeviceTime.{frames_lasting}
 use Rattle.af_lib.specs.Calls.{device_channels}
 use Rattle.af_options.specs.Sizes.{block_frames, greatest_block}
@@ -11,6 +12,7 @@ use Rattle.af_tool.specs.Ends.{client_of}
 use Rattle.af_tool.proofs.TracePartLemmas.{goes_on, goes_stop}
 use Rattle.af_tools.specs.Play.{play_context, played_frames, played_on, start_at}
 use Rattle.af_tools.proofs.PlayTailLemmas.{begins_named, tail, tail_freed, tail_named, tail_stop, tail_unfreed}
+use Rattle.af_tools.proofs.UnreadLemmas.{context_replied}
 use Rattle.af_tools.proofs.player.play_on.Goals as goal
 
 pub returns-in_err-now-clause-goes : goal.returns-in_err-now-clause-goes
@@ -87,3 +89,18 @@ play_blocks-requires-clause-block g c =
 pub block_frames-requires : goal.block_frames-requires
 block_frames-requires g c =
     subst (λ (n : ℕ). 0 < n) (sym c.frame_bytes-frame.ensures) (some_bytes (frame_bytes c.args.plan.sound.ty c.args.plan.sound.channels) (frame_size c.args.plan.sound.ty c.args.plan.sound.channels c.requires.count))
+
+pub returns-in_err-frames-clause-unread : goal.returns-in_err-frames-clause-unread
+returns-in_err-frames-clause-unread g c = inr (λ input told.
+    context_replied c.args.conn.now.devices c.context_of.result c.args.plan.job c.args.plan.sound.ty c.args.plan.sound.channels (client_of c.args.conn.now input) _ _ _ _ c.context_of.ensures.device c.requires.channels
+    c.context_of.ensures.asked (c.in_ok-now.ensures.goes input None told).came.2)
+
+pub returns-in_err-finish-clause-unread : goal.returns-in_err-finish-clause-unread
+returns-in_err-finish-clause-unread g c = inr (λ input told.
+    context_replied c.args.conn.now.devices c.context_of.result c.args.plan.job c.args.plan.sound.ty c.args.plan.sound.channels (client_of c.args.conn.now input) _ _ _ _ c.context_of.ensures.device c.requires.channels
+    c.context_of.ensures.asked (c.in_ok-now.ensures.goes input None told).came.2)
+
+pub returns-clause-unread : goal.returns-clause-unread
+returns-clause-unread g c = inr (λ input told.
+    context_replied c.args.conn.now.devices c.context_of.result c.args.plan.job c.args.plan.sound.ty c.args.plan.sound.channels (client_of c.args.conn.now input) _ _ _ _ c.context_of.ensures.device c.requires.channels
+    c.context_of.ensures.asked (c.in_ok-now.ensures.goes input None told).came.2)

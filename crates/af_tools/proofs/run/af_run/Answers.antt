@@ -1,4 +1,4 @@
-use Rattle.std.proofs.Common.{refl, subst, sym, ap, ◌∙◌}
+use Rattle.std.proofs.Common.{◌≡◌, refl, subst, sym, ap, ◌∙◌}
 use Rattle.std.specs.declared.option.Option.{Option}
 use Rattle.af_tool.specs.declared.end.ToolEnd.TheVariants as end
 use Rattle.af_options.specs.Words.{Job}
@@ -23,3 +23,6 @@ returns-in-Ok-clause-told g c j called used links bytes told tells =
 pub returns-in-Ok-clause-source : goal.returns-in-Ok-clause-source
 returns-in-Ok-clause-source g c =
     subst (λ (o : Option Job). UsesSource g.S.Source.left g.S.Source.faults (reads_of o) (form_of o) c.run_call.result c.args.source.now c.run_call.new.source) (sym c.in-Ok.ensures.ok) c.run_call.ensures.source
+
+pub returns-in-Ok-clause-unread : goal.returns-in-Ok-clause-unread
+returns-in-Ok-clause-unread g c j called server order t is = c.run_call.ensures.unread server order t (same_job _ _ _ c.in-Ok.ensures.ok called ∙ is)

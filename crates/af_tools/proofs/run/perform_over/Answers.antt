@@ -6,6 +6,7 @@ use Rattle.af_tool.specs.Ends.{ObservedTrace}
 use Rattle.af_tools.specs.Run.{task_trace}
 use Rattle.af_tool.proofs.TracePartLemmas.{client_begun}
 use Rattle.af_tools.proofs.SetupTraceLemmas.{followed_early, followed_on, followed_stop, setup_goes}
+use Rattle.af_tools.proofs.UnreadLemmas.{link_gives}
 use Rattle.af_tools.proofs.run.perform_over.Goals as goal
 
 pub returns-in-Ok-clause-followed : goal.returns-in-Ok-clause-followed
@@ -28,4 +29,12 @@ returns-in-Err-clause-followed g c input bytes told tells =
           let g0 = setup_goes c.args.order g.L.Link.left g.L.Link.sent g.L.Link.faults c.args.far c.in-Err.far setup.0 input (g.K.Sink.held c.args.sink.now) (Err c.in-Err.fault) setup.1 told in
           let way : c.from.result ≡ fault_end c.in-Err.fault = c.from.ensures in
           rw way (followed_stop (connects c.args.order input) (λ devices w. task_trace c.args.task.now devices bytes w) _ _ _ _ _ _ _ g0)
+    ]
+
+pub returns-in-Ok-clause-unread : goal.returns-in-Ok-clause-unread
+returns-in-Ok-clause-unread g c job is raw =
+    let e = c.in-Ok.ensures in
+    elim (c.perform-end.ensures.unread job is raw) [
+      | inl same ↦ inl same
+      | inr gives ↦ inr (λ input told. link_gives c.args.order g.L.Link.left g.L.Link.sent g.L.Link.faults job c.args.far c.in-Ok.conn input e.0 e.1 e.3 told gives)
     ]

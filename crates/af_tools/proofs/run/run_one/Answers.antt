@@ -1,4 +1,4 @@
-use Rattle.std.proofs.Common.{List, refl, ◌∙◌, subst}
+use Rattle.std.proofs.Common.{List, inl, inr, refl, ◌∙◌, subst}
 use Rattle.std.specs.declared.option.Option.{Option}
 use Rattle.af_io.specs.Dial.{IsFirstOf, ToldLink}
 use Rattle.af_tool.specs.declared.end.ToolEnd.TheVariants as end
@@ -6,6 +6,7 @@ use Rattle.af_options.specs.Words.{one}
 use Rattle.af_tools.specs.Run.{task_trace}
 use Rattle.af_tools.proofs.DialLemmas.{ran_none, ran_one}
 use Rattle.af_tools.proofs.OneServerLemmas.{ran_over}
+use Rattle.af_tools.proofs.UnreadLemmas.{dial_gives}
 use Rattle.af_tools.proofs.run.run_one.Goals as goal
 
 pub returns-in-Far-clause-ran : goal.returns-in-Far-clause-ran
@@ -25,3 +26,12 @@ pub returns-in-OutOfMemory-clause-ran : goal.returns-in-OutOfMemory-clause-ran
 returns-in-OutOfMemory-clause-ran g c links bytes told tells =
     let e = c.in-OutOfMemory.ensures in
     ran_none (one c.args.call.now.server.now c.args.call.now.order c.args.call.now.task) bytes end.OutOfMemory links _ _ _ _ refl (e.gives ∙ told) e.back
+
+pub returns-in-Far-clause-unread : goal.returns-in-Far-clause-unread
+returns-in-Far-clause-unread g c job is raw =
+    elim (c.perform_over-end.ensures.unread job is raw) [
+      | inl same ↦ inl same
+      | inr gives ↦ inr (λ links told.
+          let first = subst (λ (l : Option (List ToldLink)). IsFirstOf g.D.Far.Link.left g.D.Far.Link.sent c.in-Far.far l (g.D.Dial.links c.dial.new.self)) told c.in-Far.ensures.gives in
+          dial_gives c.args.call.now.order g.D.Far.Link.left g.D.Far.Link.sent job c.in-Far.far links _ first gives)
+    ]

@@ -2,7 +2,7 @@ use Rattle.std.proofs.Common.{◌≡◌, ◌≤◌, ◌<◌, true, false, subst}
 use Rattle.std.proofs.Math.Nat.{le_refl}
 use Rattle.af_limits.specs.Limits.{most_devices}
 use Rattle.af_world.specs.declared.live.Ready.TheVariants.{Done, Failed}
-use Rattle.af_live.specs.Behind.{AttachesAt}
+use Rattle.af_live.specs.Behind.{opens_files, AttachesAt}
 use Rattle.af_live.specs.CodecUse.{codec_allows, codec_behind}
 use Rattle.af_live.specs.Counting.{CountsOne}
 use Rattle.af_live.specs.RealWorld.{round_after}
@@ -21,6 +21,9 @@ returns-clause-round g c = subst (λ (s : RealState). c.attach-attached.new.self
 
 pub returns-clause-allowed : goal.returns-clause-allowed
 returns-clause-allowed g c = subst (λ (s : RealState). c.attach-attached.result ≡ Done → codec_allows s.codec c.args.kind ≡ true) c.self.view_is c.attach-attached.ensures.allowed
+
+pub returns-clause-done : goal.returns-clause-done
+returns-clause-done g c = subst (λ (s : RealState). c.args.device < most_devices → is_paced s.round c.args.device ≡ false → codec_allows s.codec c.args.kind ≡ true → opens_files c.args.kind ≡ false → c.attach-attached.result ≡ Done) c.self.view_is c.attach-attached.ensures.done
 
 pub returns-clause-behind : goal.returns-clause-behind
 returns-clause-behind g c = subst (λ (s : RealState). AttachesAt c.attach-attached.result c.args.kind c.args.device c.args.spec.now.ty s.behind c.attach-attached.new.self.attached) c.self.view_is c.attach-attached.ensures.attached

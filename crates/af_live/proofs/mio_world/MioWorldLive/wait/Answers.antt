@@ -6,7 +6,10 @@ use Rattle.af_world.specs.declared.happening.Wake.{Wake}
 use Rattle.af_world.specs.declared.live.Waited.TheVariants.{Failed}
 use Rattle.af_live.specs.LinkTable.{link_at, something_ready, KeepsOpen, Opens}
 use Rattle.af_live.specs.Counting.{CountsOne}
-use Rattle.af_live.specs.RealWorld.{RealState, given, GivesKept, LeadsRound, WakeFits}
+use Rattle.af_live.specs.Polls.{LeadsLinks, TakesLeast}
+use Rattle.af_live.specs.RealWorld.{RealState, given, GivesKept, LeadsRound, LosesNoFrame, WakeFits}
+use Rattle.af_live.proofs.PollsLemmas.{waits_take_least}
+use Rattle.af_live.proofs.RoundLemmas.{waits_lose_none}
 use Rattle.af_live.proofs.mio_world.MioWorldLive.wait.Goals as goal
 
 pub returns-clause-faults : goal.returns-clause-faults
@@ -31,10 +34,24 @@ returns-clause-opens g c =
     subst (λ (s : RealState). MatchOption (given c.answer-waited.result) (KeepsOpen s.links c.next_wake-next.new.links) (λ wake. Opens wake s.links c.next_wake-next.new.links)) c.self.view_is
     (subst (λ (o : Option Wake). MatchOption o (KeepsOpen c.self.inside.links c.next_wake-next.new.links) (λ wake. Opens wake c.self.inside.links c.next_wake-next.new.links)) (sym c.answer-waited.ensures.given) c.next_wake-next.ensures.opens)
 
+pub returns-clause-links : goal.returns-clause-links
+returns-clause-links g c =
+    subst (λ (s : RealState). LeadsLinks (given c.answer-waited.result) s.links c.next_wake-next.new.links) c.self.view_is
+    (subst (λ (o : Option Wake). LeadsLinks o c.self.inside.links c.next_wake-next.new.links) (sym c.answer-waited.ensures.given) c.next_wake-next.ensures.links)
+
+pub returns-clause-least : goal.returns-clause-least
+returns-clause-least g c =
+    subst (λ (s : RealState). TakesLeast s.links c.next_wake-next.new.links) c.self.view_is (waits_take_least _ _ _ c.next_wake-next.ensures.links)
+
 pub returns-clause-round : goal.returns-clause-round
 returns-clause-round g c =
-    subst (λ (s : RealState). IfSome (given c.answer-waited.result) (λ wake. LeadsRound wake s.round c.next_wake-next.new.round)) c.self.view_is
-    (subst (λ (o : Option Wake). IfSome o (λ wake. LeadsRound wake c.self.inside.devices.round c.next_wake-next.new.round)) (sym c.answer-waited.ensures.given) c.next_wake-next.ensures.round)
+    subst (λ (s : RealState). LeadsRound (given c.answer-waited.result) s.links s.round c.next_wake-next.new.links c.next_wake-next.new.round) c.self.view_is
+    (subst (λ (o : Option Wake). LeadsRound o c.self.inside.links c.self.inside.devices.round c.next_wake-next.new.links c.next_wake-next.new.round) (sym c.answer-waited.ensures.given) c.next_wake-next.ensures.round)
+
+pub returns-clause-frames : goal.returns-clause-frames
+returns-clause-frames g c =
+    subst (λ (s : RealState). LosesNoFrame (given c.answer-waited.result) s.round c.next_wake-next.new.round) c.self.view_is
+    (subst (λ (o : Option Wake). LosesNoFrame o c.self.inside.devices.round c.next_wake-next.new.round) (sym c.answer-waited.ensures.given) (waits_lose_none _ _ _ _ _ c.next_wake-next.ensures.round))
 
 pub returns-clause-counts : goal.returns-clause-counts
 returns-clause-counts g c = let v = c.self.view_is in record {

@@ -1,7 +1,7 @@
 use Rattle.std.proofs.Common.{◌≡◌, ◌≤◌, true, ap, subst, ◌∙◌}
 use Rattle.std.proofs.Math.Nat.{le_refl}
-use Rattle.af_world.specs.declared.world.LinkGot.TheVariants.{Failed}
-use Rattle.af_live.specs.LinkTable.{is_free, link_at, KeepsOpen}
+use Rattle.af_world.specs.declared.world.LinkGot.TheVariants.{Failed, NotYet}
+use Rattle.af_live.specs.LinkTable.{is_drained, is_free, link_at, KeepsOpen}
 use Rattle.af_live.specs.Behind.{all_without_bytes}
 use Rattle.af_live.specs.Counting.{CountsOne}
 use Rattle.af_live.specs.RealWorld.{RealState}
@@ -27,3 +27,6 @@ returns-clause-open g c = subst (λ (s : RealState). KeepsOpen s.links c.read_li
 
 pub returns-clause-unheld : goal.returns-clause-unheld
 returns-clause-unheld g c = subst (λ (s : RealState). is_free (link_at s.links c.args.link) ≡ true → c.read_link-got.result ≡ Failed) c.self.view_is c.read_link-got.ensures.unheld
+
+pub returns-clause-drained : goal.returns-clause-drained
+returns-clause-drained g c = subst (λ (s : RealState). s.listens ≡ true → is_drained (link_at s.links c.args.link) ≡ true → c.read_link-got.result ≡ NotYet) c.self.view_is c.read_link-got.ensures.drained

@@ -1,0 +1,80 @@
+-- A wait loses no frame of a device: what is due of it is given, or stays due.
+use Rattle.std.proofs.Common.{◌≡◌, ◌⊎◌, ⊎_elim, ℕ, ◌+◌, ◌-◌, ◌*◌, ◌/◌, ◌<◌, ◌≤◌, min, List, slice_index_or, sym, ap, ◌∙◌, arith, Option, Some, None}
+use Rattle.std.proofs.lemmas.Grind.{common_steps}
+use Rattle.std.proofs.lemmas.Bool.{cases_lt, cases_eq, eq-eqb}
+use Rattle.std.proofs.Math.Nat.{le_refl}
+use Rattle.af_world.specs.declared.happening.Wake.{Wake}
+use Rattle.af_world.specs.declared.happening.Wake.TheVariants as wake
+use Rattle.af_pace.specs.Pacing.{PaceState, due_at, after_due}
+use Rattle.af_pace.specs.Rounds.{RoundState, pace_at, due_of, read_at, PacesAsked, RoundTicks, round_begun}
+use Rattle.af_live.specs.declared.link_table.LinkEntry.{LinkEntry}
+use Rattle.af_live.specs.RealWorld.{GivesKept, PassesAll, LeadsRound, LosesNoFrame, ticked_by}
+
+-- what a pace gives at one reading, and what stays due of it at another
+given_or_due : (rate answered first nanos t : ℕ) →
+    min ((t - first) * rate / 1000000000 - answered) 4096
+    ≤ min ((nanos - first) * rate / 1000000000 - answered) 4096 + min ((t - first) * rate / 1000000000 - (answered + min ((nanos - first) * rate / 1000000000 - answered) 4096)) 4096
+given_or_due rate answered first nanos t = omega arith
+
+-- before its first reading nothing is due
+unread : (rate answered t : ℕ) → min ((t - t) * rate / 1000000000 - answered) 4096 ≡ 0
+unread rate answered t = grind (arith, common_steps)
+
+pace_keeps : (rate : ℕ) (first : Option ℕ) (answered nanos t : ℕ) → let p : PaceState = record { rate = rate; first = first; answered = answered } in due_at p t ≤ due_at p nanos + due_at (after_due p nanos) t
+pace_keeps rate None answered nanos t = omega (arith, unread rate answered t)
+pace_keeps rate (Some first) answered nanos t = given_or_due rate answered first nanos t
+
+device_keeps : (o : Option PaceState) (nanos t : ℕ) → due_of t o ≤ due_of nanos o + due_of t (read_at nanos o)
+device_keeps None nanos t = le_refl 0
+device_keeps (Some p) nanos t = pace_keeps p.rate p.first p.answered nanos t
+
+-- of devices that were asked, no frame is lost but those that were due at the reading
+asked_keeps : (nanos from to : ℕ) (old new : List (Option PaceState)) → PacesAsked nanos from to old new → (d t : ℕ) → due_of t (slice_index_or old d None) ≤ due_of nanos (slice_index_or old d None) + due_of t (slice_index_or new d None)
+asked_keeps nanos from to old new asked d t =
+    let stays : slice_index_or new d None ≡ slice_index_or old d None → due_of t (slice_index_or old d None) ≤ due_of nanos (slice_index_or old d None) + due_of t (slice_index_or new d None)
+    = λ same. omega (arith, ap (due_of t) same) in
+    ⊎_elim (λ below. stays (asked.below d below))
+    (λ on. ⊎_elim
+    (λ within. omega (arith, ap (due_of t) (asked.inside d within on), device_keeps (slice_index_or old d None) nanos t))
+    (λ above. stays (asked.above d above))
+    (cases_lt d to))
+    (cases_lt d from)
+
+-- nor of one of which nothing was due
+quiet_keeps : (nanos from to : ℕ) (old new : List (Option PaceState)) → PacesAsked nanos from to old new → (d t : ℕ) → (d < to → from ≤ d → due_of nanos (slice_index_or old d None) ≡ 0) → due_of t (slice_index_or old d None) ≤ due_of t (slice_index_or new d None)
+quiet_keeps nanos from to old new asked d t none =
+    let stays : slice_index_or new d None ≡ slice_index_or old d None → due_of t (slice_index_or old d None) ≤ due_of t (slice_index_or new d None)
+    = λ same. omega (arith, ap (due_of t) same) in
+    ⊎_elim (λ below. stays (asked.below d below))
+    (λ on. ⊎_elim
+    (λ within. omega (arith, none within on, asked_keeps nanos from to old new asked d t))
+    (λ above. stays (asked.above d above))
+    (cases_lt d to))
+    (cases_lt d from)
+
+passes_keeps : (old past : RoundState) → PassesAll old past → (d t : ℕ) → due_of t (pace_at old d) ≤ due_of t (pace_at past d)
+passes_keeps old past h d t = quiet_keeps h.0 old.next past.next old.paces past.paces h.2.0.asked d t (h.2.0.none d)
+
+frames_of : (d n e due : ℕ) → e ≡ d → n ≡ due → ticked_by (Some (wake.Ticked d n)) e ≡ due
+frames_of d n e due same is = rw (eq-eqb e d same) is
+
+tick_keeps : (nanos d n : ℕ) (old new : RoundState) → RoundTicks nanos d n old new → (e t : ℕ) → due_of t (pace_at old e) ≤ ticked_by (Some (wake.Ticked d n)) e + due_of t (pace_at new e)
+tick_keeps nanos d n old new r e t =
+    ⊎_elim
+    (λ same. omega (arith, asked_keeps nanos old.next (d + 1) old.paces new.paces r.asked e t, frames_of d n e (due_of nanos (pace_at old e)) same (r.frames ∙ ap (λ k. due_of nanos (pace_at old k)) (sym same))))
+    (λ other. omega (arith, quiet_keeps nanos old.next (d + 1) old.paces new.paces r.asked e t (λ within on. r.none e (omega arith) on)))
+    (cases_eq e d)
+
+-- a wait that does not tick loses no frame
+begins_keeps : (w : Wake) (links links' : List (Option LinkEntry)) (old new : RoundState) →
+    GivesKept (Some w) links old links' new ⊎ ((past : RoundState) × PassesAll old past × (new ≡ round_begun past)) → (d t : ℕ) → due_of t (pace_at old d) ≤ due_of t (pace_at new d)
+begins_keeps w links links' old new h d t =
+    ⊎_elim (λ still. omega (arith, ap (λ (r : RoundState). due_of t (pace_at r d)) still.1))
+    (λ on. omega (arith, passes_keeps old on.0 on.1 d t, ap (λ (r : RoundState). due_of t (pace_at r d)) on.2))
+    h
+
+pub waits_lose_none : (w : Option Wake) (links links' : List (Option LinkEntry)) (old new : RoundState) → LeadsRound w links old links' new → LosesNoFrame w old new
+waits_lose_none None links links' old new h = λ d t.
+    ⊎_elim (λ still. omega (arith, ap (λ (r : RoundState). due_of t (pace_at r d)) still)) (λ passed. omega (arith, passes_keeps old new passed d t)) h
+waits_lose_none (Some (wake.Ticked d n)) links links' old new h = λ e t. tick_keeps h.0 d n old new h.2 e t
+waits_lose_none (Some w) links links' old new h = λ d t. omega (arith, begins_keeps w links links' old new h d t)

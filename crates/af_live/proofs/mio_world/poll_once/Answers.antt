@@ -1,0 +1,12 @@
+use Rattle.std.proofs.Common.{rules}
+use Rattle.af_live.proofs.PollsLemmas.{polls_keep_open}
+use Rattle.af_live.proofs.mio_world.poll_once.Goals as goal
+
+pub returns-in-Some-clause-fits : goal.returns-in-Some-clause-fits
+returns-in-Some-clause-fits c = let keeps = polls_keep_open _ _ c.poll.ensures.polls in search rules
+
+pub returns-in-Some-clause-opens : goal.returns-in-Some-clause-opens
+returns-in-Some-clause-opens c = let keeps = polls_keep_open _ _ c.poll.ensures.polls in search rules
+
+pub returns-in-None-clause-opens : goal.returns-in-None-clause-opens
+returns-in-None-clause-opens c = let keeps = polls_keep_open _ _ c.poll.ensures.polls in search rules

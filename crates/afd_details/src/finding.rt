@@ -18,7 +18,7 @@ impl fmt::Display for Finding<'_> {
     fn fmt<W: Write>(&self, f: &mut Formatter<W>) -> fmt::Result {
         let place = self.place;
         match self.word {
-            Some(word) => write!(f, "word {place} is {}: ", Shown::new(word))?,
+            Some(word) => write!(f, "word {place} is '{}': ", Shown::new(word))?,
             None => write!(f, "the line has no word {place}: ")?,
         }
         match self.slot {

@@ -12,9 +12,9 @@ const MOST_TURNS: u64 = 10000;
 /// Says which of the words is wrong, and how the program is used; or, where that is asked for, which version it is.
 pub fn tell_usage(rt: &impl Eprint, words: &Args) {
     match words.word(0) {
-        None | Some("--help" | "-h" | "help") => {}
+        None => {}
         Some("--version") => {
-            let _ = eprintln!(rt; "afd: AudioFile, not released yet");
+            let _ = eprintln!(rt; "afd: AudioFile, unreleased");
             return;
         }
         Some(_) if asks_for_help(words) => {}
@@ -22,7 +22,10 @@ pub fn tell_usage(rt: &impl Eprint, words: &Args) {
         Some("exercise") => tell_exercise(rt, words),
         Some("script") => tell_excess(rt, words.word(1)),
         Some(name) => {
-            let _ = eprintln!(rt; "afd: there is no command {}", Shown::new(name.as_bytes()));
+            let _ = eprintln!(rt;
+                "afd: there is no command '{}'",
+                Shown::new(name.as_bytes())
+            );
         }
     }
     tell_commands(rt);
@@ -46,14 +49,16 @@ fn asks_for_help(words: &Args) -> bool {
 
 /// The commands, each with its words.
 fn tell_commands(rt: &impl Eprint) {
+    let _ = eprintln!(rt; "afd: usage: afd COMMAND, with one of these commands:");
     let _ = eprintln!(rt;
-        "afd: afd serve ADDRESS WAITS: the server, with the configuration on standard input"
+        "afd:   serve ADDRESS WAITS   serves, with the configuration that standard input gives"
+    );
+    let _ = eprintln!(rt; "afd:   script                runs the script that standard input gives");
+    let _ = eprintln!(rt;
+        "afd:   exercise SEED TURNS   runs the script that a seed and a number of turns stand for"
     );
     let _ = eprintln!(rt;
-        "afd: afd script: runs the script on standard input, and writes what comes of it"
-    );
-    let _ = eprintln!(rt;
-        "afd: afd exercise SEED TURNS: runs the script that a seed and 1 to 10000 turns stand for"
+        "afd: ADDRESS is HOST:PORT, such as 127.0.0.1:1701; WAITS is 1 to {MOST_WAITS}"
     );
     let _ = eprintln!(rt; "afd: see afd(8)");
 }
@@ -61,17 +66,15 @@ fn tell_commands(rt: &impl Eprint) {
 /// What is wrong with `serve ADDRESS WAITS`.
 fn tell_serve(rt: &impl Eprint, words: &Args) {
     let Some(address) = words.word(1) else {
-        let _ = eprintln!(rt; "afd: ADDRESS is missing: a host and a port, as 127.0.0.1:1701");
+        let _ = eprintln!(rt; "afd: ADDRESS is missing");
         return;
     };
     if address.is_empty() {
-        let _ = eprintln!(rt;
-            "afd: ADDRESS is empty: a host and a port were expected, as 127.0.0.1:1701"
-        );
+        let _ = eprintln!(rt; "afd: ADDRESS is empty");
         return;
     }
     if address.len() > LONGEST_ADDRESS {
-        let _ = eprintln!(rt; "afd: ADDRESS is too long: it has at most {LONGEST_ADDRESS} bytes");
+        let _ = eprintln!(rt; "afd: ADDRESS has more than {LONGEST_ADDRESS} bytes");
         return;
     }
     tell_number(rt, "WAITS", 1, MOST_WAITS, words.word(2));
@@ -89,14 +92,12 @@ fn tell_exercise(rt: &impl Eprint, words: &Args) {
 fn tell_number(rt: &impl Eprint, name: &str, low: u64, high: u64, word: Option<&str>) {
     match word {
         None => {
-            let _ = eprintln!(rt; "afd: {name} is missing: {low} to {high}");
+            let _ = eprintln!(rt; "afd: {name} is missing: it is {low} to {high}");
         }
         Some(word) => {
             if long_number_between(low, high, word.as_bytes()).is_none() {
                 let word = Shown::new(word.as_bytes());
-                let _ = eprintln!(rt;
-                    "afd: {name} is {word}: a number was expected, {low} to {high}"
-                );
+                let _ = eprintln!(rt; "afd: '{word}' is no {name}: it is {low} to {high}");
             }
         }
     }
@@ -106,6 +107,6 @@ fn tell_number(rt: &impl Eprint, name: &str, low: u64, high: u64, word: Option<&
 fn tell_excess(rt: &impl Eprint, word: Option<&str>) {
     if let Some(word) = word {
         let word = Shown::new(word.as_bytes());
-        let _ = eprintln!(rt; "afd: {word} is a word too many");
+        let _ = eprintln!(rt; "afd: '{word}' is a word too many");
     }
 }

@@ -21,11 +21,11 @@ impl fmt::Display for ListenRefusal {
     fn fmt<W: Write>(&self, f: &mut Formatter<W>) -> fmt::Result {
         match *self {
             ListenRefusal::NoPort => {
-                f.write_str("it has no port: a host and a port were expected, as 127.0.0.1:1701")
+                f.write_str("no port; an address is HOST:PORT, such as 127.0.0.1:1701")
             }
-            ListenRefusal::BadPort => f.write_str("its port is no number of 0 to 65535"),
+            ListenRefusal::BadPort => f.write_str("the port is no number of 0 to 65535"),
             ListenRefusal::Refused(reason) => write!(f, "{reason}"),
-            ListenRefusal::Gone => f.write_str("the system refused it, and would grant it now"),
+            ListenRefusal::Gone => f.write_str("refused, but it would be granted now"),
         }
     }
 }

@@ -17,3 +17,4 @@ mod turned_away;
 pub use af_config::{ConfigFault, Setting, read_config};
 pub use af_pace::Pace;
 pub use mio_world::MioWorld;
+pub use sockets::Sockets;

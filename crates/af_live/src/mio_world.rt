@@ -29,6 +29,7 @@ use af_codec::Codec;
 use af_io::Put;
 use af_pace::Round;
 use af_world::{DeviceSpec, Kind, LinkGot, LinkTook, Live, Ready, Waited, Wake, Why, World};
+use mio::net::TcpStream;
 use std::alloc::Global;
 use std::marker::Model;
 use std::net::Net;
@@ -104,6 +105,17 @@ impl<R: Net + Clock + Files + Drop, S: Spawner + Drop> MioWorld<R, S> {
         ensures acts { S.acts result.now.spawner ≡ self.now.codec.acts }
     {
         self.devices.codec.codec()
+    }
+
+    /// What it listens with, if it does.
+    pub fn sockets(&self) -> Option<&Sockets> {
+        self.sockets.as_ref()
+    }
+
+    /// The stream of a link, if it is held.
+    pub fn stream(&self, link: u8) -> Option<&TcpStream> {
+        let key = self.links.get(link)?.key;
+        self.sockets.as_ref()?.streams.get(key)
     }
 }
 

@@ -29,14 +29,16 @@ const MOST_ACCEPTS: u32 = 64;
 
 /// What stands behind the links of a world that listens.
 #[derive(Drop)]
-pub(crate) struct Sockets {
+pub struct Sockets {
     poll: Poll,
     events: Events<Global>,
-    listener: TcpListener,
+    pub listener: TcpListener,
+    /// How many connections came while all numbers were taken. The count stands still at 2^64 - 1.
+    pub turned_away: u64,
     /// Whether connections may wait: their event comes once, and not for each.
     waiting: bool,
-    streams: Slab<TcpStream>,
-    turned_away: TurnedAway,
+    pub(crate) streams: Slab<TcpStream>,
+    leaving: TurnedAway,
 }
 
 impl Sockets {
@@ -52,15 +54,16 @@ impl Sockets {
             poll,
             events,
             listener,
+            turned_away: 0,
             waiting: false,
             streams,
-            turned_away: TurnedAway::new(),
+            leaving: TurnedAway::new(),
         })
     }
 
     /// Waits for at most so long until something is ready, and notes it. New links are accepted, at this reading of the clock. The
     /// answer is whether the system could be asked; a signal is no refusal.
-    pub fn poll(&mut self, pause: Duration, now: u64, links: &mut HeldLinks) -> bool
+    pub(crate) fn poll(&mut self, pause: Duration, now: u64, links: &mut HeldLinks) -> bool
         ensures polls { PollsTo links.old links.new }
         ensures refused { result ≡ false → links.new ≡ links.old }
     {
@@ -72,7 +75,7 @@ impl Sockets {
         if note_events(&self.events, links) {
             self.waiting = true;
         }
-        self.turned_away.close_old(now);
+        self.leaving.close_old(now);
         if self.waiting {
             self.accept_all(now, links);
         }
@@ -104,7 +107,8 @@ impl Sockets {
         ensures { TakesIn links.old links.new }
     {
         let Some(number) = links.least_free() else {
-            self.turned_away.turn_away(stream, now);
+            self.turned_away = self.turned_away.saturating_add(1);
+            self.leaving.turn_away(stream, now);
             return;
         };
         // there is room wherever a number is free

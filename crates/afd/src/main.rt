@@ -1,76 +1,75 @@
-//! The server's program: it makes the real objects, calls the one function that its first word names, and says how that ended.
+//! The server's program: it makes the real objects, calls the one function that its first word names, and says how that ended, and
+//! where details are wanted, why.
 #![tactic(auto)]
 
+mod details;
+mod ends;
+
+use crate::details::{tell_live, tell_script};
+use crate::ends::{report_live, report_script};
 use af_child::StdSpawner;
-use af_io::{Args, StdSink, StdSource, WordsFault, program_words};
+use af_io::{
+    Args, StdSink, StdSource, WordsFault, open_standard_streams, program_words, wants_details,
+};
 use af_live::MioWorld;
+use afd_details::{KeptSource, tell_not_text};
+use afd_log::{Log, LoggedSpawner, LoggedWorld, WatchedRuntime};
 use afd_script::{ScriptEnd, afd_script};
 use afd_serve::{LiveEnd, afd_live};
 use std::io;
 use std::process::ExitCode;
 
-// Says on standard error how a script ended.
-fn report_script(rt: &impl Eprint, end: ScriptEnd) -> io::Result<()> {
-    match end {
-        ScriptEnd::Done => Ok(()),
-        ScriptEnd::Usage => eprintln!(rt; "afd: usage"),
-        ScriptEnd::ScriptFault { line } => eprintln!(rt; "afd: line {line}"),
-        ScriptEnd::TooLong => eprintln!(rt; "afd: input too long"),
-        ScriptEnd::ReadFault => eprintln!(rt; "afd: read failed"),
-        ScriptEnd::SinkFault => eprintln!(rt; "afd: write failed"),
-        ScriptEnd::OutOfMemory => eprintln!(rt; "afd: out of memory"),
-    }
-}
-
-// Says on standard error how the server ended.
-fn report_live(rt: &impl Eprint, end: LiveEnd) -> io::Result<()> {
-    match end {
-        LiveEnd::Done => Ok(()),
-        LiveEnd::Usage => eprintln!(rt; "afd: usage"),
-        LiveEnd::ConfigFault { line } => eprintln!(rt; "afd: line {line}"),
-        LiveEnd::TooLong => eprintln!(rt; "afd: input too long"),
-        LiveEnd::ReadFault => eprintln!(rt; "afd: read failed"),
-        LiveEnd::OutOfMemory => eprintln!(rt; "afd: out of memory"),
-        LiveEnd::ListenFault => eprintln!(rt; "afd: listen failed"),
-        LiveEnd::AttachFault { device } => eprintln!(rt; "afd: device {device} failed"),
-        LiveEnd::WaitFault => eprintln!(rt; "afd: wait failed"),
-        LiveEnd::WaitsSpent => eprintln!(rt; "afd: waits spent"),
-    }
-}
-
 // A script or an exercise, over standard input and output.
-fn run_script(rt: &HostRuntime, words: &Args) -> ScriptEnd {
-    let mut source = StdSource::new(rt.reader());
+fn run_script(rt: &HostRuntime, words: &Args) -> ExitCode {
+    let details = wants_details(rt);
+    let mut source = KeptSource::new(rt.alloc(), StdSource::new(rt.reader()), details);
     let mut sink = StdSink::new(io::writer(rt));
-    afd_script(rt.alloc(), words, &mut source, &mut sink)
+    let end = afd_script(rt.alloc(), words, &mut source, &mut sink);
+    let ended = ended_script(rt, end);
+    if details {
+        tell_script(rt, words, end, &source, &sink);
+    }
+    ended
 }
 
 // The server, over standard input, sockets, files, child programs and the clock.
-fn run_server(rt: &HostRuntime, words: &Args) -> LiveEnd {
-    let Ok(system) = rt.clone() else {
-        return LiveEnd::OutOfMemory;
-    };
-    let mut source = StdSource::new(rt.reader());
-    let mut world = MioWorld::new(system, rt.alloc(), StdSpawner::new(rt));
-    afd_live(rt.alloc(), words, &mut source, &mut world)
+fn run_server(rt: &HostRuntime, words: &Args) -> ExitCode {
+    let details = wants_details(rt);
+    let log = Log::new(rt, details);
+    let spawner = LoggedSpawner::new(StdSpawner::new(WatchedRuntime::new(rt, &log)), &log);
+    let world = MioWorld::new(WatchedRuntime::new(rt, &log), rt.alloc(), spawner);
+    let mut world = LoggedWorld::new(world, rt, &log);
+    let mut source = KeptSource::new(rt.alloc(), StdSource::new(rt.reader()), details);
+    let end = afd_live(rt.alloc(), words, &mut source, &mut world);
+    // where standard error takes nothing, the status still says how it ended
+    let _ = report_live(rt, end);
+    if details {
+        tell_live(rt, words, end, &source, world.listen_refusal(), &log);
+    }
+    ExitCode::from(afd_serve::status_of(end))
 }
 
-// Where standard error takes nothing, the status still says how it ended.
+// Says how a script ended. Where standard error takes nothing, the status still does.
 fn ended_script(rt: &HostRuntime, end: ScriptEnd) -> ExitCode {
     let _ = report_script(rt, end);
     ExitCode::from(afd_script::status_of(end))
 }
 
-fn ended_live(rt: &HostRuntime, end: LiveEnd) -> ExitCode {
-    let _ = report_live(rt, end);
-    ExitCode::from(afd_serve::status_of(end))
+// Says that a word is no text.
+fn ended_not_text(rt: &HostRuntime) -> ExitCode {
+    let ended = ended_script(rt, ScriptEnd::Usage);
+    if wants_details(rt) {
+        tell_not_text(rt);
+    }
+    ended
 }
 
 fn main(rt: HostRuntime) -> ExitCode {
+    open_standard_streams(&rt);
     match program_words(rt.alloc(), &rt) {
-        Ok(words) if words.word(0) == Some("serve") => ended_live(&rt, run_server(&rt, &words)),
-        Ok(words) => ended_script(&rt, run_script(&rt, &words)),
-        Err(WordsFault::NotText) => ended_script(&rt, ScriptEnd::Usage),
+        Ok(words) if words.word(0) == Some("serve") => run_server(&rt, &words),
+        Ok(words) => run_script(&rt, &words),
+        Err(WordsFault::NotText) => ended_not_text(&rt),
         Err(WordsFault::OutOfMemory) => ended_script(&rt, ScriptEnd::OutOfMemory),
     }
 }

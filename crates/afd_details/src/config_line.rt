@@ -1,0 +1,75 @@
+// What is wrong with a line of a configuration.
+use crate::finding::Finding;
+use crate::line_words::LineWords;
+use crate::slot::Slot;
+use crate::stated::Stated;
+use af_limits::MOST_DEVICES;
+use af_text::is_word;
+
+/// How many words a program may have behind its name.
+const MOST_ARGUMENTS: u32 = 7;
+
+/// The first word of a line that may not stand where it stands, behind lines that state this.
+pub(crate) fn config_finding<'a>(line: &'a [u8], before: &Stated) -> Option<Finding<'a>> {
+    match check_line(line, before) {
+        Ok(()) => None,
+        Err(finding) => Some(finding),
+    }
+}
+
+/// `device TYPE RATE START`, then `stereo` or nothing, then `line` or nothing, then what stands behind the device.
+fn check_line<'a>(line: &'a [u8], before: &Stated) -> Result<(), Finding<'a>> {
+    let mut words = LineWords::new(line);
+    if before.devices >= MOST_DEVICES {
+        return Err(words.finding(Slot::NinthDevice));
+    }
+    words.take(Slot::Device)?;
+    words.take(Slot::Type)?;
+    words.take(Slot::Rate)?;
+    words.take(Slot::Start)?;
+    let stereo = !words.skip(b"stereo");
+    let line = !words.skip(b"line");
+    check_kind(
+        words,
+        Slot::Kind {
+            stereo: stereo && line,
+            line,
+        },
+        before.has_codec,
+    )
+}
+
+/// `silent`, `files INPUT OUTPUT`, or `codec RESTARTS WORD ..`
+fn check_kind<'a>(
+    mut words: LineWords<'a>,
+    slot: Slot,
+    has_codec: bool,
+) -> Result<(), Finding<'a>> {
+    let finding = words.finding(Slot::SecondCodec);
+    let kind = words.take(slot)?;
+    if is_word(kind, b"files") {
+        words.take(Slot::Input)?;
+        words.take(Slot::Output)?;
+        return words.end(Slot::End);
+    }
+    if is_word(kind, b"silent") {
+        return words.end(Slot::End);
+    }
+    if has_codec {
+        return Err(finding);
+    }
+    check_codec(words)
+}
+
+/// `RESTARTS WORD ..`
+fn check_codec<'a>(mut words: LineWords<'a>) -> Result<(), Finding<'a>> {
+    words.take(Slot::Restarts)?;
+    words.take(Slot::Program)?;
+    for _number in 0..MOST_ARGUMENTS {
+        if words.peek().is_none() {
+            return Ok(());
+        }
+        words.take(Slot::Argument)?;
+    }
+    words.end(Slot::NinthWord)
+}

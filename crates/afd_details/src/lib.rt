@@ -1,0 +1,19 @@
+//! What the server's program says behind the line with its end, where details are wanted: which word is wrong, and what may stand
+//! there.
+#![tactic(auto)]
+
+mod config_line;
+mod finding;
+mod kept_source;
+mod line_words;
+mod script_line;
+mod shown;
+mod slot;
+mod stated;
+mod tell;
+mod usage;
+
+pub use kept_source::KeptSource;
+pub use shown::Shown;
+pub use tell::{tell_config_fault, tell_reason, tell_script_fault};
+pub use usage::{tell_not_text, tell_usage};

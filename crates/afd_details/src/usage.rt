@@ -1,0 +1,112 @@
+// What is wrong with the words of the server's program.
+use crate::Shown;
+use af_io::Args;
+use af_limits::LONGEST_ADDRESS;
+use af_text::long_number_between;
+
+/// The most waits that may be asked for, and the most turns of an exercise.
+const MOST_WAITS: u64 = 9223372036854775807;
+
+const MOST_TURNS: u64 = 10000;
+
+/// Says which of the words is wrong, and how the program is used; or, where that is asked for, which version it is.
+pub fn tell_usage(rt: &impl Eprint, words: &Args) {
+    match words.word(0) {
+        None => {}
+        Some("--version") => {
+            let _ = eprintln!(rt; "afd: AudioFile, unreleased");
+            return;
+        }
+        Some(_) if asks_for_help(words) => {}
+        Some("serve") => tell_serve(rt, words),
+        Some("exercise") => tell_exercise(rt, words),
+        Some("script") => tell_excess(rt, words.word(1)),
+        Some(name) => {
+            let _ = eprintln!(rt;
+                "afd: there is no command '{}'",
+                Shown::new(name.as_bytes())
+            );
+        }
+    }
+    tell_commands(rt);
+}
+
+/// Says that a word is no text.
+pub fn tell_not_text(rt: &impl Eprint) {
+    let _ = eprintln!(rt; "afd: a word is not UTF-8");
+    tell_commands(rt);
+}
+
+/// Whether a word asks for help.
+fn asks_for_help(words: &Args) -> bool {
+    for word in words.as_slice() {
+        if matches!(word.as_str(), "--help" | "-h") {
+            return true;
+        }
+    }
+    false
+}
+
+/// The commands, each with its words.
+fn tell_commands(rt: &impl Eprint) {
+    let _ = eprintln!(rt; "afd: usage: afd COMMAND, with one of these commands:");
+    let _ = eprintln!(rt;
+        "afd:   serve ADDRESS WAITS   serves, with the configuration that standard input gives"
+    );
+    let _ = eprintln!(rt; "afd:   script                runs the script that standard input gives");
+    let _ = eprintln!(rt;
+        "afd:   exercise SEED TURNS   runs the script that a seed and a number of turns stand for"
+    );
+    let _ = eprintln!(rt;
+        "afd: ADDRESS is HOST:PORT, such as 127.0.0.1:1701; WAITS is 1 to {MOST_WAITS}"
+    );
+    let _ = eprintln!(rt; "afd: see afd(8)");
+}
+
+/// What is wrong with `serve ADDRESS WAITS`.
+fn tell_serve(rt: &impl Eprint, words: &Args) {
+    let Some(address) = words.word(1) else {
+        let _ = eprintln!(rt; "afd: ADDRESS is missing");
+        return;
+    };
+    if address.is_empty() {
+        let _ = eprintln!(rt; "afd: ADDRESS is empty");
+        return;
+    }
+    if address.len() > LONGEST_ADDRESS {
+        let _ = eprintln!(rt; "afd: ADDRESS has more than {LONGEST_ADDRESS} bytes");
+        return;
+    }
+    tell_number(rt, "WAITS", 1, MOST_WAITS, words.word(2));
+    tell_excess(rt, words.word(3));
+}
+
+/// What is wrong with `exercise SEED TURNS`.
+fn tell_exercise(rt: &impl Eprint, words: &Args) {
+    tell_number(rt, "SEED", 0, u64::MAX, words.word(1));
+    tell_number(rt, "TURNS", 1, MOST_TURNS, words.word(2));
+    tell_excess(rt, words.word(3));
+}
+
+/// What is wrong with a number, if something is.
+fn tell_number(rt: &impl Eprint, name: &str, low: u64, high: u64, word: Option<&str>) {
+    match word {
+        None => {
+            let _ = eprintln!(rt; "afd: {name} is missing: it is {low} to {high}");
+        }
+        Some(word) => {
+            if long_number_between(low, high, word.as_bytes()).is_none() {
+                let word = Shown::new(word.as_bytes());
+                let _ = eprintln!(rt; "afd: '{word}' is no {name}: it is {low} to {high}");
+            }
+        }
+    }
+}
+
+/// What is wrong if there is a word behind the last.
+fn tell_excess(rt: &impl Eprint, word: Option<&str>) {
+    if let Some(word) = word {
+        let word = Shown::new(word.as_bytes());
+        let _ = eprintln!(rt; "afd: '{word}' is a word too many");
+    }
+}

@@ -1,0 +1,66 @@
+// What a device is, in words.
+use af_child::Words;
+use af_sample::SampleType;
+use af_world::{DeviceSpec, Kind};
+use afd_details::Shown;
+use std::fmt;
+use std::fmt::{Formatter, Write};
+
+/// A device, by its number, and what stands behind it.
+#[derive(Clone, Copy)]
+pub(crate) struct DeviceWords<'a> {
+    pub number: u8,
+    pub spec: &'a DeviceSpec,
+    pub kind: Kind<'a>,
+}
+
+impl fmt::Display for DeviceWords<'_> {
+    fn fmt<W: Write>(&self, f: &mut Formatter<W>) -> fmt::Result {
+        let number = self.number;
+        let ty = type_name(self.spec.ty);
+        let rate = self.spec.rate;
+        let channels = channels_name(self.spec.channels);
+        let line = if self.spec.line { ", line" } else { "" };
+        write!(f, "device {number}: {ty}, {rate} Hz, {channels}{line}, ")?;
+        write_kind(self.kind, f)
+    }
+}
+
+/// The name of a sample type, as a configuration has it.
+fn type_name(ty: SampleType) -> &'static str {
+    match ty {
+        SampleType::Mu255 => "mu255",
+        SampleType::Alaw => "alaw",
+        SampleType::Lin16 => "lin16",
+        SampleType::Lin32 => "lin32",
+    }
+}
+
+/// The name of one channel, or of two.
+fn channels_name(channels: u8) -> &'static str {
+    if channels == 2 { "stereo" } else { "mono" }
+}
+
+/// Writes what stands behind a device.
+fn write_kind<W: Write>(kind: Kind<'_>, f: &mut Formatter<W>) -> fmt::Result {
+    match kind {
+        Kind::Silent => f.write_str("silent"),
+        Kind::Files { input, output } => {
+            let input = Shown::new(input.as_bytes());
+            let output = Shown::new(output.as_bytes());
+            write!(f, "captures from {input}, adds its sound to {output}")
+        }
+        Kind::Codec { restarts, words } => {
+            write!(f, "codec, at most {restarts} restarts:")?;
+            write_words(words, f)
+        }
+    }
+}
+
+/// Writes the words of a program, each behind a space.
+fn write_words<W: Write>(words: &Words, f: &mut Formatter<W>) -> fmt::Result {
+    for word in words {
+        write!(f, " {}", Shown::new(word.as_bytes()))?;
+    }
+    Ok(())
+}

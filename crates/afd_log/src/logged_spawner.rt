@@ -1,0 +1,45 @@
+// A spawner that tells which programs began and ended.
+use crate::Log;
+use af_child::{Finished, Spawner, Started, Words};
+use af_io::Put;
+use std::alloc::Global;
+
+/// A spawner that tells in a log which program was started, which could not be, and which ended.
+#[derive(Drop)]
+pub struct LoggedSpawner<'a, S: Spawner + Drop> {
+    spawner: S,
+    log: &'a Log<'a>,
+}
+
+impl<'a, S: Spawner + Drop> LoggedSpawner<'a, S> {
+    /// A spawner over another.
+    pub fn new(spawner: S, log: &'a Log<'a>) -> LoggedSpawner<'a, S> {
+        LoggedSpawner { spawner, log }
+    }
+}
+
+impl<S: Spawner + Drop> Spawner for LoggedSpawner<'_, S> {
+    ghost acts = { λ logged. S.acts logged.spawner };
+
+    ghost faults = { λ logged. S.faults logged.spawner };
+
+    fn note(&mut self, sound: &[u8]) {
+        self.spawner.note(sound);
+    }
+
+    fn start(&mut self, alloc: Global, words: &Words) -> Started {
+        let started = self.spawner.start(alloc, words);
+        self.log.tell_start(started);
+        started
+    }
+
+    fn give(&mut self, child: u32, bytes: &[u8]) -> Put {
+        self.spawner.give(child, bytes)
+    }
+
+    fn finish(&mut self, child: u32) -> Finished {
+        let finished = self.spawner.finish(child);
+        self.log.tell_end(finished);
+        finished
+    }
+}

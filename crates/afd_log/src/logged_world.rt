@@ -1,0 +1,222 @@
+// A world of sockets, files and programs that tells in a log what it does.
+ghost use Rattle.std.specs.Prelude.{◌≡◌};
+ghost use Rattle.std.specs.declared.option.Option.TheVariants.{None};
+
+use crate::Log;
+use crate::device_words::DeviceWords;
+use crate::listening::{ListenRefusal, listen_refusal};
+use af_child::Spawner;
+use af_io::Put;
+use af_live::MioWorld;
+use af_world::{DeviceSpec, Kind, LinkGot, LinkTook, Live, Ready, Waited, Wake, Why, World};
+use std::alloc::Global;
+use std::net::Net;
+use std::rt::Files;
+use std::time::Clock;
+
+/// A world over another, to which it hands each call. It tells in a log at which address it listens, what the devices are, who
+/// connects, why a link is closed and why a device has died.
+#[derive(Drop)]
+pub struct LoggedWorld<'a, R: Net + Clock + Files + Drop, S: Spawner + Drop> {
+    world: MioWorld<R, S>,
+    rt: &'a HostRuntime,
+    log: &'a Log<'a>,
+    turned_away: u64,
+    refusal: Option<ListenRefusal>,
+}
+
+impl<'a, R: Net + Clock + Files + Drop, S: Spawner + Drop> LoggedWorld<'a, R, S> {
+    /// A world over this one.
+    pub fn new(
+        world: MioWorld<R, S>,
+        rt: &'a HostRuntime,
+        log: &'a Log<'a>,
+    ) -> LoggedWorld<'a, R, S> {
+        LoggedWorld {
+            world,
+            rt,
+            log,
+            turned_away: 0,
+            refusal: None,
+        }
+    }
+
+    /// Why the last listen failed, if one did and lines are wanted.
+    pub fn listen_refusal(&self) -> Option<ListenRefusal> {
+        self.refusal
+    }
+}
+
+impl<R: Net + Clock + Files + Drop, S: Spawner + Drop> World for LoggedWorld<'_, R, S> {
+    ghost use Rattle.af_live.specs.RealWorld.{RealLeadsTo, RealLeadsTo-refl, RealLeadsTo-trans};
+
+    ghost log = { λ _. None };
+
+    ghost link_faults = { λ logged. logged.world.link_faults };
+
+    ghost device_faults = { λ logged. logged.world.device_faults };
+
+    ghost leads_to = { λ a b. RealLeadsTo a.world b.world };
+
+    ghost leads_to_itself = { λ a. RealLeadsTo-refl a.world };
+
+    ghost leads_on = { λ a b c. RealLeadsTo-trans a.world b.world c.world };
+
+    ghost link_faults_stay = { λ _ _ leads. leads.link_faults };
+
+    ghost device_faults_stay = { λ _ _ leads. leads.device_faults };
+
+    fn woke(&mut self, wake: Wake) {
+        self.world.woke(wake);
+        if let Wake::Opened(link) = wake {
+            tell_opened(&self.world, self.log, link);
+        }
+    }
+
+    fn read(&mut self, link: u8, into: &mut [u8]) -> LinkGot {
+        self.world.read(link, into)
+    }
+
+    fn write(&mut self, link: u8, piece: &[u8]) -> LinkTook {
+        self.world.write(link, piece)
+    }
+
+    fn close(&mut self, link: u8, why: Why) {
+        self.world.close(link, why);
+        tell_closed(self.log, link, why);
+    }
+
+    fn capture(&mut self, device: u8, frames: u32, into: &mut [u8]) -> Put {
+        let put = self.world.capture(device, frames, into);
+        if put == Put::Failed {
+            tell_dead(self.log, device, "nothing can be captured any more");
+        }
+        put
+    }
+
+    fn emit(&mut self, device: u8, sound: &[u8]) -> Put {
+        let put = self.world.emit(device, sound);
+        if put == Put::Failed {
+            tell_dead(self.log, device, "its sound goes nowhere any more");
+        }
+        put
+    }
+
+    fn hook(&mut self, device: u8, off: bool) -> Put {
+        self.world.hook(device, off)
+    }
+}
+
+impl<R: Net + Clock + Files + Drop, S: Spawner + Drop> Live for LoggedWorld<'_, R, S> {
+    ghost listen_faults = { λ logged. logged.world.listen_faults };
+
+    ghost wait_faults = { λ logged. logged.world.wait_faults };
+
+    ghost outer = { λ _. None };
+
+    ghost listen_faults_apart = { λ _ _ leads. leads.listen_faults };
+
+    ghost wait_faults_apart = { λ _ _ leads. leads.wait_faults };
+
+    ghost outer_apart = { λ _ _ _. tt };
+
+    ghost tells_both = { λ _ told. told };
+
+    fn listen(&mut self, alloc: Global, address: &str) -> Ready {
+        let ready = self.world.listen(alloc, address);
+        if self.log.is_wanted() {
+            match ready {
+                Ready::Done => tell_listening(&self.world, self.log),
+                Ready::Failed => self.refusal = Some(listen_refusal(self.rt, address)),
+                Ready::OutOfMemory => {}
+            }
+        }
+        ready
+    }
+
+    fn attach(&mut self, alloc: Global, device: u8, spec: &DeviceSpec, kind: Kind<'_>) -> Ready {
+        self.log.attaches(device, kind);
+        self.log.line(DeviceWords {
+            number: device,
+            spec,
+            kind,
+        });
+        self.world.attach(alloc, device, spec, kind)
+    }
+
+    fn wait(&mut self, more: bool) -> Waited {
+        let waited = self.world.wait(more);
+        tell_turned_away(&self.world, self.log, &mut self.turned_away);
+        waited
+    }
+}
+
+/// Tells at which address a world listens.
+fn tell_listening<R: Net + Clock + Files + Drop, S: Spawner + Drop>(
+    world: &MioWorld<R, S>,
+    log: &Log<'_>,
+) {
+    if let Some(sockets) = world.sockets()
+        && let Ok(address) = sockets.listener.local_addr()
+    {
+        log.line(format_args!("listening at {address}"));
+    }
+}
+
+/// Tells who connected.
+fn tell_opened<R: Net + Clock + Files + Drop, S: Spawner + Drop>(
+    world: &MioWorld<R, S>,
+    log: &Log<'_>,
+    link: u8,
+) {
+    if !log.is_wanted() {
+        return;
+    }
+    if let Some(stream) = world.stream(link)
+        && let Ok(peer) = stream.peer_addr()
+    {
+        log.line(format_args!("connection {link} from {peer}"));
+    } else {
+        log.line(format_args!("connection {link} from a peer that is gone"));
+    }
+}
+
+/// Tells why a link is closed.
+fn tell_closed(log: &Log<'_>, link: u8, why: Why) {
+    let cause = match why {
+        Why::BadSetup => "it began with no setup",
+        Why::Malformed => "it sent a malformed request",
+        Why::Ended => "the client ended it",
+        Why::LinkFault => "a read from it or a write to it failed",
+        Why::Overrun => "it did not take its events",
+    };
+    log.line(format_args!("connection {link} closed: {cause}"));
+}
+
+/// Tells why a device has died.
+fn tell_dead(log: &Log<'_>, device: u8, what: &str) {
+    match log.take_reason() {
+        Some(reason) => log.line(format_args!("device {device} failed, {what}: {reason}")),
+        None => log.line(format_args!("device {device} failed, {what}")),
+    }
+}
+
+/// Tells how many connections were turned away since the last time, and how many lines were left out.
+fn tell_turned_away<R: Net + Clock + Files + Drop, S: Spawner + Drop>(
+    world: &MioWorld<R, S>,
+    log: &Log<'_>,
+    before: &mut u64,
+) {
+    if !log.is_wanted() {
+        return;
+    }
+    log.catch_up();
+    let Some(sockets) = world.sockets() else {
+        return;
+    };
+    let count = sockets.turned_away.saturating_sub(*before);
+    if count > 0 {
+        *before = sockets.turned_away;
+        log.line(format_args!("{count} turned away: all 32 connections are taken"));
+    }
+}

@@ -6,8 +6,9 @@ use Rattle.af_live.proofs.devices.Devices.attach.Goals as goal
 pub returns-then-place-ge8-clause-done : goal.returns-then-place-ge8-clause-done
 returns-then-place-ge8-clause-done g c = λ below paced allowed opens.
     let never : ⊥ = elim c.then-place-ge8.branch [
-        then-place-ge8-via-then-place-ge8 w ↦ omega arith
-      | then-place-ge8-via-else-place-ge8+then-is_paced w ↦ cc ] in
+      | then-place-ge8-via-then-place-ge8 w ↦ omega arith
+      | then-place-ge8-via-else-place-ge8+then-is_paced w ↦ cc
+    ] in
     absurd never
 
 pub returns-in-Err-clause-done : goal.returns-in-Err-clause-done

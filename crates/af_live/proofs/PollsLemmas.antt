@@ -81,8 +81,11 @@ takes_least_on a b c took t =
     }))
     took
 
+none_taken : (a : List (Option LinkEntry)) → TakesLeast a a
+none_taken a = record { held = λ k h. h; least = λ n k free taken less. absurd (false≢true (sym taken ∙ free)) }
+
 pub polls_take_least : (old new : List (Option LinkEntry)) → PollsTo old new → TakesLeast old new
-polls_take_least old new nothing = record { held = λ k h. h; least = λ n k free taken less. absurd (false≢true (sym taken ∙ free)) }
+polls_take_least old new nothing = none_taken old
 polls_take_least old new (notes_one links _ e p is) =
     same_free old links new (λ k. ap (λ ls. is_free (link_at ls k)) is ∙ set_same is_free links _ k _ (noted_free _ _)) (polls_take_least old links p)
 polls_take_least old new (takes_one links _ p is) = takes_least_on old links new is (polls_take_least old links p)
@@ -95,9 +98,6 @@ rest_free (Some link) = refl
 gives_free : (old new : List (Option LinkEntry)) (w : Option Wake) → GivesFirst old w new → (k : ℕ) → is_free (link_at new k) ≡ is_free (link_at old k)
 gives_free old new None g k = ap (λ ls. is_free (link_at ls k)) g.1
 gives_free old new (Some w) g k = ap (λ ls. is_free (link_at ls k)) g.2 ∙ set_same is_free old _ k _ (rest_free _)
-
-none_taken : (a : List (Option LinkEntry)) → TakesLeast a a
-none_taken a = record { held = λ k h. h; least = λ n k free taken less. absurd (false≢true (sym taken ∙ free)) }
 
 leads_first : (old new : List (Option LinkEntry)) (w : Option Wake) → GivesFirst old w new → TakesLeast old new
 leads_first old new w g = same_free old old new (gives_free old new w g) (none_taken old)

@@ -39,6 +39,13 @@ use std::time::{Clock, Duration};
 /// How many milliseconds a wait with nothing to do waits at most, and so the longest that a device may be late.
 const LONGEST_PAUSE_MILLIS: u64 = 10;
 
+/// How many milliseconds a wait of a server that catches up waits at most for what its clients send. Without this a fast server leaves
+/// them behind.
+const CATCHING_UP_PAUSE_MILLIS: u64 = 1;
+
+/// How many nanoseconds the clock is ahead of the reading of a round at least where the server catches up: a whole step.
+const BEHIND_NANOS: u64 = 20_000_000;
+
 const NANOS_A_MILLISECOND: u64 = 1_000_000;
 
 /// The real outside of a server. It listens at one address, whose links it numbers from 0, at most 32 at a time; a further one is
@@ -327,13 +334,21 @@ fn whole_millis(shown: Duration) -> Option<u64>
 }
 
 /// The reading of the clock that a round goes by: its own, or one that is taken now. After the server stood still that is behind
-/// what the clock shows, round by round at most 20 milliseconds further: each device ticks then, and so no poll waits.
+/// what the clock shows, round by round at most 20 milliseconds further.
 fn reading<R: Clock>(rt: &R, round: &Round) -> Option<u64>
     ensures { IfSome result (λ nanos. IsReadingBy round.now.reading round.now.last nanos) }
 {
     match round.reading() {
         Some(taken) => Some(taken),
         None => Some(round.reading_after(whole_millis(rt.monotonic().ok()?)?)),
+    }
+}
+
+/// Whether the clock is ahead of this reading by a whole step of a server that catches up, or more.
+fn is_behind<R: Clock>(rt: &R, nanos: u64) -> bool {
+    match rt.monotonic() {
+        Ok(shown) => shown.as_nanos() >= u128::from(nanos) + u128::from(BEHIND_NANOS),
+        Err(_) => false,
     }
 }
 
@@ -388,7 +403,8 @@ fn next_wake<R: Clock>(
     if let Some((device, frames)) = round.next_tick(nanos) {
         return Some(Wake::Ticked(device, frames));
     }
-    let pause = pause(more, round.has_ticked());
+    let ticked = round.has_ticked();
+    let pause = pause(more, ticked, ticked && is_behind(rt, nanos));
     poll_once(sockets, pause, nanos, links, round)
 }
 
@@ -404,10 +420,14 @@ fn answer(next: Option<Wake>) -> Waited
 }
 
 /// How long a poll waits at most.
-fn pause(more: bool, ticked: bool) -> Duration
-    ensures { as_nanos result ≡ pause_of more ticked }
+fn pause(more: bool, ticked: bool, behind: bool) -> Duration
+    ensures { as_nanos result ≡ pause_of more ticked behind }
 {
-    if more || ticked {
+    if more {
+        Duration::ZERO
+    } else if behind {
+        Duration::from_millis(CATCHING_UP_PAUSE_MILLIS)
+    } else if ticked {
         Duration::ZERO
     } else {
         Duration::from_millis(LONGEST_PAUSE_MILLIS)

@@ -1,0 +1,81 @@
+"""A server that stands still for ten seconds beside tools that play and record: it catches up, and no sample is lost."""
+
+import os
+import random
+import signal
+import subprocess
+import time
+
+from serving import WORD, Server
+from sounds import LEAD, heard_as
+
+# of the stop, and of what is played and recorded
+STOPPED, LASTS = 10, 14
+# when the recordings begin, by the time of their devices
+BEGUN = 1
+
+
+class Device:
+    """A device over files, with a tool that plays to it and one that records from it."""
+
+    def __init__(self, trial, server, number, rate, wide, given, sound):
+        self.given, self.sound, self.wide = given, sound, wide
+        self.start, self.frames = BEGUN * rate, LASTS * rate
+        self.player = self.tool(trial, "aplay", server.address, "--device=%d" % number, "--lead=%d" % LEAD, stdin=subprocess.PIPE)
+        self.recorder = self.tool(
+            trial, "arecord", server.address, "--device=%d" % number, "--time=%d" % self.start, "--frames=%d" % self.frames)
+        self.number = number
+
+    def tool(self, trial, *words, stdin=subprocess.DEVNULL):
+        """A tool that runs on, with files for what it reads and writes, so that it waits for its server alone."""
+        name = os.path.join(trial.folder, "stopped", "%s%s" % (words[0], words[2]))
+        if stdin == subprocess.PIPE:
+            with open(name + ".in", "wb") as file:
+                file.write(self.sound)
+            stdin = open(name + ".in", "rb")
+        with open(name, "wb") as out:
+            process = subprocess.Popen([trial.af, *words], stdin=stdin, stdout=out)
+        process.wrote = name
+        return process
+
+    def recorded(self):
+        """Whether the recorder ended well, and wrote what the device was given."""
+        done = self.recorder.wait(60) == 0
+        with open(self.recorder.wrote, "rb") as file:
+            return done and file.read() == self.given[self.start * self.wide:(self.start + self.frames) * self.wide]
+
+    def played_at(self):
+        """The time that the player says of its first frame."""
+        self.player.wait(60)
+        with open(self.player.wrote, "rb") as file:
+            return int(file.read().split()[3])
+
+
+def stands_still(trial):
+    folder = trial.folder_of("stopped")
+    draw = random.Random(7)
+    narrow, fine = heard_as(draw.randbytes(40 * 8000)), draw.randbytes(2 * 40 * 44100)
+    trial.file(folder, "in", narrow)
+    trial.file(folder, "fine_in", fine)
+    devices = ["device mu255 8000 0 files in out", "device lin16 44100 0 files fine_in fine_out"]
+    with Server(trial.afd, folder, devices) as server:
+        tried = [
+            Device(trial, server, 0, 8000, 1, narrow, heard_as(draw.randbytes(LASTS * 8000))),
+            Device(trial, server, 1, 44100, 2, fine, draw.randbytes(2 * LASTS * 44100))]
+        time.sleep(2)
+        server.process.send_signal(signal.SIGSTOP)
+        time.sleep(STOPPED)
+        server.process.send_signal(signal.SIGCONT)
+        for device, name in zip(tried, ("out", "fine_out")):
+            rate = "%d samples a second" % (device.frames // LASTS)
+            trial.holds("a recording at %s loses nothing while the server stands still" % rate, device.recorded())
+            at = device.played_at()
+            server.wait_until((at + device.frames) % WORD, device.number)
+            heard = server.got(name)[at * device.wide:(at + device.frames) * device.wide]
+            trial.holds("what is played at %s is heard whole, though the server stood still" % rate, heard == device.sound)
+        trial.holds("the server runs, and says nothing", server.end())
+
+
+def parts(trial):
+    """The trials, to be run one after another."""
+    return (lambda: stands_still(trial),)

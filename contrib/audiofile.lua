@@ -93,6 +93,7 @@ local fields = {
     record_gain = ProtoField.int16("audiofile.record_gain", "Record gain (dB)"),
     mask = ProtoField.uint8("audiofile.mask", "Fields that change", base.HEX),
     time = ProtoField.uint32("audiofile.time", "Device time"),
+    late = ProtoField.uint32("audiofile.late", "Late by frames"),
     count = ProtoField.uint32("audiofile.count", "Bytes of data"),
     data = ProtoField.bytes("audiofile.data", "Samples"),
     quiet = ProtoField.bool("audiofile.quiet", "No reply is wanted", 8, nil, 1),
@@ -121,12 +122,14 @@ audiofile.fields = fields
 
 local malformed = ProtoExpert.new("audiofile.malformed", "Malformed", expert.group.MALFORMED, expert.severity.ERROR)
 local refused = ProtoExpert.new("audiofile.refusal", "Refused", expert.group.RESPONSE_CODE, expert.severity.NOTE)
-audiofile.experts = { malformed, refused }
+local came_late = ProtoExpert.new("audiofile.came_late", "Came too late", expert.group.SEQUENCE, expert.severity.WARN)
+audiofile.experts = { malformed, refused, came_late }
 
 -- of each connection, by its two ends: the server's port, whether its numbers are little-endian now, and how many requests it has
 -- had. When frames are first gone through, `setups` gets each setup, as ports may be used again, with its frame and its order,
--- `numbers` the number of each request by the place where it stands, `asked` the frame of the request that each message answers, and
--- `frames` the frame of each number
+-- `numbers` the number of each request by the place where it stands, `asked` the frame of the request that each message answers,
+-- `frames` the frame of each number, `starts` the time of each Play by its number, and `late` by how many frames each Play was late
+-- whose reply says so
 local streams = {}
 
 function audiofile.init()
@@ -137,7 +140,7 @@ local function stream_of(pinfo)
     local one = tostring(pinfo.src) .. " " .. pinfo.src_port
     local other = tostring(pinfo.dst) .. " " .. pinfo.dst_port
     local ends = one < other and one .. " " .. other or other .. " " .. one
-    streams[ends] = streams[ends] or { little = false, count = nil, setups = {}, numbers = {}, asked = {}, frames = {} }
+    streams[ends] = streams[ends] or { little = false, count = nil, setups = {}, numbers = {}, asked = {}, frames = {}, starts = {}, late = {} }
     return streams[ends]
 end
 
@@ -265,6 +268,7 @@ local function request(stream, tvb, pinfo, tree)
     if count > 0 then tree:add(fields.data, tvb(16, count)) end
     local number = request_number(stream, tvb, pinfo)
     if number then tree:add(fields.number, number):set_generated() end
+    if number and opcode == 6 and not pinfo.visited then stream.starts[number] = number_at(stream, tvb(8, 4)) end
     say(pinfo, tree, layout.name .. (number and " " .. number or ""), more_of(layout, stream, tvb))
 end
 
@@ -340,6 +344,17 @@ local function answered(stream, tvb, pinfo, tree, opcode, number)
     return (NAMES[opcode] or "opcode " .. opcode) .. " " .. number
 end
 
+-- by how many frames a Play came too late, by the time of its reply. Nothing where it was in time
+local function late_by(stream, tvb, pinfo, number)
+    local place = place_of(tvb, pinfo)
+    local start = stream.starts[number]
+    if not pinfo.visited and start then
+        local late = (number_at(stream, tvb(8, 4)) - start) % 4294967296
+        if late > 0 and late < 2147483648 then stream.late[place] = late end
+    end
+    return stream.late[place]
+end
+
 local function reply(stream, tvb, pinfo, tree, opcode, number)
     add(stream, tree, "reply", tvb(1, 1))
     local text = "reply to " .. answered(stream, tvb, pinfo, tree, opcode, number)
@@ -352,7 +367,12 @@ local function reply(stream, tvb, pinfo, tree, opcode, number)
     add_all(stream, tree, layout, tvb)
     local count = layout.has_data and number_at(stream, tvb(12, 4)) or 0
     if count > 0 then tree:add(fields.data, tvb(16, count)) end
-    say(pinfo, tree, text, more_of(layout, stream, tvb))
+    local late = opcode == 6 and late_by(stream, tvb, pinfo, number)
+    if late then
+        tree:add(fields.late, late):set_generated()
+        tree:add_proto_expert_info(came_late, "The first frame came " .. late .. " too late")
+    end
+    say(pinfo, tree, text, more_of(layout, stream, tvb) .. (late and ", late by " .. late .. " frames" or ""))
 end
 
 local function failure(stream, tvb, pinfo, tree, code, number)

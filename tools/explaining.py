@@ -15,6 +15,7 @@ from words import Contexts, counted, heard, time_after, words_of_message, words_
 KINDS = {name: bit for bit, name in EVENTS.items()}
 # with more than this to send, an event drops a link
 MOST_UNSENT = 49152
+HALF = WORD // 2
 SAID = ("reply", "error", "event")
 CLOSED = {
     "setup": "a bad setup", "malformed": "a malformed frame", "ended": "its client has no more to send", "fault": "a read or a write failed",
@@ -90,7 +91,16 @@ class Conversation:
             asked = self.asked.get(self.answered)
         if asked and item.kind == "reply" and asked.item.name != item.name:
             return "bad: a reply to %s, but request %d is %s" % (item.name, item.number, asked.item.name)
-        return words_of_message(item, asked.form if asked else None)
+        return words_of_message(item, asked.form if asked else None) + self.late(item, asked)
+
+    @staticmethod
+    def late(item, asked):
+        """What is said of a play some frames of which had come too late, by the time of its reply."""
+        if not asked or item.kind != "reply" or item.name != "Play":
+            return ""
+        frames = len(asked.item.data) // asked.form.frame() if asked.form else HALF
+        late = (item.fields["time"] - asked.item.fields["time"]) % WORD
+        return ", %s too late to be heard" % counted(min(late, frames), "frame") if 0 < late < HALF and frames else ""
 
     def unfinished(self):
         """What is left of a request, and of a message, that never became whole."""

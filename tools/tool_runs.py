@@ -65,11 +65,13 @@ def bytes_in(text, where):
         raise BadRun("%s: no hexadecimal digits of whole bytes: %s" % (where, line)) from None
 
 
-def read_runs(name):
-    """The runs of a folder, one for each list of words."""
-    folder = os.path.join(RUNS, name)
+def read_runs(name, runs=RUNS, more=frozenset()):
+    """The runs of a folder, one for each list of words. It may have more files, which say nothing here."""
+    folder = os.path.join(runs, name)
     texts = {}
     for file in os.listdir(folder):
+        if file in more:
+            continue
         if file not in FILES:
             raise BadRun("%s is no file of a worked run" % file)
         with open(os.path.join(folder, file), encoding="utf-8") as opened:

@@ -1,12 +1,15 @@
-//! The tools' program: it makes the real objects, calls the one function, and says how that ended.
+//! The tools' program: it makes the real objects, calls the one function, and says how that ended, in a line and, where they are
+//! wanted, in details.
 #![tactic(auto)]
 
 ghost use Rattle.std.specs.Prelude.{◌≡◌};
 ghost use Rattle.af.specs.Statuses.{answer_status, tool_status};
 
 use af_answer::{AnswerEnd, answer_run, names_answer};
-use af_child::StdSpawner;
-use af_io::{Args, StdSink, StdSource, TcpDial, WordsFault, program_words};
+use af_details::{
+    WatchedDial, WatchedSource, WatchedSpawner, tell_answer, tell_no_text, tell_tool,
+};
+use af_io::{Args, StdSink, WordsFault, open_standard_streams, program_words, wants_details};
 use af_tools::{ToolEnd, af_run};
 use std::io;
 use std::process::ExitCode;
@@ -111,47 +114,77 @@ fn report(rt: &impl Eprint, end: ToolEnd) -> io::Result<()> {
 }
 
 fn main(rt: HostRuntime) -> ExitCode {
+    open_standard_streams(&rt);
+    let details = wants_details(&rt);
     let words = match program_words(rt.alloc(), &rt) {
         Ok(words) => words,
-        Err(WordsFault::NotText) => return ended(&rt, ToolEnd::Usage),
-        Err(WordsFault::OutOfMemory) => return ended(&rt, ToolEnd::OutOfMemory),
+        Err(WordsFault::NotText) => {
+            let end = said(&rt, ToolEnd::Usage);
+            if details {
+                tell_no_text(&rt);
+            }
+            return ExitCode::from(status_of(end));
+        }
+        Err(WordsFault::OutOfMemory) => {
+            return ExitCode::from(status_of(said(&rt, ToolEnd::OutOfMemory)));
+        }
     };
     if names_answer(&words) {
-        let end = attend(&rt, &words);
-        // Where standard error takes nothing, the status still says how it ended.
-        let _ = report_answer(&rt, end);
-        return ExitCode::from(answer_status_of(end));
+        ExitCode::from(answer_status_of(attend(&rt, &words, details)))
+    } else {
+        ExitCode::from(status_of(run(&rt, &words, details)))
     }
-    ended(&rt, run(&rt, &words))
 }
 
-// Says how a tool ended.
-fn ended(rt: &impl Eprint, end: ToolEnd) -> ExitCode {
+// Says how a tool ended. Where standard error takes nothing, the status still does.
+fn said(rt: &impl Eprint, end: ToolEnd) -> ToolEnd
+    ensures { result ≡ end }
+{
     let _ = report(rt, end);
-    ExitCode::from(status_of(end))
+    end
 }
 
-// Runs the tool that the words name, over standard input, standard output and TCP.
-fn run(rt: &HostRuntime, words: &Args) -> ToolEnd {
+// Says how the answering machine ended.
+fn said_answer(rt: &impl Eprint, end: AnswerEnd) -> AnswerEnd
+    ensures { result ≡ end }
+{
+    let _ = report_answer(rt, end);
+    end
+}
+
+// Runs the tool that the words name, over standard input, standard output and TCP, and says how that ended.
+fn run(rt: &HostRuntime, words: &Args, details: bool) -> ToolEnd {
     let Ok(net) = rt.clone() else {
-        return ToolEnd::OutOfMemory;
+        return said(rt, ToolEnd::OutOfMemory);
     };
-    let mut source = StdSource::new(rt.reader());
+    let mut source = WatchedSource::new(rt.reader());
     let mut sink = StdSink::new(io::writer(rt));
-    let mut dial = TcpDial::new(net);
-    af_run(rt.alloc(), words, &mut source, &mut sink, &mut dial)
+    let mut dial = WatchedDial::new(net);
+    let end = af_run(rt.alloc(), words, &mut source, &mut sink, &mut dial);
+    let end = said(rt, end);
+    if details {
+        let reason = sink.reason();
+        tell_tool(rt, rt.alloc(), words, end, &dial, &mut source, reason);
+    }
+    end
 }
 
-// Attends a line, over standard output, TCP, and the programs of the system.
-fn attend(rt: &HostRuntime, words: &Args) -> AnswerEnd {
+// Attends a line, over standard output, TCP, and the programs of the system, and says how that ended.
+fn attend(rt: &HostRuntime, words: &Args, details: bool) -> AnswerEnd {
     let Ok(net) = rt.clone() else {
-        return AnswerEnd::OutOfMemory;
+        return said_answer(rt, AnswerEnd::OutOfMemory);
     };
     let Ok(programs) = rt.clone() else {
-        return AnswerEnd::OutOfMemory;
+        return said_answer(rt, AnswerEnd::OutOfMemory);
     };
     let mut sink = StdSink::new(io::writer(rt));
-    let mut dial = TcpDial::new(net);
-    let mut spawner = StdSpawner::new(programs);
-    answer_run(rt.alloc(), words, &mut sink, &mut dial, &mut spawner)
+    let mut dial = WatchedDial::new(net);
+    let mut spawner = WatchedSpawner::new(programs);
+    let end = answer_run(rt.alloc(), words, &mut sink, &mut dial, &mut spawner);
+    let end = said_answer(rt, end);
+    if details {
+        let reason = sink.reason();
+        tell_answer(rt, rt.alloc(), words, end, &dial, &spawner, reason);
+    }
+    end
 }

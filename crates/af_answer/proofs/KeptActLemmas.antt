@@ -62,8 +62,8 @@ module _ (order : Order) where
     pub on : fold off_after off before ≡ false
 
   -- the same with an act before
-  stops_behind : (off : Bool) (job : AnswerJob) (act : MachineAct) (acts : List MachineAct) (sends : List ℕ) → StopsOff (off_after off act) job acts sends → StopsOff off job (act ∷ acts) (bytes_of_act order job.device act ++ sends)
-  stops_behind off job act acts sends s = record {
+  stops_after : (off : Bool) (job : AnswerJob) (act : MachineAct) (acts : List MachineAct) (sends : List ℕ) → StopsOff (off_after off act) job acts sends → StopsOff off job (act ∷ acts) (bytes_of_act order job.device act ++ sends)
+  stops_after off job act acts sends s = record {
     before = act ∷ s.before;
     later = s.later;
     are = ap (λ l. act ∷ l) s.are;
@@ -104,7 +104,7 @@ module _ (order : Order) where
     children = k.children;
     text = k.text;
     whole = k.whole;
-    stops = λ f met. stops_behind false job off_hook (acts (next b).heard) (next b).sends (k.stops f met);
+    stops = λ f met. stops_after false job off_hook (acts (next b).heard) (next b).sends (k.stops f met);
   }
   keeps_off job acts runs (Err f) b next k = record {
     unsent = requests_of order job.device (acts []);
@@ -127,7 +127,7 @@ module _ (order : Order) where
     children = k.children;
     text = k.text;
     whole = k.whole;
-    stops = λ f met. stops_behind true job on_hook (acts (next b).heard) (next b).sends (k.stops f met);
+    stops = λ f met. stops_after true job on_hook (acts (next b).heard) (next b).sends (k.stops f met);
   }
   keeps_on job acts runs (Err f) b next k = record {
     unsent = requests_of order job.device (acts []);
@@ -151,7 +151,7 @@ module _ (order : Order) where
     children = ap (λ l. run_told (shell_words job.greeting.bytes) (first_run runs) ++ l) k.children ∙ sym (append_assoc (run_told (shell_words job.greeting.bytes) (first_run runs)) t.told k.untold);
     text = k.text;
     whole = k.whole;
-    stops = λ f met. stops_behind true job greet acts t.sends (k.stops f met);
+    stops = λ f met. stops_after true job greet acts t.sends (k.stops f met);
   }
 
   keeps_message : (job : AnswerJob) (acts : List MachineAct) (runs : List ChildRun) (t : AnswerTrace) → KeepsTo true job acts (drop 1 runs) t →
@@ -164,7 +164,7 @@ module _ (order : Order) where
     children = ap (λ l. run_told (shell_words job.message.bytes) (first_run runs) ++ l) k.children ∙ sym (append_assoc (run_told (shell_words job.message.bytes) (first_run runs)) t.told k.untold);
     text = k.text;
     whole = k.whole;
-    stops = λ f met. stops_behind true job record_message acts t.sends (k.stops f met);
+    stops = λ f met. stops_after true job record_message acts t.sends (k.stops f met);
   }
 
   requests_is : (device off : ℕ) (w : ClientState) (runs : List ChildRun) (next : ToCome → AnswerTrace) → w.order ≡ order →

@@ -87,10 +87,11 @@ pub record HangsUp (order : Order) (job : AnswerJob) (acts : List MachineAct) (r
 abbrev pub HasLine : AnswerJob → List DeviceInfo → Type 0
 HasLine job devices = (device : DeviceInfo) × (slice_get devices job.device ≡ Some device) × (device.line ≡ true)
 
--- each OnHook gets the reply that it awaits, and each OffHook, too
+-- each OnHook gets the reply that it awaits
 abbrev pub PutsOn : AnswerTrace → Type 0
 PutsOn trace = (f : ConnFault) → trace.finish ≢ on_hook_fault f
 
+-- and so does each OffHook
 abbrev pub SwitchesHook : AnswerTrace → Type 0
 SwitchesHook trace = PutsOn trace × ((f : ConnFault) → trace.finish ≢ off_hook_fault f)
 
@@ -104,9 +105,9 @@ pub data HookAtEnd : Type 0 where
   never_off : HookAtEnd
   -- it was put on again each time
   put_on : HookAtEnd
-  -- it is on, unless an OnHook was answered so
+  -- it is on, unless an OnHook was answered with this fault
   on_if_put_on : HookAtEnd
-  -- it is on, unless an OffHook or an OnHook was answered so
+  -- it is on, unless an OffHook or an OnHook was
   on_if_switched : HookAtEnd
   -- the link failed: it may be off
   maybe_off : HookAtEnd

@@ -32,6 +32,9 @@ fn find_line<L: Link + Drop>(job: &AnswerJob, conn: &Conn<L>) -> Result<(), Answ
 /// messages were recorded, and in how many a child has failed. A call is taken at the ring with the stated number: the hook is
 /// taken off, the greeting is run, behind one that ended well the message, and the hook is put on. The connection is one that was
 /// just made.
+///
+/// The hook is on at the end. It may be off only if the server refused OnHook, if the link failed, or if the link ended, or a bad
+/// reply or too many events came, in answer to OffHook or OnHook.
 pub fn answer<L: Link + Drop, S: Spawner, K: Sink>(
     alloc: Global,
     job: &AnswerJob,

@@ -8,6 +8,7 @@ ghost use Rattle.af_io.specs.Real.{ReadsOn, WritesOn};
 ghost use Rattle.af_io.specs.Dial.{CountsHurt, GivesNext, AppendedBack, IsUnhurt};
 
 use crate::faults::faults_after;
+use crate::keepalive::keep_alive;
 use crate::real::{read_some, write_whole};
 use crate::{Dial, Dialed, Got, Link, Put, Reason};
 use std::io::{ErrorKind, Read, Write};
@@ -127,6 +128,7 @@ impl<R: Net + Drop> Dial for TcpDial<R> {
             Ok(stream) => {
                 // A request is to leave at once. Where the system refuses that, it leaves later.
                 let _ = stream.set_nodelay(true);
+                keep_alive(&stream);
                 Dialed::Far(TcpLink {
                     stream,
                     faults: 0,

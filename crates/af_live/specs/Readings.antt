@@ -1,14 +1,16 @@
 -- What a wait goes by: the reading of a round, and for how long a poll waits.
 use Rattle.std.specs.Prelude.{◌≡◌, ℕ, ◌-◌, ◌%◌, Bool, ◌||◌, if◌then◌else◌, Option, Some, None}
+use Rattle.af_pace.specs.Rounds.{reading_after}
 
 -- what a clock shows, in nanoseconds, rounded down to whole milliseconds
 abbrev pub whole_millis : ℕ → ℕ
 whole_millis nanos = nanos - nanos % 1000000
 
--- A round has one reading: what the clock showed as it came to its first device, rounded down. It keeps to that one.
-abbrev pub IsReadingBy : Option ℕ → ℕ → Type 0
-IsReadingBy None nanos = (shown : ℕ) × (nanos ≡ whole_millis shown)
-IsReadingBy (Some taken) nanos = nanos ≡ taken
+-- A round has one reading: what the clock showed as it came to its first device, rounded down, or less, where that is more than 20
+-- milliseconds after the reading of the round before. It keeps to that one.
+abbrev pub IsReadingBy : Option ℕ → Option ℕ → ℕ → Type 0
+IsReadingBy None last nanos = (shown : ℕ) × (nanos ≡ reading_after last (whole_millis shown))
+IsReadingBy (Some taken) last nanos = nanos ≡ taken
 
 -- for how many nanoseconds a poll waits at most: for none if there is more to do, or a device ticked in the round
 abbrev pub pause_of : Bool → Bool → ℕ

@@ -75,7 +75,7 @@ GivesKept (Some w) links round links' round' = GivesFirst links (Some w) links' 
 
 -- Each device that the round has left is asked at its one reading, and none has a frame due.
 abbrev pub PassesAll : RoundState → RoundState → Type 0
-PassesAll old past = (nanos : ℕ) × IsReadingBy old.reading nanos × GoesOn nanos old None past
+PassesAll old past = (nanos : ℕ) × IsReadingBy old.reading old.last nanos × GoesOn nanos old None past
 
 -- A tick is that of the next device of the round of which frames are due, at the one reading of the round. Any other wake was
 -- kept ready, and the round stays where it is; or it comes after the last of the devices, of which none has a frame due then, and a
@@ -83,7 +83,7 @@ PassesAll old past = (nanos : ℕ) × IsReadingBy old.reading nanos × GoesOn na
 abbrev pub LeadsRound : Option Wake → List (Option LinkEntry) → RoundState → List (Option LinkEntry) → RoundState → Type 0
 LeadsRound None links old links' new = (new ≡ old) ⊎ PassesAll old new
 LeadsRound (Some (wake.Ticked d n)) links old links' new =
-    (nanos : ℕ) × IsReadingBy old.reading nanos × GoesOn nanos old (Some (d, n)) new
+    (nanos : ℕ) × IsReadingBy old.reading old.last nanos × GoesOn nanos old (Some (d, n)) new
 LeadsRound (Some w) links old links' new =
     GivesKept (Some w) links old links' new ⊎ ((past : RoundState) × PassesAll old past × (new ≡ round_begun past))
 

@@ -12,6 +12,7 @@ mod link_table;
 mod links;
 mod mio_world;
 mod sockets;
+mod turned_away;
 
 pub use af_config::{ConfigFault, Setting, read_config};
 pub use af_pace::Pace;

@@ -326,20 +326,22 @@ fn whole_millis(shown: Duration) -> Option<u64>
     Some(nanos - nanos % NANOS_A_MILLISECOND)
 }
 
-/// The reading of the clock that a round goes by: its own, or one that is taken now.
+/// The reading of the clock that a round goes by: its own, or one that is taken now. After the server stood still that is behind
+/// what the clock shows, round by round at most 20 milliseconds further: each device ticks then, and so no poll waits.
 fn reading<R: Clock>(rt: &R, round: &Round) -> Option<u64>
-    ensures { IfSome result (λ nanos. IsReadingBy round.now.reading nanos) }
+    ensures { IfSome result (λ nanos. IsReadingBy round.now.reading round.now.last nanos) }
 {
     match round.reading() {
         Some(taken) => Some(taken),
-        None => whole_millis(rt.monotonic().ok()?),
+        None => Some(round.reading_after(whole_millis(rt.monotonic().ok()?)?)),
     }
 }
 
-/// What a poll finds first. A new round over the devices begins behind it.
+/// What a poll finds first, at this reading of the clock. A new round over the devices begins behind it.
 fn poll_once(
     sockets: &mut Sockets,
     pause: Duration,
+    nanos: u64,
     links: &mut HeldLinks,
     round: &mut Round,
 ) -> Option<Wake>
@@ -348,7 +350,7 @@ fn poll_once(
     ensures links { MatchOption result (links.new ≡ links.old) (λ wake. PolledGives wake links.old links.new) }
     ensures round { MatchOption result (round.new ≡ round.old) (λ wake. round.new ≡ round_begun round.old) }
 {
-    if !sockets.poll(pause, links) {
+    if !sockets.poll(pause, nanos, links) {
         return None;
     }
     round.begin();
@@ -386,7 +388,8 @@ fn next_wake<R: Clock>(
     if let Some((device, frames)) = round.next_tick(nanos) {
         return Some(Wake::Ticked(device, frames));
     }
-    poll_once(sockets, pause(more, round.has_ticked()), links, round)
+    let pause = pause(more, round.has_ticked());
+    poll_once(sockets, pause, nanos, links, round)
 }
 
 /// What a wait answers that found this wake, or none.

@@ -6,6 +6,8 @@ ghost use Rattle.af_live.specs.Polls.{told_by, PollsTo};
 
 use crate::held_links::HeldLinks;
 use crate::link_table::Told;
+use crate::turned_away::TurnedAway;
+use af_io::keep_alive;
 use af_limits::MOST_LINKS;
 use mio::event::Event;
 use mio::net::{TcpListener, TcpStream};
@@ -36,6 +38,7 @@ pub struct Sockets {
     /// Whether connections may wait: their event comes once, and not for each.
     waiting: bool,
     pub(crate) streams: Slab<TcpStream>,
+    leaving: TurnedAway,
 }
 
 impl Sockets {
@@ -54,12 +57,13 @@ impl Sockets {
             turned_away: 0,
             waiting: false,
             streams,
+            leaving: TurnedAway::new(),
         })
     }
 
-    /// Waits for at most so long until something is ready, and notes it. New links are accepted. The answer is whether the
-    /// system could be asked; a signal is no refusal.
-    pub(crate) fn poll(&mut self, pause: Duration, links: &mut HeldLinks) -> bool
+    /// Waits for at most so long until something is ready, and notes it. New links are accepted, at this reading of the clock. The
+    /// answer is whether the system could be asked; a signal is no refusal.
+    pub(crate) fn poll(&mut self, pause: Duration, now: u64, links: &mut HeldLinks) -> bool
         ensures polls { PollsTo links.old links.new }
         ensures refused { result ≡ false → links.new ≡ links.old }
     {
@@ -71,20 +75,21 @@ impl Sockets {
         if note_events(&self.events, links) {
             self.waiting = true;
         }
+        self.leaving.close_old(now);
         if self.waiting {
-            self.accept_all(links);
+            self.accept_all(now, links);
         }
         true
     }
 
     /// Accepts the connections that wait. Where the system refuses one for the time being, as with no descriptor left, those that
     /// wait are tried again behind the next poll.
-    fn accept_all(&mut self, links: &mut HeldLinks)
+    fn accept_all(&mut self, now: u64, links: &mut HeldLinks)
         ensures { PollsTo links.old links.new }
     {
         for _ in 0..MOST_ACCEPTS {
             match self.listener.accept() {
-                Ok((stream, _)) => self.take_in(stream, links),
+                Ok((stream, _)) => self.take_in(stream, now, links),
                 Err(e) => match e.kind() {
                     ErrorKind::Interrupted | ErrorKind::ConnectionAborted => {}
                     kind => {
@@ -96,12 +101,14 @@ impl Sockets {
         }
     }
 
-    /// Holds a new link under the least number that is free. If none is, or the system does not watch it, it is closed.
-    fn take_in(&mut self, mut stream: TcpStream, links: &mut HeldLinks)
+    /// Holds a new link under the least number that is free. If none is, it is turned away; if the system does not watch it, it is
+    /// closed.
+    fn take_in(&mut self, mut stream: TcpStream, now: u64, links: &mut HeldLinks)
         ensures { TakesIn links.old links.new }
     {
         let Some(number) = links.least_free() else {
             self.turned_away = self.turned_away.saturating_add(1);
+            self.leaving.turn_away(stream, now);
             return;
         };
         // there is room wherever a number is free
@@ -110,6 +117,7 @@ impl Sockets {
         }
         // An answer is to leave at once. Where the system refuses that, it leaves later.
         let _ = stream.set_nodelay(true);
+        keep_alive(&stream);
         let all = Interest::READABLE | Interest::WRITABLE | Interest::PRIORITY;
         if self
             .poll

@@ -1,19 +1,29 @@
 -- Rounds over devices, each of which has a pace.
-use Rattle.std.specs.Prelude.{◌≡◌, ℕ, ◌+◌, ◌≤◌, ◌<◌, max, Bool, true, false, List, replicate, slice_index_or, slice_set, option_map, is_some, Option, Some, None}
+use Rattle.std.specs.Prelude.{◌≡◌, ℕ, ◌+◌, ◌≤◌, ◌<◌, max, min, Bool, true, false, List, replicate, slice_index_or, slice_set, option_map, is_some, Option, Some, None}
 use Rattle.af_limits.specs.Limits.{most_devices, longest_tick}
 use Rattle.af_pace.specs.Pacing.{PaceState, due_at, after_due}
 
--- The pace of each device that is attached, the device that the round comes to next, whether one ticked in it, and the reading of the
--- clock that it goes by, once it has come to a device.
+-- The pace of each device that is attached, the device that the round comes to next, whether one ticked in it, the reading of the
+-- clock that it goes by, once it has come to a device, and the last reading that this or an earlier round went by.
 pub record RoundState : Type 0 where
   pub paces : List (Option PaceState)
   pub next : ℕ
   pub ticked : Bool
   pub reading : Option ℕ
+  pub last : Option ℕ
+
+-- the nanoseconds that the reading of a round is at most after that of the round before: 20 milliseconds
+abbrev pub longest_step : ℕ
+longest_step = 20000000
+
+-- The reading of a round as the clock shows this. A server that stood still catches up in steps.
+abbrev pub reading_after : Option ℕ → ℕ → ℕ
+reading_after None shown = shown
+reading_after (Some last) shown = min shown (last + longest_step)
 
 -- no device is attached
 abbrev pub new_round : RoundState
-new_round = record { paces = replicate most_devices None; next = 0; ticked = false; reading = None }
+new_round = record { paces = replicate most_devices None; next = 0; ticked = false; reading = None; last = None }
 
 -- the pace of a device, if it is attached
 abbrev pub pace_at : RoundState → ℕ → Option PaceState
@@ -27,7 +37,7 @@ is_paced r d = is_some (pace_at r d)
 abbrev pub round_with : RoundState → ℕ → PaceState → RoundState
 round_with r d pace = record r { paces = slice_set r.paces d (Some pace) }
 
--- a new round begins
+-- a new round begins, and the last reading stays
 abbrev pub round_begun : RoundState → RoundState
 round_begun r = record r { next = 0; ticked = false; reading = None }
 
@@ -75,6 +85,7 @@ pub record PassesOver (nanos to : ℕ) (old new : RoundState) : Type 0 where
   pub asked : PacesAsked nanos old.next to old.paces new.paces
   pub same : new.ticked ≡ old.ticked
   pub reading : new.reading ≡ Some nanos
+  pub last : new.last ≡ Some nanos
 
 -- the round passes over those before a device of which frames are due, at most 4096 of them, and this one ticks
 pub record RoundTicks (nanos d n : ℕ) (old new : RoundState) : Type 0 where
@@ -88,6 +99,7 @@ pub record RoundTicks (nanos d n : ℕ) (old new : RoundState) : Type 0 where
   pub next : new.next ≡ d + 1
   pub ticked : new.ticked ≡ true
   pub reading : new.reading ≡ Some nanos
+  pub last : new.last ≡ Some nanos
 
 -- The round goes on by rising number to the next device of which a frame is due, or past the last.
 abbrev pub GoesOn : ℕ → RoundState → Option (ℕ × ℕ) → RoundState → Type 0

@@ -2,14 +2,18 @@
 ghost use Rattle.std.specs.Prelude.{◌≡◌, ◌≤◌, ◌<◌, length, true};
 ghost use Rattle.af_limits.specs.Limits.{most_devices};
 ghost use Rattle.af_pace.specs.Pacing.{begun};
-ghost use Rattle.af_pace.specs.Rounds.{due_of, read_at, new_round, round_with, round_begun, is_paced, FindsDue, GoesOn, IsSettled};
+ghost use Rattle.af_pace.specs.Rounds.{due_of, read_at, reading_after, longest_step, new_round, round_with, round_begun, is_paced, FindsDue, GoesOn, IsSettled};
 
 use crate::Pace;
 use af_limits::MOST_DEVICES;
 use std::marker::Model;
 
-/// The paces of the devices that are attached, the device that the round comes to next, whether one ticked in it, and the reading of
-/// the clock that it goes by, once it has come to a device.
+/// How many nanoseconds the reading of a round is at most after that of the round before. While a server that stood still catches
+/// up, its clients are served between steps that are short against what they send and get at once.
+const LONGEST_STEP_NANOS: u64 = 20_000_000;
+
+/// The paces of the devices that are attached, the device that the round comes to next, whether one ticked in it, the reading of
+/// the clock that it goes by, once it has come to a device, and the last reading that this or an earlier round went by.
 #[derive(Drop)]
 pub struct Round {
     paces: [Option<Pace>; MOST_DEVICES],
@@ -18,6 +22,7 @@ pub struct Round {
     next: usize,
     ticked: bool,
     reading: Option<u64>,
+    last: Option<u64>,
     // A reading at which nothing is due of any device: rounds by it need not ask them again, and where there is much to do there are
     // many within a millisecond.
     settled: Option<u64>,
@@ -30,7 +35,7 @@ impl Model for Round {
 
     ghost Value = { RoundState };
 
-    ghost view = { λ r. record { paces = r.paces; next = r.next; ticked = r.ticked; reading = r.reading } };
+    ghost view = { λ r. record { paces = r.paces; next = r.next; ticked = r.ticked; reading = r.reading; last = r.last } };
 
     ghost invariant = { λ r. (r.end ≤ most_devices) × NoneFrom r.end r.paces × IfSome r.settled (λ nanos. IsSettled nanos r.paces) };
 }
@@ -46,6 +51,7 @@ impl Round {
             next: 0,
             ticked: false,
             reading: None,
+            last: None,
             settled: None,
         }
     }
@@ -78,6 +84,17 @@ impl Round {
         self.reading
     }
 
+    /// The reading that a round goes by if the clock shows this as it comes to its first device: at most 20 milliseconds after that
+    /// of the round before.
+    pub fn reading_after(&self, shown: u64) -> u64
+        ensures { result ≡ reading_after self.now.last shown }
+    {
+        match self.last {
+            Some(last) => shown.min(last.saturating_add(LONGEST_STEP_NANOS)),
+            None => shown,
+        }
+    }
+
     // Whether it is known that nothing is due of any device at a reading.
     fn is_settled(&self, nanos: u64) -> bool
         ensures { result ≡ true → IsSettled nanos self.now.paces }
@@ -94,6 +111,7 @@ impl Round {
         ensures { GoesOn nanos self.old result self.new }
     {
         self.reading = Some(nanos);
+        self.last = Some(nanos);
         if self.is_settled(nanos) {
             self.next = self.next.max(MOST_DEVICES);
             return None;

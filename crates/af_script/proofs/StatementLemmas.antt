@@ -20,7 +20,7 @@ use Rattle.hex.specs.Hex.{decode_of}
 use Rattle.af_script.specs.declared.statement.LineKind.{LineKind}
 use Rattle.af_script.specs.declared.statement.LineKind.TheVariants as kind
 use Rattle.af_script.specs.Words.{number_of, number_within, only_if, then_some, bytes_within}
-use Rattle.af_script.specs.Statement.{line_kind_of, is_device_kind, type_of, rate_of, channels_stated, behind_channels, line_stated, device_at, device_with, device_of, link_of, device_number, line_number, switch_of, digit_of, with_link, send_of, room_stated, room_of, capture_of, tick_of, switched, dial_of, with_number, fail_hook_of, idle_of, step_of_kind, step_of, is_device_line}
+use Rattle.af_script.specs.Statement.{last_link, line_kind_of, is_device_kind, type_of, rate_of, channels_stated, behind_channels, line_stated, device_at, device_with, device_of, link_of, device_number, line_number, switch_of, digit_of, with_link, send_of, room_stated, room_of, capture_of, tick_of, switched, dial_of, with_number, fail_hook_of, idle_of, step_of_kind, step_of, is_device_line}
 use Rattle.af_script.specs.Script.{StatedScript, ScriptLine, most_devices, device_lines, with_first, each_says, first_number, with_steps, with_config, stated_by, script_of, entries}
 use Rattle.af_script.specs.Lines.{lines}
 

@@ -35,13 +35,13 @@ DialGivesContext order job links = (first : ToldLink) × (rest : List ToldLink) 
 
 -- A source without a head is as it was, unless the link of a connection gives the reply that the context was made, if it tells what it
 -- gives.
-abbrev pub ReadsBehindContext : {L S : Type 0} → (left : L → Option (List ℕ)) → PlayJob → ConnState L → (source source' : S) → Type 0
-ReadsBehindContext left job conn source source' = job.form ≡ None →
+abbrev pub ReadsAfterContext : {L S : Type 0} → (left : L → Option (List ℕ)) → PlayJob → ConnState L → (source source' : S) → Type 0
+ReadsAfterContext left job conn source source' = job.form ≡ None →
     (source' ≡ source) ⊎ ((input : List ℕ) → left conn.link ≡ Some input → GivesContext job conn.devices (client_of conn input))
 
 -- the same of a task, if it is one of aplay, over a connection, over a link, and over a dial
 abbrev pub TaskReadsLate : {L S : Type 0} → (left : L → Option (List ℕ)) → Task → ConnState L → (source source' : S) → Type 0
-TaskReadsLate left t conn source source' = (job : PlayJob) → t ≡ task.Play job → ReadsBehindContext left job conn source source'
+TaskReadsLate left t conn source source' = (job : PlayJob) → t ≡ task.Play job → ReadsAfterContext left job conn source source'
 
 abbrev pub LinkReadsLate : {L S : Type 0} → (left : L → Option (List ℕ)) → Order → Task → L → (source source' : S) → Type 0
 LinkReadsLate left order t far source source' = (job : PlayJob) → t ≡ task.Play job → job.form ≡ None →

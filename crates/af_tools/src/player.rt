@@ -14,7 +14,7 @@ ghost use Rattle.af_tools.specs.Fill.{ConsumedBeyond, ConsumedStated, ConsumedUp
 ghost use Rattle.af_tools.specs.Most.{most_bytes};
 ghost use Rattle.af_tools.specs.Sounds.{IsServedAs};
 ghost use Rattle.af_tools.specs.Reading.{ObservedPartReading, UsesSource};
-ghost use Rattle.af_tools.specs.Unread.{GivesReply, ReadsBehindContext};
+ghost use Rattle.af_tools.specs.Unread.{GivesReply, ReadsAfterContext};
 ghost use Rattle.af_tools.specs.Ran.{LacksDevice, RunsAplay};
 ghost use Rattle.af_options.specs.Sizes.{greatest_block};
 
@@ -129,7 +129,7 @@ pub fn aplay<L: Link + Drop, S: Source, K: Sink>(
     ensures end { is_of_play result ≡ true }
     ensures no_device { LacksDevice job.now.device conn.old.devices result }
     ensures source { UsesSource S.left S.faults true job.now.form result source.old source.new }
-    ensures unread { ReadsBehindContext L.left job.now conn.old source.old source.new }
+    ensures unread { ReadsAfterContext L.left job.now conn.old source.old source.new }
     ensures link { CountsFault (result ≡ ToolEnd.LinkFault) (L.faults conn.old.link) (L.faults conn.new.link) }
     ensures sink { CountsFault (result ≡ ToolEnd.SinkFault) (K.faults sink.old) (K.faults sink.new) }
 {

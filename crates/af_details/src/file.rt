@@ -1,0 +1,99 @@
+// What a file is that is no sound file which can be played, as far as its head shows.
+use af_sound::{SoundFault, SoundForm};
+use std::fmt;
+use std::fmt::{Formatter, Write};
+
+/// A file that cannot be played: the form that was expected, what is wrong, and its first bytes.
+#[derive(Clone, Copy)]
+pub struct Unplayable<'a> {
+    pub form: SoundForm,
+    pub fault: SoundFault,
+    pub first: &'a [u8],
+}
+
+impl<'a> Unplayable<'a> {
+    /// Whether it is sound that another program may convert: it is of a kind that is known, and another option would not do.
+    pub fn is_sound(&self) -> bool {
+        match (self.fault, self.form, self.first) {
+            (SoundFault::BadMagic, SoundForm::Au, [b'R', b'I', b'F', b'F', ..]) => false,
+            (SoundFault::BadMagic, _, [b'.', b's', b'n', b'd', ..]) => false,
+            (SoundFault::BadMagic, form, first) => kind_of(form, first) != UNKNOWN,
+            _ => true,
+        }
+    }
+}
+
+impl<'a> fmt::Display for Unplayable<'a> {
+    fn fmt<W: Write>(&self, f: &mut Formatter<W>) -> fmt::Result {
+        match (self.fault, self.form) {
+            (SoundFault::BadMagic, form) => f.write_str(kind_of(form, self.first)),
+            (SoundFault::BadHead, SoundForm::Au) => f.write_str(".au, with a head that is broken"),
+            (SoundFault::BadHead, SoundForm::Wave) => {
+                f.write_str("WAVE, with a head that is broken")
+            }
+            (SoundFault::BadCoding { tag, bits: _ }, SoundForm::Au) => au_coding(tag, f),
+            (SoundFault::BadCoding { tag, bits }, SoundForm::Wave) => wave_coding(tag, bits, f),
+            (SoundFault::BadShape { rate: _, channels }, SoundForm::Au) => {
+                write!(f, ".au with {channels} channels")
+            }
+            (SoundFault::BadShape { rate: _, channels }, SoundForm::Wave) => {
+                write!(f, "WAVE with {channels} channels")
+            }
+        }
+    }
+}
+
+const UNKNOWN: &str =
+    "no sound file that is known here; samples without a head are played with --file=raw";
+
+// The kind of a file of another form than the one that was expected. Four bytes show that a file is no .au file, and twelve that
+// it is no WAVE file: more was not read.
+fn kind_of<'a>(form: SoundForm, first: &[u8]) -> &'a str {
+    match first {
+        [b'R', b'I', b'F', b'F', ..] if form == SoundForm::Au =>
+            "RIFF, as WAVE is: is --file=wave meant?",
+        [b'R', b'I', b'F', b'F', ..] => "RIFF, but not WAVE",
+        [b'.', b's', b'n', b'd', ..] => ".au: is --file=au meant?",
+        [b'I', b'D', b'3', ..] => "MP3",
+        [0xff, second, ..] if second & 0xe0 == 0xe0 => "MP3",
+        [b'O', b'g', b'g', b'S', ..] => "Ogg, such as Vorbis or Opus",
+        [b'f', b'L', b'a', b'C', ..] => "FLAC",
+        [b'F', b'O', b'R', b'M', ..] => "AIFF",
+        [b'R', b'F', b'6', b'4', ..] => "RF64",
+        [b'R', b'I', b'F', b'X', ..] => "RIFX",
+        [b'c', b'a', b'f', b'f', ..] => "CAF",
+        [0x1a, 0x45, 0xdf, 0xa3, ..] => "Matroska or WebM",
+        [_, _, _, _, b'f', b't', b'y', b'p', ..] => "MP4",
+        _ => UNKNOWN,
+    }
+}
+
+// A coding of .au files that is not read, by its number.
+fn au_coding<W: Write>(tag: u32, f: &mut Formatter<W>) -> fmt::Result {
+    match tag {
+        2 => f.write_str(".au with 8 bits"),
+        4 => f.write_str(".au with 24 bits"),
+        5 => f.write_str(".au with 32 bits"),
+        6 | 7 => f.write_str(".au with floats"),
+        _ => write!(f, ".au of the encoding {tag}"),
+    }
+}
+
+// A coding of WAVE files that is not read, by its tag and its bits.
+fn wave_coding<W: Write>(tag: u32, bits: u32, f: &mut Formatter<W>) -> fmt::Result {
+    match tag {
+        1 => write!(f, "WAVE with {bits} bits"),
+        3 => write!(f, "WAVE with floats of {bits} bits"),
+        85 => f.write_str("WAVE with MP3 inside"),
+        0xfffe => write!(f, "WAVE, extensible, {bits} bits"),
+        _ => write!(f, "WAVE of the coding {tag}, {bits} bits"),
+    }
+}
+
+/// The ending of a file's name, by its form.
+pub fn ending<'a>(form: SoundForm) -> &'a str {
+    match form {
+        SoundForm::Au => "au",
+        SoundForm::Wave => "wav",
+    }
+}

@@ -1,0 +1,34 @@
+//! What a person is told of a tool that did not do what was wanted, or lost sound. The outside is watched as the tools use it, and
+//! the lines are made of what was seen.
+#![tactic(auto)]
+
+mod answer;
+mod asked;
+mod children;
+mod dial;
+mod file;
+mod help;
+mod incoming;
+mod links;
+mod lost;
+mod options;
+mod passage;
+mod play;
+mod relay;
+mod shown;
+mod source;
+mod talk;
+mod tool;
+mod usage;
+mod values;
+
+pub use answer::tell_answer;
+pub use asked::Asked;
+pub use children::{Calls, WatchedSpawner};
+pub use dial::{WatchedDial, WatchedLink};
+pub use lost::Lost;
+pub use passage::Passage;
+pub use source::WatchedSource;
+pub use talk::{Address, Talk};
+pub use tool::tell_tool;
+pub use usage::{tell_no_text, tell_usage};

@@ -1,0 +1,109 @@
+// What is told of a play: of a file that does not fit, and of frames that came too late.
+use crate::asked::channels_text;
+use crate::file::{Unplayable, ending};
+use crate::shown::Counted;
+use crate::source::WatchedSource;
+use crate::talk::Talk;
+use af_options::PlayJob;
+use af_sound::SoundForm;
+use af_tool::ToolEnd;
+use std::io::Read;
+
+/// Tells what is wrong with a sound file, and what makes one that can be played.
+pub fn tell_sound<S: Read + Drop>(
+    rt: &impl Eprint,
+    job: &PlayJob,
+    end: ToolEnd,
+    talk: &Talk,
+    source: &WatchedSource<S>,
+) {
+    let Some(form) = job.form else {
+        return;
+    };
+    match end {
+        ToolEnd::BadSound { fault } => {
+            let file = Unplayable {
+                form,
+                fault,
+                first: source.first(),
+            };
+            let _ = eprintln!(rt; "af: standard input is {file}");
+            if !file.is_sound() {
+                return;
+            }
+        }
+        ToolEnd::RateMismatch { from, to } => tell_rates(rt, job, talk, from, to),
+        ToolEnd::ChannelMismatch { from, to } => tell_channels(rt, job, talk, from, to),
+        ToolEnd::SoundCut => {
+            let count = Counted(source.count(), "byte");
+            let _ = eprintln!(rt;
+                "af: standard input ended after {count}, inside the head of the file"
+            );
+            return;
+        }
+        _ => return,
+    }
+    tell_remedy(rt, job, form, talk);
+}
+
+fn tell_rates(rt: &impl Eprint, job: &PlayJob, talk: &Talk, from: u32, to: u32) {
+    let device = job.device;
+    let address = talk.address.as_str();
+    let _ = eprintln!(rt;
+        "af: the file has {from} frames a second, and device {device} of {address} has {to}"
+    );
+}
+
+fn tell_channels(rt: &impl Eprint, job: &PlayJob, talk: &Talk, from: u8, to: u8) {
+    let device = job.device;
+    let address = talk.address.as_str();
+    let from = channels_text(from);
+    let to = channels_text(to);
+    let _ = eprintln!(rt; "af: the file has {from}, and device {device} of {address} has {to}");
+}
+
+// Tells what makes a file that the device plays.
+fn tell_remedy(rt: &impl Eprint, job: &PlayJob, form: SoundForm, talk: &Talk) {
+    if let Some(info) = talk.devices.get(usize::from(job.device)) {
+        let device = job.device;
+        let rate = info.rate;
+        let channels = info.channels;
+        let ending = ending(form);
+        let _ = eprintln!(rt;
+            "af: this makes a file that device {device} plays: sox IN -r {rate} -c {channels} -b 16 OUT.{ending}"
+        );
+    }
+}
+
+/// Tells which frames were not heard, and of a file that has sound though its head says none.
+pub fn tell_played<S: Read + Drop>(
+    rt: &impl Eprint,
+    job: &PlayJob,
+    end: ToolEnd,
+    talk: &Talk,
+    source: &mut WatchedSource<S>,
+) {
+    if talk.late.frames > 0 {
+        let frames = Counted(talk.late.frames, "frame");
+        let blocks = Counted(talk.late.blocks, "block");
+        let _ = eprintln!(rt; "af: {frames} in {blocks} came too late to be heard");
+        match job.time {
+            Some(time) => {
+                let _ = eprintln!(rt; "af: a later --time helps; it was {time}");
+            }
+            None => {
+                let lead = job.lead;
+                let _ = eprintln!(rt; "af: a greater --lead helps; it was {lead} milliseconds");
+            }
+        }
+    }
+    let silent = end == ToolEnd::Done && job.form.is_some() && talk.passage.blocks == 0;
+    if silent && source.gives_more() {
+        let _ = eprintln!(rt;
+            "af: the head of the file says 0 samples, as a writer leaves it that could not go back; more bytes follow"
+        );
+        let _ = eprintln!(rt;
+            "af: this makes a file that says how many: sox --ignore-length IN OUT.wav"
+        );
+    }
+}

@@ -1,0 +1,91 @@
+// What is told of a relay.
+use crate::asked::channels_text;
+use crate::links::tell_no_device;
+use crate::shown::Counted;
+use crate::talk::Talk;
+use af_options::PassJob;
+use af_tool::ToolEnd;
+
+/// Tells which of the devices of a relay is not there, or how the two differ.
+pub fn tell_pair(rt: &impl Eprint, job: &PassJob, end: ToolEnd, from: &Talk, to: &Talk) {
+    match end {
+        ToolEnd::NoDevice { devices: _ } => tell_missing(rt, job, from, to),
+        ToolEnd::RateMismatch { from: a, to: b } => {
+            tell_end(
+                rt,
+                from,
+                job.from_device,
+                Counted(u64::from(a), "frame"),
+                " a second",
+            );
+            tell_end(
+                rt,
+                to,
+                job.to_device,
+                Counted(u64::from(b), "frame"),
+                " a second",
+            );
+            let _ = eprintln!(rt; "af: a relay does not resample: both devices must have one rate");
+        }
+        ToolEnd::ChannelMismatch { from: a, to: b } => {
+            tell_end(
+                rt,
+                from,
+                job.from_device,
+                Counted(u64::from(a), "channel"),
+                "",
+            );
+            tell_end(rt, to, job.to_device, Counted(u64::from(b), "channel"), "");
+            let _ = eprintln!(rt;
+                "af: a relay does not mix channels: both devices must have as many"
+            );
+        }
+        _ => {}
+    }
+}
+
+// Tells what one of the devices has.
+fn tell_end(rt: &impl Eprint, talk: &Talk, device: u8, count: Counted<'_>, per: &str) {
+    let address = talk.address.as_str();
+    let _ = eprintln!(rt; "af: device {device} of {address} has {count}{per}");
+}
+
+// Tells of the first of the devices that is not there.
+fn tell_missing(rt: &impl Eprint, job: &PassJob, from: &Talk, to: &Talk) {
+    if usize::from(job.from_device) < from.devices.len() {
+        tell_no_device(rt, to, job.to_device);
+    } else {
+        tell_no_device(rt, from, job.from_device);
+    }
+}
+
+/// Tells how many blocks were passed, how often the relay fell in step anew, and what was lost.
+pub fn tell_passed(rt: &impl Eprint, job: &PassJob, from: &Talk, to: &Talk) {
+    let passed = Counted(to.passage.blocks, "block");
+    let last = to.passage.last;
+    match to.passage.resynced {
+        0 => {
+            let _ = eprintln!(rt; "af: passed {passed}, never resynchronised");
+        }
+        resynced => {
+            let resynced = Counted(resynced, "time");
+            let _ = eprintln!(rt;
+                "af: passed {passed}, resynchronised {resynced}, the last time at block {last}"
+            );
+        }
+    }
+    if to.late.frames > 0 {
+        let frames = Counted(to.late.frames, "frame");
+        let blocks = Counted(to.late.blocks, "block");
+        let delay = job.delay;
+        let _ = eprintln!(rt; "af: {frames} in {blocks} came too late to be heard");
+        let _ = eprintln!(rt; "af: a greater --delay helps; it was {delay} milliseconds");
+    }
+    if from.gone.frames > 0 {
+        let frames = Counted(from.gone.frames, "frame");
+        let blocks = Counted(from.gone.blocks, "block");
+        let _ = eprintln!(rt;
+            "af: {frames} in {blocks} had left the server before they were asked for: silence was passed in their place"
+        );
+    }
+}

@@ -1,0 +1,193 @@
+// Which word is wrong, and what it may be.
+use crate::help::{tell_manual, tell_options, tell_tools, tell_version};
+use crate::options::{Command, OptionRow};
+use crate::shown::Shown;
+use af_io::Args;
+use af_limits::LONGEST_ADDRESS;
+use af_options::{ArgumentKind, Word, matches_for, number_at, text_of};
+use clap::error::ErrorKind;
+use clap::{ArgMatches, Error};
+use std::alloc::{AllocError, Global};
+
+/// Tells why words are none of a tool's, or the help that they ask for.
+pub fn tell_usage(rt: &impl Eprint, alloc: Global, words: &Args) {
+    let Some(name) = words.word(0) else {
+        tell_tools(rt);
+        return tell_manual(rt);
+    };
+    if has_word(words, "--version") {
+        return tell_version(rt);
+    }
+    match Command::named(name) {
+        Some(command) if asks_help(words) => tell_options(rt, command),
+        Some(command) => tell_mistake(rt, alloc, command, words),
+        None => {
+            if !asks_help(words) {
+                let name = Shown(name);
+                let _ = eprintln!(rt; "af: there is no tool '{name}'");
+            }
+            tell_tools(rt);
+        }
+    }
+    tell_manual(rt);
+}
+
+/// Tells that a word is no text.
+pub fn tell_no_text(rt: &impl Eprint) {
+    let _ = eprintln!(rt; "af: a word is no UTF-8");
+    tell_manual(rt);
+}
+
+fn has_word(words: &Args, wanted: &str) -> bool {
+    words.as_slice().iter().any(|word| word.as_str() == wanted)
+}
+
+fn asks_help(words: &Args) -> bool {
+    has_word(words, "--help") || has_word(words, "-h")
+}
+
+// Tells which word of a tool is wrong, and how its words are to be.
+fn tell_mistake(rt: &impl Eprint, alloc: Global, command: Command, words: &Args) {
+    if let Ok(table) = command_words(alloc, command) {
+        match matches_for(alloc, command.name(), table.as_slice(), words.as_slice()) {
+            Ok(matches) => tell_values(rt, command, &matches),
+            Err(e) => tell_error(rt, alloc, command, &e),
+        }
+    }
+    let _ = eprintln!(rt; "af: usage: {command}");
+}
+
+// The words of a tool's command.
+fn command_words<'a>(alloc: Global, command: Command) -> Result<Vec<Word<'a>>, AllocError> {
+    let mut table = Vec::new(alloc);
+    for place in command.places() {
+        table.push(Word(*place, ArgumentKind::Place))?;
+    }
+    for row in command.options() {
+        table.push(Word(row.name, kind_of(row)))?;
+    }
+    Ok(table)
+}
+
+fn kind_of(row: &OptionRow<'_>) -> ArgumentKind {
+    if row.is_flag() {
+        ArgumentKind::Flag
+    } else if row.needed {
+        ArgumentKind::NeededOption
+    } else {
+        ArgumentKind::FreeOption
+    }
+}
+
+// Tells what is wrong with the words before their values are looked at.
+fn tell_error(rt: &impl Eprint, alloc: Global, command: Command, error: &Error) {
+    let Ok(text) = error.to_string(alloc) else {
+        return;
+    };
+    if error.kind() == ErrorKind::MissingRequiredArgument {
+        return tell_missing(rt, command, text.as_str());
+    }
+    if let Some(line) = text.as_str().lines().next() {
+        let line = line.strip_prefix("error: ").unwrap_or(line);
+        let shown = Shown(line);
+        let _ = eprintln!(rt; "af: {shown}");
+        if has_negative(line) {
+            let _ = eprintln!(rt;
+                "af: a value that begins with - is one word with its option, as --gain=-6"
+            );
+        }
+    }
+}
+
+// Whether a line quotes a number below 0.
+fn has_negative(line: &str) -> bool {
+    match line.split_once("'-") {
+        Some((_, rest)) => rest.as_bytes().first().is_some_and(|b| b.is_ascii_digit()),
+        None => false,
+    }
+}
+
+// Tells which words are missing.
+fn tell_missing(rt: &impl Eprint, command: Command, text: &str) {
+    for word in command.places() {
+        if names(text, "<", word) {
+            let _ = eprintln!(rt;
+                "af: {word} is missing: the address of a server, such as 127.0.0.1:1701"
+            );
+        }
+    }
+    for row in command.options() {
+        if row.needed && names(text, "--", row.name) {
+            let what = row.what;
+            let _ = eprintln!(rt; "af: {row} is missing: {what}");
+        }
+    }
+}
+
+// Whether a line of a text begins with a mark and a name.
+fn names(text: &str, mark: &str, name: &str) -> bool {
+    text.lines().any(|line| {
+        match line.trim_start().strip_prefix(mark) {
+            Some(rest) => match rest.strip_prefix(name) {
+                Some(rest) => rest.starts_with(">") || rest.starts_with(" "),
+                None => false,
+            },
+            None => false,
+        }
+    })
+}
+
+// Tells which values are outside of what they may be.
+fn tell_values(rt: &impl Eprint, command: Command, matches: &ArgMatches<'_>) {
+    for place in command.places() {
+        if let Some(address) = text_of(matches, place) {
+            tell_address(rt, place, address);
+        }
+    }
+    for row in command.options() {
+        if let Some(value) = text_of(matches, row.name)
+            && !row.values.has(value)
+        {
+            let name = row.name;
+            let takes = row.values.wanted();
+            let value = Shown(value);
+            let _ = eprintln!(rt; "af: '{value}' is no value of --{name}, which takes {takes}");
+        }
+    }
+    if command == Command::Play && is_file(matches) && text_of(matches, "type").is_some() {
+        let _ = eprintln!(rt;
+            "af: --type does not go with a sound file, which says itself of which type its samples are"
+        );
+    }
+}
+
+/// The device that the words of an answering machine name.
+pub fn device_in(alloc: Global, words: &Args) -> u8 {
+    let Ok(table) = command_words(alloc, Command::Answer) else {
+        return 0;
+    };
+    match matches_for(alloc, "answer", table.as_slice(), words.as_slice()) {
+        Ok(matches) => match number_at(&matches, "device", 0, 0, 7) {
+            Some(device) => device as u8,
+            None => 0,
+        },
+        Err(_) => 0,
+    }
+}
+
+fn is_file(matches: &ArgMatches<'_>) -> bool {
+    matches!(text_of(matches, "file"), Some("au" | "wave"))
+}
+
+fn tell_address(rt: &impl Eprint, place: &str, address: &str) {
+    let count = address.len();
+    if count == 0 {
+        let _ = eprintln!(rt;
+            "af: {place} is empty; an address is HOST:PORT, such as 127.0.0.1:1701"
+        );
+    } else if count > LONGEST_ADDRESS {
+        let _ = eprintln!(rt;
+            "af: {place} has {count} bytes; an address has at most {LONGEST_ADDRESS}"
+        );
+    }
+}

@@ -48,10 +48,10 @@ fn write_kind<W: Write>(kind: Kind<'_>, f: &mut Formatter<W>) -> fmt::Result {
         Kind::Files { input, output } => {
             let input = Shown::new(input.as_bytes());
             let output = Shown::new(output.as_bytes());
-            write!(f, "captures from {input}, adds its sound to {output}")
+            write!(f, "captures from {input}, plays to {output}")
         }
         Kind::Codec { restarts, words } => {
-            write!(f, "codec, at most {restarts} restarts:")?;
+            write!(f, "codec, started again at most {restarts} times:")?;
             write_words(words, f)
         }
     }

@@ -21,6 +21,8 @@ impl<'a, S: Spawner + Drop> LoggedSpawner<'a, S> {
 impl<S: Spawner + Drop> Spawner for LoggedSpawner<'_, S> {
     ghost acts = { λ logged. S.acts logged.spawner };
 
+    ghost started = { λ logged. S.started logged.spawner };
+
     ghost faults = { λ logged. S.faults logged.spawner };
 
     fn note(&mut self, sound: &[u8]) {

@@ -184,11 +184,11 @@ fn tell_opened<R: Net + Clock + Files + Drop, S: Spawner + Drop>(
 /// Tells why a link is closed.
 fn tell_closed(log: &Log<'_>, link: u8, why: Why) {
     let cause = match why {
-        Why::BadSetup => "it began with no setup",
+        Why::BadSetup => "it did not begin with a setup",
         Why::Malformed => "it sent a malformed request",
         Why::Ended => "the client ended it",
-        Why::LinkFault => "a read from it or a write to it failed",
-        Why::Overrun => "it did not take its events",
+        Why::LinkFault => "reading from it or writing to it failed",
+        Why::Overrun => "too many events waited for it",
     };
     log.line(format_args!("connection {link} closed: {cause}"));
 }
@@ -217,6 +217,6 @@ fn tell_turned_away<R: Net + Clock + Files + Drop, S: Spawner + Drop>(
     let count = sockets.turned_away.saturating_sub(*before);
     if count > 0 {
         *before = sockets.turned_away;
-        log.line(format_args!("{count} turned away: all 32 connections are taken"));
+        log.line(format_args!("{count} turned away: all 32 connections are in use"));
     }
 }

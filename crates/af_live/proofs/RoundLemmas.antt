@@ -3,6 +3,7 @@ use Rattle.std.proofs.Common.{◌≡◌, ◌⊎◌, ⊎_elim, ℕ, ◌+◌, ◌-
 use Rattle.std.proofs.lemmas.Grind.{common_steps}
 use Rattle.std.proofs.lemmas.Bool.{cases_lt, cases_eq, eq-eqb}
 use Rattle.std.proofs.Math.Nat.{le_refl}
+use Rattle.af_limits.specs.Limits.{longest_tick}
 use Rattle.af_world.specs.declared.happening.Wake.{Wake}
 use Rattle.af_world.specs.declared.happening.Wake.TheVariants as wake
 use Rattle.af_pace.specs.Pacing.{PaceState, due_at, after_due}
@@ -12,12 +13,12 @@ use Rattle.af_live.specs.RealWorld.{GivesKept, PassesAll, LeadsRound, LosesNoFra
 
 -- what a pace gives at one reading, and what stays due of it at another
 given_or_due : (rate answered first nanos t : ℕ) →
-    min ((t - first) * rate / 1000000000 - answered) 4096
-    ≤ min ((nanos - first) * rate / 1000000000 - answered) 4096 + min ((t - first) * rate / 1000000000 - (answered + min ((nanos - first) * rate / 1000000000 - answered) 4096)) 4096
+    min ((t - first) * rate / 1000000000 - answered) longest_tick
+    ≤ min ((nanos - first) * rate / 1000000000 - answered) longest_tick + min ((t - first) * rate / 1000000000 - (answered + min ((nanos - first) * rate / 1000000000 - answered) longest_tick)) longest_tick
 given_or_due rate answered first nanos t = omega arith
 
 -- before its first reading nothing is due
-unread : (rate answered t : ℕ) → min ((t - t) * rate / 1000000000 - answered) 4096 ≡ 0
+unread : (rate answered t : ℕ) → min ((t - t) * rate / 1000000000 - answered) longest_tick ≡ 0
 unread rate answered t = grind (arith, common_steps)
 
 pace_keeps : (rate : ℕ) (first : Option ℕ) (answered nanos t : ℕ) → let p : PaceState = record { rate = rate; first = first; answered = answered } in due_at p t ≤ due_at p nanos + due_at (after_due p nanos) t

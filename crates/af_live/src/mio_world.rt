@@ -48,7 +48,7 @@ const BEHIND_NANOS: u64 = 20_000_000;
 const NANOS_A_MILLISECOND: u64 = 1_000_000;
 
 /// The real outside of a server. It listens at one address, whose links it numbers from 0, at most 32 at a time; a further one is
-/// accepted and closed at once. Up to 8 devices go on by the clock of the system, a Pace for each.
+/// accepted and ended at once. Up to 8 devices go on by the clock of the system, a Pace for each.
 ///
 /// A server's `main` makes one with `MioWorld::new(rt.clone()?, rt.alloc(), spawner)` and hands it, with the words of its command line and its
 /// configuration, to the server: `listen` comes first, then an `attach` of each device, then a `wait` before each turn.

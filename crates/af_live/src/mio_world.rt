@@ -27,7 +27,7 @@ use crate::sockets::Sockets;
 use af_child::Spawner;
 use af_codec::Codec;
 use af_io::Put;
-use af_pace::Round;
+use af_pace::{LONGEST_STEP_NANOS, Round};
 use af_world::{DeviceSpec, Kind, LinkGot, LinkTook, Live, Ready, Waited, Wake, Why, World};
 use std::alloc::Global;
 use std::marker::Model;
@@ -41,9 +41,6 @@ const LONGEST_PAUSE_MILLIS: u64 = 10;
 /// How many milliseconds a wait of a server that catches up waits at most for what its clients send. Without this a fast server leaves
 /// them behind.
 const CATCHING_UP_PAUSE_MILLIS: u64 = 1;
-
-/// How many nanoseconds the clock is ahead of the reading of a round at least where the server catches up: a whole step.
-const BEHIND_NANOS: u64 = 20_000_000;
 
 const NANOS_A_MILLISECOND: u64 = 1_000_000;
 
@@ -335,7 +332,7 @@ fn reading<R: Clock>(rt: &R, round: &Round) -> Option<u64>
 /// Whether the clock is ahead of this reading by a whole step of a server that catches up, or more.
 fn is_behind<R: Clock>(rt: &R, nanos: u64) -> bool {
     match rt.monotonic() {
-        Ok(shown) => shown.as_nanos() >= u128::from(nanos) + u128::from(BEHIND_NANOS),
+        Ok(shown) => shown.as_nanos() >= u128::from(nanos) + u128::from(LONGEST_STEP_NANOS),
         Err(_) => false,
     }
 }

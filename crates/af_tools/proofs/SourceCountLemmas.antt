@@ -22,6 +22,11 @@ pub fault_cases : (P : ToolEnd → Type 0) (fault : FillFault) → (IsErrOf {T =
 fault_cases P fill.ReadFault long failed = failed refl
 fault_cases P fill.TooLong long failed = long refl
 
+-- the same by the fault itself
+pub fault_known : (P : ToolEnd → Type 0) (fault : FillFault) → (fault ≡ fill.TooLong → P end.TooLong) → (fault ≡ fill.ReadFault → P end.ReadFault) → P (fill_end fault)
+fault_known P fill.ReadFault long failed = failed refl
+fault_known P fill.TooLong long failed = long refl
+
 -- what was given so far, and a block more
 pub given_on : (n given : ℕ) (a b c : Option (List ℕ)) (block : List ℕ) → ConsumedAll given a b → Consumed b (take n block) c → n ≤ length block → ConsumedAll (given + n) a c
 given_on n given a b c block so_far consumed fits = record {

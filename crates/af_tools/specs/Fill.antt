@@ -1,5 +1,5 @@
 -- Reading a source in blocks.
-use Rattle.std.specs.Prelude.{◌≡◌, ◌<◌, ◌≤◌, ◌⊎◌, ℕ, List, [], ◌++◌, length}
+use Rattle.std.specs.Prelude.{◌≡◌, ◌<◌, ◌≤◌, ◌⊎◌, ℕ, List, [], ◌++◌, length, take}
 use Rattle.std.specs.declared.option.Option.{Option}
 use Rattle.std.specs.declared.option.Option.TheVariants.{None, Some}
 use Rattle.af_io.specs.Observed.{Consumed}
@@ -45,6 +45,11 @@ pub record IsNextBlock (room allowed : ℕ) (len : Option ℕ) (count : ℕ) (af
   pub permitted : count ≤ allowed
   pub stated : FitsStated len count
   pub ended : count < room → IsSpent after ⊎ (len ≡ Some count)
+
+-- the first block was read early, before the device's time was asked, or is left for later
+abbrev pub IsEarlyBlock : (room allowed : ℕ) → (len early : Option ℕ) → List ℕ → (before after : Option (List ℕ)) → Type 0
+IsEarlyBlock room allowed len (Some count) bytes before after = Consumed before (take count bytes) after × IsNextBlock room allowed len count after
+IsEarlyBlock room allowed len None bytes before after = after ≡ before
 
 -- the source gave no more than aplay takes
 abbrev pub ConsumedWithinMost : Option (List ℕ) → Option (List ℕ) → Type 0

@@ -1,5 +1,5 @@
 // What a source gives is played, block by block.
-ghost use Rattle.std.specs.Prelude.{◌≡◌, ◌<◌, ◌≤◌, ◌⊎◌, ◌*◌, ◌+◌, ◌-◌, ◌++◌, true, false, length, take, IfErr, IfOk, IsErrOf};
+ghost use Rattle.std.specs.Prelude.{ℕ, List, ◌≡◌, ◌<◌, ◌≤◌, ◌⊎◌, ◌*◌, ◌+◌, ◌-◌, ◌++◌, true, false, length, take, IfErr, IfOk, IsErrOf};
 ghost use Rattle.std.specs.declared.option.Option.{Option};
 ghost use Rattle.std.specs.declared.option.Option.TheVariants.{None};
 ghost use Rattle.af_io.specs.Observed.{Consumed, CountsFault};
@@ -13,7 +13,7 @@ ghost use Rattle.af_tools.specs.Most.{most_bytes};
 ghost use Rattle.af_tools.specs.Play.{plays_sound, IsBlock};
 ghost use Rattle.af_tools.specs.Sounds.{as_served, block_bytes, served_room, stated_room, AreWhole, IsServedAs};
 ghost use Rattle.af_tools.specs.Ways.{is_of_blocks};
-ghost use Rattle.af_tools.specs.Fill.{left_before, ConsumedAbove, ConsumedBeyond, ConsumedStated, ConsumedUpTo, IsNextBlock};
+ghost use Rattle.af_tools.specs.Fill.{left_before, ConsumedAbove, ConsumedBeyond, ConsumedStated, ConsumedUpTo, IsEarlyBlock, IsNextBlock};
 ghost use Rattle.af_tools.specs.Reading.{ObservedPartReading};
 ghost use Rattle.af_options.specs.Sizes.{greatest_block};
 
@@ -93,8 +93,8 @@ fn play_block<L: Link + Drop>(
     }
 }
 
-/// Reads the first block of a sound, of so many frames: how many bytes it has.
-pub fn read_first<S: Source>(
+// Reads the first block of a sound, of so many frames: how many bytes it has.
+fn fill_first<S: Source>(
     source: &mut S,
     sound: SourceSound,
     block: u32,
@@ -115,6 +115,62 @@ pub fn read_first<S: Source>(
 {
     let size = block as usize * sound.width();
     fill_stated(source, &mut room[..size], sound.length, MOST_BYTES - sound.head)
+}
+
+/// Reads the first block of a sound, of so many frames, before the device's time is asked for: how many bytes it has. Behind a head
+/// that leaves less than a block of what a source may give, it is left for later: it may be too long.
+pub fn read_early<S: Source>(
+    source: &mut S,
+    sound: SourceSound,
+    block: u32,
+    room: &mut [u8],
+) -> Result<Option<usize>, FillFault>
+    requires block { IsBlock sound.ty sound.channels block }
+    requires sound { IsServedAs sound.coding sound.ty × (sound.head ≤ most_bytes) }
+    requires room { greatest_block ≤ length room.old }
+    ensures room { length room.new ≡ length room.old }
+    ensures early { IfOk result (λ early. IsEarlyBlock (block_bytes sound block) (most_bytes - sound.head)
+        sound.length early room.new (S.left source.old) (S.left source.new)) }
+    ensures only { IsErrOf result FillFault.TooLong → ⊥ }
+    ensures cut { IsErrOf result FillFault.ReadFault →
+        ConsumedUpTo (most_bytes - sound.head) (S.left source.old) (S.left source.new) }
+    ensures fault { CountsFault (IsErrOf result FillFault.ReadFault) (S.faults source.old) (S.faults source.new) }
+{
+    if sound.head > MOST_BYTES - GREATEST_BLOCK as u64 {
+        return Ok(None);
+    }
+    match fill_first(source, sound, block, room) {
+        Ok(first) => Ok(Some(first)),
+        Err(fault) => Err(fault),
+    }
+}
+
+/// The first block of a sound, which was read early, or is read now: how many bytes it has.
+pub fn read_first<S: Source>(
+    source: &mut S,
+    sound: SourceSound,
+    block: u32,
+    early: Option<usize>,
+    room: &mut [u8],
+) -> Result<usize, FillFault>
+    requires block { IsBlock sound.ty sound.channels block }
+    requires sound { IsServedAs sound.coding sound.ty × (sound.head ≤ most_bytes) }
+    requires room { greatest_block ≤ length room.old }
+    ensures room { length room.new ≡ length room.old }
+    ensures given { (before : Option (List ℕ)) → IsEarlyBlock (block_bytes sound block) (most_bytes - sound.head)
+        sound.length early room.old before (S.left source.old) →
+        IfOk result (λ n. Consumed before (take n room.new) (S.left source.new)
+        × IsNextBlock (block_bytes sound block) (most_bytes - sound.head) sound.length n (S.left source.new)) }
+    ensures long { IsErrOf result FillFault.TooLong → (early ≡ None) × ConsumedAbove (most_bytes - sound.head)
+        (stated_room sound.length (block_bytes sound block)) (S.left source.old) (S.left source.new) }
+    ensures cut { IsErrOf result FillFault.ReadFault →
+        (early ≡ None) × ConsumedUpTo (most_bytes - sound.head) (S.left source.old) (S.left source.new) }
+    ensures fault { CountsFault (IsErrOf result FillFault.ReadFault) (S.faults source.old) (S.faults source.new) }
+{
+    match early {
+        Some(first) => Ok(first),
+        None => fill_first(source, sound, block, room),
+    }
 }
 
 /// Plays the sound that a source gives, in blocks, from a start on: how many frames these were. The first block was read, and stands

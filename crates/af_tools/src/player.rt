@@ -18,8 +18,7 @@ ghost use Rattle.af_tools.specs.Unread.{GivesReply, ReadsBehindContext};
 ghost use Rattle.af_tools.specs.Ran.{LacksDevice, RunsAplay};
 ghost use Rattle.af_options.specs.Sizes.{greatest_block};
 
-use crate::fill::FillFault;
-use crate::play::{Playback, play_blocks, read_first};
+use crate::play::{Playback, play_blocks, read_early, read_first};
 use crate::report::report;
 use crate::sound::{SourceSound, sound_of};
 use af_io::{Link, Sink, Source};
@@ -101,18 +100,16 @@ fn play_on<L: Link + Drop, S: Source>(
     let frame = sound.ty.frame_bytes(sound.channels);
     let block = block_frames(job.block, frame);
     // The time is asked for once there is something to play, so a source that is slow to begin costs no lead.
-    let first = read_first(source, sound, block, room);
-    if let Err(FillFault::ReadFault) = first {
-        return Err(ToolEnd::ReadFault);
-    }
+    let early = read_early(source, sound, block, room)?;
     let now = device_time(conn, job.device)?;
     let start = start_of(&job, now, device.rate);
+    let first = read_first(source, sound, block, early, room)?;
     let playback = Playback {
         sound,
         block,
         start,
     };
-    let frames = play_blocks(conn, source, playback, first?, room)?;
+    let frames = play_blocks(conn, source, playback, first, room)?;
     finish(conn)?;
     Ok(Played { frames, start })
 }

@@ -27,10 +27,7 @@ pub struct ToolContext {
 }
 
 /// Creates the context, with the channels of its device.
-pub fn make_context<L: Link + Drop>(
-    conn: &mut Conn<L>,
-    context: ToolContext,
-) -> Result<(), ToolEnd>
+pub fn make_context<L: Link + Drop>(conn: &mut Conn<L>, context: ToolContext) -> Result<(), ToolEnd>
     requires { conn.old.cause ≡ None }
     ensures goes { ObservedPartOver L.left L.sent conn.old conn.new
         (λ w. asks (creates (device_channels conn.old.devices context.device) context) as_done w) result }

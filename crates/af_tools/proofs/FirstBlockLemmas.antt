@@ -1,5 +1,5 @@
 -- A context was made, the first block was read, and the device's time was told: what is left of playing.
-use Rattle.std.proofs.Common.{◌≡◌, ◌≤◌, ◌-◌, ◌+◌, ℕ, List, [], length, length-take, take, refl, subst, sym, arith, IsSome}
+use Rattle.std.proofs.Common.{◌≡◌, ◌≤◌, ◌-◌, ℕ, List, [], length-take, take, refl, subst, sym, arith, IsSome}
 use Rattle.std.specs.Prelude.{Result, Ok, Err}
 use Rattle.std.specs.declared.option.Option.{Option}
 use Rattle.std.specs.declared.option.Option.TheVariants.{None, Some}
@@ -12,14 +12,14 @@ use Rattle.af_lib.specs.Calls.{as_done, as_time}
 use Rattle.af_options.specs.declared.job.PlayJob.{PlayJob}
 use Rattle.af_tool.specs.declared.end.ToolEnd.{ToolEnd}
 use Rattle.af_tool.specs.declared.end.ToolEnd.TheVariants as end
-use Rattle.af_tool.specs.Trace.{Trace, ClientState, asks}
+use Rattle.af_tool.specs.Trace.{ClientState, asks}
 use Rattle.af_tool.specs.Ends.{ObservedPart, TracePart}
 use Rattle.af_io.proofs.ConsumedLemmas.{consumed_none}
 use Rattle.af_tool.proofs.TracePartLemmas.{goes_on, goes_stop}
 use Rattle.af_tools.specs.declared.player.Played.{Played}
 use Rattle.af_tools.specs.declared.sound.SourceSound.{SourceSound}
 use Rattle.af_tools.specs.Most.{most_bytes}
-use Rattle.af_tools.specs.Fill.{left_before, ConsumedAbove, ConsumedBeyond, ConsumedUpTo, IsEarlyBlock}
+use Rattle.af_tools.specs.Fill.{left_before, ConsumedAbove, ConsumedUpTo, IsEarlyBlock}
 use Rattle.af_tools.specs.Sounds.{block_bytes, source_width, stated_room}
 use Rattle.af_tools.specs.Play.{play_context, played_frames, played_on, plays_sound, start_at, IsBlock}
 use Rattle.af_tools.proofs.PlayStepLemmas.{play_begin, play_too_long}

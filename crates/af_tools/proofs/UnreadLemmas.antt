@@ -2,7 +2,7 @@
 use Rattle.std.proofs.Common.{◌≡◌, slice_get, unwrap_or, ◌⊎◌, inl, inr, ℕ, List, [], ◌∷◌, refl, sym, ap, ap₂, ◌∙◌, subst}
 use Rattle.std.specs.Prelude.{Result, Ok, Err}
 use Rattle.std.specs.declared.option.Option.{Option}
-use Rattle.std.specs.declared.option.Option.TheVariants.{None, Some}
+use Rattle.std.specs.declared.option.Option.TheVariants.{Some}
 use Rattle.af_io.specs.Dial.{IsFirstOf, ToldLink}
 use Rattle.af_wire.specs.declared.order.Order.{Order}
 use Rattle.af_request.specs.Asked.{Asked}
@@ -12,7 +12,7 @@ use Rattle.af_sample.specs.declared.sample_type.SampleType.{SampleType}
 use Rattle.af_tools.specs.Play.{play_context}
 use Rattle.af_lib.specs.declared.fault.ConnFault.{ConnFault}
 use Rattle.af_lib.specs.Calls.{ConnState, IsSetUp, as_done, device_channels}
-use Rattle.af_tool.specs.Trace.{Trace, ClientState, after_reply, answer_on, answered_by, asks, done, ends, sending, set_up}
+use Rattle.af_tool.specs.Trace.{Trace, ClientState, after_reply, answer_on, answered_by, asks, done, ends, sending}
 use Rattle.af_tool.specs.Ends.{PartCompletes, client_of}
 use Rattle.af_tool.specs.Talk.{creates}
 use Rattle.af_tool.specs.declared.talk.ToolContext.{ToolContext}

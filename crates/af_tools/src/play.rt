@@ -114,7 +114,12 @@ fn fill_first<S: Source>(
     ensures fault { CountsFault (IsErrOf result FillFault.ReadFault) (S.faults source.old) (S.faults source.new) }
 {
     let size = block as usize * sound.width();
-    fill_stated(source, &mut room[..size], sound.length, MOST_BYTES - sound.head)
+    fill_stated(
+        source,
+        &mut room[..size],
+        sound.length,
+        MOST_BYTES - sound.head,
+    )
 }
 
 /// Reads the first block of a sound, of so many frames, before the device's time is asked for: how many bytes it has. Behind a head

@@ -2,13 +2,12 @@ use Rattle.std.proofs.Common.{rules, arith, IsSome, ◌≡◌, ◌≤◌, ◌<�
 use Rattle.std.proofs.Math.Nat.{div-le_self}
 use Rattle.std.proofs.lemmas.List.{take-take}
 use Rattle.std.specs.Prelude.{Err}
-use Rattle.std.specs.declared.option.Option.{Option}
 use Rattle.std.specs.declared.option.Option.TheVariants.{Some}
 use Rattle.af_tool.specs.declared.end.ToolEnd.{ToolEnd}
 use Rattle.af_tool.specs.declared.end.ToolEnd.TheVariants as end
 use Rattle.af_tools.specs.Most.{most_bytes}
 use Rattle.af_tools.specs.Fill.{fill_end, left_before, ConsumedAbove, ConsumedBeyond, ConsumedUpTo}
-use Rattle.af_tools.specs.Sounds.{as_served, block_bytes, source_width, stated_behind, stated_part, stated_room}
+use Rattle.af_tools.specs.Sounds.{as_served, block_bytes, source_width, stated_part, stated_room}
 use Rattle.af_tools.specs.Play.{blocks, plays, plays_sound}
 use Rattle.af_tool.specs.Ends.{client_of, ObservedPart}
 use Rattle.af_io.proofs.ConsumedLemmas.{consumed_none, consumed_told}
@@ -16,7 +15,7 @@ use Rattle.af_tools.proofs.PlayBlockLemmas.{ConsumedAll, IsPlaying}
 use Rattle.af_tools.proofs.PlayStepLemmas.{is_read, play_begin, play_ended, play_on, play_over, play_refused, play_stopped, play_too_long, playing_from, playing_on, plays_named, samples_of}
 use Rattle.af_options.proofs.FrameSizeLemmas.{some_bytes}
 use Rattle.af_tools.proofs.ServedBlockLemmas.{source_size}
-use Rattle.af_tools.proofs.SourceFrameLemmas.{size_fits, some_size_of, wide_of}
+use Rattle.af_tools.proofs.SourceFrameLemmas.{size_fits, wide_of}
 use Rattle.af_tools.proofs.SourceCountLemmas.{before_is, fault_cases, fits_begin, fits_on, given_before, given_on, given_too_much, given_up_to, given_within, read_before, rest_begin, rest_on, short_of, spent_or_all, whole_of}
 use Rattle.af_tools.proofs.play.play_blocks.Goals as goal
 
@@ -263,12 +262,12 @@ returns-in_err-filled-clause-goes g c input bytes held told is tells =
     let e = c.in_err-filled.ensures in
     let same : c.from_residual-in_err-filled.result ≡ Err (fill_end c.in_err-filled.field-0.0) = search rules in
     let playing : IsSome left' → IsPlaying sound.coding sound.head width c.args.playback.start.0 size (c.loop-block.frames + n / width) (sound.head + given) c.left_behind-left.result (stated_part sound.length (take c.args.first c.args.room.now ++ bytes)) (client_of c.args.conn.now input) left' (g.L.Link.left c.play_block.new.conn.link) (client_of c.play_block.new.conn) (g.L.Link.sent c.args.conn.now.link) (g.L.Link.sent c.play_block.new.conn.link) held = λ before.
-        let p = i.playing input bytes held told is before in
-        let r = is_read size n c.loop-block.left room p.rest left left' p.is_left (read_before (take n room) left') before bound i.stated i.ended in
-        let whole : 0 < n / width = omega arith in
-        let samples = ap (as_served sound.coding) (samples_of n width room r.full bound (whole_of n width)) in
-        let q = play_on _ _ _ _ _ _ _ _ _ _ _ _ _ _ _ _ p n room left' r (omega arith) (omega arith) (omega arith) c.time_behind-at.result.0 _ c.time_behind-at.ensures samples whole c.in_ok-play_block.field-0 _ _ _ (c.in_ok-play_block.ensures.goes p.input held p.is_told) in
-        playing_on sound.coding sound.head width c.args.playback.start.0 size (c.loop-block.frames + n / width) c.loop-block.given n c.loop-block.left c.left_behind-left.result _ _ _ _ _ _ _ _ c.left_behind-left.ensures q in
+    let p = i.playing input bytes held told is before in
+    let r = is_read size n c.loop-block.left room p.rest left left' p.is_left (read_before (take n room) left') before bound i.stated i.ended in
+    let whole : 0 < n / width = omega arith in
+    let samples = ap (as_served sound.coding) (samples_of n width room r.full bound (whole_of n width)) in
+    let q = play_on _ _ _ _ _ _ _ _ _ _ _ _ _ _ _ _ p n room left' r (omega arith) (omega arith) (omega arith) c.time_behind-at.result.0 _ c.time_behind-at.ensures samples whole c.in_ok-play_block.field-0 _ _ _ (c.in_ok-play_block.ensures.goes p.input held p.is_told) in
+    playing_on sound.coding sound.head width c.args.playback.start.0 size (c.loop-block.frames + n / width) c.loop-block.given n c.loop-block.left c.left_behind-left.result _ _ _ _ _ _ _ _ c.left_behind-left.ensures q in
     let filled : length c.fill_stated.new.block ≡ size = e.room ∙ sized in
     let P : ToolEnd → Type 0 = λ how. ObservedPart {X = ℕ} (plays sound.coding width c.args.playback.start.0 0 sound.head (blocks size (stated_part sound.length (take c.args.first c.args.room.now ++ bytes))) (client_of c.args.conn.now input)) (Err how) (g.L.Link.left c.play_block.new.conn.link) (client_of c.play_block.new.conn) (g.L.Link.sent c.args.conn.now.link) (g.L.Link.sent c.play_block.new.conn.link) held held in
     rw same (plays_named sound.coding sound.head width (source_width sound.coding sound.ty sound.channels) c.args.playback.start.0 c.args.playback.block _ _ _ _ _ _ _ _ _ c.width-width.ensures

@@ -4,7 +4,7 @@ use Rattle.std.specs.declared.option.Option.TheVariants.{None, Some}
 use Rattle.af_lib.specs.Calls.{device_channels}
 use Rattle.af_io.proofs.ConsumedLemmas.{consumed_known, consumed_told}
 use Rattle.af_options.specs.Sizes.{block_frames, greatest_block}
-use Rattle.af_options.proofs.FrameSizeLemmas.{frame_size, some_bytes, some_frames}
+use Rattle.af_options.proofs.FrameSizeLemmas.{frame_size, some_frames}
 use Rattle.af_sample.specs.SampleTypes.{frame_bytes}
 use Rattle.af_tool.specs.Talk.{creates}
 use Rattle.af_tool.specs.declared.end.ToolEnd.{ToolEnd}

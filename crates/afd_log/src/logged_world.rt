@@ -1,37 +1,27 @@
-// A world of sockets, files and programs that tells in a log what it does.
-ghost use Rattle.std.specs.Prelude.{◌≡◌};
-ghost use Rattle.std.specs.declared.option.Option.TheVariants.{None};
+// A world that tells in a log what it does.
 
 use crate::Log;
 use crate::device_words::DeviceWords;
 use crate::listening::{ListenRefusal, listen_refusal};
-use af_child::Spawner;
+use crate::peers::Peers;
 use af_io::Put;
-use af_live::MioWorld;
 use af_world::{DeviceSpec, Kind, LinkGot, LinkTook, Live, Ready, Waited, Wake, Why, World};
 use std::alloc::Global;
-use std::net::Net;
-use std::rt::Files;
-use std::time::Clock;
 
 /// A world over another, to which it hands each call. It tells in a log at which address it listens, what the devices are, who
 /// connects, why a link is closed and why a device has died.
 #[derive(Drop)]
-pub struct LoggedWorld<'a, R: Net + Clock + Files + Drop, S: Spawner + Drop> {
-    world: MioWorld<R, S>,
+pub struct LoggedWorld<'a, W: Live + Peers + Drop> {
+    world: W,
     rt: &'a HostRuntime,
     log: &'a Log<'a>,
     turned_away: u64,
     refusal: Option<ListenRefusal>,
 }
 
-impl<'a, R: Net + Clock + Files + Drop, S: Spawner + Drop> LoggedWorld<'a, R, S> {
+impl<'a, W: Live + Peers + Drop> LoggedWorld<'a, W> {
     /// A world over this one.
-    pub fn new(
-        world: MioWorld<R, S>,
-        rt: &'a HostRuntime,
-        log: &'a Log<'a>,
-    ) -> LoggedWorld<'a, R, S> {
+    pub fn new(world: W, rt: &'a HostRuntime, log: &'a Log<'a>) -> LoggedWorld<'a, W> {
         LoggedWorld {
             world,
             rt,
@@ -47,24 +37,22 @@ impl<'a, R: Net + Clock + Files + Drop, S: Spawner + Drop> LoggedWorld<'a, R, S>
     }
 }
 
-impl<R: Net + Clock + Files + Drop, S: Spawner + Drop> World for LoggedWorld<'_, R, S> {
-    ghost use Rattle.af_live.specs.RealWorld.{RealLeadsTo, RealLeadsTo-refl, RealLeadsTo-trans};
+impl<W: Live + Peers + Drop> World for LoggedWorld<'_, W> {
+    ghost log = { λ logged. W.World.log logged.world };
 
-    ghost log = { λ _. None };
+    ghost link_faults = { λ logged. W.World.link_faults logged.world };
 
-    ghost link_faults = { λ logged. logged.world.link_faults };
+    ghost device_faults = { λ logged. W.World.device_faults logged.world };
 
-    ghost device_faults = { λ logged. logged.world.device_faults };
+    ghost leads_to = { λ a b. W.World.leads_to a.world b.world };
 
-    ghost leads_to = { λ a b. RealLeadsTo a.world b.world };
+    ghost leads_to_itself = { λ a. W.World.leads_to_itself a.world };
 
-    ghost leads_to_itself = { λ a. RealLeadsTo-refl a.world };
+    ghost leads_on = { λ a b c. W.World.leads_on a.world b.world c.world };
 
-    ghost leads_on = { λ a b c. RealLeadsTo-trans a.world b.world c.world };
+    ghost link_faults_stay = { λ a b. W.World.link_faults_stay a.world b.world };
 
-    ghost link_faults_stay = { λ _ _ leads. leads.link_faults };
-
-    ghost device_faults_stay = { λ _ _ leads. leads.device_faults };
+    ghost device_faults_stay = { λ a b. W.World.device_faults_stay a.world b.world };
 
     fn woke(&mut self, wake: Wake) {
         self.world.woke(wake);
@@ -107,20 +95,20 @@ impl<R: Net + Clock + Files + Drop, S: Spawner + Drop> World for LoggedWorld<'_,
     }
 }
 
-impl<R: Net + Clock + Files + Drop, S: Spawner + Drop> Live for LoggedWorld<'_, R, S> {
-    ghost listen_faults = { λ logged. logged.world.listen_faults };
+impl<W: Live + Peers + Drop> Live for LoggedWorld<'_, W> {
+    ghost listen_faults = { λ logged. W.listen_faults logged.world };
 
-    ghost wait_faults = { λ logged. logged.world.wait_faults };
+    ghost wait_faults = { λ logged. W.wait_faults logged.world };
 
-    ghost outer = { λ _. None };
+    ghost outer = { λ logged. W.outer logged.world };
 
-    ghost listen_faults_apart = { λ _ _ leads. leads.listen_faults };
+    ghost listen_faults_apart = { λ a b. W.listen_faults_apart a.world b.world };
 
-    ghost wait_faults_apart = { λ _ _ leads. leads.wait_faults };
+    ghost wait_faults_apart = { λ a b. W.wait_faults_apart a.world b.world };
 
-    ghost outer_apart = { λ _ _ _. tt };
+    ghost outer_apart = { λ a b. W.outer_apart a.world b.world };
 
-    ghost tells_both = { λ _ told. told };
+    ghost tells_both = { λ a. W.tells_both a.world };
 
     fn listen(&mut self, alloc: Global, address: &str) -> Ready {
         let ready = self.world.listen(alloc, address);
@@ -152,32 +140,20 @@ impl<R: Net + Clock + Files + Drop, S: Spawner + Drop> Live for LoggedWorld<'_, 
 }
 
 /// Tells at which address a world listens.
-fn tell_listening<R: Net + Clock + Files + Drop, S: Spawner + Drop>(
-    world: &MioWorld<R, S>,
-    log: &Log<'_>,
-) {
-    if let Some(sockets) = world.sockets()
-        && let Ok(address) = sockets.listener.local_addr()
-    {
+fn tell_listening<W: Peers>(world: &W, log: &Log<'_>) {
+    if let Some(address) = world.listens_at() {
         log.line(format_args!("listening at {address}"));
     }
 }
 
 /// Tells who connected.
-fn tell_opened<R: Net + Clock + Files + Drop, S: Spawner + Drop>(
-    world: &MioWorld<R, S>,
-    log: &Log<'_>,
-    link: u8,
-) {
+fn tell_opened<W: Peers>(world: &W, log: &Log<'_>, link: u8) {
     if !log.is_wanted() {
         return;
     }
-    if let Some(stream) = world.stream(link)
-        && let Ok(peer) = stream.peer_addr()
-    {
-        log.line(format_args!("connection {link} from {peer}"));
-    } else {
-        log.line(format_args!("connection {link} from a peer that is gone"));
+    match world.peer(link) {
+        Some(peer) => log.line(format_args!("connection {link} from {peer}")),
+        None => log.line(format_args!("connection {link} from a peer that is gone")),
     }
 }
 
@@ -202,21 +178,15 @@ fn tell_dead(log: &Log<'_>, device: u8, what: &str) {
 }
 
 /// Tells how many connections were turned away since the last time, and how many lines were left out.
-fn tell_turned_away<R: Net + Clock + Files + Drop, S: Spawner + Drop>(
-    world: &MioWorld<R, S>,
-    log: &Log<'_>,
-    before: &mut u64,
-) {
+fn tell_turned_away<W: Peers>(world: &W, log: &Log<'_>, before: &mut u64) {
     if !log.is_wanted() {
         return;
     }
     log.catch_up();
-    let Some(sockets) = world.sockets() else {
-        return;
-    };
-    let count = sockets.turned_away.saturating_sub(*before);
+    let now = world.turned_away();
+    let count = now.saturating_sub(*before);
     if count > 0 {
-        *before = sockets.turned_away;
+        *before = now;
         log.line(format_args!("{count} turned away: all 32 connections are in use"));
     }
 }

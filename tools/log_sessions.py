@@ -1,6 +1,6 @@
-"""Sessions of a server whose log is looked at: what check-details runs of `afd serve`.
+"""Sessions of a server whose log is looked at: what check-log runs of `afd serve`.
 
-A session is a folder of tests/details with a file `session`. Its lines, one act each:
+A session is a folder of tests/log with a file `session`. Its lines, one act each:
 
     file NAME TEXT          a file with this text lies in the folder that the server runs in
     fifo NAME               a FIFO lies there

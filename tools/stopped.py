@@ -1,4 +1,4 @@
-"""A server that stands still for ten seconds beside tools that play and record: it catches up, and no sample is lost."""
+"""A server that stands still for ten seconds beside tools that play and record, which lose no sample; and one that has no place left."""
 
 import os
 import random
@@ -6,7 +6,7 @@ import signal
 import subprocess
 import time
 
-from serving import WORD, Server
+from serving import WORD, Server, set_up
 from sounds import LEAD, heard_as
 
 # of the stop, and of what is played and recorded
@@ -76,6 +76,21 @@ def stands_still(trial):
         trial.holds("the server runs, and says nothing", server.end())
 
 
+def turns_away(trial):
+    """A 33rd client, again and again, and then many at once: each meets the end of its link, and none a link that broke."""
+    words = [trial.af, "aset"]
+    with Server(trial.afd, trial.folder_of("turned_away"), ["device mu255 8000 0 silent"]) as server:
+        time.sleep(0.1)
+        links = [set_up(server.address) for _ in range(32)]
+        ends = [subprocess.run([*words, server.address], capture_output=True, timeout=20) for _ in range(60)]
+        trial.holds("a 33rd client always meets the end of its link", all(it.stderr == b"af: link ended\n" for it in ends))
+        late = [subprocess.Popen([*words, server.address], stdout=subprocess.DEVNULL, stderr=subprocess.PIPE) for _ in range(20)]
+        trial.holds("so do twenty at once", all(it.communicate()[1] == b"af: link ended\n" for it in late))
+        for link in links:
+            link.close()
+        trial.holds("the server runs, and says nothing", server.end())
+
+
 def parts(trial):
     """The trials, to be run one after another."""
-    return (lambda: stands_still(trial),)
+    return lambda: stands_still(trial), lambda: turns_away(trial)

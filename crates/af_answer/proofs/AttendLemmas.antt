@@ -12,7 +12,7 @@ use Rattle.af_answer.specs.declared.end.AnswerEnd.TheVariants as end
 use Rattle.af_answer.specs.declared.job.AnswerJob.{AnswerJob}
 use Rattle.af_answer.specs.declared.tally.Tally.{Tally}
 use Rattle.af_answer.specs.Acts.{tally_after}
-use Rattle.af_answer.specs.AnswerTrace.{ToCome, AnswerTrace, attends, awaits_call, child_starved, stops, takes_call, unless_starved}
+use Rattle.af_answer.specs.AnswerTrace.{ToCome, AnswerTrace, attends, awaits_call, most_for_a_call, child_starved, stops, takes_call, unless_starved}
 use Rattle.af_answer.specs.AnswerParts.{AnswerPart, PartSeen}
 use Rattle.af_answer.specs.Children.{ChildRun, is_starved}
 use Rattle.af_answer.proofs.AnswerPartLemmas.{SoFar, far_begin, far_done, far_ended, far_on, far_stop, seen_on}
@@ -25,11 +25,11 @@ abbrev pub behind_rings : AnswerJob → (n : ℕ) → Tally → Unit {0} → ToC
 behind_rings job n t u b next = takes_call job b (λ how b. behind_call job n t how b next)
 
 attends_step : (job : AnswerJob) (n : ℕ) (t : Tally) → 0 < n → (b : ToCome) (next : Tally → ToCome → AnswerTrace) →
-    attends n job t b next ≡ awaits_call 1000000 job 0 b (λ b. behind_rings job n t tt b next)
+    attends n job t b next ≡ awaits_call most_for_a_call job 0 b (λ b. behind_rings job n t tt b next)
 unfolding attends
 attends_step job zero t some b next = absurd (omega (arith, some))
 attends_step job (suc m) t some b next =
-    ap (λ (k : ℕ). awaits_call 1000000 job 0 b (λ b. takes_call job b (λ how b. unless_starved how (attends k job (tally_after how t) b next)))) (let same : m ≡ suc m - 1 = omega arith in same)
+    ap (λ (k : ℕ). awaits_call most_for_a_call job 0 b (λ b. takes_call job b (λ how b. unless_starved how (attends k job (tally_after how t) b next)))) (let same : m ≡ suc m - 1 = omega arith in same)
 
 attends_none : (job : AnswerJob) (n : ℕ) (t : Tally) → n ≡ 0 → (b : ToCome) (next : Tally → ToCome → AnswerTrace) → attends n job t b next ≡ next t b
 unfolding attends
@@ -50,23 +50,23 @@ starves job n t ended.NoMemory is b next = refl
 module _ (job : AnswerJob) (part : List ChildRun → AnswerPart Tally) (n : ℕ) (t : Tally) (left left₁ : Option (List ℕ)) (wire wire₁ : List ℕ → ClientState) (s s₁ s₂ : Option (List ℕ)) (a a₁ : Option (List Told))
     (f : SoFar part (λ b next. attends n job t b next) left wire s s₁ a a₁) (some : 0 < n) where
   abbrev IsRung : Result (Unit {0}) AnswerEnd → Type 0
-  IsRung r = PartSeen {X = Unit {0}} (λ runs next. awaits_call 1000000 job 0 (record { wire = wire f.input; runs = runs }) (next tt)) r left₁ wire₁ s₁ s₂ a₁ a₁
+  IsRung r = PartSeen {X = Unit {0}} (λ runs next. awaits_call most_for_a_call job 0 (record { wire = wire f.input; runs = runs }) (next tt)) r left₁ wire₁ s₁ s₂ a₁ a₁
 
   -- no call came
   pub attend_stops : (how : AnswerEnd) → IsRung (Err how) → PartSeen {X = Tally} part (Err how) left₁ wire₁ s s₂ a a₁
   attend_stops how rung =
-      far_stop part (λ b next. attends n job t b next) (λ b next. awaits_call 1000000 job 0 b (next tt)) (behind_rings job n t) how left left₁ left₁ wire wire₁ wire₁ s s₁ s₂ a a₁ a₁ f rung (attends_step job n t some)
+      far_stop part (λ b next. attends n job t b next) (λ b next. awaits_call most_for_a_call job 0 b (next tt)) (behind_rings job n t) how left left₁ left₁ wire wire₁ wire₁ s s₁ s₂ a a₁ a₁ f rung (attends_step job n t some)
 
   module _ (rung : IsRung (Ok tt)) (left₂ : Option (List ℕ)) (wire₂ : List ℕ → ClientState) (s₃ : Option (List ℕ)) (a₂ : Option (List Told)) where
     -- the two parts of a call as one
     abbrev one_call : ToCome → AnswerPart ChildEnd
-    one_call b next = awaits_call 1000000 job 0 b (λ b. takes_call job b next)
+    one_call b next = awaits_call most_for_a_call job 0 b (λ b. takes_call job b next)
 
     abbrev IsTaken : Result ChildEnd AnswerEnd → Type 0
     IsTaken r = (input : List ℕ) → left₁ ≡ Some input → PartSeen (λ runs. takes_call job (record { wire = wire₁ input; runs = runs })) r left₂ wire₂ s₂ s₃ a₁ a₂
 
     call_seen : (r : Result ChildEnd AnswerEnd) → IsTaken r → PartSeen (λ runs. one_call (record { wire = wire f.input; runs = runs })) r left₂ wire₂ s₁ s₃ a₁ a₂
-    call_seen r taken = seen_on (λ runs next. awaits_call 1000000 job 0 (record { wire = wire f.input; runs = runs }) (next tt)) (λ u b next. takes_call job b next) tt r left₁ left₂ wire₁ wire₂ s₁ s₂ s₃ a₁ a₁ a₂ rung taken
+    call_seen r taken = seen_on (λ runs next. awaits_call most_for_a_call job 0 (record { wire = wire f.input; runs = runs }) (next tt)) (λ u b next. takes_call job b next) tt r left₁ left₂ wire₁ wire₂ s₁ s₂ s₃ a₁ a₁ a₂ rung taken
 
     pub call_stopped : (how : AnswerEnd) → IsTaken (Err how) → PartSeen {X = Tally} part (Err how) left₂ wire₂ s s₃ a a₂
     call_stopped how taken =

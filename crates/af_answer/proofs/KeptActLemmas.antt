@@ -18,7 +18,7 @@ use Rattle.af_answer.specs.declared.child.ChildEnd.TheVariants as ended
 use Rattle.af_answer.specs.declared.job.AnswerJob.{AnswerJob}
 use Rattle.af_answer.specs.declared.tally.Tally.{Tally}
 use Rattle.af_answer.specs.Acts.{MachineAct, acts_behind, acts_from, call_acts, call_end, greet, later_ends, leaves_off, off_after, off_hook, on_hook, record_message, rings_after, tally_after, write_tally}
-use Rattle.af_answer.specs.AnswerTrace.{ToCome, AnswerTrace, AnswerFinish, attends, awaits_call, awaits_event, having, behind_event, behind_from, child_starved, first_run, by_event, hearing, leaves_message, met_fault, off_hook_fault, next_event, rang_too_little, by_reply, writes_tally, requesting, requests, running, runs_child, stops, takes_call, unless_starved}
+use Rattle.af_answer.specs.AnswerTrace.{ToCome, AnswerTrace, AnswerFinish, attends, awaits_call, most_for_a_call, awaits_event, having, behind_event, behind_from, child_starved, first_run, by_event, hearing, leaves_message, met_fault, off_hook_fault, next_event, rang_too_little, by_reply, writes_tally, requesting, requests, running, runs_child, stops, takes_call, unless_starved}
 use Rattle.af_answer.specs.Answered.{SwitchesHook, bytes_of_act, children_of, requests_of, text_of_acts}
 use Rattle.af_answer.specs.Children.{ChildRun, run_end, run_told, shell_words}
 
@@ -310,10 +310,10 @@ module _ (order : Order) where
       let next : ChildEnd → ToCome → AnswerTrace = λ how b. unless_starved how (attending job n (tally_after how t) b) in
       let taken : ToCome → AnswerTrace = λ b. takes_call job b next in
       let later = later_keeps job n t (λ how. attends_keeps job n (tally_after how t) (counts_one how t n job.calls all)) in
-      let x : AnswerTrace = awaits_call 1000000 job 0 (record { wire = w; runs = runs }) taken in
+      let x : AnswerTrace = awaits_call most_for_a_call job 0 (record { wire = w; runs = runs }) taken in
       subst (λ (l : List MachineAct). KeepsTo false job l runs x)
       (sym (ap (λ (y : Bool). if y then write_tally t ∷ [] else acts_from job 0 t x.heard (map run_end runs)) (ne_eqb t.answered job.calls (λ same. absurd (omega (arith, all, same))))))
-      (awaited_keeps job t runs taken (λ v its'. call_keeps job t next later v runs its') 1000000 0 w its)
+      (awaited_keeps job t runs taken (λ v its'. call_keeps job t next later v runs its') most_for_a_call 0 w its)
 
 -- Whatever a machine hears, its acts leave the hook on.
 

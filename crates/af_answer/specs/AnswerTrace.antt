@@ -38,7 +38,7 @@ pub data AnswerFinish : Type 0 where
   on_hook_fault : (fault : ConnFault) → AnswerFinish
   -- another request was, or a wait for an event
   met_fault : (fault : ConnFault) → AnswerFinish
-  -- 1000000 events were handed out and no call was taken
+  -- the most events were handed out and no call was taken
   rang_too_little : AnswerFinish
   -- memory ran out for a child
   child_starved : AnswerFinish
@@ -138,6 +138,10 @@ takes_call job a next =
     leaves_message job greeting a (λ how a.
     requests (hook_switch job.device 0) a (λ a. next how a))))
 
+-- how many events are handed out for one call, at most
+abbrev pub most_for_a_call : ℕ
+most_for_a_call = 1000000
+
 -- It rings until a call is to be taken, or n events were handed out without that.
 unfoldable pub awaits_call : ℕ → AnswerJob → (rings : ℕ) → ToCome → (ToCome → AnswerTrace) → AnswerTrace
 awaits_call zero job rings a next = stops rang_too_little
@@ -154,7 +158,7 @@ unless_starved ended.Bad t = t
 unfoldable pub attends : ℕ → AnswerJob → Tally → ToCome → (Tally → ToCome → AnswerTrace) → AnswerTrace
 attends zero job t a next = next t a
 attends (suc n) job t a next =
-    awaits_call 1000000 job 0 a (λ a.
+    awaits_call most_for_a_call job 0 a (λ a.
     takes_call job a (λ how a.
     unless_starved how (attends n job (tally_after how t) a next)))
 

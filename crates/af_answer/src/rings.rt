@@ -2,7 +2,7 @@
 ghost use Rattle.std.specs.Prelude.{◌≡◌, ◌<◌, ◌≤◌, ◌+◌, ◌^◌, true, IfErr};
 ghost use Rattle.std.specs.declared.option.Option.TheVariants.{None};
 ghost use Rattle.af_answer.specs.Acts.{rings_after};
-ghost use Rattle.af_answer.specs.AnswerTrace.{awaits_call};
+ghost use Rattle.af_answer.specs.AnswerTrace.{awaits_call, most_for_a_call};
 ghost use Rattle.af_answer.specs.AnswerParts.{GoesAlone, HoldsConnection};
 ghost use Rattle.af_answer.specs.Ways.{is_of_machine};
 
@@ -13,7 +13,7 @@ use af_lib::Conn;
 use af_wire::{Event, EventKind};
 
 // The most events that are handed out for one call.
-const MOST_EVENTS: u32 = 1000000;
+const MOST_FOR_A_CALL: u32 = 1000000;
 
 // How often it has rung behind an event. A hook that is taken off ends the row.
 fn rings_after(job: &AnswerJob, rings: u32, event: Event) -> u32
@@ -35,12 +35,12 @@ fn rings_after(job: &AnswerJob, rings: u32, event: Event) -> u32
 pub fn await_call<L: Link + Drop>(job: &AnswerJob, conn: &mut Conn<L>) -> Result<(), AnswerEnd>
     requires usable { conn.old.cause ≡ None }
     requires rings { (1 ≤ job.now.rings) × (job.now.rings ≤ 20) }
-    ensures goes { GoesAlone L.left L.sent conn.old conn.new (λ a next. awaits_call 1000000 job.now 0 a (next tt)) result }
+    ensures goes { GoesAlone L.left L.sent conn.old conn.new (λ a next. awaits_call most_for_a_call job.now 0 a (next tt)) result }
     ensures holds { HoldsConnection L.left L.faults conn.old conn.new result }
     ensures end { IfErr result (λ how. is_of_machine how ≡ true) }
 {
     let mut rings = 0;
-    let mut allowed = MOST_EVENTS;
+    let mut allowed = MOST_FOR_A_CALL;
     while allowed > 0 {
         let event = conn.wait_event()?;
         rings = rings_after(job, rings, event);

@@ -27,7 +27,7 @@ use crate::sockets::Sockets;
 use af_child::Spawner;
 use af_codec::Codec;
 use af_io::Put;
-use af_pace::Round;
+use af_pace::{LONGEST_STEP_NANOS, Round};
 use af_world::{DeviceSpec, Kind, LinkGot, LinkTook, Live, Ready, Waited, Wake, Why, World};
 use mio::net::TcpStream;
 use std::alloc::Global;
@@ -43,13 +43,10 @@ const LONGEST_PAUSE_MILLIS: u64 = 10;
 /// them behind.
 const CATCHING_UP_PAUSE_MILLIS: u64 = 1;
 
-/// How many nanoseconds the clock is ahead of the reading of a round at least where the server catches up: a whole step.
-const BEHIND_NANOS: u64 = 20_000_000;
-
 const NANOS_A_MILLISECOND: u64 = 1_000_000;
 
 /// The real outside of a server. It listens at one address, whose links it numbers from 0, at most 32 at a time; a further one is
-/// accepted and closed at once. Up to 8 devices go on by the clock of the system, a Pace for each.
+/// accepted and ended at once. Up to 8 devices go on by the clock of the system, a Pace for each.
 ///
 /// A server's `main` makes one with `MioWorld::new(rt.clone()?, rt.alloc(), spawner)` and hands it, with the words of its command line and its
 /// configuration, to the server: `listen` comes first, then an `attach` of each device, then a `wait` before each turn.
@@ -347,7 +344,7 @@ fn reading<R: Clock>(rt: &R, round: &Round) -> Option<u64>
 /// Whether the clock is ahead of this reading by a whole step of a server that catches up, or more.
 fn is_behind<R: Clock>(rt: &R, nanos: u64) -> bool {
     match rt.monotonic() {
-        Ok(shown) => shown.as_nanos() >= u128::from(nanos) + u128::from(BEHIND_NANOS),
+        Ok(shown) => shown.as_nanos() >= u128::from(nanos) + u128::from(LONGEST_STEP_NANOS),
         Err(_) => false,
     }
 }

@@ -22,7 +22,7 @@ use std::time::Duration;
 const LISTENER: Token = Token(MOST_LINKS);
 
 /// How many events one poll takes. Those that are left come with the next.
-const MOST_EVENTS: usize = 64;
+const EVENTS_A_POLL: usize = 64;
 
 /// How many connections are accepted behind one poll. Those that are left are accepted behind the next.
 const MOST_ACCEPTS: u32 = 64;
@@ -45,7 +45,7 @@ impl Sockets {
     /// Listens at the first address of a text that the system grants. All memory that the links will ever need is taken here.
     pub fn listen<R: Net>(rt: &R, alloc: Global, address: &str) -> io::Result<Sockets> {
         let poll = Poll::new(rt)?;
-        let events = Events::with_capacity(alloc, MOST_EVENTS)?;
+        let events = Events::with_capacity(alloc, EVENTS_A_POLL)?;
         let streams = Slab::with_capacity(alloc, MOST_LINKS)?;
         let mut listener = bind(rt, address)?;
         poll.registry()

@@ -5,4 +5,4 @@ mod pace;
 mod round;
 
 pub use pace::Pace;
-pub use round::Round;
+pub use round::{LONGEST_STEP_NANOS, Round};

@@ -10,7 +10,7 @@ use std::marker::Model;
 
 /// How many nanoseconds the reading of a round is at most after that of the round before. While a server that stood still catches
 /// up, its clients are served between steps that are short against what they send and get at once.
-const LONGEST_STEP_NANOS: u64 = 20_000_000;
+pub const LONGEST_STEP_NANOS: u64 = 20_000_000;
 
 /// The paces of the devices that are attached, the device that the round comes to next, whether one ticked in it, the reading of
 /// the clock that it goes by, once it has come to a device, and the last reading that this or an earlier round went by.

@@ -6,10 +6,10 @@ use crate::stated::Stated;
 use af_limits::MOST_DEVICES;
 use af_text::is_word;
 
-/// How many words a program may have behind its name.
+/// How many words a program may have after its name.
 const MOST_ARGUMENTS: u32 = 7;
 
-/// The first word of a line that may not stand where it stands, behind lines that state this.
+/// The first word of a line that may not stand where it stands, after lines that state this.
 pub(crate) fn config_finding<'a>(line: &'a [u8], before: &Stated) -> Option<Finding<'a>> {
     match check_line(line, before) {
         Ok(()) => None,

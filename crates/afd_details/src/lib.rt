@@ -1,4 +1,4 @@
-//! What the server's program says behind the line with its end, where details are wanted: which word is wrong, and what may stand
+//! What the server's program says after the line with its end, where details are wanted: which word is wrong, and what may stand
 //! there.
 #![tactic(auto)]
 

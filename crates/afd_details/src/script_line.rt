@@ -6,7 +6,7 @@ use crate::stated::Stated;
 use af_limits::MOST_DEVICES;
 use af_text::{is_word, number_between};
 
-/// The first word of a line that may not stand where it stands, behind lines that state this.
+/// The first word of a line that may not stand where it stands, after lines that state this.
 pub(crate) fn script_finding<'a>(line: &'a [u8], before: &Stated) -> Option<Finding<'a>> {
     match check_line(line, before) {
         Ok(()) => None,

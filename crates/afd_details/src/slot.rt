@@ -42,9 +42,9 @@ pub(crate) enum Slot {
     Captured(usize),
     Switch,
     Digit,
-    /// Nothing more, behind a whole line.
+    /// Nothing more, after a whole line.
     End,
-    /// Nothing more, behind the eight words of a program.
+    /// Nothing more, after the eight words of a program.
     NinthWord,
     /// No device line, since there are eight before it.
     NinthDevice,

@@ -103,7 +103,7 @@ fn tell_number(rt: &impl Eprint, name: &str, low: u64, high: u64, word: Option<&
     }
 }
 
-/// What is wrong if there is a word behind the last.
+/// What is wrong if there is a word after the last.
 fn tell_excess(rt: &impl Eprint, word: Option<&str>) {
     if let Some(word) = word {
         let word = Shown::new(word.as_bytes());

@@ -3,7 +3,7 @@ use Rattle.std.specs.declared.option.Option.{Option}
 use Rattle.std.specs.declared.option.Option.TheVariants.{None, Some}
 use Rattle.af_child.specs.Acts.{Told}
 use Rattle.af_tool.specs.Ends.{client_of}
-use Rattle.af_answer.specs.AnswerTrace.{awaits_call}
+use Rattle.af_answer.specs.AnswerTrace.{awaits_call, most_for_a_call}
 use Rattle.af_answer.proofs.AnswerPartLemmas.{SoFar}
 use Rattle.af_answer.proofs.rings.await_call.Given as goal
 
@@ -15,7 +15,7 @@ invariant-loop-allowed g l = record {
   count : g.L.Link.faults l.initial.conn.link ≤ g.L.Link.faults l.conn.link;
   few : l.rings + l.allowed < 2 ^ 32;
   waiting : (acts : Option (List Told)) (input : List ℕ) → g.L.Link.left l.initial.conn.link ≡ Some input →
-      SoFar {X = Unit {0}} (λ runs next. awaits_call 1000000 l.job 0 (record { wire = client_of l.initial.conn input; runs = runs }) (next tt)) (λ b next. awaits_call l.allowed l.job l.rings b (next tt))
+      SoFar {X = Unit {0}} (λ runs next. awaits_call most_for_a_call l.job 0 (record { wire = client_of l.initial.conn input; runs = runs }) (next tt)) (λ b next. awaits_call l.allowed l.job l.rings b (next tt))
       (g.L.Link.left l.conn.link) (client_of l.conn) (g.L.Link.sent l.initial.conn.link) (g.L.Link.sent l.conn.link) acts acts;
 }
 

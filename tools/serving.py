@@ -12,6 +12,9 @@ import time
 
 from wire import OTHER, ClientSide, ServerSide, request, setup, turned
 
+# Whoever has it set sees details. The scripts compare what is said without them.
+os.environ.pop("AUDIOFILE_DETAILS", None)
+
 ROOT = os.path.dirname(os.path.dirname(os.path.abspath(__file__)))
 SETUP = setup()
 GET_TIME = request("GetTime")

@@ -1,5 +1,4 @@
 // What is told of a relay.
-use crate::asked::channels_text;
 use crate::links::tell_no_device;
 use crate::shown::Counted;
 use crate::talk::Talk;

@@ -3,6 +3,7 @@ pub mod PartProgressLemmas
 pub mod PlayBlockLemmas
 pub mod PlayStepLemmas
 pub mod PlayTailLemmas
+pub mod FirstBlockLemmas
 pub mod WritingLemmas
 pub mod RecordBlockLemmas
 pub mod TraceEndLemmas

@@ -172,6 +172,12 @@ playing_on coding head width start size frames given n left left' bytes first gi
     subst (λ (o : Option ℕ). IsPlaying coding head width start size frames (head + (given + n)) o bytes first gives told wire sent sent' held) (sym same)
     (subst (λ (k : ℕ). IsPlaying coding head width start size frames k (stated_behind left n) bytes first gives told wire sent sent' held) count p)
 
+-- the same under another name of what the source has left
+pub playing_from : (coding : Option Coding) (head width start size frames given : ℕ) (of : Option ℕ) (bytes : List ℕ) (first : ClientState) (left before told : Option (List ℕ)) (wire : List ℕ → ClientState) (sent sent' held : Option (List ℕ)) → before ≡ left →
+    IsPlaying coding head width start size frames given of bytes first left told wire sent sent' held → IsPlaying coding head width start size frames given of bytes first before told wire sent sent' held
+playing_from coding head width start size frames given of bytes first left before told wire sent sent' held same p =
+    record { rest = p.rest; input = p.input; is_left = same ∙ p.is_left; is_told = p.is_told; reaches = p.reaches }
+
 same_rest : (left : Option (List ℕ)) (a b : List ℕ) → left ≡ Some a → left ≡ Some b → a ≡ b
 same_rest left a b is other = cc
 

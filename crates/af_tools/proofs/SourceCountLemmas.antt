@@ -12,7 +12,7 @@ use Rattle.af_tools.specs.declared.fill.FillFault.TheVariants as fill
 use Rattle.af_sound.specs.declared.head.SoundForm.{SoundForm}
 use Rattle.af_io.specs.Flow.{IsSpent}
 use Rattle.af_tools.specs.Most.{most_bytes}
-use Rattle.af_tools.specs.Fill.{fill_end, ConsumedAbove, ConsumedBeyond, ConsumedBeyondMost, ConsumedHead, ConsumedSound, ConsumedStated, ConsumedUpTo, ConsumedWithinMost, HeadIs}
+use Rattle.af_tools.specs.Fill.{fill_end, left_before, ConsumedAbove, ConsumedBeyond, ConsumedBeyondMost, ConsumedHead, ConsumedSound, ConsumedStated, ConsumedUpTo, ConsumedWithinMost, HeadIs}
 use Rattle.af_tools.specs.Sounds.{stated_behind, FitsStated}
 use Rattle.af_io.proofs.ConsumedLemmas.{consumed_on, consumed_told}
 use Rattle.af_tools.proofs.PlayBlockLemmas.{ConsumedAll}
@@ -22,6 +22,11 @@ pub fault_cases : (P : ToolEnd → Type 0) (fault : FillFault) → (IsErrOf {T =
 fault_cases P fill.ReadFault long failed = failed refl
 fault_cases P fill.TooLong long failed = long refl
 
+-- the same by the fault itself
+pub fault_known : (P : ToolEnd → Type 0) (fault : FillFault) → (fault ≡ fill.TooLong → P end.TooLong) → (fault ≡ fill.ReadFault → P end.ReadFault) → P (fill_end fault)
+fault_known P fill.ReadFault long failed = failed refl
+fault_known P fill.TooLong long failed = long refl
+
 -- what was given so far, and a block more
 pub given_on : (n given : ℕ) (a b c : Option (List ℕ)) (block : List ℕ) → ConsumedAll given a b → Consumed b (take n block) c → n ≤ length block → ConsumedAll (given + n) a c
 given_on n given a b c block so_far consumed fits = record {
@@ -29,6 +34,42 @@ given_on n given a b c block so_far consumed fits = record {
   consumed = consumed_on a b c so_far.bytes (take n block) so_far.consumed consumed;
   all = (let all = so_far.all in let len = length-take-le n block fits in omega (arith, length-append so_far.bytes (take n block)));
 }
+
+-- a block that was read is a part of what the source had left before it
+pub read_before : (block : List ℕ) (after : Option (List ℕ)) → Consumed (left_before block after) block after
+read_before block None = tt
+read_before block (Some rest) = refl
+
+pub before_is : (block : List ℕ) (b c : Option (List ℕ)) → Consumed b block c → IsSome c → left_before block c ≡ b
+before_is block b None consumed told = cc told
+before_is block None (Some z) consumed told = absurd consumed
+before_is block (Some y) (Some z) consumed told = ap (λ (l : List ℕ). Some l) (sym consumed)
+
+-- what was given before a block that was read
+pub given_before : (given : ℕ) (a b c : Option (List ℕ)) (block : List ℕ) → ConsumedAll given a b → Consumed b block c → ConsumedAll given a (left_before block c)
+given_before given a b c block so_far more = record { bytes = so_far.bytes; consumed = before a b c so_far.consumed more; all = so_far.all } where
+  before : (a b c : Option (List ℕ)) → Consumed a so_far.bytes b → Consumed b block c → Consumed a so_far.bytes (left_before block c)
+  before a b None h k = tt
+  before a None (Some z) h k = absurd k
+  before None (Some y) (Some z) h k = absurd h
+  before (Some x) (Some y) (Some z) h k = h ∙ ap (λ (l : List ℕ). so_far.bytes ++ l) k
+
+-- what a source gave, with a block that was read first
+pub consumed_first : (a b c : Option (List ℕ)) (block all : List ℕ) → Consumed a block b → Consumed (left_before block b) all c → Consumed a all c
+consumed_first a b None block all h k = tt
+consumed_first a None (Some z) block all h k = absurd k
+consumed_first None (Some y) (Some z) block all h k = absurd h
+consumed_first (Some x) (Some y) (Some z) block all h k = h ∙ k
+
+pub first_up_to : (most : ℕ) (a b c : Option (List ℕ)) (block : List ℕ) → Consumed a block b → ConsumedUpTo most (left_before block b) c → ConsumedUpTo most a c
+first_up_to most a b c block h more = record { bytes = more.bytes; consumed = consumed_first a b c block more.bytes h more.consumed; within = more.within }
+
+pub first_beyond : (most : ℕ) (a b c : Option (List ℕ)) (block : List ℕ) → Consumed a block b → ConsumedBeyond most (left_before block b) c → ConsumedBeyond most a c
+first_beyond most a b c block h more = record { bytes = more.bytes; consumed = consumed_first a b c block more.bytes h more.consumed; beyond = more.beyond }
+
+pub first_stated : (len : Option ℕ) (a b c : Option (List ℕ)) (block : List ℕ) → Consumed a block b → IsSpent c ⊎ ConsumedStated len (left_before block b) c → IsSpent c ⊎ ConsumedStated len a c
+first_stated len a b c block h (inl spent) = inl spent
+first_stated len a b c block h (inr more) = inr (record { bytes = more.bytes; consumed = consumed_first a b c block more.bytes h more.consumed; all = more.all })
 
 pub given_up_to : (most given : ℕ) (a b c : Option (List ℕ)) → ConsumedAll given a b → given ≤ most → ConsumedUpTo (most - given) b c → ConsumedUpTo most a c
 given_up_to most given a b c so_far within more = record {

@@ -2,18 +2,17 @@
 use Rattle.std.proofs.Common.{◌≡◌, slice_get, unwrap_or, ◌⊎◌, inl, inr, ℕ, List, [], ◌∷◌, refl, sym, ap, ap₂, ◌∙◌, subst}
 use Rattle.std.specs.Prelude.{Result, Ok, Err}
 use Rattle.std.specs.declared.option.Option.{Option}
-use Rattle.std.specs.declared.option.Option.TheVariants.{None, Some}
-use Rattle.af_time.specs.declared.DevTime.{DevTime}
+use Rattle.std.specs.declared.option.Option.TheVariants.{Some}
 use Rattle.af_io.specs.Dial.{IsFirstOf, ToldLink}
 use Rattle.af_wire.specs.declared.order.Order.{Order}
-use Rattle.af_request.specs.Asked.{Asked, get_time}
+use Rattle.af_request.specs.Asked.{Asked}
 use Rattle.af_request.specs.Requests.{request_bytes}
 use Rattle.af_request.specs.declared.reply.DeviceInfo.{DeviceInfo}
 use Rattle.af_sample.specs.declared.sample_type.SampleType.{SampleType}
 use Rattle.af_tools.specs.Play.{play_context}
 use Rattle.af_lib.specs.declared.fault.ConnFault.{ConnFault}
-use Rattle.af_lib.specs.Calls.{ConnState, IsSetUp, as_done, as_time, device_channels}
-use Rattle.af_tool.specs.Trace.{Trace, ClientState, after_reply, answer_on, answered_by, asks, begins, done, ends, sending, set_up}
+use Rattle.af_lib.specs.Calls.{ConnState, IsSetUp, as_done, device_channels}
+use Rattle.af_tool.specs.Trace.{Trace, ClientState, after_reply, answer_on, answered_by, asks, done, ends, sending}
 use Rattle.af_tool.specs.Ends.{PartCompletes, client_of}
 use Rattle.af_tool.specs.Talk.{creates}
 use Rattle.af_tool.specs.declared.talk.ToolContext.{ToolContext}
@@ -31,18 +30,18 @@ asks_is : (context : Asked) (w : ClientState) (next : Unit {0} → ClientState �
 unfolding asks
 asks_is context w next = refl
 
--- where a tool has the time of its device, its context was made
-begins_replied : (context : Asked) (device : ℕ) (w w' : ClientState) (now : DevTime) (s o : List ℕ) → PartCompletes (begins context device w) now w' s o → GivesReply context w
-begins_replied context device w w' now s o passed =
-    let more : Unit {0} → ClientState → Trace = λ _ v. asks (get_time device) as_time v (λ _ _. ends done) in
-    replied_at (request_bytes w.order context) (answer_on context as_done w) (after_reply w) more (ap (λ (t : Trace). t.finish) (sym (asks_is context w more) ∙ passed (λ _ _. ends done)))
+-- where the request for a context came to its value, the context was made
+asks_replied : (context : Asked) (w w' : ClientState) (u : Unit {0}) (s o : List ℕ) → PartCompletes (asks context as_done w) u w' s o → GivesReply context w
+asks_replied context w w' u s o passed =
+    let more : Unit {0} → ClientState → Trace = λ _ _. ends done in
+    replied_at (request_bytes w.order context) (answer_on context as_done w) (after_reply w) more (ap (λ (t : Trace). t.finish) (sym (asks_is context w more) ∙ passed more))
 
 -- the same by the context of a job
-pub context_replied : (devices : List DeviceInfo) (context : ToolContext) (job : PlayJob) (ty : SampleType) (channels : ℕ) (w w' : ClientState) (now : DevTime) (s o : List ℕ) → context.device ≡ job.device → device_channels devices job.device ≡ channels →
-    ((n : ℕ) → creates n context ≡ play_context job ty n) → PartCompletes (begins (creates (device_channels devices context.device) context) context.device w) now w' s o → GivesReply (play_context job ty channels) w
-context_replied devices context job ty channels w w' now s o same_device same_channels same passed =
+pub context_replied : (devices : List DeviceInfo) (context : ToolContext) (job : PlayJob) (ty : SampleType) (channels : ℕ) (w w' : ClientState) (u : Unit {0}) (s o : List ℕ) → context.device ≡ job.device → device_channels devices job.device ≡ channels →
+    ((n : ℕ) → creates n context ≡ play_context job ty n) → PartCompletes (asks (creates (device_channels devices context.device) context) as_done w) u w' s o → GivesReply (play_context job ty channels) w
+context_replied devices context job ty channels w w' u s o same_device same_channels same passed =
     let count : device_channels devices context.device ≡ channels = ap (device_channels devices) same_device ∙ same_channels in
-    subst (λ (a : Asked). GivesReply a w) (ap (λ n. creates n context) count ∙ same channels) (begins_replied (creates (device_channels devices context.device) context) context.device w w' now s o passed)
+    subst (λ (a : Asked). GivesReply a w) (ap (λ n. creates n context) count ∙ same channels) (asks_replied (creates (device_channels devices context.device) context) w w' u s o passed)
 
 -- aplay leaves a source without a head behind the reply, by what it does behind the head
 pub read_late : {L S : Type 0} (left : L → Option (List ℕ)) (job : PlayJob) (device : DeviceInfo) (conn : ConnState L) → slice_get conn.devices job.device ≡ Some device → (ty : SampleType) (channels : ℕ) → ty ≡ unwrap_or job.ty device.ty → channels ≡ device.channels →

@@ -1,5 +1,5 @@
 -- Reading a source in blocks.
-use Rattle.std.specs.Prelude.{◌≡◌, ◌<◌, ◌≤◌, ℕ, List, [], ◌++◌, length}
+use Rattle.std.specs.Prelude.{◌≡◌, ◌<◌, ◌≤◌, ◌⊎◌, ℕ, List, [], ◌++◌, length, take}
 use Rattle.std.specs.declared.option.Option.{Option}
 use Rattle.std.specs.declared.option.Option.TheVariants.{None, Some}
 use Rattle.af_io.specs.Observed.{Consumed}
@@ -13,6 +13,7 @@ use Rattle.af_tool.specs.declared.end.ToolEnd.TheVariants as end
 use Rattle.af_tools.specs.declared.fill.FillFault.{FillFault}
 use Rattle.af_tools.specs.declared.fill.FillFault.TheVariants as fill
 use Rattle.af_tools.specs.Most.{most_bytes}
+use Rattle.af_tools.specs.Sounds.{FitsStated}
 
 -- how aplay ends where its source gave no block
 abbrev pub fill_end : FillFault → ToolEnd
@@ -31,6 +32,24 @@ pub record ConsumedAbove (most room : ℕ) (before after : Option (List ℕ)) : 
   pub consumed : Consumed before bytes after
   pub beyond : most < length bytes
   pub within : length bytes ≤ room
+
+-- what a source had left before it gave these bytes, by what it has left now
+abbrev pub left_before : List ℕ → Option (List ℕ) → Option (List ℕ)
+left_before bytes None = None
+left_before bytes (Some rest) = Some (bytes ++ rest)
+
+-- The block that was read has n bytes: as many as it has room for, and fewer only at the end of the source, or of a sound of which
+-- this length is left.
+pub record IsNextBlock (room allowed : ℕ) (len : Option ℕ) (count : ℕ) (after : Option (List ℕ)) : Type 0 where
+  pub within : count ≤ room
+  pub permitted : count ≤ allowed
+  pub stated : FitsStated len count
+  pub ended : count < room → IsSpent after ⊎ (len ≡ Some count)
+
+-- the first block was read early, before the device's time was asked, or is left for later
+abbrev pub IsEarlyBlock : (room allowed : ℕ) → (len early : Option ℕ) → List ℕ → (before after : Option (List ℕ)) → Type 0
+IsEarlyBlock room allowed len (Some count) bytes before after = Consumed before (take count bytes) after × IsNextBlock room allowed len count after
+IsEarlyBlock room allowed len None bytes before after = after ≡ before
 
 -- the source gave no more than aplay takes
 abbrev pub ConsumedWithinMost : Option (List ℕ) → Option (List ℕ) → Type 0

@@ -46,6 +46,10 @@ source_sample None ty = width_of ty
 abbrev pub source_width : Option Coding → SampleType → (channels : ℕ) → ℕ
 source_width coding ty channels = source_sample coding ty * channels
 
+-- the bytes of a block of n frames of a sound in the source
+abbrev pub block_bytes : SourceSound → (frames : ℕ) → ℕ
+block_bytes sound frames = frames * source_width sound.coding sound.ty sound.channels
+
 -- A source's bytes are a file of this form whose head tells the device's rate and channels, and these are the samples of the sound
 -- behind it, as a server takes them as this type.
 pub record IsFileSound (form : SoundForm) (device : DeviceInfo) (bytes : List ℕ) (ty : SampleType) (samples : List ℕ) : Type 0 where

@@ -1,8 +1,8 @@
 // What a source gives is played, block by block.
-ghost use Rattle.std.specs.Prelude.{◌≡◌, ◌<◌, ◌≤◌, ◌⊎◌, ◌*◌, ◌+◌, ◌-◌, true, false, length, IfErr, IfOk, IsErrOf};
+ghost use Rattle.std.specs.Prelude.{ℕ, List, ◌≡◌, ◌<◌, ◌≤◌, ◌⊎◌, ◌*◌, ◌+◌, ◌-◌, ◌++◌, true, false, length, take, IfErr, IfOk, IsErrOf};
 ghost use Rattle.std.specs.declared.option.Option.{Option};
 ghost use Rattle.std.specs.declared.option.Option.TheVariants.{None};
-ghost use Rattle.af_io.specs.Observed.{CountsFault};
+ghost use Rattle.af_io.specs.Observed.{Consumed, CountsFault};
 ghost use Rattle.af_io.specs.Flow.{IsSpent};
 ghost use Rattle.af_request.specs.Asked.{play_run};
 ghost use Rattle.af_lib.specs.Calls.{as_time};
@@ -11,13 +11,13 @@ ghost use Rattle.af_tool.specs.Ends.{is_of_link, KeepsConnection, ObservedPartOv
 ghost use Rattle.af_sound.specs.Served.{served_length};
 ghost use Rattle.af_tools.specs.Most.{most_bytes};
 ghost use Rattle.af_tools.specs.Play.{plays_sound, IsBlock};
-ghost use Rattle.af_tools.specs.Sounds.{as_served, served_room, AreWhole, IsServedAs};
+ghost use Rattle.af_tools.specs.Sounds.{as_served, block_bytes, served_room, stated_room, AreWhole, IsServedAs};
 ghost use Rattle.af_tools.specs.Ways.{is_of_blocks};
-ghost use Rattle.af_tools.specs.Fill.{ConsumedBeyond, ConsumedStated, ConsumedUpTo};
+ghost use Rattle.af_tools.specs.Fill.{left_before, ConsumedAbove, ConsumedBeyond, ConsumedStated, ConsumedUpTo, IsEarlyBlock, IsNextBlock};
 ghost use Rattle.af_tools.specs.Reading.{ObservedPartReading};
 ghost use Rattle.af_options.specs.Sizes.{greatest_block};
 
-use crate::fill::{fill_stated, left_behind};
+use crate::fill::{FillFault, fill_stated, left_behind};
 use crate::sound::SourceSound;
 use af_io::{Link, Source};
 use af_lib::Conn;
@@ -93,26 +93,114 @@ fn play_block<L: Link + Drop>(
     }
 }
 
-/// Plays the sound that a source gives, in blocks, from a start on: how many frames these were. Bytes at the end that make no whole
-/// frame are dropped. In the room a block is read.
+// Reads the first block of a sound, of so many frames: how many bytes it has.
+fn fill_first<S: Source>(
+    source: &mut S,
+    sound: SourceSound,
+    block: u32,
+    room: &mut [u8],
+) -> Result<usize, FillFault>
+    requires block { IsBlock sound.ty sound.channels block }
+    requires sound { IsServedAs sound.coding sound.ty × (sound.head ≤ most_bytes) }
+    requires room { greatest_block ≤ length room.old }
+    ensures room { length room.new ≡ length room.old }
+    ensures given { IfOk result (λ n. Consumed (S.left source.old) (take n room.new) (S.left source.new)) }
+    ensures first { IfOk result (λ n.
+        IsNextBlock (block_bytes sound block) (most_bytes - sound.head) sound.length n (S.left source.new)) }
+    ensures long { IsErrOf result FillFault.TooLong → ConsumedAbove (most_bytes - sound.head)
+        (stated_room sound.length (block_bytes sound block)) (S.left source.old) (S.left source.new) }
+    ensures cut { IsErrOf result FillFault.ReadFault →
+        ConsumedUpTo (most_bytes - sound.head) (S.left source.old) (S.left source.new) }
+    ensures fault { CountsFault (IsErrOf result FillFault.ReadFault) (S.faults source.old) (S.faults source.new) }
+{
+    let size = block as usize * sound.width();
+    fill_stated(
+        source,
+        &mut room[..size],
+        sound.length,
+        MOST_BYTES - sound.head,
+    )
+}
+
+/// Reads the first block of a sound, of so many frames, before the device's time is asked for: how many bytes it has. Behind a head
+/// that leaves less than a block of what a source may give, it is left for later: it may be too long.
+pub fn read_early<S: Source>(
+    source: &mut S,
+    sound: SourceSound,
+    block: u32,
+    room: &mut [u8],
+) -> Result<Option<usize>, FillFault>
+    requires block { IsBlock sound.ty sound.channels block }
+    requires sound { IsServedAs sound.coding sound.ty × (sound.head ≤ most_bytes) }
+    requires room { greatest_block ≤ length room.old }
+    ensures room { length room.new ≡ length room.old }
+    ensures early { IfOk result (λ early. IsEarlyBlock (block_bytes sound block) (most_bytes - sound.head)
+        sound.length early room.new (S.left source.old) (S.left source.new)) }
+    ensures only { IsErrOf result FillFault.TooLong → ⊥ }
+    ensures cut { IsErrOf result FillFault.ReadFault →
+        ConsumedUpTo (most_bytes - sound.head) (S.left source.old) (S.left source.new) }
+    ensures fault { CountsFault (IsErrOf result FillFault.ReadFault) (S.faults source.old) (S.faults source.new) }
+{
+    if sound.head > MOST_BYTES - GREATEST_BLOCK as u64 {
+        return Ok(None);
+    }
+    match fill_first(source, sound, block, room) {
+        Ok(first) => Ok(Some(first)),
+        Err(fault) => Err(fault),
+    }
+}
+
+/// The first block of a sound, which was read early, or is read now: how many bytes it has.
+pub fn read_first<S: Source>(
+    source: &mut S,
+    sound: SourceSound,
+    block: u32,
+    early: Option<usize>,
+    room: &mut [u8],
+) -> Result<usize, FillFault>
+    requires block { IsBlock sound.ty sound.channels block }
+    requires sound { IsServedAs sound.coding sound.ty × (sound.head ≤ most_bytes) }
+    requires room { greatest_block ≤ length room.old }
+    ensures room { length room.new ≡ length room.old }
+    ensures given { (before : Option (List ℕ)) → IsEarlyBlock (block_bytes sound block) (most_bytes - sound.head)
+        sound.length early room.old before (S.left source.old) →
+        IfOk result (λ n. Consumed before (take n room.new) (S.left source.new)
+        × IsNextBlock (block_bytes sound block) (most_bytes - sound.head) sound.length n (S.left source.new)) }
+    ensures long { IsErrOf result FillFault.TooLong → (early ≡ None) × ConsumedAbove (most_bytes - sound.head)
+        (stated_room sound.length (block_bytes sound block)) (S.left source.old) (S.left source.new) }
+    ensures cut { IsErrOf result FillFault.ReadFault →
+        (early ≡ None) × ConsumedUpTo (most_bytes - sound.head) (S.left source.old) (S.left source.new) }
+    ensures fault { CountsFault (IsErrOf result FillFault.ReadFault) (S.faults source.old) (S.faults source.new) }
+{
+    match early {
+        Some(first) => Ok(first),
+        None => fill_first(source, sound, block, room),
+    }
+}
+
+/// Plays the sound that a source gives, in blocks, from a start on: how many frames these were. The first block was read, and stands
+/// at the front of the room. Bytes at the end that make no whole frame are dropped.
 pub fn play_blocks<L: Link + Drop, S: Source>(
     conn: &mut Conn<L>,
     source: &mut S,
     playback: Playback,
+    first: usize,
     room: &mut [u8],
 ) -> Result<u64, ToolEnd>
     requires usable { conn.old.cause ≡ None }
     requires block { IsBlock playback.sound.ty playback.sound.channels playback.block }
     requires sound { IsServedAs playback.sound.coding playback.sound.ty × (playback.sound.head ≤ most_bytes) }
+    requires first { IsNextBlock (block_bytes playback.sound playback.block) (most_bytes - playback.sound.head)
+        playback.sound.length first (S.left source.old) }
     requires room { greatest_block ≤ length room.old }
     ensures goes { ObservedPartReading L.left L.sent S.left conn.old conn.new source.old source.new
-        (λ bytes w. plays_sound playback.sound playback.block playback.start.0 bytes w) result }
+        (λ bytes w. plays_sound playback.sound playback.block playback.start.0 (take first room.old ++ bytes) w) result }
     ensures spent { IfOk result (λ _. IsSpent (S.left source.new)
-        ⊎ ConsumedStated playback.sound.length (S.left source.old) (S.left source.new)) }
+        ⊎ ConsumedStated playback.sound.length (left_before (take first room.old) (S.left source.old)) (S.left source.new)) }
     ensures long { IsErrOf result ToolEnd.TooLong →
-        ConsumedBeyond (most_bytes - playback.sound.head) (S.left source.old) (S.left source.new) }
+        ConsumedBeyond (most_bytes - playback.sound.head) (left_before (take first room.old) (S.left source.old)) (S.left source.new) }
     ensures within { (IsErrOf result ToolEnd.TooLong → ⊥) →
-        ConsumedUpTo (most_bytes - playback.sound.head) (S.left source.old) (S.left source.new) }
+        ConsumedUpTo (most_bytes - playback.sound.head) (left_before (take first room.old) (S.left source.old)) (S.left source.new) }
     ensures holds { KeepsConnection L.left L.faults conn.old conn.new result }
     ensures end { IfErr result (λ how. is_of_blocks how ≡ true) }
     ensures fault { CountsFault (IsErrOf result ToolEnd.ReadFault) (S.faults source.old) (S.faults source.new) }
@@ -126,8 +214,8 @@ pub fn play_blocks<L: Link + Drop, S: Source>(
     let mut left = sound.length;
     let mut frames = 0u64;
     let mut given = 0u64;
+    let mut filled = first;
     loop {
-        let filled = fill_stated(source, block, left, most - given)?;
         let count = filled / width;
         if count == 0 {
             return Ok(frames);
@@ -140,5 +228,6 @@ pub fn play_blocks<L: Link + Drop, S: Source>(
         if filled < size {
             return Ok(frames);
         }
+        filled = fill_stated(source, block, left, most - given)?;
     }
 }

@@ -18,7 +18,7 @@ ghost use Rattle.af_tools.specs.Unread.{GivesReply, ReadsAfterContext};
 ghost use Rattle.af_tools.specs.Ran.{LacksDevice, RunsAplay};
 ghost use Rattle.af_options.specs.Sizes.{greatest_block};
 
-use crate::play::{Playback, play_blocks};
+use crate::play::{Playback, play_blocks, read_early, read_first};
 use crate::report::report;
 use crate::sound::{SourceSound, sound_of};
 use af_io::{Link, Sink, Source};
@@ -27,7 +27,7 @@ use af_options::{PlayJob, block_frames};
 use af_request::DeviceInfo;
 use af_sample::{Gain, SampleType};
 use af_time::DevTime;
-use af_tool::{ToolContext, ToolEnd, begin, device_with, finish, time_behind};
+use af_tool::{ToolContext, ToolEnd, device_time, device_with, finish, make_context, time_behind};
 
 // How many frames were played, and from when on.
 #[derive(Clone, Copy)]
@@ -96,15 +96,20 @@ fn play_on<L: Link + Drop, S: Source>(
     ensures fault { CountsFault (IsErrOf result ToolEnd.ReadFault) (S.faults source.old) (S.faults source.new) }
 {
     let Plan { job, device, sound } = plan;
-    let now = begin(conn, context_of(&job, sound.ty))?;
-    let start = start_of(&job, now, device.rate);
+    make_context(conn, context_of(&job, sound.ty))?;
     let frame = sound.ty.frame_bytes(sound.channels);
+    let block = block_frames(job.block, frame);
+    // The time is asked for once there is something to play, so a source that is slow to begin costs no lead.
+    let early = read_early(source, sound, block, room)?;
+    let now = device_time(conn, job.device)?;
+    let start = start_of(&job, now, device.rate);
+    let first = read_first(source, sound, block, early, room)?;
     let playback = Playback {
         sound,
-        block: block_frames(job.block, frame),
+        block,
         start,
     };
-    let frames = play_blocks(conn, source, playback, room)?;
+    let frames = play_blocks(conn, source, playback, first, room)?;
     finish(conn)?;
     Ok(Played { frames, start })
 }

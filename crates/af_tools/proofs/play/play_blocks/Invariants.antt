@@ -1,13 +1,16 @@
-use Rattle.std.proofs.Common.{◌≡◌, ◌≤◌, ◌+◌, ◌-◌, ◌^◌, ℕ, List, length, IsSome}
+use Rattle.std.proofs.Common.{◌≡◌, ◌<◌, ◌≤◌, ◌⊎◌, ◌+◌, ◌-◌, ◌^◌, ◌++◌, ℕ, List, length, take, IsSome}
 use Rattle.std.specs.declared.option.Option.{Option}
 use Rattle.std.specs.declared.option.Option.TheVariants.{None, Some}
+use Rattle.af_io.specs.Flow.{IsSpent}
 use Rattle.af_tool.specs.Ends.{client_of}
+use Rattle.af_tools.specs.Fill.{left_before}
 use Rattle.af_tools.specs.Sounds.{stated_behind, stated_part, FitsStated}
 use Rattle.af_tools.proofs.PlayBlockLemmas.{ConsumedAll, IsPlaying}
 use Rattle.af_tools.proofs.play.play_blocks.Given as goal
 
-abbrev pub invariant-loop-filled : goal.invariant-loop-filled
-invariant-loop-filled g l = record {
+-- A block was read, and those before it were played: the source is taken as it was before the block.
+abbrev pub invariant-loop-block : goal.invariant-loop-block
+invariant-loop-block g l = record {
   usable : l.conn.cause ≡ None;
   devices : l.conn.devices ≡ l.initial.conn.devices;
   tells : IsSome (g.L.Link.left l.initial.conn.link) → IsSome (g.L.Link.left l.conn.link);
@@ -15,14 +18,18 @@ invariant-loop-filled g l = record {
   count : g.S.Source.faults l.initial.source ≤ g.S.Source.faults l.source;
   block : length l.block ≡ l.size;
   served : length l.served ≡ 16000;
-  permitted : l.given ≤ l.most;
+  within : l.filled ≤ l.size;
+  permitted : l.given + l.filled ≤ l.most;
+  stated : FitsStated l.left l.filled;
+  ended : l.filled < l.size → IsSpent (g.S.Source.left l.source) ⊎ (l.left ≡ Some l.filled);
   few : l.frames ≤ l.given;
   fits : FitsStated l.sound.length l.given;
   rest : l.left ≡ stated_behind l.sound.length l.given;
-  given : ConsumedAll l.given (g.S.Source.left l.initial.source) (g.S.Source.left l.source);
+  given : ConsumedAll l.given (left_before (take l.first l.fn.room) (g.S.Source.left l.initial.source)) (left_before (take l.filled l.block) (g.S.Source.left l.source));
   playing : (input bytes : List ℕ) (held : Option (List ℕ)) → g.L.Link.left l.initial.conn.link ≡ Some input → g.S.Source.left l.initial.source ≡ Some bytes → IsSome (g.S.Source.left l.source) →
-      IsPlaying l.sound.coding l.sound.head l.width l.start.0 l.size l.frames (l.sound.head + l.given) l.left (stated_part l.sound.length bytes) (client_of l.initial.conn input) (g.S.Source.left l.source) (g.L.Link.left l.conn.link) (client_of l.conn) (g.L.Link.sent l.initial.conn.link) (g.L.Link.sent l.conn.link) held;
+      IsPlaying l.sound.coding l.sound.head l.width l.start.0 l.size l.frames (l.sound.head + l.given) l.left (stated_part l.sound.length (take l.first l.fn.room ++ bytes)) (client_of l.initial.conn input)
+      (left_before (take l.filled l.block) (g.S.Source.left l.source)) (g.L.Link.left l.conn.link) (client_of l.conn) (g.L.Link.sent l.initial.conn.link) (g.L.Link.sent l.conn.link) held;
 }
 
-abbrev pub decreases-loop-filled : goal.decreases-loop-filled
-decreases-loop-filled g l = 2 ^ 40 + 1 - l.given
+abbrev pub decreases-loop-block : goal.decreases-loop-block
+decreases-loop-block g l = 2 ^ 40 + 1 - l.given

@@ -165,13 +165,15 @@ def failing_link(run, word, turns, resets, how):
 
 
 def failing_source(run):
-    """The runs whose source fails behind each of its bytes: the blocks that were whole by then were played, and no more is sent."""
+    """The runs whose source fails behind each of its bytes: the blocks that were whole by then were played, and no more is sent. Until the
+    first is whole the time is not asked for."""
     requests = requests_of(run.peers["SERVER"])
     plays = [len(request.data) for request in requests if request.name == "Play"]
     first = next(at for at, request in enumerate(requests) if request.name == "Play")
     for given in range(len(run.source) + 1):
         whole = sum(sum(plays[: at + 1]) <= given and size == plays[0] for at, size in enumerate(plays))
-        peer = replace(run.peers["SERVER"], sent=joined(requests[: first + whole]))
+        sent = requests[: first + whole] if whole else requests[: first - 1]
+        peer = replace(run.peers["SERVER"], sent=joined(sent))
         yield replace(
             run, name="%s, its source fails behind %d bytes" % (run.name, given), source=run.source[:given], breaks=True,
             peers={**run.peers, "SERVER": peer}, output=b"", status=5, text="read failed")

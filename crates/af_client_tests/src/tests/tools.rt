@@ -87,7 +87,7 @@ const PLAYED: &str =
     01020002 00000001 00000000 01060003 00000001 00000000 01060004 00000001 00000000 01050005 00000000";
 
 // What fails in a play of two blocks, and what it comes to.
-static CASES: [(&str, Failing<'static>, Outcome<'static>); 5] = [
+static CASES: [(&str, Failing<'static>, Outcome<'static>); 6] = [
     (
         "nothing fails",
         NOTHING,
@@ -120,6 +120,18 @@ static CASES: [(&str, Failing<'static>, Outcome<'static>); 5] = [
         Outcome {
             end: ToolEnd::LinkFault,
             sent: "41464200 00010000 03000004 00000001 00010000 00000000 02000001",
+            held: b"",
+        },
+    ),
+    (
+        "the first read of the source fails, before the time is asked for",
+        Failing {
+            source: &[0],
+            ..NOTHING
+        },
+        Outcome {
+            end: ToolEnd::ReadFault,
+            sent: "41464200 00010000 03000004 00000001 00010000 00000000",
             held: b"",
         },
     ),

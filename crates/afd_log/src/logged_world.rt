@@ -2,38 +2,38 @@
 ghost use Rattle.std.specs.Prelude.{◌≡◌};
 ghost use Rattle.std.specs.declared.option.Option.TheVariants.{None};
 
-use crate::Log;
 use crate::device_words::DeviceWords;
 use crate::listening::{ListenRefusal, listen_refusal};
-use af_child::Spawner;
+use crate::{Log, LoggedSpawner, WatchedRuntime};
+use af_child::StdSpawner;
 use af_io::Put;
 use af_live::MioWorld;
 use af_world::{DeviceSpec, Kind, LinkGot, LinkTook, Live, Ready, Waited, Wake, Why, World};
 use std::alloc::Global;
-use std::net::Net;
-use std::rt::Files;
-use std::time::Clock;
 
-/// A world over another, to which it hands each call. It tells in a log at which address it listens, what the devices are, who
-/// connects, why a link is closed and why a device has died.
+/// The world that is told of.
+type RealWorld<'a> = MioWorld<
+    WatchedRuntime<'a, HostRuntime>,
+    LoggedSpawner<'a, StdSpawner<WatchedRuntime<'a, HostRuntime>>>,
+>;
+
+/// The world of sockets, files and programs, to which each call is handed on. It tells in a log at which address it listens, what the
+/// devices are, who connects, why a link is closed and why a device has died.
 #[derive(Drop)]
-pub struct LoggedWorld<'a, R: Net + Clock + Files + Drop, S: Spawner + Drop> {
-    world: MioWorld<R, S>,
+pub struct LoggedWorld<'a> {
+    world: RealWorld<'a>,
     rt: &'a HostRuntime,
     log: &'a Log<'a>,
     turned_away: u64,
     refusal: Option<ListenRefusal>,
 }
 
-impl<'a, R: Net + Clock + Files + Drop, S: Spawner + Drop> LoggedWorld<'a, R, S> {
-    /// A world over this one.
-    pub fn new(
-        world: MioWorld<R, S>,
-        rt: &'a HostRuntime,
-        log: &'a Log<'a>,
-    ) -> LoggedWorld<'a, R, S> {
+impl<'a> LoggedWorld<'a> {
+    /// The world of this runtime, with this log. It takes no memory and asks nothing of the system.
+    pub fn new(rt: &'a HostRuntime, log: &'a Log<'a>) -> LoggedWorld<'a> {
+        let spawner = LoggedSpawner::new(StdSpawner::new(WatchedRuntime::new(rt, log)), log);
         LoggedWorld {
-            world,
+            world: MioWorld::new(WatchedRuntime::new(rt, log), rt.alloc(), spawner),
             rt,
             log,
             turned_away: 0,
@@ -47,7 +47,7 @@ impl<'a, R: Net + Clock + Files + Drop, S: Spawner + Drop> LoggedWorld<'a, R, S>
     }
 }
 
-impl<R: Net + Clock + Files + Drop, S: Spawner + Drop> World for LoggedWorld<'_, R, S> {
+impl World for LoggedWorld<'_> {
     ghost use Rattle.af_live.specs.RealWorld.{RealLeadsTo, RealLeadsTo-refl, RealLeadsTo-trans};
 
     ghost log = { λ _. None };
@@ -107,7 +107,7 @@ impl<R: Net + Clock + Files + Drop, S: Spawner + Drop> World for LoggedWorld<'_,
     }
 }
 
-impl<R: Net + Clock + Files + Drop, S: Spawner + Drop> Live for LoggedWorld<'_, R, S> {
+impl Live for LoggedWorld<'_> {
     ghost listen_faults = { λ logged. logged.world.listen_faults };
 
     ghost wait_faults = { λ logged. logged.world.wait_faults };
@@ -152,10 +152,7 @@ impl<R: Net + Clock + Files + Drop, S: Spawner + Drop> Live for LoggedWorld<'_, 
 }
 
 /// Tells at which address a world listens.
-fn tell_listening<R: Net + Clock + Files + Drop, S: Spawner + Drop>(
-    world: &MioWorld<R, S>,
-    log: &Log<'_>,
-) {
+fn tell_listening(world: &RealWorld<'_>, log: &Log<'_>) {
     if let Some(sockets) = world.sockets()
         && let Ok(address) = sockets.listener.local_addr()
     {
@@ -164,11 +161,7 @@ fn tell_listening<R: Net + Clock + Files + Drop, S: Spawner + Drop>(
 }
 
 /// Tells who connected.
-fn tell_opened<R: Net + Clock + Files + Drop, S: Spawner + Drop>(
-    world: &MioWorld<R, S>,
-    log: &Log<'_>,
-    link: u8,
-) {
+fn tell_opened(world: &RealWorld<'_>, log: &Log<'_>, link: u8) {
     if !log.is_wanted() {
         return;
     }
@@ -202,11 +195,7 @@ fn tell_dead(log: &Log<'_>, device: u8, what: &str) {
 }
 
 /// Tells how many connections were turned away since the last time, and how many lines were left out.
-fn tell_turned_away<R: Net + Clock + Files + Drop, S: Spawner + Drop>(
-    world: &MioWorld<R, S>,
-    log: &Log<'_>,
-    before: &mut u64,
-) {
+fn tell_turned_away(world: &RealWorld<'_>, log: &Log<'_>, before: &mut u64) {
     if !log.is_wanted() {
         return;
     }

@@ -1,33 +1,31 @@
 // The runtime of a server, which notes what the system refuses, and tells which file it opens.
-ghost use Rattle.std.specs.Prelude.{◌≤◌, length, IfOk};
-
 use crate::Log;
 use crate::watched_file::WatchedFile;
 use af_io::Reason;
 use std::alloc::Allocator;
-use std::fs::{File, Metadata, OpenOptions};
+use std::fs::{Metadata, OpenOptions};
 use std::io;
-use std::net::{Net, SocketAddr, TcpListener, TcpStream};
+use std::net::{Net, SocketAddr};
 use std::process::{Child, Command, Processes, Stdio};
 use std::rt::Files;
 use std::time::{Clock, Duration};
 
-/// The runtime of the system, which notes in a log what the system refuses, and tells which file it opens before it does: a FIFO
+/// A runtime, which notes in a log what the system refuses, and tells which file it opens before it does: a FIFO
 /// that nobody has at its other end keeps the open waiting.
 #[derive(Drop)]
-pub struct WatchedRuntime<'a> {
-    rt: &'a HostRuntime,
+pub struct WatchedRuntime<'a, R> {
+    rt: &'a R,
     log: &'a Log<'a>,
 }
 
-impl<'a> WatchedRuntime<'a> {
+impl<'a, R> WatchedRuntime<'a, R> {
     /// This runtime, watched by a log.
-    pub fn new(rt: &'a HostRuntime, log: &'a Log<'a>) -> WatchedRuntime<'a> {
+    pub fn new(rt: &'a R, log: &'a Log<'a>) -> WatchedRuntime<'a, R> {
         WatchedRuntime { rt, log }
     }
 }
 
-impl Clock for WatchedRuntime<'_> {
+impl<R: Clock> Clock for WatchedRuntime<'_, R> {
     fn monotonic(&self) -> io::Result<Duration> {
         self.rt.monotonic()
     }
@@ -37,16 +35,16 @@ impl Clock for WatchedRuntime<'_> {
     }
 }
 
-impl Net for WatchedRuntime<'_> {
-    type Stream = TcpStream;
+impl<R: Net> Net for WatchedRuntime<'_, R> {
+    type Stream = R::Stream;
 
-    type Listener = TcpListener;
+    type Listener = R::Listener;
 
-    fn bind(&self, addr: SocketAddr) -> io::Result<TcpListener> {
+    fn bind(&self, addr: SocketAddr) -> io::Result<R::Listener> {
         self.rt.bind(addr)
     }
 
-    fn connect(&self, addr: SocketAddr) -> io::Result<TcpStream> {
+    fn connect(&self, addr: SocketAddr) -> io::Result<R::Stream> {
         self.rt.connect(addr)
     }
 
@@ -55,12 +53,12 @@ impl Net for WatchedRuntime<'_> {
     }
 }
 
-impl<'a> Files for WatchedRuntime<'a> {
-    type File = WatchedFile<'a, File>;
+impl<'a, R: Files> Files for WatchedRuntime<'a, R> {
+    type File = WatchedFile<'a, R::File>;
 
-    type Dir = <HostRuntime as Files>::Dir;
+    type Dir = R::Dir;
 
-    fn open_file(&self, how: &OpenOptions, path: &str) -> io::Result<WatchedFile<'a, File>> {
+    fn open_file(&self, how: &OpenOptions, path: &str) -> io::Result<WatchedFile<'a, R::File>> {
         self.log.opens(path);
         match self.rt.open_file(how, path) {
             Ok(file) => Ok(WatchedFile::new(file, self.log)),
@@ -71,7 +69,7 @@ impl<'a> Files for WatchedRuntime<'a> {
         }
     }
 
-    fn open_dir(&self, path: &str) -> io::Result<Self::Dir> {
+    fn open_dir(&self, path: &str) -> io::Result<R::Dir> {
         self.rt.open_dir(path)
     }
 
@@ -108,8 +106,8 @@ impl<'a> Files for WatchedRuntime<'a> {
     }
 }
 
-impl Processes for WatchedRuntime<'_> {
-    type Started = <HostRuntime as Processes>::Started;
+impl<R: Processes> Processes for WatchedRuntime<'_, R> {
+    type Started = R::Started;
 
     fn spawn<B: Allocator + Clone>(
         &self,
@@ -117,7 +115,7 @@ impl Processes for WatchedRuntime<'_> {
         stdin: &Stdio,
         stdout: &Stdio,
         stderr: &Stdio,
-    ) -> io::Result<Child<Self::Started>> {
+    ) -> io::Result<Child<R::Started>> {
         let started = self.rt.spawn(command, stdin, stdout, stderr);
         if let Err(e) = &started {
             self.log.note(Reason::new(*e));

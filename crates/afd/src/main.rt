@@ -7,13 +7,11 @@ mod ends;
 
 use crate::details::{tell_live, tell_script};
 use crate::ends::{report_live, report_script};
-use af_child::StdSpawner;
 use af_io::{
     Args, StdSink, StdSource, WordsFault, open_standard_streams, program_words, wants_details,
 };
-use af_live::MioWorld;
 use afd_details::{KeptSource, tell_not_text};
-use afd_log::{Log, LoggedSpawner, LoggedWorld, WatchedRuntime};
+use afd_log::{Log, LoggedWorld};
 use afd_script::{ScriptEnd, afd_script};
 use afd_serve::{LiveEnd, afd_live};
 use std::io;
@@ -36,9 +34,7 @@ fn run_script(rt: &HostRuntime, words: &Args) -> ExitCode {
 fn run_server(rt: &HostRuntime, words: &Args) -> ExitCode {
     let details = wants_details(rt);
     let log = Log::new(rt, details);
-    let spawner = LoggedSpawner::new(StdSpawner::new(WatchedRuntime::new(rt, &log)), &log);
-    let world = MioWorld::new(WatchedRuntime::new(rt, &log), rt.alloc(), spawner);
-    let mut world = LoggedWorld::new(world, rt, &log);
+    let mut world = LoggedWorld::new(rt, &log);
     let mut source = KeptSource::new(rt.alloc(), StdSource::new(rt.reader()), details);
     let end = afd_live(rt.alloc(), words, &mut source, &mut world);
     // where standard error takes nothing, the status still says how it ended

@@ -1,29 +1,39 @@
-// A world that tells in a log what it does.
+// A world of sockets, files and programs that tells in a log what it does.
+ghost use Rattle.std.specs.Prelude.{◌≡◌};
+ghost use Rattle.std.specs.declared.option.Option.TheVariants.{None};
 
-use crate::Log;
 use crate::device_words::DeviceWords;
 use crate::listening::{ListenRefusal, listen_refusal};
-use crate::peers::Peers;
+use crate::{Log, LoggedSpawner, WatchedRuntime};
+use af_child::StdSpawner;
 use af_io::Put;
+use af_live::MioWorld;
 use af_world::{DeviceSpec, Kind, LinkGot, LinkTook, Live, Ready, Waited, Wake, Why, World};
 use std::alloc::Global;
 
-/// A world over another, to which it hands each call. It tells in a log at which address it listens, what the devices are, who
-/// connects, why a link is closed and why a device has died.
+/// The world that is told of.
+type RealWorld<'a> = MioWorld<
+    WatchedRuntime<'a, HostRuntime>,
+    LoggedSpawner<'a, StdSpawner<WatchedRuntime<'a, HostRuntime>>>,
+>;
+
+/// The world of sockets, files and programs, to which each call is handed on. It tells in a log at which address it listens, what the
+/// devices are, who connects, why a link is closed and why a device has died.
 #[derive(Drop)]
-pub struct LoggedWorld<'a, W: Live + Peers + Drop> {
-    world: W,
+pub struct LoggedWorld<'a> {
+    world: RealWorld<'a>,
     rt: &'a HostRuntime,
     log: &'a Log<'a>,
     turned_away: u64,
     refusal: Option<ListenRefusal>,
 }
 
-impl<'a, W: Live + Peers + Drop> LoggedWorld<'a, W> {
-    /// A world over this one.
-    pub fn new(world: W, rt: &'a HostRuntime, log: &'a Log<'a>) -> LoggedWorld<'a, W> {
+impl<'a> LoggedWorld<'a> {
+    /// The world of this runtime, with this log. It takes no memory and asks nothing of the system.
+    pub fn new(rt: &'a HostRuntime, log: &'a Log<'a>) -> LoggedWorld<'a> {
+        let spawner = LoggedSpawner::new(StdSpawner::new(WatchedRuntime::new(rt, log)), log);
         LoggedWorld {
-            world,
+            world: MioWorld::new(WatchedRuntime::new(rt, log), rt.alloc(), spawner),
             rt,
             log,
             turned_away: 0,
@@ -37,22 +47,24 @@ impl<'a, W: Live + Peers + Drop> LoggedWorld<'a, W> {
     }
 }
 
-impl<W: Live + Peers + Drop> World for LoggedWorld<'_, W> {
-    ghost log = { λ logged. W.World.log logged.world };
+impl World for LoggedWorld<'_> {
+    ghost use Rattle.af_live.specs.RealWorld.{RealLeadsTo, RealLeadsTo-refl, RealLeadsTo-trans};
 
-    ghost link_faults = { λ logged. W.World.link_faults logged.world };
+    ghost log = { λ _. None };
 
-    ghost device_faults = { λ logged. W.World.device_faults logged.world };
+    ghost link_faults = { λ logged. logged.world.link_faults };
 
-    ghost leads_to = { λ a b. W.World.leads_to a.world b.world };
+    ghost device_faults = { λ logged. logged.world.device_faults };
 
-    ghost leads_to_itself = { λ a. W.World.leads_to_itself a.world };
+    ghost leads_to = { λ a b. RealLeadsTo a.world b.world };
 
-    ghost leads_on = { λ a b c. W.World.leads_on a.world b.world c.world };
+    ghost leads_to_itself = { λ a. RealLeadsTo-refl a.world };
 
-    ghost link_faults_stay = { λ a b. W.World.link_faults_stay a.world b.world };
+    ghost leads_on = { λ a b c. RealLeadsTo-trans a.world b.world c.world };
 
-    ghost device_faults_stay = { λ a b. W.World.device_faults_stay a.world b.world };
+    ghost link_faults_stay = { λ _ _ leads. leads.link_faults };
+
+    ghost device_faults_stay = { λ _ _ leads. leads.device_faults };
 
     fn woke(&mut self, wake: Wake) {
         self.world.woke(wake);
@@ -95,20 +107,20 @@ impl<W: Live + Peers + Drop> World for LoggedWorld<'_, W> {
     }
 }
 
-impl<W: Live + Peers + Drop> Live for LoggedWorld<'_, W> {
-    ghost listen_faults = { λ logged. W.listen_faults logged.world };
+impl Live for LoggedWorld<'_> {
+    ghost listen_faults = { λ logged. logged.world.listen_faults };
 
-    ghost wait_faults = { λ logged. W.wait_faults logged.world };
+    ghost wait_faults = { λ logged. logged.world.wait_faults };
 
-    ghost outer = { λ logged. W.outer logged.world };
+    ghost outer = { λ _. None };
 
-    ghost listen_faults_apart = { λ a b. W.listen_faults_apart a.world b.world };
+    ghost listen_faults_apart = { λ _ _ leads. leads.listen_faults };
 
-    ghost wait_faults_apart = { λ a b. W.wait_faults_apart a.world b.world };
+    ghost wait_faults_apart = { λ _ _ leads. leads.wait_faults };
 
-    ghost outer_apart = { λ a b. W.outer_apart a.world b.world };
+    ghost outer_apart = { λ _ _ _. tt };
 
-    ghost tells_both = { λ a. W.tells_both a.world };
+    ghost tells_both = { λ _ told. told };
 
     fn listen(&mut self, alloc: Global, address: &str) -> Ready {
         let ready = self.world.listen(alloc, address);
@@ -140,20 +152,25 @@ impl<W: Live + Peers + Drop> Live for LoggedWorld<'_, W> {
 }
 
 /// Tells at which address a world listens.
-fn tell_listening<W: Peers>(world: &W, log: &Log<'_>) {
-    if let Some(address) = world.listens_at() {
+fn tell_listening(world: &RealWorld<'_>, log: &Log<'_>) {
+    if let Some(sockets) = world.sockets()
+        && let Ok(address) = sockets.listener.local_addr()
+    {
         log.line(format_args!("listening at {address}"));
     }
 }
 
 /// Tells who connected.
-fn tell_opened<W: Peers>(world: &W, log: &Log<'_>, link: u8) {
+fn tell_opened(world: &RealWorld<'_>, log: &Log<'_>, link: u8) {
     if !log.is_wanted() {
         return;
     }
-    match world.peer(link) {
-        Some(peer) => log.line(format_args!("connection {link} from {peer}")),
-        None => log.line(format_args!("connection {link} from a peer that is gone")),
+    if let Some(stream) = world.stream(link)
+        && let Ok(peer) = stream.peer_addr()
+    {
+        log.line(format_args!("connection {link} from {peer}"));
+    } else {
+        log.line(format_args!("connection {link} from a peer that is gone"));
     }
 }
 
@@ -178,15 +195,17 @@ fn tell_dead(log: &Log<'_>, device: u8, what: &str) {
 }
 
 /// Tells how many connections were turned away since the last time, and how many lines were left out.
-fn tell_turned_away<W: Peers>(world: &W, log: &Log<'_>, before: &mut u64) {
+fn tell_turned_away(world: &RealWorld<'_>, log: &Log<'_>, before: &mut u64) {
     if !log.is_wanted() {
         return;
     }
     log.catch_up();
-    let now = world.turned_away();
-    let count = now.saturating_sub(*before);
+    let Some(sockets) = world.sockets() else {
+        return;
+    };
+    let count = sockets.turned_away.saturating_sub(*before);
     if count > 0 {
-        *before = now;
+        *before = sockets.turned_away;
         log.line(format_args!("{count} turned away: all 32 connections are in use"));
     }
 }

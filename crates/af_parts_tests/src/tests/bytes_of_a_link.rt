@@ -1,6 +1,7 @@
 // The bytes of a link in and out, step by step.
 use crate::tests::asserts::{assert_bytes, assert_number};
-use af_session::{MOST_PENDING, MOST_UNREAD, Session};
+use af_limits::{MOST_UNREAD, OUTPUT_ROOM};
+use af_session::Session;
 use af_time::OutOfMemory;
 use std::alloc::Global;
 use std::process::Abort;
@@ -36,7 +37,7 @@ fn stepped(rt: &impl Abort, session: &mut Session, step: &Step<'_>) -> bool {
     match step {
         Step::In(bytes) if bytes.len() <= MOST_UNREAD - unread => session.take_in(bytes),
         Step::Used(n) if *n <= unread => session.drop_front(*n),
-        Step::Out(bytes) if bytes.len() <= MOST_PENDING - pending => session.push_out(bytes),
+        Step::Out(bytes) if bytes.len() <= OUTPUT_ROOM - pending => session.push_out(bytes),
         Step::Went(n) if *n <= pending => session.took(*n),
         Step::Holds(rest, to_go) => {
             assert_bytes(rt, "not used yet", session.rest(), rest);

@@ -31,6 +31,8 @@ pub struct Log<'a> {
     attaching: Cell<u8>,
     codec: Cell<u8>,
     starts: Cell<u32>,
+    /// How many pieces of sound that program did not take in time, since it was told of last.
+    late: Cell<u64>,
 }
 
 impl<'a> Log<'a> {
@@ -53,6 +55,7 @@ impl<'a> Log<'a> {
             attaching: Cell::new(0),
             codec: Cell::new(0),
             starts: Cell::new(0),
+            late: Cell::new(0),
         }
     }
 
@@ -122,6 +125,11 @@ impl<'a> Log<'a> {
         }
     }
 
+    /// The count of the pieces of sound that a program did not take in time.
+    pub(crate) fn late(&self) -> &Cell<u64> {
+        &self.late
+    }
+
     /// Tells that the program of a codec was started, or could not be.
     pub(crate) fn tell_start(&self, started: Started) {
         let device = self.codec.get();
@@ -152,7 +160,11 @@ impl<'a> Log<'a> {
     pub(crate) fn tell_end(&self, finished: Finished) {
         let device = self.codec.get();
         let next = self.next_start();
+        let was_late = self.late.take() > 0;
         match finished {
+            Finished::Ended(status) if was_late => self.line(format_args!(
+                "device {device}: its program did not take its sound in time, and ended with status {status}; {next}"
+            )),
             Finished::Ended(status) => self.line(format_args!(
                 "device {device}: its program ended with status {status}; {next}"
             )),

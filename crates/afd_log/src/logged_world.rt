@@ -6,15 +6,19 @@ use crate::device_words::DeviceWords;
 use crate::listening::{ListenRefusal, listen_refusal};
 use crate::{Log, LoggedSpawner, WatchedRuntime};
 use af_child::StdSpawner;
+use af_deadline::DeadlineRuntime;
 use af_io::Put;
 use af_live::MioWorld;
 use af_world::{DeviceSpec, Kind, LinkGot, LinkTook, Live, Ready, Waited, Wake, Why, World};
 use std::alloc::Global;
 
+/// The programs of a codec, which hold nobody up.
+type Programs<'a> = DeadlineRuntime<'a, WatchedRuntime<'a, HostRuntime>, HostRuntime>;
+
 /// The world that is told of.
 type RealWorld<'a> = MioWorld<
     WatchedRuntime<'a, HostRuntime>,
-    LoggedSpawner<'a, StdSpawner<WatchedRuntime<'a, HostRuntime>>>,
+    LoggedSpawner<'a, StdSpawner<Programs<'a>>>,
 >;
 
 /// The world of sockets, files and programs, to which each call is handed on. It tells in a log at which address it listens, what the
@@ -31,7 +35,8 @@ pub struct LoggedWorld<'a> {
 impl<'a> LoggedWorld<'a> {
     /// The world of this runtime, with this log. It takes no memory and asks nothing of the system.
     pub fn new(rt: &'a HostRuntime, log: &'a Log<'a>) -> LoggedWorld<'a> {
-        let spawner = LoggedSpawner::new(StdSpawner::new(WatchedRuntime::new(rt, log)), log);
+        let programs = DeadlineRuntime::new(WatchedRuntime::new(rt, log), rt, log.late());
+        let spawner = LoggedSpawner::new(StdSpawner::new(programs), log);
         LoggedWorld {
             world: MioWorld::new(WatchedRuntime::new(rt, log), rt.alloc(), spawner),
             rt,

@@ -3,20 +3,34 @@ ghost use Rattle.std.specs.Prelude.{◌≤◌};
 ghost use Rattle.arrayvec.specs.ArrayVec.{array_vec_len};
 
 use af_child::{Finished, Spawner, Started, StdSpawner, Words};
+use af_deadline::DeadlineRuntime;
 use af_io::Put;
 use arrayvec::ArrayString;
 use std::alloc::Global;
+use std::cell::Cell;
 use std::process::{Abort, Processes};
 
 // A call of a spawner, and what it answers.
 #[derive(Drop)]
-enum Call {
+enum Call<'a> {
     // Of a program with no arguments.
-    Run(&'static str, Started),
+    Run(&'a str, Started),
     // Of `sh`, `-c` and a script.
-    Start(&'static str, Started),
-    Give(u32, &'static [u8], Put),
+    Start(&'a str, Started),
+    Give(u32, &'a [u8], Put),
+    // More than there is room for between two programs, and what the last give of it answers.
+    GiveMuch(u32, Put),
     Finish(u32, Finished),
+}
+
+const PIECE: [u8; 4096] = [7; 4096];
+
+fn give_much<R: Processes + Drop>(spawner: &mut StdSpawner<R>, child: u32) -> Put {
+    let mut last = Put::Done;
+    for _ in 0..200 {
+        last = spawner.give(child, &PIECE);
+    }
+    last
 }
 
 fn word(text: &str) -> ArrayString<200> {
@@ -45,12 +59,13 @@ fn script(text: &str) -> Words
 fn is_answered<R: Processes + Drop>(
     alloc: Global,
     spawner: &mut StdSpawner<R>,
-    call: &Call,
+    call: &Call<'_>,
 ) -> bool {
     match call {
         Call::Run(name, started) => spawner.start(alloc, &program(name)) == *started,
         Call::Start(text, started) => spawner.start(alloc, &script(text)) == *started,
         Call::Give(child, bytes, put) => spawner.give(*child, bytes) == *put,
+        Call::GiveMuch(child, put) => give_much(spawner, *child) == *put,
         Call::Finish(child, finished) => spawner.finish(*child) == *finished,
     }
 }
@@ -59,7 +74,7 @@ fn assert_calls<R: Processes + Drop>(
     rt: &impl Abort,
     alloc: Global,
     spawner: &mut StdSpawner<R>,
-    calls: &[Call],
+    calls: &[Call<'_>],
 ) {
     for (at, call) in calls.iter().enumerate() {
         let is_wanted = is_answered(alloc, spawner, call);
@@ -99,4 +114,27 @@ fn children_that_run_at_once_are_told_apart(rt: HostRuntime) {
         Call::Finish(0, Finished::Ended(0)),
     ];
     assert_calls(&rt, rt.alloc(), &mut spawner, &calls);
+}
+
+#[test]
+fn children_with_deadlines_hold_nobody_up(rt: HostRuntime) {
+    let late = Cell::new(0);
+    let mut spawner = StdSpawner::new(DeadlineRuntime::new(&rt, &rt, &late));
+    let calls = [
+        Call::Start("test \"$(cat)\" = abcdef", Started::Child(0)),
+        Call::Give(0, b"abcd", Put::Done),
+        Call::Give(0, b"ef", Put::Done),
+        Call::Finish(0, Finished::Ended(0)),
+        Call::Start("cat > /dev/null; exit 3", Started::Child(1)),
+        Call::GiveMuch(1, Put::Done),
+        Call::Finish(1, Finished::Ended(3)),
+        // one that takes nothing is given nothing more, and one that does not end is killed
+        Call::Start("exec sleep 20", Started::Child(2)),
+        Call::GiveMuch(2, Put::Failed),
+        Call::Give(2, b"a", Put::Failed),
+        Call::Finish(2, Finished::Ended(137)),
+        Call::Run("no-such-program", Started::Failed),
+    ];
+    assert_calls(&rt, rt.alloc(), &mut spawner, &calls);
+    assert!(rt; late.get() == 1, "{} pieces late", late.get());
 }

@@ -1,4 +1,10 @@
 // The input of a child that holds nobody up.
+ghost use Rattle.std.specs.Prelude.{◌≡◌, ◌≢◌, length, IfErr, IfOk, IfSome};
+ghost use Rattle.std.specs.declared.option.Option.TheVariants.{None, Some};
+ghost use Rattle.std.specs.declared.result.Result.TheVariants.{Err};
+ghost use Rattle.std.specs.Io.{WritesAtMost};
+ghost use Rattle.std.specs.Io.KnownBytes.{WriteAppends};
+
 use crate::handed::hand;
 use std::cell::Cell;
 use std::io::{self, ErrorKind, Write};
@@ -19,7 +25,10 @@ pub struct DeadlineInput<'a, W: Write + Drop, C> {
 
 impl<'a, W: Write + Drop, C> DeadlineInput<'a, W, C> {
     /// An input over this writer. Writes that are not taken in time are counted there.
-    pub fn new(writer: W, clock: &'a C, late: &'a Cell<u64>) -> DeadlineInput<'a, W, C> {
+    pub fn new(writer: W, clock: &'a C, late: &'a Cell<u64>) -> DeadlineInput<'a, W, C>
+        ensures writer { result.writer ≡ writer }
+        ensures failed { result.failed ≡ None }
+    {
         DeadlineInput {
             writer,
             clock,
@@ -32,7 +41,13 @@ impl<'a, W: Write + Drop, C> DeadlineInput<'a, W, C> {
 impl<W: Write + Drop, C: Clock> Write for DeadlineInput<'_, W, C> {
     ghost contents = { λ input. W.Write.contents input.writer };
 
-    fn write(&mut self, buf: &[u8]) -> io::Result<usize> {
+    fn write(&mut self, buf: &[u8]) -> io::Result<usize>
+        ensures bound { WritesAtMost result buf.now }
+        ensures bytes { WriteAppends (W.Write.contents self.old.writer) (W.Write.contents self.new.writer) result buf.now }
+        ensures short { IfOk result (λ count. count ≢ length buf.now → self.new.failed ≢ None) }
+        ensures failed { IfErr result (λ e. self.new.failed ≡ Some e) }
+        ensures last { IfSome self.old.failed (λ e. (result ≡ Err e) × (self.new.failed ≡ Some e)) }
+    {
         if let Some(e) = self.failed {
             return Err(e);
         }

@@ -2,4 +2,5 @@
 mod adapters;
 mod children;
 mod codec_device;
+mod programs;
 mod world;

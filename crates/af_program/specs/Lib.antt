@@ -1,0 +1,4 @@
+pub mod Acts
+pub mod Memory
+pub mod Notes
+pub mod Sockets

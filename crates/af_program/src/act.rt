@@ -1,0 +1,33 @@
+// What was done with a program in memory.
+use crate::Launched;
+use af_child::Words;
+use af_io::Bytes;
+
+/// A call of a program with what came of it, or a sound of the device before it. Moments are nanoseconds.
+#[derive(Drop)]
+pub enum Act {
+    Launched {
+        at: u64,
+        words: Words,
+        came_to: Launched,
+    },
+    /// The program gave these bytes.
+    Gave {
+        bytes: Bytes,
+    },
+    /// The program took these bytes.
+    Took {
+        bytes: Bytes,
+    },
+    Ended {
+        at: u64,
+    },
+    /// The device captured this sound in a tick.
+    Captured {
+        sound: Bytes,
+    },
+    /// The device emitted this sound in a tick.
+    Emitted {
+        sound: Bytes,
+    },
+}

@@ -1,0 +1,20 @@
+//! Programs that stand behind a device: each is started, gives bytes and takes bytes without a wait, and is ended. What a caller sees of
+//! one, one in memory, and one of the system.
+#![tactic(auto)]
+
+mod act;
+mod ending;
+mod mem_program;
+mod notes;
+mod pieces;
+mod program;
+mod running;
+mod socket_program;
+mod sockets;
+mod ways;
+
+pub use act::Act;
+pub use mem_program::{MemProgram, Plan};
+pub use program::{Gave, Launched, Program, Took};
+pub use socket_program::SocketProgram;
+pub use ways::Ways;

@@ -1,10 +1,12 @@
 // One file for each subject.
 mod asserts;
 mod bytes_of_a_link;
+mod card;
 mod codec;
 mod contexts;
 mod lines;
 mod messages;
+mod programs;
 mod reference;
 mod requests;
 mod rings;

@@ -1,0 +1,238 @@
+-- What lies between a device and its program, and how it fits what the acts tell.
+use Rattle.std.specs.Prelude.{◌≡◌, ⊤, ℕ, ◌+◌, ◌*◌, ◌/◌, ◌%◌, ◌≤◌, ◌<◌, ◌-◌, Bool, true, false, not, ◌&&◌, ◌||◌, ◌==◌, nat_le, if◌then◌else◌, List, [], ◌∷◌, ◌++◌, length, min, take, drop, replicate, is_some, is_none}
+use Rattle.std.specs.declared.option.Option.{Option}
+use Rattle.std.specs.declared.option.Option.TheVariants.{None, Some}
+use Rattle.af_limits.specs.Limits.{longest_capture, longest_tick}
+use Rattle.af_io.specs.Observed.{Appended, Unchanged}
+use Rattle.af_program.specs.declared.program.Gave.{Gave}
+use Rattle.af_program.specs.declared.program.Gave.TheVariants as gives
+use Rattle.af_program.specs.declared.program.Took.{Took}
+use Rattle.af_program.specs.declared.program.Took.TheVariants as takes
+use Rattle.af_program.specs.Acts.{ToldAct, gave, took, runs_in}
+use Rattle.af_card.specs.declared.shape.CardKind.{CardKind}
+use Rattle.af_card.specs.declared.shape.CardKind.TheVariants as kind
+use Rattle.af_card.specs.declared.shape.Shape.{Shape}
+use Rattle.af_card.specs.declared.starts.Starts.{Starts}
+use Rattle.af_card.specs.declared.running.Running.{Running}
+use Rattle.af_card.specs.Ledger.{Ledger, Run, Start, ledger_of}
+use Rattle.af_card.specs.Fed.{RunFits, PastFits, piece_of}
+use Rattle.af_card.specs.Waits.{StartsFit, IsLateEnough, wait_after, no_starts, may_come, is_left}
+
+pub record BetweenState : Type 0 where
+  pub shape : Shape
+  pub starts : Starts
+  pub running : Option Running
+  pub left : List ℕ
+  pub owed : List ℕ
+  pub tick : Option ℕ
+
+abbrev pub new_between : Shape → ℕ → BetweenState
+new_between shape restarts =
+    record { shape = shape; starts = no_starts restarts; running = None; left = []; owed = []; tick = None }
+
+-- a program that was started at this moment
+abbrev pub running_begun : ℕ → Running
+running_begun at = record { began = at; gave = at; took = at; is_closed = false; is_over = false }
+
+-- after a take, by which there is a whole frame to capture or not
+abbrev pub after_take : Gave → Bool → ℕ → Running → Running
+after_take (gives.Bytes n) true at running = record running { gave = at }
+after_take (gives.Bytes n) false at running = running
+after_take gives.NotYet has_frame at running = running
+after_take gives.Ended has_frame at running = record running { is_over = true }
+
+-- after a give
+abbrev pub after_give : Took → ℕ → Running → Running
+after_give (takes.Bytes n) at running = record running { took = at }
+after_give takes.NoRoom at running = running
+after_give takes.Ended at running = record running { is_closed = true }
+
+-- whether a program of this kind gives sound, and whether it takes some
+abbrev pub gives_sound : CardKind → Bool
+gives_sound kind.Speaker = false
+gives_sound kind.Microphone = true
+gives_sound kind.Card = true
+
+abbrev pub takes_sound : CardKind → Bool
+takes_sound kind.Speaker = true
+takes_sound kind.Microphone = false
+takes_sound kind.Card = true
+
+-- How it fits the ledger
+
+-- one program runs for both, or for none
+abbrev pub RunningFits : BetweenState → Option Running → Option Run → Type 0
+RunningFits b None None = (b.left ≡ []) × (b.owed ≡ [])
+RunningFits b None (Some run) = ⊥
+RunningFits b (Some running) None = ⊥
+RunningFits b (Some running) (Some run) = RunFits b.shape run b.left b.owed b.tick
+
+-- when the next start may come it is late enough, and the wait is the one after the latest end
+abbrev pub NextFits : Starts → Option Running → List Start → Type 0
+NextFits s None starts = (s.wait ≡ wait_after starts) × ((at : ℕ) → may_come s at ≡ true → IsLateEnough at starts)
+NextFits s (Some running) [] = ⊥
+NextFits s (Some running) (start ∷ earlier) =
+    (start.began ≡ running.began) × (start.ended ≡ None) × (s.wait ≡ wait_after earlier)
+
+pub record Account (b : BetweenState) (ledger : Ledger) : Type 0 where
+  pub past : PastFits b.shape ledger
+  pub running : RunningFits b b.running ledger.running
+  pub starts : StartsFit b.starts.restarts ledger.starts
+  pub tried : b.starts.tried ≡ length ledger.starts
+  pub next : NextFits b.starts b.running ledger.starts
+
+-- if the acts are observed, all of this holds of them
+abbrev pub Accounts : BetweenState → Option (List ToldAct) → Type 0
+Accounts b None = ⊤
+Accounts b (Some acts) = Account b (ledger_of acts) × (runs_in acts ≡ is_some b.running)
+
+-- what was taken stands at the end of a queue
+abbrev pub TakesInto : Gave → List ℕ → List ℕ → Option (List ToldAct) → Option (List ToldAct) → Type 0
+TakesInto (gives.Bytes n) before after acts acts' = (bytes : List ℕ) × (after ≡ before ++ bytes) × Appended acts (gave bytes ∷ []) acts'
+TakesInto gives.NotYet before after acts acts' = (after ≡ before) × Unchanged acts acts'
+TakesInto gives.Ended before after acts acts' = (after ≡ before) × Unchanged acts acts'
+
+-- what was taken has left the front of a queue
+abbrev pub GivesFrom : Took → List ℕ → List ℕ → Option (List ToldAct) → Option (List ToldAct) → Type 0
+GivesFrom (takes.Bytes n) before after acts acts' =
+    (1 ≤ n) × (n ≤ length before) × (after ≡ drop n before) × Appended acts (took (take n before) ∷ []) acts'
+GivesFrom takes.NoRoom before after acts acts' = (after ≡ before) × Unchanged acts acts'
+GivesFrom takes.Ended before after acts acts' = (after ≡ before) × Unchanged acts acts'
+
+-- whole frames
+abbrev pub IsWhole : ℕ → ℕ → Type 0
+IsWhole width bytes = (frames : ℕ) × (bytes ≡ frames * width)
+
+-- a first part of a sound was taken, and the rest of the frame where it ends is owed, as far as it is there
+pub record PassesPart (n : ℕ) (sound : List ℕ) (width : ℕ) (owed : List ℕ) (acts acts' : Option (List ToldAct)) : Type 0 where
+  pub rest : ℕ
+  pub some : 1 ≤ n
+  pub most : n ≤ length sound
+  pub less : rest < width
+  pub whole : IsWhole width (n + rest)
+  pub owes : owed ≡ take (min rest (length sound - n)) (drop n sound)
+  pub told : Appended acts (took (take n sound) ∷ []) acts'
+
+abbrev pub PassesOn : Took → List ℕ → ℕ → List ℕ → Option (List ToldAct) → Option (List ToldAct) → Type 0
+PassesOn (takes.Bytes n) sound width owed acts acts' = PassesPart n sound width owed acts acts'
+PassesOn takes.NoRoom sound width owed acts acts' = (owed ≡ []) × Unchanged acts acts'
+PassesOn takes.Ended sound width owed acts acts' = (owed ≡ []) × Unchanged acts acts'
+
+-- What may be done
+
+abbrev pub CanBegin : BetweenState → ℕ → Type 0
+CanBegin b at = (b.running ≡ None) × (b.tick ≡ None) × (may_come b.starts at ≡ true)
+
+abbrev pub CapturesBy : CardKind → Shape → List ℕ → ℕ → Type 0
+CapturesBy kind.Speaker shape left bytes = ⊤
+CapturesBy kind.Microphone shape left bytes = (bytes ≤ length left) × IsWhole shape.frame_bytes bytes
+CapturesBy kind.Card shape left bytes = (bytes ≤ length left) × IsWhole shape.frame_bytes bytes
+
+-- what a program gave is captured by whole frames
+abbrev pub CapturesOf : Option Running → Shape → List ℕ → ℕ → Type 0
+CapturesOf None shape left bytes = ⊤
+CapturesOf (Some running) shape left bytes = CapturesBy shape.kind shape left bytes
+
+-- a loudspeaker that is owed nothing is given a piece
+abbrev pub EmitsBy : CardKind → Shape → List ℕ → ℕ → Type 0
+EmitsBy kind.Speaker shape owed bytes = (owed ≡ []) × (bytes ≤ piece_of shape)
+EmitsBy kind.Microphone shape owed bytes = ⊤
+EmitsBy kind.Card shape owed bytes = ⊤
+
+abbrev pub EmitsTo : Option Running → Shape → List ℕ → ℕ → Type 0
+EmitsTo None shape owed bytes = ⊤
+EmitsTo (Some running) shape owed bytes = EmitsBy shape.kind shape owed bytes
+
+abbrev pub CanCapture : BetweenState → ℕ → Type 0
+CanCapture b bytes = (b.tick ≡ None) × CapturesOf b.running b.shape b.left bytes
+
+abbrev pub CanEmit : BetweenState → ℕ → Type 0
+CanEmit b bytes = (b.tick ≡ Some bytes) × (bytes ≤ longest_capture) × EmitsTo b.running b.shape b.owed bytes
+
+-- of a program that gives sound less than a frame is left
+abbrev pub LeavesLess : CardKind → Shape → List ℕ → Type 0
+LeavesLess kind.Speaker shape left = ⊤
+LeavesLess kind.Microphone shape left = length left < shape.frame_bytes
+LeavesLess kind.Card shape left = length left < shape.frame_bytes
+
+abbrev pub CanEnd : BetweenState → Type 0
+CanEnd b = (b.tick ≡ None) × LeavesLess b.shape.kind b.shape b.left
+
+-- The same as tests
+
+abbrev pub captures_by : CardKind → Shape → List ℕ → ℕ → Bool
+captures_by kind.Speaker shape left bytes = true
+captures_by kind.Microphone shape left bytes = nat_le bytes (length left) && (bytes % shape.frame_bytes == 0)
+captures_by kind.Card shape left bytes = nat_le bytes (length left) && (bytes % shape.frame_bytes == 0)
+
+abbrev pub captures_of : Option Running → Shape → List ℕ → ℕ → Bool
+captures_of None shape left bytes = true
+captures_of (Some running) shape left bytes = captures_by shape.kind shape left bytes
+
+abbrev pub emits_by : CardKind → Shape → List ℕ → ℕ → Bool
+emits_by kind.Speaker shape owed bytes = (length owed == 0) && nat_le bytes (piece_of shape)
+emits_by kind.Microphone shape owed bytes = true
+emits_by kind.Card shape owed bytes = true
+
+abbrev pub emits_to : Option Running → Shape → List ℕ → ℕ → Bool
+emits_to None shape owed bytes = true
+emits_to (Some running) shape owed bytes = emits_by shape.kind shape owed bytes
+
+abbrev pub is_tick_of : Option ℕ → ℕ → Bool
+is_tick_of None bytes = false
+is_tick_of (Some n) bytes = n == bytes
+
+-- no program runs, and no start is left
+abbrev pub is_dead : BetweenState → Bool
+is_dead b = is_none b.running && not (is_left b.starts)
+
+-- whether so many bytes of a tick may be captured, and emitted
+abbrev pub may_capture : BetweenState → ℕ → Bool
+may_capture b bytes = is_none b.tick && captures_of b.running b.shape b.left bytes
+
+abbrev pub may_emit : BetweenState → ℕ → Bool
+may_emit b bytes = is_tick_of b.tick bytes && nat_le bytes longest_capture && emits_to b.running b.shape b.owed bytes
+
+-- The frames that are due by a program: whole frames that it gave, at most as many as a tick has; or a piece, once it is owed nothing
+
+abbrev pub frames_by : CardKind → Shape → List ℕ → List ℕ → ℕ
+frames_by kind.Speaker shape left owed = if length owed == 0 then shape.rate / 100 else 0
+frames_by kind.Microphone shape left owed = min (length left / shape.frame_bytes) longest_tick
+frames_by kind.Card shape left owed = min (length left / shape.frame_bytes) longest_tick
+
+abbrev pub frames_of : BetweenState → ℕ
+frames_of b = frames_by b.shape.kind b.shape b.left b.owed
+
+-- Stalls
+
+-- two seconds in which nothing comes, or nothing is taken
+abbrev pub longest_stall : ℕ
+longest_stall = 2000000000
+
+abbrev pub is_stalled : ℕ → ℕ → Bool
+is_stalled since at = nat_le longest_stall (at - since)
+
+-- whether a program is to be ended, where no frame is due by it
+abbrev pub is_over_by : CardKind → Running → ℕ → Bool
+is_over_by kind.Speaker running at = running.is_closed || is_stalled running.took at
+is_over_by kind.Microphone running at = running.is_over || is_stalled running.gave at
+is_over_by kind.Card running at = running.is_over || is_stalled running.gave at
+
+abbrev pub is_over_of : Option Running → CardKind → ℕ → Bool
+is_over_of None k at = false
+is_over_of (Some running) k at = is_over_by k running at
+
+-- whether a card takes nothing, while it gives
+abbrev pub takes_nothing : CardKind → Running → ℕ → Bool
+takes_nothing kind.Speaker running at = false
+takes_nothing kind.Microphone running at = false
+takes_nothing kind.Card running at = not running.is_closed && is_stalled running.took at
+
+abbrev pub looked_at : Option Running → CardKind → ℕ → Option Running
+looked_at None k at = None
+looked_at (Some running) k at = if takes_nothing k running at then Some (record running { is_over = true }) else Some running
+
+-- what is captured: of a program that gives sound what it gave first, else silence
+abbrev pub captured_of : Option Running → BetweenState → ℕ → List ℕ
+captured_of None b bytes = replicate bytes b.shape.silence
+captured_of (Some running) b bytes = if gives_sound b.shape.kind then take bytes b.left else replicate bytes b.shape.silence

@@ -1,0 +1,81 @@
+-- A device whose sound a program gives, takes or both, as a caller has it.
+use Rattle.std.specs.Prelude.{◌≡◌, ◌≢◌, ⊤, ℕ, ◌+◌, not, ◌&&◌, ◌==◌, if◌then◌else◌, List, MatchOption}
+use Rattle.std.specs.declared.option.Option.{Option}
+use Rattle.std.specs.declared.option.Option.TheVariants.{None, Some}
+use Rattle.af_io.specs.declared.flow.Put.{Put}
+use Rattle.af_io.specs.declared.flow.Put.TheVariants as put
+use Rattle.af_pace.specs.Pacing.{PaceState, begun, due_at, after_due}
+use Rattle.af_program.specs.Acts.{ToldAct}
+use Rattle.af_card.specs.declared.shape.Shape.{Shape}
+use Rattle.af_card.specs.declared.running.Running.{Running}
+use Rattle.af_card.specs.Ledger.{Run, ledger_of}
+use Rattle.af_card.specs.Fed.{PastFits, RunFits}
+use Rattle.af_card.specs.Waits.{StartsFit, may_come}
+use Rattle.af_card.specs.Between.{BetweenState, new_between, frames_of, is_dead, may_capture, may_emit}
+
+-- a device: its program, what lies between the two, the words of each start, its pace while no program runs, and the latest moment
+pub record CardState (P : Type 0) : Type 0 where
+  pub program : P
+  pub between : BetweenState
+  pub words : List (List ℕ)
+  pub pace : PaceState
+  pub at : ℕ
+
+abbrev pub new_card : {P : Type 0} → P → Shape → ℕ → List (List ℕ) → CardState P
+new_card program shape restarts words =
+    record { program = program; between = new_between shape restarts; words = words; pace = begun shape.rate; at = 0 }
+
+-- The promise
+
+-- what went by while the program runs
+abbrev pub RunIsFed : Shape → Option Run → Type 0
+RunIsFed shape None = ⊤
+RunIsFed shape (Some run) = (left : List ℕ) × (owed : List ℕ) × (tick : Option ℕ) × RunFits shape run left owed tick
+
+-- Of all acts, at each moment. Captured: in ticks while a program ran, what it gave, in order and in whole frames, each once; else
+-- silence. Handed: to each program what was emitted while it ran, in order, each sample at most once; a loudspeaker loses none, and of
+-- what a card is emitted in a tick the last frames may be lost. In step: in each tick as much is captured as emitted. Starts: at most
+-- one more than there are restarts, each after its wait.
+pub record IsFed (shape : Shape) (restarts : ℕ) (acts : List ToldAct) : Type 0 where
+  pub past : PastFits shape (ledger_of acts)
+  pub now : RunIsFed shape (ledger_of acts).running
+  pub starts : StartsFit restarts (ledger_of acts).starts
+
+abbrev pub IsFedWhereTold : {P : Type 0} → (P → Option (List ToldAct)) → CardState P → Type 0
+IsFedWhereTold acts card = MatchOption (acts card.program) ⊤ (λ told. IsFed card.between.shape card.between.starts.restarts told)
+
+-- what kind of device it is, how often its program may be started, and by which words, stay
+pub record SameOrders {P : Type 0} (before after : CardState P) : Type 0 where
+  pub shape : after.between.shape ≡ before.between.shape
+  pub restarts : after.between.starts.restarts ≡ before.between.starts.restarts
+  pub words : after.words ≡ before.words
+
+-- Frames that are due
+
+-- By a program: whole frames that it gave, or a piece once it is owed nothing. Where it is ended instead, no frame is due, and the pace
+-- begins anew at that moment.
+abbrev pub DueByProgram : ℕ → ℕ → BetweenState → PaceState → PaceState → Type 0
+DueByProgram at frames after pace pace' =
+    MatchOption after.running ((frames ≡ 0) × (pace' ≡ after_due (begun after.shape.rate) at)) (λ running. (frames ≡ frames_of after) × (pace' ≡ pace))
+
+-- By the clock, where no program runs: those of the pace. Where none is due a start is tried, if one may come.
+pub record DueByClock (at frames : ℕ) (before after : BetweenState) (pace pace' : PaceState) : Type 0 where
+  pub due : frames ≡ due_at pace at
+  pub paced : pace' ≡ after_due pace at
+  pub tried : after.starts.tried ≡ (if (frames == 0) && may_come before.starts at then before.starts.tried + 1 else before.starts.tried)
+  pub begins : after.running ≢ None → frames ≡ 0
+
+-- Between the two calls of a tick none is due.
+abbrev pub DueOf : Option ℕ → Option Running → ℕ → ℕ → BetweenState → BetweenState → PaceState → PaceState → Type 0
+DueOf (Some bytes) running at frames before after pace pace' = (frames ≡ 0) × (after ≡ before) × (pace' ≡ pace)
+DueOf None None at frames before after pace pace' = DueByClock at frames before after pace pace'
+DueOf None (Some running) at frames before after pace pace' = DueByProgram at frames after pace pace'
+
+-- Answers
+
+-- Failed exactly if the device is dead, or it is not the tick that is due
+abbrev pub captures : BetweenState → ℕ → Put
+captures b bytes = if not (is_dead b) && may_capture b bytes then put.Done else put.Failed
+
+abbrev pub emits : BetweenState → ℕ → Put
+emits b bytes = if not (is_dead b) && may_emit b bytes then put.Done else put.Failed

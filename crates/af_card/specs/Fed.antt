@@ -1,0 +1,104 @@
+-- What a device with a program promises of the sound between the two.
+use Rattle.std.specs.Prelude.{◌≡◌, ⊤, ℕ, ◌*◌, ◌/◌, ◌≤◌, ◌<◌, List, [], ◌∷◌, ◌++◌, length, take, replicate, All}
+use Rattle.std.specs.declared.option.Option.{Option}
+use Rattle.std.specs.declared.option.Option.TheVariants.{None, Some}
+use Rattle.af_card.specs.declared.shape.CardKind.{CardKind}
+use Rattle.af_card.specs.declared.shape.CardKind.TheVariants as kind
+use Rattle.af_card.specs.declared.shape.Shape.{Shape}
+use Rattle.af_card.specs.Ledger.{Ledger, Run}
+
+-- the bytes of a piece: a hundredth of a second of sound
+abbrev pub piece_of : Shape → ℕ
+piece_of shape = shape.rate / 100 * shape.frame_bytes
+
+-- sounds, of which the latest stands first, as one
+abbrev pub sound_of : List (List ℕ) → List ℕ
+sound_of [] = []
+sound_of (sound ∷ earlier) = sound_of earlier ++ sound
+
+-- whole frames
+abbrev pub HasWholeFrames : ℕ → List ℕ → Type 0
+HasWholeFrames width sound = (frames : ℕ) × (length sound ≡ frames * width)
+
+abbrev pub IsSilent : ℕ → List ℕ → Type 0
+IsSilent silence sound = sound ≡ replicate (length sound) silence
+
+-- Captured
+
+-- What was captured of a program is what it gave, in order, each byte once and in whole frames. This much of it is left.
+pub record CapturedOf (width : ℕ) (run : Run) (left : List ℕ) : Type 0 where
+  pub given : run.given ≡ sound_of run.captured ++ left
+  pub whole : All (HasWholeFrames width) run.captured
+
+-- a loudspeaker gives nothing, and captures silence
+pub record CapturedNone (silence : ℕ) (run : Run) (left : List ℕ) : Type 0 where
+  pub given : run.given ≡ []
+  pub silent : All (IsSilent silence) run.captured
+  pub none : left ≡ []
+
+abbrev pub CapturedBy : CardKind → Shape → Run → List ℕ → Type 0
+CapturedBy kind.Speaker shape run left = CapturedNone shape.silence run left
+CapturedBy kind.Microphone shape run left = CapturedOf shape.frame_bytes run left
+CapturedBy kind.Card shape run left = CapturedOf shape.frame_bytes run left
+
+-- Handed
+
+-- of each sound, of which the latest stands first, whole frames of its front are handed, and the rest is lost
+abbrev pub IsPassed : ℕ → List (List ℕ) → List ℕ → Type 0
+IsPassed width [] passed = passed ≡ []
+IsPassed width (sound ∷ earlier) passed =
+    (before : List ℕ) × (frames : ℕ) × IsPassed width earlier before × (passed ≡ before ++ take (frames * width) sound)
+
+-- a card is handed whole frames of the front of each sound, in order, but for the part of a frame that it is owed
+pub record HandedPassed (width : ℕ) (run : Run) (owed : List ℕ) : Type 0 where
+  pub passed : IsPassed width run.emitted (run.taken ++ owed)
+  pub part : length owed < width
+
+-- a loudspeaker is handed all sound, in order, but for what it is owed, which is a piece at most
+pub record HandedAll (piece : ℕ) (run : Run) (owed : List ℕ) : Type 0 where
+  pub all : sound_of run.emitted ≡ run.taken ++ owed
+  pub piece_at_most : length owed ≤ piece
+
+-- a microphone is handed nothing
+pub record HandedNone (run : Run) (owed : List ℕ) : Type 0 where
+  pub none : run.taken ≡ []
+  pub owes : owed ≡ []
+
+abbrev pub HandedBy : CardKind → Shape → Run → List ℕ → Type 0
+HandedBy kind.Speaker shape run owed = HandedAll (piece_of shape) run owed
+HandedBy kind.Microphone shape run owed = HandedNone run owed
+HandedBy kind.Card shape run owed = HandedPassed shape.frame_bytes run owed
+
+-- In step
+
+-- each sound has as many bytes as the other of the same tick
+abbrev pub AreAsLong : List (List ℕ) → List (List ℕ) → Type 0
+AreAsLong [] [] = ⊤
+AreAsLong [] (e ∷ es) = ⊥
+AreAsLong (c ∷ cs) [] = ⊥
+AreAsLong (c ∷ cs) (e ∷ es) = (length c ≡ length e) × AreAsLong cs es
+
+-- In each tick as much was captured as was emitted. Between the two calls of a tick the latest was captured, and is to be emitted.
+abbrev pub IsInStep : Option ℕ → List (List ℕ) → List (List ℕ) → Type 0
+IsInStep None captured emitted = AreAsLong captured emitted
+IsInStep (Some bytes) [] emitted = ⊥
+IsInStep (Some bytes) (c ∷ cs) emitted = (length c ≡ bytes) × AreAsLong cs emitted
+
+-- All
+
+-- While a program runs: what it gave and was not captured, what it is owed, and the bytes of the tick that was captured and is to be
+-- emitted, if there is one.
+pub record RunFits (shape : Shape) (run : Run) (left owed : List ℕ) (tick : Option ℕ) : Type 0 where
+  pub captured : CapturedBy shape.kind shape run left
+  pub handed : HandedBy shape.kind shape run owed
+  pub in_step : IsInStep tick run.captured run.emitted
+
+-- After a program ran it has given less than a frame that was not captured.
+abbrev pub PastRunFits : Shape → Run → Type 0
+PastRunFits shape run = (left : List ℕ) × (owed : List ℕ) × RunFits shape run left owed None × (length left < shape.frame_bytes)
+
+-- Of all that was captured and emitted before now: each program that ran kept to this, and without one silence was captured. No sound
+-- is handed to two programs, since each is handed what was emitted while it ran.
+pub record PastFits (shape : Shape) (ledger : Ledger) : Type 0 where
+  pub past : All (PastRunFits shape) ledger.past
+  pub idle : All (IsSilent shape.silence) ledger.idle

@@ -1,0 +1,85 @@
+-- When programs are started, in nanoseconds.
+use Rattle.std.specs.Prelude.{◌≡◌, ⊤, ℕ, ◌+◌, ◌-◌, ◌*◌, ◌^◌, ◌≤◌, ◌&&◌, min, nat_lt, nat_le, is_some, Bool, false, if◌then◌else◌, List, [], ◌∷◌, length}
+use Rattle.std.specs.declared.option.Option.{Option}
+use Rattle.std.specs.declared.option.Option.TheVariants.{None, Some}
+use Rattle.af_card.specs.declared.starts.Starts.{Starts}
+use Rattle.af_card.specs.Ledger.{Start}
+
+-- a second, and a minute: the shortest wait for a start, and the longest
+abbrev pub shortest_wait : ℕ
+shortest_wait = 1000000000
+
+abbrev pub longest_wait : ℕ
+longest_wait = 60000000000
+
+-- a program that lived for less than ten seconds makes the next wait longer
+abbrev pub short_life : ℕ
+short_life = 10000000000
+
+abbrev pub life_until : ℕ → Option ℕ → ℕ
+life_until began None = 0
+life_until began (Some ended) = ended - began
+
+-- The wait after the latest of these starts has ended, of which the latest stands first: a second after the first of all and after a
+-- program that lived for ten seconds; else twice the wait before it, up to a minute.
+abbrev pub wait_after : List Start → ℕ
+wait_after [] = 0
+wait_after (start ∷ []) = shortest_wait
+wait_after (start ∷ (before ∷ earlier)) =
+    if nat_lt (life_until start.began start.ended) short_life
+    then min (2 * wait_after (before ∷ earlier)) longest_wait
+    else shortest_wait
+
+-- a start at this moment comes once the one before it has ended, and no earlier than the wait after that
+abbrev pub IsLateEnough : ℕ → List Start → Type 0
+IsLateEnough at [] = ⊤
+IsLateEnough at (before ∷ earlier) = (ended : ℕ) × (before.ended ≡ Some ended) × (ended + wait_after (before ∷ earlier) ≤ at)
+
+abbrev pub AreSpaced : List Start → Type 0
+AreSpaced [] = ⊤
+AreSpaced (start ∷ earlier) = IsLateEnough start.began earlier × AreSpaced earlier
+
+-- at most one start more than there are restarts, each after its wait
+pub record StartsFit (restarts : ℕ) (starts : List Start) : Type 0 where
+  pub most : length starts ≤ restarts + 1
+  pub spaced : AreSpaced starts
+
+-- What is kept of starts
+
+-- the most starts beyond the first
+abbrev pub most_restarts : ℕ
+most_restarts = 1000000
+
+-- the wait after an end, by how many starts were tried, the wait before, and how long the program lived
+abbrev pub next_wait : ℕ → ℕ → ℕ → ℕ
+next_wait tried wait life = if nat_lt 1 tried && nat_lt life short_life then min (2 * wait) longest_wait else shortest_wait
+
+-- a moment, if a clock can come to it
+abbrev pub moment_after : ℕ → ℕ → Option ℕ
+moment_after at wait = if nat_lt (at + wait) (2 ^ 64) then Some (at + wait) else None
+
+-- none was tried
+abbrev pub no_starts : ℕ → Starts
+no_starts restarts = record { restarts = restarts; tried = 0; wait = 0; next = Some 0 }
+
+-- whether a start is left
+abbrev pub is_left : Starts → Bool
+is_left s = nat_le s.tried s.restarts && is_some s.next
+
+abbrev pub comes_by : Option ℕ → ℕ → Bool
+comes_by None at = false
+comes_by (Some next) at = nat_le next at
+
+-- whether a start may come at a moment
+abbrev pub may_come : Starts → ℕ → Bool
+may_come s at = nat_le s.tried s.restarts && comes_by s.next at
+
+-- one more is tried
+abbrev pub begun_once_more : Starts → Starts
+begun_once_more s = record s { tried = s.tried + 1 }
+
+-- its program has ended
+abbrev pub after_end : Starts → ℕ → ℕ → Starts
+after_end s began ended =
+    let wait = next_wait s.tried s.wait (ended - began) in
+    record s { wait = wait; next = moment_after ended wait }

@@ -1,0 +1,471 @@
+// What lies between a device and its program.
+ghost use Rattle.std.specs.Prelude.{◌≡◌, ◌≢◌, ◌≤◌, ◌<◌, ◌+◌, ◌⊎◌, [], ◌∷◌, length, take, replicate, true, false, is_some, IfOk};
+ghost use Rattle.std.specs.declared.option.Option.TheVariants.{None, Some};
+ghost use Rattle.arrayvec.specs.ArrayVec.{array_vec_len};
+ghost use Rattle.af_limits.specs.Limits.{longest_capture};
+ghost use Rattle.af_io.specs.Observed.{Appended};
+ghost use Rattle.af_program.specs.Acts.{captured, launched, RunsWhereTold};
+ghost use Rattle.af_child.specs.Acts.{words_of};
+ghost use Rattle.af_card.specs.Fed.{IsSilent};
+ghost use Rattle.af_card.specs.Waits.{most_restarts, longest_wait, may_come};
+ghost use Rattle.af_card.specs.Between.{IsWhole, TakesInto, GivesFrom, PassesOn, Accounts, new_between, CanBegin, CanCapture, CanEmit, CanEnd, LeavesLess, gives_sound, is_dead, may_capture, may_emit, frames_of, is_stalled, is_over_of, looked_at, captured_of};
+
+use crate::queue::Queue;
+use crate::running::Running;
+use crate::shape::{CardKind, Shape};
+use crate::starts::Starts;
+use af_child::Words;
+use af_limits::{LONGEST_CAPTURE, LONGEST_TICK};
+use af_program::{Gave, Launched, Program, Took};
+use af_time::OutOfMemory;
+use std::alloc::Global;
+use std::marker::Model;
+
+/// Two seconds in which a program gives nothing, or takes nothing, in nanoseconds.
+const LONGEST_STALL: u64 = 2_000_000_000;
+
+/// What lies between a device and its program: the sound that the program gave and the device has not captured, and what the device
+/// emitted and the program is owed. Beside these it has the program that runs, and how often one was started.
+#[derive(Drop)]
+pub(crate) struct Between {
+    shape: Shape,
+    starts: Starts,
+    running: Option<Running>,
+    input: Queue,
+    owed: Queue,
+    // the bytes of a tick that was captured, and is to be emitted
+    tick: Option<usize>,
+    room: Vec<u8>,
+}
+
+impl Model for Between {
+    ghost use Rattle.std.specs.Prelude.{◌≡◌, ◌≤◌, vec_len};
+    ghost use Rattle.af_limits.specs.Limits.{longest_capture};
+    ghost use Rattle.af_card.specs.Between.{BetweenState};
+    ghost use Rattle.af_card.specs.Waits.{most_restarts, longest_wait};
+
+    ghost Value = { BetweenState };
+
+    ghost view = { λ b. record {
+      shape = b.shape;
+      starts = b.starts;
+      running = b.running;
+      left = b.input;
+      owed = b.owed;
+      tick = b.tick;
+    } };
+
+    ghost invariant = { λ b. (vec_len b.room ≡ longest_capture) × (1 ≤ b.shape.frame_bytes) × (b.shape.frame_bytes ≤ 8) × (b.starts.restarts ≤ most_restarts) × (b.starts.wait ≤ longest_wait) };
+}
+
+impl Between {
+    /// Nothing, and no program was started.
+    pub(crate) fn new(alloc: Global, shape: Shape, restarts: u32) -> Result<Between, OutOfMemory>
+        requires frames { (1 ≤ shape.frame_bytes) × (shape.frame_bytes ≤ 8) }
+        requires restarts { restarts ≤ most_restarts }
+        ensures { IfOk result (λ between. between ≡ new_between shape restarts) }
+    {
+        Ok(Between {
+            shape,
+            starts: Starts::none(restarts),
+            running: None,
+            input: Queue::new(alloc)?,
+            owed: Queue::new(alloc)?,
+            tick: None,
+            room: vec![in alloc; 0u8; LONGEST_CAPTURE]?,
+        })
+    }
+
+    /// Tries a start. Whether the program runs then.
+    pub(crate) fn begin<P: Program>(
+        &mut self,
+        program: &mut P,
+        alloc: Global,
+        at: u64,
+        words: &Words,
+    ) -> Launched
+        requires some { 1 ≤ array_vec_len words.now }
+        requires can { CanBegin self.old at }
+        requires fits { Accounts self.old (P.acts program.old) }
+        ensures fits { Accounts self.new (P.acts program.new) }
+        ensures same { (self.new.shape ≡ self.old.shape) × (self.new.starts.restarts ≡ self.old.starts.restarts) }
+        ensures tick { self.new.tick ≡ None }
+        ensures acts { Appended (P.acts program.old) (launched at (words_of words.now) result ∷ []) (P.acts program.new) }
+        ensures tried { self.new.starts.tried ≡ self.old.starts.tried + 1 }
+        ensures runs { result ≡ Launched.Runs → is_some self.new.running ≡ true }
+    {
+        let launched = program.start(alloc, at, words);
+        self.starts.begin();
+        match launched {
+            Launched::Runs => self.running = Some(Running::begun(at)),
+            _ => self.starts.end(at, at),
+        }
+        launched
+    }
+
+    /// Whether a program runs.
+    pub(crate) fn runs(&self) -> bool
+        ensures { result ≡ is_some self.now.running }
+    {
+        self.running.is_some()
+    }
+
+    /// Whether no program runs, and no start is left.
+    pub(crate) fn is_dead(&self) -> bool
+        ensures { result ≡ is_dead self.now }
+    {
+        self.running.is_none() && !self.starts.is_left()
+    }
+
+    /// Whether a tick was captured, and is to be emitted.
+    pub(crate) fn is_captured(&self) -> bool
+        ensures { result ≡ is_some self.now.tick }
+    {
+        self.tick.is_some()
+    }
+
+    /// Whether a start may come at a moment.
+    pub(crate) fn may_come(&self, at: u64) -> bool
+        ensures { result ≡ may_come self.now.starts at }
+    {
+        self.starts.may_come(at)
+    }
+
+    /// Whether so many bytes may be captured in a tick.
+    pub(crate) fn may_capture(&self, bytes: usize) -> bool
+        ensures test { result ≡ may_capture self.now bytes }
+        ensures can { result ≡ true → CanCapture self.now bytes }
+    {
+        if self.tick.is_some() {
+            return false;
+        }
+        match self.running {
+            Some(_) if self.shape.kind.gives_sound() => {
+                bytes <= self.input.as_slice().len() && bytes % self.shape.frame_bytes == 0
+            }
+            _ => true,
+        }
+    }
+
+    /// Whether so many bytes may be emitted in a tick.
+    pub(crate) fn may_emit(&self, bytes: usize) -> bool
+        ensures test { result ≡ may_emit self.now bytes }
+        ensures can { result ≡ true → CanEmit self.now bytes }
+    {
+        if self.tick != Some(bytes) || bytes > LONGEST_CAPTURE {
+            return false;
+        }
+        match self.running {
+            Some(_) if self.shape.kind == CardKind::Speaker => {
+                self.owed.as_slice().is_empty() && bytes <= self.shape.piece()
+            }
+            _ => true,
+        }
+    }
+
+    /// The frames that are due by the program: whole frames that it gave, at most as many as a tick has; or a piece, once it is owed
+    /// nothing.
+    pub(crate) fn frames(&self) -> u32
+        ensures frames { result ≡ frames_of self.now }
+        ensures none { result ≡ 0 → LeavesLess self.now.shape.kind self.now.shape self.now.left }
+    {
+        match self.shape.kind {
+            CardKind::Speaker if self.owed.as_slice().is_empty() => self.shape.rate / 100,
+            CardKind::Speaker => 0,
+            CardKind::Microphone | CardKind::Card => {
+                let whole = self.input.as_slice().len() / self.shape.frame_bytes;
+                (whole as u32).min(LONGEST_TICK)
+            }
+        }
+    }
+
+    /// Takes what the program gives, as far as there is room.
+    pub(crate) fn take<P: Program>(&mut self, program: &mut P, at: u64)
+        requires fits { Accounts self.old (P.acts program.old) }
+        ensures fits { Accounts self.new (P.acts program.new) }
+        ensures same { (self.new.shape ≡ self.old.shape) × (self.new.starts.restarts ≡ self.old.starts.restarts) }
+        ensures tick { self.new.tick ≡ self.old.tick }
+        ensures runs { is_some self.new.running ≡ is_some self.old.running }
+    {
+        let Some(running) = self.running else {
+            return;
+        };
+        if running.is_over || !self.shape.kind.gives_sound() {
+            return;
+        }
+        let gave = take_into(program, self.room.as_mut_slice(), &mut self.input);
+        let has_frame = self.input.as_slice().len() >= self.shape.frame_bytes;
+        self.running = Some(running.after_take(gave, has_frame, at));
+    }
+
+    /// Gives the program what it is owed, as far as it takes it.
+    pub(crate) fn give_owed<P: Program>(&mut self, program: &mut P, at: u64)
+        requires fits { Accounts self.old (P.acts program.old) }
+        ensures fits { Accounts self.new (P.acts program.new) }
+        ensures same { (self.new.shape ≡ self.old.shape) × (self.new.starts.restarts ≡ self.old.starts.restarts) }
+        ensures tick { self.new.tick ≡ self.old.tick }
+        ensures runs { is_some self.new.running ≡ is_some self.old.running }
+    {
+        let Some(running) = self.running else {
+            return;
+        };
+        if running.is_closed || self.owed.as_slice().is_empty() {
+            return;
+        }
+        let took = give_from(program, &mut self.owed);
+        self.running = Some(running.after_give(took, at));
+    }
+
+    /// A card that takes nothing while it gives is to be ended, once all that it gave is captured.
+    pub(crate) fn look(&mut self, at: u64)
+        ensures runs { is_some self.new.running ≡ is_some self.old.running }
+        ensures rest { self.new ≡ record self.old { running = looked_at self.old.running self.old.shape.kind at } }
+    {
+        let Some(running) = self.running else {
+            return;
+        };
+        if self.shape.kind == CardKind::Card && !running.is_closed && is_stalled(running.took, at) {
+            self.running = Some(Running {
+                is_over: true,
+                ..running
+            });
+        }
+    }
+
+    /// Whether the program is to be ended, where no frame is due by it.
+    pub(crate) fn is_over(&self, at: u64) -> bool
+        ensures { result ≡ is_over_of self.now.running self.now.shape.kind at }
+    {
+        match self.running {
+            None => false,
+            Some(running) => match self.shape.kind {
+                CardKind::Speaker => running.is_closed || is_stalled(running.took, at),
+                CardKind::Microphone | CardKind::Card => {
+                    running.is_over || is_stalled(running.gave, at)
+                }
+            },
+        }
+    }
+
+    /// How many frames a second there are.
+    pub(crate) fn rate(&self) -> u32
+        ensures { result ≡ self.now.shape.rate }
+    {
+        self.shape.rate
+    }
+
+    /// Captures the sound of a tick: what the program gave, or silence.
+    pub(crate) fn capture<P: Program>(&mut self, program: &mut P, into: &mut [u8])
+        requires can { CanCapture self.old (length into.old) }
+        requires fits { Accounts self.old (P.acts program.old) }
+        ensures fits { Accounts self.new (P.acts program.new) }
+        ensures acts { Appended (P.acts program.old) (captured into.new ∷ []) (P.acts program.new) }
+        ensures same { (self.new.shape ≡ self.old.shape) × (self.new.starts.restarts ≡ self.old.starts.restarts) }
+        ensures tick { self.new.tick ≡ Some (length into.new) }
+        ensures sound { into.new ≡ captured_of self.old.running self.old (length into.old) }
+    {
+        match self.running {
+            Some(_) if self.shape.kind.gives_sound() => self.capture_given(program, into),
+            _ => self.capture_silence(program, into),
+        }
+    }
+
+    /// Captures what the program gave.
+    fn capture_given<P: Program>(&mut self, program: &mut P, into: &mut [u8])
+        requires can { CanCapture self.old (length into.old) }
+        requires runs { self.old.running ≢ None }
+        requires gives { gives_sound self.old.shape.kind ≡ true }
+        requires fits { Accounts self.old (P.acts program.old) }
+        ensures fits { Accounts self.new (P.acts program.new) }
+        ensures acts { Appended (P.acts program.old) (captured into.new ∷ []) (P.acts program.new) }
+        ensures same { (self.new.shape ≡ self.old.shape) × (self.new.starts.restarts ≡ self.old.starts.restarts) }
+        ensures tick { self.new.tick ≡ Some (length into.new) }
+        ensures sound { into.new ≡ take (length into.old) self.old.left }
+    {
+        into.copy_from_slice(&self.input.as_slice()[..into.len()]);
+        self.input.drop_front(into.len());
+        program.note_captured(into);
+        self.tick = Some(into.len());
+    }
+
+    /// Captures silence.
+    fn capture_silence<P: Program>(&mut self, program: &mut P, into: &mut [u8])
+        requires can { CanCapture self.old (length into.old) }
+        requires none { self.old.running ≡ None ⊎ gives_sound self.old.shape.kind ≡ false }
+        requires fits { Accounts self.old (P.acts program.old) }
+        ensures fits { Accounts self.new (P.acts program.new) }
+        ensures acts { Appended (P.acts program.old) (captured into.new ∷ []) (P.acts program.new) }
+        ensures same { (self.new.shape ≡ self.old.shape) × (self.new.starts.restarts ≡ self.old.starts.restarts) }
+        ensures tick { self.new.tick ≡ Some (length into.new) }
+        ensures sound { into.new ≡ replicate (length into.old) self.old.shape.silence }
+    {
+        silence(into, self.shape.silence);
+        program.note_captured(into);
+        self.tick = Some(into.len());
+    }
+
+    /// Emits the sound of a tick: the program is given it, as far as it takes it.
+    pub(crate) fn emit<P: Program>(&mut self, program: &mut P, sound: &[u8], at: u64)
+        requires some { 0 < length sound.now }
+        requires can { CanEmit self.old (length sound.now) }
+        requires fits { Accounts self.old (P.acts program.old) }
+        ensures fits { Accounts self.new (P.acts program.new) }
+        ensures same { (self.new.shape ≡ self.old.shape) × (self.new.starts.restarts ≡ self.old.starts.restarts) }
+        ensures tick { self.new.tick ≡ None }
+    {
+        match self.running {
+            Some(_) if self.shape.kind == CardKind::Speaker => {
+                self.owe(program, sound);
+                self.give_owed(program, at);
+            }
+            Some(_) if self.shape.kind == CardKind::Card => {
+                self.give_owed(program, at);
+                self.pass(program, sound, at);
+            }
+            _ => self.lose(program, sound),
+        }
+    }
+
+    /// Emits the sound of a tick that the program of a loudspeaker is owed whole.
+    fn owe<P: Program>(&mut self, program: &mut P, sound: &[u8])
+        requires can { CanEmit self.old (length sound.now) }
+        requires runs { self.old.running ≢ None }
+        requires kind { self.old.shape.kind ≡ CardKind.Speaker }
+        requires fits { Accounts self.old (P.acts program.old) }
+        ensures fits { Accounts self.new (P.acts program.new) }
+        ensures same { (self.new.shape ≡ self.old.shape) × (self.new.starts.restarts ≡ self.old.starts.restarts) }
+        ensures tick { self.new.tick ≡ None }
+    {
+        program.note_emitted(sound);
+        self.owed.append(sound);
+        self.tick = None;
+    }
+
+    /// Emits the sound of a tick that a card is given as far as it has room, by whole frames. It is owed the rest of a frame of which it
+    /// took a part. What it has no room for is lost, and so is all as long as it is owed something.
+    fn pass<P: Program>(&mut self, program: &mut P, sound: &[u8], at: u64)
+        requires some { 0 < length sound.now }
+        requires can { CanEmit self.old (length sound.now) }
+        requires kind { self.old.shape.kind ≡ CardKind.Card }
+        requires fits { Accounts self.old (P.acts program.old) }
+        ensures fits { Accounts self.new (P.acts program.new) }
+        ensures same { (self.new.shape ≡ self.old.shape) × (self.new.starts.restarts ≡ self.old.starts.restarts) }
+        ensures tick { self.new.tick ≡ None }
+    {
+        program.note_emitted(sound);
+        self.tick = None;
+        let Some(running) = self.running else {
+            return;
+        };
+        if running.is_closed || !self.owed.as_slice().is_empty() {
+            return;
+        }
+        let took = pass_on(program, sound, self.shape.frame_bytes, &mut self.owed);
+        self.running = Some(running.after_give(took, at));
+    }
+
+    /// Emits the sound of a tick that nobody is given.
+    fn lose<P: Program>(&mut self, program: &mut P, sound: &[u8])
+        requires can { CanEmit self.old (length sound.now) }
+        requires kind { self.old.running ≡ None ⊎ self.old.shape.kind ≡ CardKind.Microphone }
+        requires fits { Accounts self.old (P.acts program.old) }
+        ensures fits { Accounts self.new (P.acts program.new) }
+        ensures same { (self.new.shape ≡ self.old.shape) × (self.new.starts.restarts ≡ self.old.starts.restarts) }
+        ensures tick { self.new.tick ≡ None }
+    {
+        program.note_emitted(sound);
+        self.tick = None;
+    }
+
+    /// Ends the program.
+    pub(crate) fn end<P: Program>(&mut self, program: &mut P, at: u64)
+        requires can { CanEnd self.old }
+        requires fits { Accounts self.old (P.acts program.old) }
+        ensures fits { Accounts self.new (P.acts program.new) }
+        ensures same { (self.new.shape ≡ self.old.shape) × (self.new.starts.restarts ≡ self.old.starts.restarts) }
+        ensures ended { self.new.running ≡ None }
+        ensures tick { self.new.tick ≡ None }
+    {
+        let Some(running) = self.running else {
+            return;
+        };
+        program.end(at);
+        self.starts.end(running.began, at);
+        self.running = None;
+        self.input.clear();
+        self.owed.clear();
+    }
+}
+
+/// Takes what a program gives to the end of a queue, as far as there is room.
+fn take_into<P: Program>(program: &mut P, room: &mut [u8], queue: &mut Queue) -> Gave
+    requires room { length room.old ≡ longest_capture }
+    requires runs { RunsWhereTold (P.acts program.old) }
+    ensures takes { TakesInto result queue.old queue.new (P.acts program.old) (P.acts program.new) }
+    ensures room { length room.new ≡ longest_capture }
+{
+    let free = room.len() - queue.as_slice().len();
+    if free == 0 {
+        return Gave::NotYet;
+    }
+    let gave = program.take(&mut room[..free]);
+    if let Gave::Bytes(count) = gave {
+        queue.append(&room[..count]);
+    }
+    gave
+}
+
+/// Gives a program what stands in a queue, as far as it takes it.
+fn give_from<P: Program>(program: &mut P, queue: &mut Queue) -> Took
+    requires some { 0 < length queue.old }
+    requires runs { RunsWhereTold (P.acts program.old) }
+    ensures { GivesFrom result queue.old queue.new (P.acts program.old) (P.acts program.new) }
+{
+    let took = program.give(queue.as_slice());
+    if let Took::Bytes(count) = took {
+        queue.drop_front(count);
+    }
+    took
+}
+
+/// Gives a program a sound, as far as it takes it. The rest of a frame of which it took a part is owed.
+fn pass_on<P: Program>(program: &mut P, sound: &[u8], frame_bytes: usize, owed: &mut Queue) -> Took
+    requires some { 0 < length sound.now }
+    requires bound { length sound.now ≤ longest_capture }
+    requires frames { 1 ≤ frame_bytes }
+    requires none { owed.old ≡ [] }
+    requires runs { RunsWhereTold (P.acts program.old) }
+    ensures { PassesOn result sound.now frame_bytes owed.new (P.acts program.old) (P.acts program.new) }
+{
+    let took = program.give(sound);
+    if let Took::Bytes(count) = took {
+        let rest = rest_of_frame(count, frame_bytes).min(sound.len() - count);
+        owed.append(&sound[count..count + rest]);
+    }
+    took
+}
+
+/// Whether so much time has gone by that it is a stall.
+fn is_stalled(since: u64, at: u64) -> bool
+    ensures { result ≡ is_stalled since at }
+{
+    at.saturating_sub(since) >= LONGEST_STALL
+}
+
+/// Silence, by the byte that it has.
+fn silence(into: &mut [u8], byte: u8)
+    ensures silent { IsSilent byte into.new }
+    ensures len { length into.new ≡ length into.old }
+{
+    into.fill(byte);
+}
+
+/// How many bytes are missing to whole frames.
+fn rest_of_frame(count: usize, frame_bytes: usize) -> usize
+    requires { 1 ≤ frame_bytes }
+    ensures less { result < frame_bytes }
+    ensures whole { IsWhole frame_bytes (count + result) }
+{
+    let part = count % frame_bytes;
+    if part == 0 { 0 } else { frame_bytes - part }
+}

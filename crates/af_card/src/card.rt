@@ -1,0 +1,214 @@
+// A device whose sound a program gives, takes or both.
+ghost use Rattle.std.specs.Prelude.{◌≡◌, ◌≢◌, ◌≤◌, ◌<◌, [], ◌∷◌, length, take, true, false, is_some, IfOk};
+ghost use Rattle.std.specs.declared.option.Option.TheVariants.{None, Some};
+ghost use Rattle.arrayvec.specs.ArrayVec.{array_vec_len};
+ghost use Rattle.af_io.specs.Observed.{Appended, Unchanged};
+ghost use Rattle.af_child.specs.Acts.{words_of};
+ghost use Rattle.af_program.specs.Acts.{captured, launched, TellsNothing};
+ghost use Rattle.af_card.specs.Waits.{most_restarts, may_come};
+ghost use Rattle.af_card.specs.Between.{Accounts, new_between, captured_of};
+ghost use Rattle.af_card.specs.Card.{new_card, SameOrders, captures, emits, DueByClock, DueByProgram, DueOf, IsFedWhereTold};
+
+use crate::between::Between;
+use crate::shape::Shape;
+use af_child::{Words, copied_words};
+use af_io::Put;
+use af_pace::Pace;
+use af_program::{Launched, Program};
+use af_time::OutOfMemory;
+use std::alloc::Global;
+use std::marker::Model;
+
+/// A device whose sound a program gives, takes or both, and whose time is that of its program while one runs. Moments are
+/// nanoseconds of a clock, and never go back.
+///
+/// At each tick `due` comes first, then `capture` and `emit`, with as many frames.
+#[derive(Drop)]
+pub struct Card<P: Program + Drop> {
+    alloc: Global,
+    program: P,
+    words: Words,
+    between: Between,
+    pace: Pace,
+    at: u64,
+}
+
+impl<P: Program + Drop> Model for Card<P> {
+    ghost use Rattle.std.specs.Prelude.{◌≤◌};
+    ghost use Rattle.arrayvec.specs.ArrayVec.{array_vec_len};
+    ghost use Rattle.af_child.specs.Acts.{words_of};
+    ghost use Rattle.af_card.specs.Between.{Accounts};
+    ghost use Rattle.af_card.specs.Card.{CardState};
+
+    ghost Value = { CardState P };
+
+    ghost view = { λ c. record {
+      program = c.program;
+      between = c.between;
+      words = words_of c.words;
+      pace = c.pace;
+      at = c.at;
+    } };
+
+    ghost invariant = { λ c. (1 ≤ array_vec_len c.words) × Accounts c.between (P.acts c.program) };
+}
+
+impl<P: Program + Drop> Card<P> {
+    /// A device of this shape, over a program that tells of no act. It is started by these words, and so many times again at most. All
+    /// memory is taken here, but for what a start takes.
+    pub fn new(
+        alloc: Global,
+        program: P,
+        shape: Shape,
+        restarts: u32,
+        words: &Words,
+    ) -> Result<Card<P>, OutOfMemory>
+        requires none { TellsNothing (P.acts program) }
+        requires frames { (1 ≤ shape.frame_bytes) × (shape.frame_bytes ≤ 8) }
+        requires restarts { restarts ≤ most_restarts }
+        requires some { 1 ≤ array_vec_len words.now }
+        ensures made { IfOk result (λ card. card ≡ new_card program shape restarts (words_of words.now)) }
+    {
+        Ok(Card {
+            alloc,
+            program,
+            words: copied_words(words),
+            between: Between::new(alloc, shape, restarts)?,
+            pace: Pace::new(shape.rate),
+            at: 0,
+        })
+    }
+
+    /// Tries the first start.
+    pub fn begin(&mut self, at: u64) -> Launched
+        requires new { self.old.between ≡ new_between self.old.between.shape self.old.between.starts.restarts }
+        ensures fed { IsFedWhereTold P.acts self.new }
+        ensures acts { Appended (P.acts self.old.program) (launched at self.old.words result ∷ []) (P.acts self.new.program) }
+        ensures same { SameOrders self.old self.new }
+        ensures now { self.new.at ≡ at }
+    {
+        self.at = at;
+        self.between
+            .begin(&mut self.program, self.alloc, at, &self.words)
+    }
+
+    /// The frames of the tick that is due at a moment, at most 4096, or none.
+    pub fn due(&mut self, at: u64) -> u32
+        ensures due { DueOf self.old.between.tick self.old.between.running at result self.old.between self.new.between self.old.pace self.new.pace }
+        ensures fed { IsFedWhereTold P.acts self.new }
+        ensures same { SameOrders self.old self.new }
+        ensures now { self.new.at ≡ at }
+    {
+        self.at = at;
+        self.program.tend(at);
+        if self.between.is_captured() {
+            return 0;
+        }
+        if self.between.runs() {
+            due_by_program(&mut self.between, &mut self.program, &mut self.pace, at)
+        } else {
+            due_by_clock(
+                &mut self.between,
+                &mut self.program,
+                &mut self.pace,
+                self.alloc,
+                &self.words,
+                at,
+            )
+        }
+    }
+
+    /// Captures the sound of a tick. Failed says that no program runs and no start is left, or that this is not the tick that is due;
+    /// nothing is captured then.
+    pub fn capture(&mut self, into: &mut [u8]) -> Put
+        ensures answer { result ≡ captures self.old.between (length into.old) }
+        ensures done { result ≡ Put.Done → into.new ≡ captured_of self.old.between.running self.old.between (length into.old) }
+        ensures acts { result ≡ Put.Done → Appended (P.acts self.old.program) (captured into.new ∷ []) (P.acts self.new.program) }
+        ensures failed { result ≡ Put.Failed → self.new ≡ self.old }
+        ensures fed { IsFedWhereTold P.acts self.new }
+        ensures same { SameOrders self.old self.new }
+        ensures now { self.new.at ≡ self.old.at }
+    {
+        if self.between.is_dead() || !self.between.may_capture(into.len()) {
+            return Put::Failed;
+        }
+        self.between.capture(&mut self.program, into);
+        Put::Done
+    }
+
+    /// Emits the sound of a tick. Failed says that no program runs and no start is left, or that this is not the tick that was
+    /// captured; nothing is emitted then.
+    pub fn emit(&mut self, sound: &[u8]) -> Put
+        requires some { 0 < length sound.now }
+        ensures answer { result ≡ emits self.old.between (length sound.now) }
+        ensures failed { result ≡ Put.Failed → self.new ≡ self.old }
+        ensures fed { IsFedWhereTold P.acts self.new }
+        ensures same { SameOrders self.old self.new }
+        ensures now { self.new.at ≡ self.old.at }
+    {
+        if self.between.is_dead() || !self.between.may_emit(sound.len()) {
+            return Put::Failed;
+        }
+        self.between.emit(&mut self.program, sound, self.at);
+        Put::Done
+    }
+
+    /// Its program.
+    pub fn program(&self) -> &P
+        ensures { result.now ≡ self.now.program }
+    {
+        &self.program
+    }
+}
+
+/// The frames that are due by a program that runs, at this moment. A program that gives or takes nothing any more is ended.
+fn due_by_program<P: Program>(
+    between: &mut Between,
+    program: &mut P,
+    pace: &mut Pace,
+    at: u64,
+) -> u32
+    requires runs { is_some between.old.running ≡ true }
+    requires tick { between.old.tick ≡ None }
+    requires fits { Accounts between.old (P.acts program.old) }
+    ensures due { DueByProgram at result between.new pace.old pace.new }
+    ensures fits { Accounts between.new (P.acts program.new) }
+    ensures same { (between.new.shape ≡ between.old.shape) × (between.new.starts.restarts ≡ between.old.starts.restarts) }
+    ensures tick { between.new.tick ≡ None }
+{
+    between.give_owed(program, at);
+    between.take(program, at);
+    between.look(at);
+    let frames = between.frames();
+    if frames == 0 && between.is_over(at) {
+        between.end(program, at);
+        *pace = Pace::new(between.rate());
+        return pace.due(at);
+    }
+    frames
+}
+
+/// The frames that are due by the clock where no program runs, at this moment. Where none is due, a start is tried if one may come.
+fn due_by_clock<P: Program>(
+    between: &mut Between,
+    program: &mut P,
+    pace: &mut Pace,
+    alloc: Global,
+    words: &Words,
+    at: u64,
+) -> u32
+    requires some { 1 ≤ array_vec_len words.now }
+    requires none { between.old.running ≡ None }
+    requires tick { between.old.tick ≡ None }
+    requires fits { Accounts between.old (P.acts program.old) }
+    ensures due { DueByClock at result between.old between.new pace.old pace.new }
+    ensures fits { Accounts between.new (P.acts program.new) }
+    ensures same { (between.new.shape ≡ between.old.shape) × (between.new.starts.restarts ≡ between.old.starts.restarts) }
+    ensures tick { between.new.tick ≡ None }
+{
+    let frames = pace.due(at);
+    if frames == 0 && between.may_come(at) {
+        between.begin(program, alloc, at, words);
+    }
+    frames
+}

@@ -1,0 +1,12 @@
+//! A device whose sound a program gives, takes or both, and whose time is that of its program.
+#![tactic(auto)]
+
+mod between;
+mod card;
+mod queue;
+mod running;
+mod shape;
+mod starts;
+
+pub use card::Card;
+pub use shape::{CardKind, Shape};

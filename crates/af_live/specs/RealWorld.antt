@@ -14,18 +14,17 @@ use Rattle.af_world.specs.declared.live.Waited.{Waited}
 use Rattle.af_world.specs.declared.live.Waited.TheVariants as answer
 use Rattle.af_live.specs.declared.link_table.LinkEntry.{LinkEntry}
 use Rattle.af_live.specs.LinkTable.{free_entry, LinkWakeFits, GivesFirst}
-use Rattle.af_live.specs.Behind.{BehindState, none_attached, all_without_bytes}
-use Rattle.af_live.specs.CodecUse.{CodecUse, begun_codec}
+use Rattle.af_backend.specs.Backends.{BackendState, none_attached, all_without_bytes}
+use Rattle.af_backend.specs.CodecUse.{CodecUse, begun_codec}
 use Rattle.af_live.specs.Readings.{IsReadingBy}
-use Rattle.af_pace.specs.Pacing.{begun}
-use Rattle.af_pace.specs.Rounds.{RoundState, new_round, pace_at, is_paced, round_begun, round_with, due_of, GoesOn}
+use Rattle.af_pace.specs.Rounds.{RoundState, new_round, pace_at, is_paced, round_begun, due_of, GoesOn}
 
 -- Whether it listens; the links that it holds; what stands behind each device that is attached; its codec; its round over the
 -- devices; and how often each kind of call has failed.
 pub record RealState : Type 0 where
   pub listens : Bool
   pub links : List (Option LinkEntry)
-  pub behind : List (Option BehindState)
+  pub behind : List (Option BackendState)
   pub codec : CodecUse
   pub round : RoundState
   pub link_faults : ℕ
@@ -95,11 +94,6 @@ ticked_by _ e = 0
 -- No frame is lost: what is due of a device at any reading is given, or stays due.
 abbrev pub LosesNoFrame : Option Wake → RoundState → RoundState → Type 0
 LosesNoFrame w old new = (d nanos : ℕ) → due_of nanos (pace_at old d) ≤ ticked_by w d + due_of nanos (pace_at new d)
-
--- the round behind an attach: where that was done, the device goes on at this rate
-abbrev pub round_after : Ready → RoundState → ℕ → ℕ → RoundState
-round_after ready.Done r d rate = round_with r d (begun rate)
-round_after _ r d rate = r
 
 -- whether it listens behind a listen
 abbrev pub listens_behind : Ready → Bool → Bool

@@ -2,11 +2,7 @@
 //! configuration that it is started with, and the pace of a device, are named here again.
 #![tactic(auto)]
 
-mod attached_device;
-mod codec_device;
 mod counting;
-mod devices;
-mod file_device;
 mod held_links;
 mod link_table;
 mod links;

@@ -2,10 +2,10 @@ use Rattle.std.proofs.Common.{◌≡◌, ◌≤◌, ◌<◌, true, false, subst}
 use Rattle.std.proofs.Math.Nat.{le_refl}
 use Rattle.af_limits.specs.Limits.{most_devices}
 use Rattle.af_world.specs.declared.live.Ready.TheVariants.{Done, Failed}
-use Rattle.af_live.specs.Behind.{opens_files, AttachesAt}
-use Rattle.af_live.specs.CodecUse.{codec_allows, codec_behind}
+use Rattle.af_backend.specs.Backends.{opens_files, AttachesAt}
+use Rattle.af_backend.specs.CodecUse.{codec_allows, codec_behind}
 use Rattle.af_live.specs.Counting.{CountsOne}
-use Rattle.af_live.specs.RealWorld.{round_after}
+use Rattle.af_backend.specs.Backends.{round_after}
 use Rattle.af_pace.specs.Rounds.{is_paced}
 use Rattle.af_live.specs.RealWorld.{RealState}
 use Rattle.af_live.proofs.mio_world.MioWorldLive.attach.Goals as goal

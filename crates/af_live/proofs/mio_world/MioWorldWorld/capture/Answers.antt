@@ -1,11 +1,11 @@
 use Rattle.std.proofs.Common.{◌≡◌, ◌≤◌, ap, subst, ◌∙◌}
 use Rattle.std.proofs.Math.Nat.{le_refl}
 use Rattle.af_io.specs.declared.flow.Put.TheVariants.{Failed}
-use Rattle.af_live.specs.declared.devices.Devices.{Devices}
-use Rattle.af_live.specs.Behind.{all_without_bytes}
+use Rattle.af_backend.specs.declared.devices.Devices.{Devices}
+use Rattle.af_backend.specs.Backends.{all_without_bytes}
 use Rattle.af_live.specs.Counting.{CountsOne}
 use Rattle.af_live.specs.RealWorld.{RealState}
-use Rattle.af_live.proofs.BehindLemmas.{captures_same}
+use Rattle.af_backend.proofs.BackendLemmas.{captures_same}
 use Rattle.af_live.proofs.mio_world.MioWorldWorld.capture.Goals as goal
 
 pub returns-clause-faults : goal.returns-clause-faults

@@ -2,7 +2,7 @@ use Rattle.std.proofs.Common.{◌≡◌, ◌≤◌, true, ap, subst, ◌∙◌}
 use Rattle.std.proofs.Math.Nat.{le_refl}
 use Rattle.af_world.specs.declared.world.LinkGot.TheVariants.{Failed, NotYet}
 use Rattle.af_live.specs.LinkTable.{is_drained, is_free, link_at, KeepsOpen}
-use Rattle.af_live.specs.Behind.{all_without_bytes}
+use Rattle.af_backend.specs.Backends.{all_without_bytes}
 use Rattle.af_live.specs.Counting.{CountsOne}
 use Rattle.af_live.specs.RealWorld.{RealState}
 use Rattle.af_live.proofs.mio_world.MioWorldWorld.read.Goals as goal

@@ -2,7 +2,7 @@
 ghost use Rattle.std.specs.Prelude.{◌≡◌, ◌<◌, length, [], if◌then◌else◌};
 ghost use Rattle.af_child.specs.Acts.{words_of};
 ghost use Rattle.af_codec.specs.Codec.{TellsThese};
-ghost use Rattle.af_live.specs.CodecUse.{begun_codec, codec_allows, codec_with, CodecTakes, may_set, with_orders};
+ghost use Rattle.af_backend.specs.CodecUse.{begun_codec, codec_allows, codec_with, CodecTakes, may_set, with_orders};
 
 use af_child::{Spawner, Words};
 use af_codec::Codec;
@@ -14,7 +14,7 @@ use std::marker::Model;
 
 /// How far a codec is.
 #[derive(Clone, Copy, PartialEq, Eq)]
-pub(crate) enum CodecStage {
+pub enum CodecStage {
     /// It waits for the words of its child programs.
     Unset,
     /// It takes sound.
@@ -25,13 +25,13 @@ pub(crate) enum CodecStage {
 
 /// A codec with the device whose sound it takes, if there is one.
 #[derive(Drop)]
-pub(crate) struct CodecDevice<S: Spawner + Drop> {
+pub struct CodecDevice<S: Spawner + Drop> {
     codec: Codec<S>,
     stage: CodecStage,
 }
 
 impl<S: Spawner + Drop> Model for CodecDevice<S> {
-    ghost use Rattle.af_live.specs.CodecUse.{CodecUse, IsInStage};
+    ghost use Rattle.af_backend.specs.CodecUse.{CodecUse, IsInStage};
 
     ghost Value = { CodecUse };
 

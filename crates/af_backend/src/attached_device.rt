@@ -1,7 +1,7 @@
 // A device that is attached, and what stands behind it.
 ghost use Rattle.std.specs.Prelude.{◌≡◌, ◌<◌, length, false, IfOk, IsOk};
 ghost use Rattle.std.specs.declared.option.Option.TheVariants.{Some};
-ghost use Rattle.af_live.specs.Behind.{opens_files, CapturesBy, EmitsBy, IsBehind, IsSilence};
+ghost use Rattle.af_backend.specs.Backends.{opens_files, CapturesBy, EmitsBy, IsBackend, IsSilence};
 
 use crate::codec_device::CodecDevice;
 use crate::file_device::FileDevice;
@@ -15,7 +15,7 @@ use std::rt::Files;
 
 /// What stands behind a device.
 #[derive(Drop)]
-pub(crate) enum Behind<F: Read + Write + Drop> {
+pub enum Backend<F: Read + Write + Drop> {
     /// Nothing: it captures silence of its sample type, and what it hands out is gone.
     Silence(SampleType),
     Files(FileDevice<F>),
@@ -25,16 +25,16 @@ pub(crate) enum Behind<F: Read + Write + Drop> {
 
 /// A device that is attached.
 #[derive(Drop)]
-pub(crate) struct AttachedDevice<F: Read + Write + Drop> {
-    behind: Behind<F>,
+pub struct AttachedDevice<F: Read + Write + Drop> {
+    behind: Backend<F>,
 }
 
 impl<F: Read + Write + Drop> Model for AttachedDevice<F> {
-    ghost use Rattle.af_live.specs.Behind.{BehindState, behind_state};
+    ghost use Rattle.af_backend.specs.Backends.{BackendState, backend_state};
 
-    ghost Value = { BehindState };
+    ghost Value = { BackendState };
 
-    ghost view = { λ a. behind_state a.behind };
+    ghost view = { λ a. backend_state a.behind };
 }
 
 impl<F: Read + Write + Drop> AttachedDevice<F> {
@@ -45,15 +45,15 @@ impl<F: Read + Write + Drop> AttachedDevice<F> {
         ty: SampleType,
         kind: Kind<'_>,
     ) -> io::Result<AttachedDevice<F>>
-        ensures made { IfOk result (λ device. IsBehind kind.entry ty device) }
+        ensures made { IfOk result (λ device. IsBackend kind.entry ty device) }
         ensures done { opens_files kind.entry ≡ false → IsOk result }
     {
         let behind = match kind {
-            Kind::Silent => Behind::Silence(ty),
+            Kind::Silent => Backend::Silence(ty),
             Kind::Files { input, output } => {
-                Behind::Files(FileDevice::open(rt, ty, input, output)?)
+                Backend::Files(FileDevice::open(rt, ty, input, output)?)
             }
-            Kind::Codec { .. } => Behind::Codec(ty),
+            Kind::Codec { .. } => Backend::Codec(ty),
         };
         Ok(AttachedDevice { behind })
     }
@@ -63,9 +63,9 @@ impl<F: Read + Write + Drop> AttachedDevice<F> {
         ensures { CapturesBy (Some self.old) result into.new (Some self.new) }
     {
         match &mut self.behind {
-            Behind::Silence(ty) => capture_silence(*ty, into),
-            Behind::Files(files) => files.capture(into),
-            Behind::Codec(ty) => capture_silence(*ty, into),
+            Backend::Silence(ty) => capture_silence(*ty, into),
+            Backend::Files(files) => files.capture(into),
+            Backend::Codec(ty) => capture_silence(*ty, into),
         }
     }
 
@@ -75,9 +75,9 @@ impl<F: Read + Write + Drop> AttachedDevice<F> {
         ensures { EmitsBy (Some self.old) result sound.now (Some self.new) codec.old codec.new }
     {
         match &mut self.behind {
-            Behind::Silence(_) => Put::Done,
-            Behind::Files(files) => files.emit(sound),
-            Behind::Codec(_) => codec.emit(sound),
+            Backend::Silence(_) => Put::Done,
+            Backend::Files(files) => files.emit(sound),
+            Backend::Codec(_) => codec.emit(sound),
         }
     }
 }

@@ -12,8 +12,8 @@ use Rattle.af_world.specs.declared.live.Ready.TheVariants as ready
 use Rattle.af_world.specs.declared.live.Kind.{Kind}
 use Rattle.af_world.specs.declared.live.Kind.TheVariants as kind
 use Rattle.af_config.specs.Stating.{is_command_line}
-use Rattle.af_live.specs.declared.codec_device.CodecStage.{CodecStage}
-use Rattle.af_live.specs.declared.codec_device.CodecStage.TheVariants as stage
+use Rattle.af_backend.specs.declared.codec_device.CodecStage.{CodecStage}
+use Rattle.af_backend.specs.declared.codec_device.CodecStage.TheVariants as stage
 
 -- The codec: its orders, what is fed, whether a sound was emitted, and the acts of its spawner, if they are observed; and how far it
 -- is: it waits for its orders, it takes sound, or it has failed.

@@ -1,7 +1,7 @@
 use Rattle.std.proofs.Common.{◌-◌, length, rules}
 use borrow.Rule.Slice.PartMut.{post_of}
-use Rattle.af_live.proofs.ConsumesLemmas.{Consumes-part}
-use Rattle.af_live.proofs.file_device.fill.Goals as goal
+use Rattle.af_backend.proofs.ConsumesLemmas.{Consumes-part}
+use Rattle.af_backend.proofs.file_device.fill.Goals as goal
 
 pub loop-count-preserved : goal.loop-count-preserved
 loop-count-preserved g c =

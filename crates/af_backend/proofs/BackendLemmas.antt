@@ -4,31 +4,31 @@ use Rattle.std.proofs.Math.Seq.{map-set_same}
 use Rattle.std.specs.declared.option.Option.{Option}
 use Rattle.std.specs.declared.option.Option.TheVariants.{None, Some}
 use Rattle.af_io.specs.declared.flow.Put.{Put}
-use Rattle.af_live.specs.declared.codec_device.CodecStage.{CodecStage}
-use Rattle.af_live.specs.declared.codec_device.CodecStage.TheVariants as stage
-use Rattle.af_live.specs.CodecUse.{CodecUse, CodecTakesAt}
-use Rattle.af_live.specs.Behind.{BehindState, always_silent, over_files, over_codec, behind_at, without_bytes, all_without_bytes, CapturesBy, CapturesAt, EmitsBy, EmitsAt}
+use Rattle.af_backend.specs.declared.codec_device.CodecStage.{CodecStage}
+use Rattle.af_backend.specs.declared.codec_device.CodecStage.TheVariants as stage
+use Rattle.af_backend.specs.CodecUse.{CodecUse, CodecTakesAt}
+use Rattle.af_backend.specs.Backends.{BackendState, always_silent, over_files, over_codec, behind_at, without_bytes, all_without_bytes, CapturesBy, CapturesAt, EmitsBy, EmitsAt}
 
-kind_kept : (old new : List (Option BehindState)) (d : ℕ) (after : Option BehindState) → option_map without_bytes after ≡ option_map without_bytes (behind_at old d) → new ≡ slice_set old d after → all_without_bytes new ≡ all_without_bytes old
+kind_kept : (old new : List (Option BackendState)) (d : ℕ) (after : Option BackendState) → option_map without_bytes after ≡ option_map without_bytes (behind_at old d) → new ≡ slice_set old d after → all_without_bytes new ≡ all_without_bytes old
 unfolding all_without_bytes
 kind_kept old new d after same is = ap (map (option_map without_bytes)) is ∙ map-set_same (option_map without_bytes) old d after None same
 
-captures_kind : (b : Option BehindState) (answer : Put) (into : List ℕ) (after : Option BehindState) → CapturesBy b answer into after → option_map without_bytes after ≡ option_map without_bytes b
+captures_kind : (b : Option BackendState) (answer : Put) (into : List ℕ) (after : Option BackendState) → CapturesBy b answer into after → option_map without_bytes after ≡ option_map without_bytes b
 captures_kind None answer into after h = ap (option_map without_bytes) h.1
 captures_kind (Some (always_silent ty)) answer into after h = ap (option_map without_bytes) h.1
 captures_kind (Some (over_files f)) answer into after h = ap (option_map without_bytes) h.2
 captures_kind (Some (over_codec ty)) answer into after h = ap (option_map without_bytes) h.1
 
-pub captures_same : (d : ℕ) (answer : Put) (into : List ℕ) (old new : List (Option BehindState)) → CapturesAt d answer into old new → all_without_bytes new ≡ all_without_bytes old
+pub captures_same : (d : ℕ) (answer : Put) (into : List ℕ) (old new : List (Option BackendState)) → CapturesAt d answer into old new → all_without_bytes new ≡ all_without_bytes old
 captures_same d answer into old new h = kind_kept old new d h.0 (captures_kind (behind_at old d) answer into h.0 h.1) h.2
 
-emits_kind : (b : Option BehindState) (answer : Put) (sound : List ℕ) (after : Option BehindState) (codec codec' : CodecUse) → EmitsBy b answer sound after codec codec' → option_map without_bytes after ≡ option_map without_bytes b
+emits_kind : (b : Option BackendState) (answer : Put) (sound : List ℕ) (after : Option BackendState) (codec codec' : CodecUse) → EmitsBy b answer sound after codec codec' → option_map without_bytes after ≡ option_map without_bytes b
 emits_kind None answer sound after codec codec' h = ap (option_map without_bytes) h.1
 emits_kind (Some (always_silent ty)) answer sound after codec codec' h = ap (option_map without_bytes) h.1
 emits_kind (Some (over_files f)) answer sound after codec codec' h = ap (option_map without_bytes) h.2
 emits_kind (Some (over_codec ty)) answer sound after codec codec' h = ap (option_map without_bytes) h.0
 
-pub emits_same : (d : ℕ) (answer : Put) (sound : List ℕ) (old new : List (Option BehindState)) (codec codec' : CodecUse) → EmitsAt d answer sound old new codec codec' → all_without_bytes new ≡ all_without_bytes old
+pub emits_same : (d : ℕ) (answer : Put) (sound : List ℕ) (old new : List (Option BackendState)) (codec codec' : CodecUse) → EmitsAt d answer sound old new codec codec' → all_without_bytes new ≡ all_without_bytes old
 emits_same d answer sound old new codec codec' h = kind_kept old new d h.0 (emits_kind (behind_at old d) answer sound h.0 codec codec' h.1) h.2
 
 takes_orders : (s : CodecStage) (answer : Put) (sound : List ℕ) (codec codec' : CodecUse) → CodecTakesAt s answer sound codec codec' → codec'.orders ≡ codec.orders
@@ -36,11 +36,11 @@ takes_orders stage.Unset answer sound codec codec' h = ap (λ (u : CodecUse). u.
 takes_orders stage.Takes answer sound codec codec' h = h.orders
 takes_orders stage.Dead answer sound codec codec' h = ap (λ (u : CodecUse). u.orders) h.1
 
-emits_by_orders : (b : Option BehindState) (answer : Put) (sound : List ℕ) (after : Option BehindState) (codec codec' : CodecUse) → EmitsBy b answer sound after codec codec' → codec'.orders ≡ codec.orders
+emits_by_orders : (b : Option BackendState) (answer : Put) (sound : List ℕ) (after : Option BackendState) (codec codec' : CodecUse) → EmitsBy b answer sound after codec codec' → codec'.orders ≡ codec.orders
 emits_by_orders None answer sound after codec codec' h = ap (λ (u : CodecUse). u.orders) h.2
 emits_by_orders (Some (always_silent ty)) answer sound after codec codec' h = ap (λ (u : CodecUse). u.orders) h.2
 emits_by_orders (Some (over_files f)) answer sound after codec codec' h = ap (λ (u : CodecUse). u.orders) h.3
 emits_by_orders (Some (over_codec ty)) answer sound after codec codec' h = takes_orders codec.stage answer sound codec codec' h.1
 
-pub emits_orders : (d : ℕ) (answer : Put) (sound : List ℕ) (old new : List (Option BehindState)) (codec codec' : CodecUse) → EmitsAt d answer sound old new codec codec' → codec'.orders ≡ codec.orders
+pub emits_orders : (d : ℕ) (answer : Put) (sound : List ℕ) (old new : List (Option BackendState)) (codec codec' : CodecUse) → EmitsAt d answer sound old new codec codec' → codec'.orders ≡ codec.orders
 emits_orders d answer sound old new codec codec' h = emits_by_orders (behind_at old d) answer sound h.0 codec codec' h.1

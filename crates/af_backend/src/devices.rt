@@ -3,9 +3,9 @@ ghost use Rattle.std.specs.Prelude.{◌≡◌, ◌≢◌, ◌<◌, [], length, f
 ghost use Rattle.std.specs.declared.option.Option.TheVariants.{Some};
 ghost use Rattle.af_limits.specs.Limits.{most_devices};
 ghost use Rattle.af_codec.specs.Codec.{TellsThese};
-ghost use Rattle.af_live.specs.Behind.{none_attached, opens_files, CapturesBy, CapturesAt, EmitsBy, EmitsAt, AttachesAt};
-ghost use Rattle.af_live.specs.CodecUse.{begun_codec, codec_allows, codec_behind};
-ghost use Rattle.af_live.specs.RealWorld.{round_after};
+ghost use Rattle.af_backend.specs.Backends.{none_attached, opens_files, CapturesBy, CapturesAt, EmitsBy, EmitsAt, AttachesAt};
+ghost use Rattle.af_backend.specs.CodecUse.{begun_codec, codec_allows, codec_behind};
+ghost use Rattle.af_backend.specs.Backends.{round_after};
 ghost use Rattle.af_pace.specs.Rounds.{new_round, is_paced};
 
 use crate::attached_device::AttachedDevice;
@@ -22,7 +22,7 @@ use std::rt::Files;
 
 /// A device that is to be attached.
 #[derive(Clone, Copy)]
-pub(crate) struct NewDevice<'a> {
+pub struct NewDevice<'a> {
     pub number: u8,
     pub ty: SampleType,
     pub rate: u32,
@@ -31,7 +31,7 @@ pub(crate) struct NewDevice<'a> {
 
 /// The devices that are attached, the codec, which one of them may stand over, and the round over all of them.
 #[derive(Drop)]
-pub(crate) struct Devices<F: Read + Write + Drop, S: Spawner + Drop> {
+pub struct Devices<F: Read + Write + Drop, S: Spawner + Drop> {
     pub attached: [Option<AttachedDevice<F>>; MOST_DEVICES],
     pub codec: CodecDevice<S>,
     pub round: Round,
@@ -131,7 +131,7 @@ fn emit_by<F: Read + Write + Drop, S: Spawner + Drop>(
 }
 
 /// What a refusal of the system is to a caller.
-pub(crate) fn refusal(error: &io::Error) -> Ready
+pub fn refusal(error: &io::Error) -> Ready
     ensures { result ≢ Ready.Done }
 {
     if error.kind() == ErrorKind::OutOfMemory {

@@ -3,7 +3,7 @@ ghost use Rattle.std.specs.Prelude.{◌≡◌, ◌<◌, length, IfOk};
 ghost use Rattle.af_io.specs.Observed.{CountsOneFault};
 ghost use Rattle.af_world.specs.Outside.{silent_byte};
 ghost use Rattle.af_io.specs.Real.{WritesOn};
-ghost use Rattle.af_live.specs.FileBytes.{FillsRoom};
+ghost use Rattle.af_backend.specs.FileBytes.{FillsRoom};
 
 use af_io::{Got, Put, Sink, Source, StdSink, StdSource};
 use af_sample::SampleType;
@@ -16,14 +16,14 @@ use std::rt::Files;
 /// A device that captures what one file has, and adds what it hands out to another. A file that makes a call wait makes the
 /// server wait.
 #[derive(Drop)]
-pub(crate) struct FileDevice<F: Read + Write + Drop> {
+pub struct FileDevice<F: Read + Write + Drop> {
     silent: u8,
     input: StdSource<F>,
     output: StdSink<F>,
 }
 
 impl<F: Read + Write + Drop> Model for FileDevice<F> {
-    ghost use Rattle.af_live.specs.FileBytes.{FileState};
+    ghost use Rattle.af_backend.specs.FileBytes.{FileState};
 
     ghost Value = { FileState };
 

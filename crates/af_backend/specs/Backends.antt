@@ -12,39 +12,41 @@ use Rattle.af_world.specs.declared.live.Ready.TheVariants as ready
 use Rattle.af_world.specs.declared.live.Kind.{Kind}
 use Rattle.af_world.specs.declared.live.Kind.TheVariants as kind
 use Rattle.af_world.specs.Outside.{silent_byte}
-use Rattle.af_live.specs.declared.attached_device.Behind.{Behind}
-use Rattle.af_live.specs.declared.attached_device.Behind.TheVariants as behind
-use Rattle.af_live.specs.FileBytes.{FileState, FillsRoom}
-use Rattle.af_live.specs.CodecUse.{CodecUse, CodecTakes}
+use Rattle.af_pace.specs.Pacing.{begun}
+use Rattle.af_pace.specs.Rounds.{RoundState, round_with}
+use Rattle.af_backend.specs.declared.attached_device.Backend.{Backend}
+use Rattle.af_backend.specs.declared.attached_device.Backend.TheVariants as backend
+use Rattle.af_backend.specs.FileBytes.{FileState, FillsRoom}
+use Rattle.af_backend.specs.CodecUse.{CodecUse, CodecTakes}
 
 -- what stands behind a device that is attached: silence of a sample type, two files, or the codec, with silence of a sample type to
 -- be captured
-pub data BehindState : Type 0 where
-  always_silent : SampleType → BehindState
-  over_files : FileState → BehindState
-  over_codec : SampleType → BehindState
+pub data BackendState : Type 0 where
+  always_silent : SampleType → BackendState
+  over_files : FileState → BackendState
+  over_codec : SampleType → BackendState
 
-abbrev pub behind_state : {F : Type 0} → Behind F → BehindState
-behind_state (behind.Silence ty) = always_silent ty
-behind_state (behind.Files files) = over_files files
-behind_state (behind.Codec ty) = over_codec ty
+abbrev pub backend_state : {F : Type 0} → Backend F → BackendState
+backend_state (backend.Silence ty) = always_silent ty
+backend_state (backend.Files files) = over_files files
+backend_state (backend.Codec ty) = over_codec ty
 
 -- no device is attached
-abbrev pub none_attached : List (Option BehindState)
+abbrev pub none_attached : List (Option BackendState)
 none_attached = replicate most_devices None
 
 -- what stands behind the device with a number, if it is attached
-abbrev pub behind_at : List (Option BehindState) → ℕ → Option BehindState
+abbrev pub behind_at : List (Option BackendState) → ℕ → Option BackendState
 behind_at devices d = slice_index_or devices d None
 
 -- the same, whatever its files hold
-abbrev pub without_bytes : BehindState → BehindState
+abbrev pub without_bytes : BackendState → BackendState
 without_bytes (always_silent ty) = always_silent ty
 without_bytes (over_files f) = over_files (record f { input = None; output = None })
 without_bytes (over_codec ty) = over_codec ty
 
 -- what stands behind each device, whatever files hold
-unfoldable pub all_without_bytes : List (Option BehindState) → List (Option BehindState)
+unfoldable pub all_without_bytes : List (Option BackendState) → List (Option BackendState)
 all_without_bytes devices = map (option_map without_bytes) devices
 
 -- Captures
@@ -55,7 +57,7 @@ IsSilence ty answer into = (answer ≡ put.Done) × (into ≡ replicate (length 
 
 -- Of silence, and of the codec, silence is captured; of files what the input gives, and nothing else of them changes. None captures
 -- nothing.
-abbrev pub CapturesBy : Option BehindState → Put → List ℕ → Option BehindState → Type 0
+abbrev pub CapturesBy : Option BackendState → Put → List ℕ → Option BackendState → Type 0
 CapturesBy None answer into after = (answer ≡ put.Failed) × (after ≡ None)
 CapturesBy (Some (always_silent ty)) answer into after = IsSilence ty answer into × (after ≡ Some (always_silent ty))
 CapturesBy (Some (over_codec ty)) answer into after = IsSilence ty answer into × (after ≡ Some (over_codec ty))
@@ -63,14 +65,14 @@ CapturesBy (Some (over_files f)) answer into after =
     (input : Option (List ℕ)) × FillsRoom f.silent answer f.input into input × (after ≡ Some (over_files (record f { input = input })))
 
 -- a device captures by what stands behind it, and no other device is changed
-abbrev pub CapturesAt : ℕ → Put → List ℕ → List (Option BehindState) → List (Option BehindState) → Type 0
-CapturesAt d answer into old new = (after : Option BehindState) × CapturesBy (behind_at old d) answer into after × (new ≡ slice_set old d after)
+abbrev pub CapturesAt : ℕ → Put → List ℕ → List (Option BackendState) → List (Option BackendState) → Type 0
+CapturesAt d answer into old new = (after : Option BackendState) × CapturesBy (behind_at old d) answer into after × (new ≡ slice_set old d after)
 
 -- Emits
 
 -- Silence takes all. Files have all of a piece added to their output, or a prefix of it if that failed. The codec takes it as it does,
 -- and nothing else is given to it. None takes nothing.
-abbrev pub EmitsBy : Option BehindState → Put → List ℕ → Option BehindState → CodecUse → CodecUse → Type 0
+abbrev pub EmitsBy : Option BackendState → Put → List ℕ → Option BackendState → CodecUse → CodecUse → Type 0
 EmitsBy None answer sound after codec codec' = (answer ≡ put.Failed) × (after ≡ None) × (codec' ≡ codec)
 EmitsBy (Some (always_silent ty)) answer sound after codec codec' =
     (answer ≡ put.Done) × (after ≡ Some (always_silent ty)) × (codec' ≡ codec)
@@ -80,9 +82,9 @@ EmitsBy (Some (over_codec ty)) answer sound after codec codec' =
     (after ≡ Some (over_codec ty)) × CodecTakes answer sound codec codec'
 
 -- a device hands sound out by what stands behind it, and no other device is changed
-abbrev pub EmitsAt : ℕ → Put → List ℕ → List (Option BehindState) → List (Option BehindState) → CodecUse → CodecUse → Type 0
+abbrev pub EmitsAt : ℕ → Put → List ℕ → List (Option BackendState) → List (Option BackendState) → CodecUse → CodecUse → Type 0
 EmitsAt d answer sound old new codec codec' =
-    (after : Option BehindState) × EmitsBy (behind_at old d) answer sound after codec codec' × (new ≡ slice_set old d after)
+    (after : Option BackendState) × EmitsBy (behind_at old d) answer sound after codec codec' × (new ≡ slice_set old d after)
 
 -- Attaches
 
@@ -93,12 +95,17 @@ opens_files kind.Silent = false
 opens_files (kind.Codec restarts words) = false
 
 -- what stands behind a device of this kind and sample type that was just attached
-abbrev pub IsBehind : Kind → SampleType → BehindState → Type 0
-IsBehind kind.Silent ty b = b ≡ always_silent ty
-IsBehind (kind.Files input output) ty b = (f : FileState) × (f.silent ≡ silent_byte ty) × (b ≡ over_files f)
-IsBehind (kind.Codec restarts words) ty b = b ≡ over_codec ty
+abbrev pub IsBackend : Kind → SampleType → BackendState → Type 0
+IsBackend kind.Silent ty b = b ≡ always_silent ty
+IsBackend (kind.Files input output) ty b = (f : FileState) × (f.silent ≡ silent_byte ty) × (b ≡ over_files f)
+IsBackend (kind.Codec restarts words) ty b = b ≡ over_codec ty
 
 -- an attach that was done puts a device there; no other attach changes any
-abbrev pub AttachesAt : Ready → Kind → ℕ → SampleType → List (Option BehindState) → List (Option BehindState) → Type 0
-AttachesAt ready.Done k d ty old new = (b : BehindState) × IsBehind k ty b × (new ≡ slice_set old d (Some b))
+abbrev pub AttachesAt : Ready → Kind → ℕ → SampleType → List (Option BackendState) → List (Option BackendState) → Type 0
+AttachesAt ready.Done k d ty old new = (b : BackendState) × IsBackend k ty b × (new ≡ slice_set old d (Some b))
 AttachesAt _ k d ty old new = new ≡ old
+
+-- the round after an attach: where that was done, the device goes on at this rate
+abbrev pub round_after : Ready → RoundState → ℕ → ℕ → RoundState
+round_after ready.Done r d rate = round_with r d (begun rate)
+round_after _ r d rate = r

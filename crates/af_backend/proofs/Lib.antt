@@ -1,0 +1,2 @@
+pub mod ConsumesLemmas
+pub mod BackendLemmas

@@ -1,0 +1,3 @@
+pub mod FileBytes
+pub mod CodecUse
+pub mod Backends

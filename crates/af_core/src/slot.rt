@@ -1,5 +1,5 @@
 // A number for a link, which keeps its memory while no link is open there.
-ghost use Rattle.std.specs.Prelude.{◌≡◌, ◌≤◌, ◌<◌, ℕ, max, true, false, find, length, option_map, slice_get, IfOk, IsSomeAnd, MatchOption, is_some};
+ghost use Rattle.std.specs.Prelude.{◌≡◌, ◌≤◌, ◌<◌, ◌+◌, ◌-◌, ℕ, max, true, false, find, length, map, option_map, slice_get, IfOk, IsSomeAnd, MatchOption, is_some};
 ghost use Rattle.std.specs.declared.option.Option.TheVariants.{None, Some};
 ghost use Rattle.af_limits.specs.Limits.{most_links};
 ghost use Rattle.af_wait.specs.Waits.{without_first};
@@ -7,7 +7,7 @@ ghost use Rattle.af_model.specs.State.{EnvironmentState, LinkState, opened};
 ghost use Rattle.af_model.specs.Tick.{complete_at};
 ghost use Rattle.af_model.specs.Events.{tell_open};
 ghost use Rattle.af_model.specs.More.{open_wants};
-ghost use Rattle.af_model.specs.Turn.{parsed, serve_slot_link, serve_all, ready, writable, in_open};
+ghost use Rattle.af_model.specs.Turn.{parsed, serve_slot_link, serve_all, is_open_at, ready, writable, in_open};
 ghost use Rattle.af_state.specs.Deferrals.{has_waiting, kept_due, OnlyQueues, LeavesOthers};
 ghost use Rattle.af_state.specs.Environment.{StandsForEnvironment};
 ghost use Rattle.af_core.specs.Simulates.{Simulates};
@@ -173,6 +173,7 @@ pub fn open_end(slots: &[Slot], below: usize) -> usize
     requires none_open { NoneOpenFrom below slots.now }
     ensures bound { result ≤ below }
     ensures none_open { NoneOpenFrom result slots.now }
+    ensures last { 0 < result → is_open_at (slice_get (map is_some slots.now) (result - 1)) ≡ true }
 {
     let mut end = below;
     while end > 0 && !slots[end - 1].is_open() {
@@ -204,6 +205,7 @@ pub fn last_wanting(waits: &DeferredRequests, slots: &[Slot], from: usize, below
     requires bound { below ≤ length slots.now }
     requires some { from < below }
     ensures none { (k : ℕ) → result ≤ k → k < below → wants_at waits.now slots.now k ≡ false }
+    ensures last { from + 1 < result → wants_at waits.now slots.now (result - 1) ≡ true }
     ensures bound { (from < result) × (result ≤ below) }
 {
     let mut end = below;

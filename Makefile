@@ -29,24 +29,30 @@ fmt: ## lays out each crate's files
 	for crate in crates/*; do (cd $$crate && rt fmt) || exit; done
 
 # Where install puts things is where Debian's policy has them. A package says PREFIX=/usr, DESTDIR for the folder that it is made
-# in, and for the dissector WIRESHARK=/usr/lib/$(DEB_HOST_MULTIARCH)/wireshark/plugins; it compresses the pages itself.
+# in, WIRESHARK=/usr/lib/$(DEB_HOST_MULTIARCH)/wireshark/plugins for the dissector, and ZSH=/usr/share/zsh/vendor-completions for
+# the completions of zsh, where Debian's looks; it compresses the pages itself. tools/make-deb makes one so.
 PREFIX = /usr/local
 DESTDIR =
 AFD = bin/afd
 AF = bin/af
 WIRESHARK = $(PREFIX)/share/audiofile
+ZSH = $(PREFIX)/share/zsh/site-functions
 PROGRAMS = $(DESTDIR)$(PREFIX)/bin
 MANUALS = $(DESTDIR)$(PREFIX)/share/man
 UNITS = $(DESTDIR)$(PREFIX)/lib/systemd/system
+USER_UNITS = $(DESTDIR)$(PREFIX)/lib/systemd/user
+BASH_COMPLETIONS = $(DESTDIR)$(PREFIX)/share/bash-completion/completions
+ZSH_COMPLETIONS = $(DESTDIR)$(ZSH)
 PAGES = $(DESTDIR)$(PREFIX)/share/doc/audiofile
 DISSECTORS = $(DESTDIR)$(WIRESHARK)
 EXAMPLES = contrib/afd.conf $(wildcard examples/*.script examples/*.py)
 DISSECTOR = $(wildcard contrib/audiofile.lua)
 
-install: ## puts programs, manual pages, unit, examples and dissector below PREFIX (/usr/local); after make build
+install: ## puts programs, manual pages, units, completions, examples and dissector below PREFIX (/usr/local); after make build
 	@for program in $(AFD) $(AF); do \
 	  [ -x $$program ] || { echo "$$program is not there: make build proves and makes it" >&2; exit 1; }; done
-	install -d $(PROGRAMS) $(MANUALS)/man1 $(MANUALS)/man5 $(MANUALS)/man7 $(MANUALS)/man8 $(UNITS) $(PAGES)/examples $(DISSECTORS)
+	install -d $(PROGRAMS) $(MANUALS)/man1 $(MANUALS)/man5 $(MANUALS)/man7 $(MANUALS)/man8 $(UNITS) $(USER_UNITS)
+	install -d $(PAGES)/examples $(DISSECTORS) $(BASH_COMPLETIONS) $(ZSH_COMPLETIONS)
 	install -m 755 $(AFD) $(PROGRAMS)/afd
 	install -m 755 $(AF) $(PROGRAMS)/af
 	install -m 644 man/af.1 $(MANUALS)/man1/af.1
@@ -54,12 +60,17 @@ install: ## puts programs, manual pages, unit, examples and dissector below PREF
 	install -m 644 man/audiofile-protocol.7 $(MANUALS)/man7/audiofile-protocol.7
 	install -m 644 man/afd.8 $(MANUALS)/man8/afd.8
 	sed 's,/usr/local/bin,$(PREFIX)/bin,' contrib/afd.service > $(UNITS)/afd.service && chmod 644 $(UNITS)/afd.service
+	sed 's,/usr/local/bin,$(PREFIX)/bin,' contrib/afd-user.service > $(USER_UNITS)/afd.service && chmod 644 $(USER_UNITS)/afd.service
+	install -m 644 contrib/completions/audiofile.bash $(BASH_COMPLETIONS)/af
+	ln -sf af $(BASH_COMPLETIONS)/afd
+	install -m 644 contrib/completions/_audiofile $(ZSH_COMPLETIONS)/_audiofile
 	install -m 644 $(EXAMPLES) $(PAGES)/examples
 	install -m 644 LICENSE $(PAGES)/copyright
 	for file in $(DISSECTOR); do install -m 644 $$file $(DISSECTORS); done
 
 uninstall: ## takes away what install put there, with the same PREFIX and DESTDIR, and leaves configuration and sound
-	rm -f $(PROGRAMS)/afd $(PROGRAMS)/af $(UNITS)/afd.service $(PAGES)/copyright
+	rm -f $(PROGRAMS)/afd $(PROGRAMS)/af $(UNITS)/afd.service $(USER_UNITS)/afd.service $(PAGES)/copyright
+	rm -f $(BASH_COMPLETIONS)/af $(BASH_COMPLETIONS)/afd $(ZSH_COMPLETIONS)/_audiofile
 	rm -f $(MANUALS)/man1/af.1 $(MANUALS)/man5/afd-script.5 $(MANUALS)/man7/audiofile-protocol.7 $(MANUALS)/man8/afd.8
 	rm -f $(addprefix $(PAGES)/examples/,$(notdir $(EXAMPLES))) $(addprefix $(DISSECTORS)/,$(notdir $(DISSECTOR)))
 	for folder in $(PAGES)/examples $(PAGES) $(DESTDIR)$(PREFIX)/share/audiofile; do \

@@ -1,0 +1,88 @@
+# Completions of af and afd for bash. tools/make-completions writes this file from what the programs tell: change it there.
+
+_audiofile() {
+    local program=${1##*/} word=${COMP_WORDS[COMP_CWORD]} before=${COMP_WORDS[COMP_CWORD - 1]}
+    local words='' option='' start='' each index
+
+    # behind < and > a file is meant: sound is read from standard input, and written to standard output
+    if [[ $word == *[\<\>] || $before == *[\<\>\|] ]]; then
+        compopt -o default
+        return
+    fi
+
+    if ((COMP_CWORD == 1)); then
+        case $program in
+        af) words='aplay arecord aset apass answer' ;;
+        afd) words='serve script exercise' ;;
+        esac
+        mapfile -t COMPREPLY < <(compgen -W "$words" -- "$word")
+        return
+    fi
+
+    # each option as the program lists it, with what its value may be
+    case "$program ${COMP_WORDS[1]}" in
+    "af aplay")
+        words='--device=0..7 --file=raw|au|wave --type=mu255|alaw|lin16|lin32 --gain=-30..30 --block=1..4000 --lead=0..60000 --time=0..4294967295 --preempt --order=big|little'
+        ;;
+    "af arecord")
+        words='--frames=1..2147483647 --device=0..7 --file=raw|au|wave --type=mu255|alaw|lin16|lin32 --gain=-30..30 --block=1..4000 --time=0..4294967295 --stop-peak=0..32768 --stop-blocks=1..1000000 --order=big|little'
+        ;;
+    "af aset")
+        words='--device=0..7 --input=on|off --input-gain=-30..30 --output=on|off --output-gain=-30..30 --hook=on|off --order=big|little'
+        ;;
+    "af apass")
+        words='--blocks=1..1000000 --from-device=0..7 --to-device=0..7 --type=mu255|alaw|lin16|lin32 --gain=-30..30 --block=1..4000 --delay=0..3000 --slack=0..3000 --order=big|little'
+        ;;
+    "af answer")
+        words='--calls=1..1000 --greeting=COMMAND --message=COMMAND --device=0..7 --rings=1..20'
+        ;;
+    esac
+
+    # the value of an option stands behind =, which is a word of its own unless COMP_WORDBREAKS lacks it, or is the next word
+    if [[ $word == = ]]; then
+        option=$before word=''
+    elif [[ $before == = ]]; then
+        option=${COMP_WORDS[COMP_CWORD - 2]}
+    elif [[ $word == --*=* ]]; then
+        option=${word%%=*} start=${word%%=*}= word=${word#*=}
+    elif [[ $before == --* && " $words" == *" $before="* ]]; then
+        option=$before
+    fi
+    if [[ $option ]]; then
+        for each in $words; do
+            case $each in
+            "$option=COMMAND") mapfile -t COMPREPLY < <(compgen -A command -A file -P "$start" -- "$word") ;;
+            "$option="*"|"*)
+                each=${each#*=}
+                mapfile -t COMPREPLY < <(compgen -W "${each//|/ }" -P "$start" -- "$word")
+                ;;
+            esac
+        done
+        return
+    fi
+
+    # each option is given at most once, and none behind --
+    for ((index = 2; index < ${#COMP_WORDS[@]}; index++)); do
+        ((index == COMP_CWORD)) && continue
+        if [[ ${COMP_WORDS[index]} == -- ]] && ((index < COMP_CWORD)); then
+            return
+        fi
+        for each in $words; do
+            if [[ ${COMP_WORDS[index]%%=*} == "${each%%=*}" ]]; then
+                words=" $words "
+                words=${words/" $each "/ }
+            fi
+        done
+    done
+    for each in $words; do
+        option=${each%%=*}
+        [[ $each == *=* ]] && option+="="
+        [[ $option == "$word"* ]] && COMPREPLY+=("$option")
+    done
+    # the value follows without a blank
+    if [[ ${#COMPREPLY[@]} -eq 1 && ${COMPREPLY[0]} == *= ]]; then
+        compopt -o nospace
+    fi
+}
+
+complete -F _audiofile af afd

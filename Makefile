@@ -45,7 +45,7 @@ BASH_COMPLETIONS = $(DESTDIR)$(PREFIX)/share/bash-completion/completions
 ZSH_COMPLETIONS = $(DESTDIR)$(ZSH)
 PAGES = $(DESTDIR)$(PREFIX)/share/doc/audiofile
 DISSECTORS = $(DESTDIR)$(WIRESHARK)
-EXAMPLES = contrib/afd.conf $(wildcard examples/*.script examples/*.py)
+EXAMPLES = contrib/afd.conf $(wildcard examples/*.script examples/*.py) contrib/python/audiofile.py
 DISSECTOR = $(wildcard contrib/audiofile.lua)
 
 install: ## puts programs, manual pages, units, completions, examples and dissector below PREFIX (/usr/local); after make build
@@ -73,7 +73,8 @@ uninstall: ## takes away what install put there, with the same PREFIX and DESTDI
 	rm -f $(BASH_COMPLETIONS)/af $(BASH_COMPLETIONS)/afd $(ZSH_COMPLETIONS)/_audiofile
 	rm -f $(MANUALS)/man1/af.1 $(MANUALS)/man5/afd-script.5 $(MANUALS)/man7/audiofile-protocol.7 $(MANUALS)/man8/afd.8
 	rm -f $(addprefix $(PAGES)/examples/,$(notdir $(EXAMPLES))) $(addprefix $(DISSECTORS)/,$(notdir $(DISSECTOR)))
-	for folder in $(PAGES)/examples $(PAGES) $(DESTDIR)$(PREFIX)/share/audiofile; do \
+	rm -f $(PAGES)/examples/__pycache__/audiofile.*.pyc
+	for folder in $(PAGES)/examples/__pycache__ $(PAGES)/examples $(PAGES) $(DESTDIR)$(PREFIX)/share/audiofile; do \
 	  [ ! -d $$folder ] || rmdir --ignore-fail-on-non-empty $$folder; done
 
 check-install: ## tries install and uninstall in a temporary folder, and the manual pages: seconds

@@ -45,7 +45,7 @@ BASH_COMPLETIONS = $(DESTDIR)$(PREFIX)/share/bash-completion/completions
 ZSH_COMPLETIONS = $(DESTDIR)$(ZSH)
 PAGES = $(DESTDIR)$(PREFIX)/share/doc/audiofile
 DISSECTORS = $(DESTDIR)$(WIRESHARK)
-EXAMPLES = contrib/afd.conf $(wildcard examples/*.script examples/*.py) contrib/python/audiofile.py
+EXAMPLES = contrib/afd.conf contrib/asoundrc $(wildcard examples/*.script examples/*.py) contrib/python/audiofile.py
 DISSECTOR = $(wildcard contrib/audiofile.lua)
 
 install: ## puts programs, manual pages, units, completions, examples and dissector below PREFIX (/usr/local); after make build

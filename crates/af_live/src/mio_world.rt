@@ -39,11 +39,20 @@ use std::time::{Clock, Duration};
 /// How many milliseconds a wait with nothing to do waits at most, and so the longest that a device may be late.
 const LONGEST_PAUSE_MILLIS: u64 = 10;
 
-/// How many milliseconds a wait of a server that catches up waits at most for what its clients send. Without this a fast server leaves
-/// them behind.
+/// How many milliseconds a server that catches up serves its clients between two steps, and how long a wait of it waits at most for what
+/// they send. Without this a fast server leaves them behind.
 const CATCHING_UP_PAUSE_MILLIS: u64 = 1;
 
 const NANOS_A_MILLISECOND: u64 = 1_000_000;
+
+/// The last step of the readings: what the clock showed then, the reading itself, and whether the clock was ahead of it by a whole step
+/// of a server that catches up, or more.
+#[derive(Clone, Copy, Default)]
+struct Step {
+    shown: u64,
+    reading: u64,
+    is_behind: bool,
+}
 
 /// The real outside of a server. It listens at one address, whose links it numbers from 0, at most 32 at a time; a further one is
 /// accepted and ended at once. Up to 8 devices go on by the clock of the system, a Pace for each.
@@ -58,6 +67,7 @@ pub struct MioWorld<R: Net + Clock + Files + Drop, S: Spawner + Drop> {
     sockets: Option<Sockets>,
     links: HeldLinks,
     devices: Devices<R::File, S>,
+    step: Step,
     link_faults: u64,
     device_faults: u64,
     listen_faults: u64,
@@ -95,6 +105,7 @@ impl<R: Net + Clock + Files + Drop, S: Spawner + Drop> MioWorld<R, S> {
             sockets: None,
             links: HeldLinks::new(),
             devices: Devices::new(alloc, spawner),
+            step: Step::default(),
             link_faults: 0,
             device_faults: 0,
             listen_faults: 0,
@@ -292,6 +303,7 @@ impl<R: Net + Clock + Files + Drop, S: Spawner + Drop> Live for MioWorld<R, S> {
             &mut self.sockets,
             &mut self.links,
             &mut self.devices.round,
+            &mut self.step,
         );
         let waited = answer(next);
         count_waited(waited, &mut self.wait_faults);
@@ -331,22 +343,28 @@ fn whole_millis(shown: Duration) -> Option<u64>
 }
 
 /// The reading of the clock that a round goes by: its own, or one that is taken now. After the server stood still that is behind
-/// what the clock shows, round by round at most 20 milliseconds further.
-fn reading<R: Clock>(rt: &R, round: &Round) -> Option<u64>
+/// what the clock shows, step by step at most 20 milliseconds further. Between two steps rounds go by the same reading for a
+/// millisecond, in which all clients are served.
+fn reading<R: Clock>(rt: &R, round: &Round, step: &mut Step) -> Option<u64>
     ensures { IfSome result (λ nanos. IsReadingBy round.now.reading round.now.last nanos) }
 {
-    match round.reading() {
-        Some(taken) => Some(taken),
-        None => Some(round.reading_after(whole_millis(rt.monotonic().ok()?)?)),
+    if let Some(taken) = round.reading() {
+        return Some(taken);
     }
-}
-
-/// Whether the clock is ahead of this reading by a whole step of a server that catches up, or more.
-fn is_behind<R: Clock>(rt: &R, nanos: u64) -> bool {
-    match rt.monotonic() {
-        Ok(shown) => shown.as_nanos() >= u128::from(nanos) + u128::from(LONGEST_STEP_NANOS),
-        Err(_) => false,
+    let shown = rt.monotonic().ok()?;
+    let next = round.reading_after(whole_millis(shown)?);
+    let shown = u64::try_from(shown.as_nanos()).ok()?;
+    let is_behind = shown.saturating_sub(next) >= LONGEST_STEP_NANOS;
+    let pause = CATCHING_UP_PAUSE_MILLIS * NANOS_A_MILLISECOND;
+    if is_behind && shown.saturating_sub(step.shown) < pause {
+        return Some(round.reading_after(whole_millis(Duration::from_nanos(step.reading))?));
     }
+    *step = Step {
+        shown,
+        reading: next,
+        is_behind,
+    };
+    Some(next)
 }
 
 /// What a poll finds first, at this reading of the clock. A new round over the devices begins behind it.
@@ -380,6 +398,7 @@ fn next_wake<R: Clock>(
     sockets: &mut Option<Sockets>,
     links: &mut HeldLinks,
     round: &mut Round,
+    step: &mut Step,
 ) -> Option<Wake>
     ensures listens { is_some sockets.new ≡ is_some sockets.old }
     ensures unlistened { is_some sockets.old ≡ false → result ≡ None }
@@ -396,12 +415,11 @@ fn next_wake<R: Clock>(
     if let Some(wake) = links.take_ready() {
         return Some(wake);
     }
-    let nanos = reading(rt, round)?;
+    let nanos = reading(rt, round, step)?;
     if let Some((device, frames)) = round.next_tick(nanos) {
         return Some(Wake::Ticked(device, frames));
     }
-    let ticked = round.has_ticked();
-    let pause = pause(more, ticked, ticked && is_behind(rt, nanos));
+    let pause = pause(more, round.has_ticked(), step.is_behind);
     poll_once(sockets, pause, nanos, links, round)
 }
 

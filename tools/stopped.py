@@ -1,4 +1,4 @@
-"""A server that stands still for ten seconds beside tools that play and record, which lose no sample; and one that has no place left."""
+"""A server that stands still for twenty seconds beside tools that play and record, which lose no sample; and one that has no place left."""
 
 import os
 import random
@@ -10,7 +10,7 @@ from serving import WORD, Server, set_up
 from sounds import LEAD, heard_as
 
 # of the stop, and of what is played and recorded
-STOPPED, LASTS = 10, 14
+STOPPED, LASTS = 20, 24
 # when the recordings begin, by the time of their devices
 BEGUN = 1
 

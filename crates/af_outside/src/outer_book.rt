@@ -2,12 +2,12 @@
 ghost use Rattle.std.specs.Prelude.{◌≡◌, ◌≤◌, ◌∷◌, ◌++◌, [], IfOk};
 ghost use Rattle.std.specs.declared.option.Option.TheVariants.{None, Some};
 ghost use Rattle.af_world.specs.declared.outer.Outer.TheVariants.{Listened, Attached, Waited};
-ghost use Rattle.af_world.specs.Kinds.{backing_of};
+ghost use Rattle.af_world.specs.Kinds.{told_kind};
 ghost use Rattle.af_io.specs.Observed.{counted, faults_after};
 ghost use Rattle.af_outside.specs.OuterState.{EntryNoted, is_stated, outer_start};
 
 use crate::logbook::Logbook;
-use crate::{Backing, Bytes, DeviceSpec, Kind, Outer, OuterFaults, Wake};
+use crate::{Bytes, DeviceSpec, Kind, Outer, OuterFaults, ToldKind, Wake};
 use af_child::CommandLine;
 use af_io::faults_after;
 use af_time::OutOfMemory;
@@ -117,21 +117,30 @@ pub(crate) fn listen_of(alloc: Global, address: &str) -> Result<Outer, OutOfMemo
 }
 
 // What a kind names, kept.
-fn backing_kept(alloc: Global, kind: Kind<'_>) -> Result<Backing, OutOfMemory>
-    ensures { IfOk result (λ backing. backing ≡ backing_of kind.entry) }
+fn kept_kind(alloc: Global, kind: Kind<'_>) -> Result<ToldKind, OutOfMemory>
+    ensures { IfOk result (λ told. told ≡ told_kind kind.entry) }
 {
-    let backing = match kind {
-        Kind::Silent => Backing::Silence,
-        Kind::Files { input, output } => Backing::TwoFiles {
+    let told = match kind {
+        Kind::Silent => ToldKind::Silent,
+        Kind::Files { input, output } => ToldKind::Files {
             input: Bytes::copied(alloc, input.as_bytes())?,
             output: Bytes::copied(alloc, output.as_bytes())?,
         },
-        Kind::Codec { restarts, words } => Backing::ChildProgram {
+        Kind::Codec { restarts, words } => ToldKind::Codec {
+            restarts,
+            words: CommandLine::of(words),
+        },
+        Kind::Card {
+            card,
+            restarts,
+            words,
+        } => ToldKind::Card {
+            card,
             restarts,
             words: CommandLine::of(words),
         },
     };
-    Ok(backing)
+    Ok(told)
 }
 
 // The entry of an attach.
@@ -141,12 +150,12 @@ pub(crate) fn attach_of(
     spec: &DeviceSpec,
     kind: Kind<'_>,
 ) -> Result<Outer, OutOfMemory>
-    ensures { IfOk result (λ entry. entry ≡ Attached device spec.now (backing_of kind.entry)) }
+    ensures { IfOk result (λ entry. entry ≡ Attached device spec.now (told_kind kind.entry)) }
 {
     Ok(Outer::Attached {
         device,
         spec: *spec,
-        backing: backing_kept(alloc, kind)?,
+        kind: kept_kind(alloc, kind)?,
     })
 }
 

@@ -7,7 +7,7 @@ ghost use Rattle.af_world.specs.declared.script.Step.{Step};
 ghost use Rattle.af_io.specs.Observed.{counted, faults_after, Appended, FaultCounted, Unchanged};
 ghost use Rattle.af_world.specs.World.{got_of, took_of, captured_of, is_done, LinkGotFits, TookFits};
 ghost use Rattle.af_world.specs.Outside.{answered_as_stated, stepped, wake_of, ScriptedDevice};
-ghost use Rattle.af_world.specs.Kinds.{backing_of};
+ghost use Rattle.af_world.specs.Kinds.{told_kind};
 ghost use Rattle.af_world.specs.Outer.{attached, listened, waited};
 ghost use Rattle.af_outside.specs.TapeState.{made, TakesStep, TapeLeadsTo, left_after, outer_told, NoCountFalls, wait_answer, wait_fails, waited_outside};
 ghost use Rattle.af_outside.specs.OuterState.{is_stated, was_refused};
@@ -47,7 +47,7 @@ pub struct Tape {
 impl Model for Tape {
     ghost use Rattle.std.specs.Prelude.{◌≡◌, ◌≤◌, length, drop};
     ghost use Rattle.af_outside.specs.TapeState.{TapeState};
-    ghost use Rattle.af_world.specs.Kinds.{backing_of};
+    ghost use Rattle.af_world.specs.Kinds.{told_kind};
     ghost use Rattle.af_io.specs.Observed.{counted};
     ghost use Rattle.af_world.specs.Outer.{attached, listened, waited};
     ghost use Rattle.af_outside.specs.OuterState.{is_stated, was_refused};
@@ -403,7 +403,7 @@ impl Live for Tape {
 
     fn attach(&mut self, alloc: Global, device: u8, spec: &DeviceSpec, kind: Kind<'_>) -> Ready
         ensures log { Unchanged self.old.log self.new.log }
-        ensures outer { Appended (outer_told self.old) (attached result device spec.now (backing_of kind.entry)) (outer_told self.new) }
+        ensures outer { Appended (outer_told self.old) (attached result device spec.now (told_kind kind.entry)) (outer_told self.new) }
         ensures cause { result ≡ Ready.Failed → FaultCounted self.old.device_faults self.new.device_faults }
         ensures counts { NoCountFalls self.old self.new }
         ensures answer { (result ≡ Ready.Done) ↔ ((slice_get self.old.config device ≡ Some spec.now) × (is_stated self.old.outer.faults.attach device ≡ false)) }

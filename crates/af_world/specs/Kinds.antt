@@ -1,24 +1,34 @@
 -- What stands behind a device.
 use Rattle.std.specs.Prelude.{ℕ, List}
 use Rattle.af_child.specs.Acts.{words_of}
+use Rattle.af_world.specs.declared.card_kind.CardKind.{CardKind}
 use Rattle.af_world.specs.declared.live.Kind.{Kind}
 use Rattle.af_world.specs.declared.live.Kind.TheVariants as kind
-use Rattle.af_world.specs.declared.outer.Backing.{Backing}
-use Rattle.af_world.specs.declared.outer.Backing.TheVariants as backing
+use Rattle.af_world.specs.declared.outer.ToldKind.{ToldKind}
+use Rattle.af_world.specs.declared.outer.ToldKind.TheVariants as told
 
 -- silence, or the names of the two files that the device captures from and hands its sound out to
-abbrev pub silence : Backing
-silence = backing.Silence
+abbrev pub silence : ToldKind
+silence = told.Silent
 
-abbrev pub two_files : List ℕ → List ℕ → Backing
-two_files input output = backing.TwoFiles input output
+abbrev pub two_files : List ℕ → List ℕ → ToldKind
+two_files input output = told.Files input output
 
 -- a child program of these words, which is started anew so often; it is given the sound that the device hands out
-abbrev pub child_program : ℕ → List (List ℕ) → Backing
-child_program restarts words = backing.ChildProgram restarts words
+abbrev pub child_program : ℕ → List (List ℕ) → ToldKind
+child_program restarts words = told.Codec restarts words
+
+-- a program of these words whose time is that of the device, and which is started anew so often
+abbrev pub card_program : CardKind → ℕ → List (List ℕ) → ToldKind
+card_program card restarts words = told.Card card restarts words
+
+-- how often that is, at most
+abbrev pub most_card_restarts : ℕ
+most_card_restarts = 1000000
 
 -- what a kind says of the device
-abbrev pub backing_of : Kind → Backing
-backing_of kind.Silent = silence
-backing_of (kind.Files input output) = two_files input.now output.now
-backing_of (kind.Codec restarts words) = child_program restarts (words_of words.now)
+abbrev pub told_kind : Kind → ToldKind
+told_kind kind.Silent = silence
+told_kind (kind.Files input output) = two_files input.now output.now
+told_kind (kind.Codec restarts words) = child_program restarts (words_of words.now)
+told_kind (kind.Card card restarts words) = card_program card restarts (words_of words.now)

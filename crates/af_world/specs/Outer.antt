@@ -4,7 +4,7 @@ use Rattle.af_world.specs.declared.live.Ready.{Ready}
 use Rattle.af_world.specs.declared.live.Ready.TheVariants as ready
 use Rattle.af_world.specs.declared.live.Waited.{Waited}
 use Rattle.af_world.specs.declared.live.Waited.TheVariants as answer
-use Rattle.af_world.specs.declared.outer.Backing.{Backing}
+use Rattle.af_world.specs.declared.outer.ToldKind.{ToldKind}
 use Rattle.af_world.specs.declared.outer.Outer.{Outer}
 use Rattle.af_world.specs.declared.outer.Outer.TheVariants as outer
 use Rattle.af_world.specs.declared.script.DeviceSpec.{DeviceSpec}
@@ -16,10 +16,10 @@ listened ready.Failed address = []
 listened ready.OutOfMemory address = []
 
 -- the entry of an attach
-abbrev pub attached : Ready → ℕ → DeviceSpec → Backing → List Outer
-attached ready.Done device spec backing = outer.Attached device spec backing ∷ []
-attached ready.Failed device spec backing = []
-attached ready.OutOfMemory device spec backing = []
+abbrev pub attached : Ready → ℕ → DeviceSpec → ToldKind → List Outer
+attached ready.Done device spec kind = outer.Attached device spec kind ∷ []
+attached ready.Failed device spec kind = []
+attached ready.OutOfMemory device spec kind = []
 
 -- the entry of a wait
 abbrev pub waited : Bool → Waited → List Outer

@@ -2,6 +2,7 @@
 //! outside that a script states answers.
 #![tactic(auto)]
 
+mod card_kind;
 mod happening;
 pub mod laws;
 mod live;
@@ -11,9 +12,10 @@ mod silence;
 mod world;
 
 pub use af_io::{Bytes, Put};
+pub use card_kind::{CardKind, MOST_CARD_RESTARTS};
 pub use happening::{Happening, ReadGot, Wake, Why};
 pub use live::{Kind, Live, Ready, Waited};
-pub use outer::{Backing, Outer};
+pub use outer::{Outer, ToldKind};
 pub use script::{Config, DeviceSpec, Step};
 pub use silence::silent_byte;
 pub use world::{LinkGot, LinkTook, World};

@@ -3,10 +3,10 @@ ghost use Rattle.std.specs.Prelude.{◌≡◌, ◌≤◌, ℕ, List, [], IsSome}
 ghost use Rattle.std.specs.declared.option.Option.{Option};
 ghost use Rattle.af_world.specs.declared.outer.Outer.{Outer};
 ghost use Rattle.af_io.specs.Observed.{Appended, FaultCounted, Unchanged};
-ghost use Rattle.af_world.specs.Kinds.{backing_of};
+ghost use Rattle.af_world.specs.Kinds.{told_kind};
 ghost use Rattle.af_world.specs.Outer.{listened, attached, waited};
 
-use crate::{DeviceSpec, Wake, World};
+use crate::{CardKind, DeviceSpec, Wake, World};
 use af_child::Words;
 use std::alloc::Global;
 
@@ -16,9 +16,22 @@ pub enum Kind<'a> {
     /// It captures silence, and what it hands out is gone.
     Silent,
     /// It captures what the file `input` has, and adds what it hands out to the file `output`.
-    Files { input: &'a str, output: &'a str },
+    Files {
+        input: &'a str,
+        output: &'a str,
+    },
     /// It captures silence, and gives what it hands out to a child program: one of these words, which is started anew so often.
-    Codec { restarts: u32, words: &'a Words },
+    Codec {
+        restarts: u32,
+        words: &'a Words,
+    },
+    /// Its time is that of a program, one of these words, which is started anew so often. The program gives what it captures, is given
+    /// what it hands out, or both.
+    Card {
+        card: CardKind,
+        restarts: u32,
+        words: &'a Words,
+    },
 }
 
 /// What a listen or an attach did.
@@ -61,7 +74,7 @@ pub trait Live: World {
     /// Puts what stands behind a device there.
     fn attach(&mut self, alloc: Global, device: u8, spec: &DeviceSpec, kind: Kind<'_>) -> Ready
         ensures log { Unchanged (Self.World.log self.old) (Self.World.log self.new) }
-        ensures outer { Appended (outer self.old) (attached result device spec.now (backing_of kind.entry)) (outer self.new) }
+        ensures outer { Appended (outer self.old) (attached result device spec.now (told_kind kind.entry)) (outer self.new) }
         ensures cause { result ≡ Ready.Failed → FaultCounted (Self.World.device_faults self.old) (Self.World.device_faults self.new) }
         ensures link_count { Self.World.link_faults self.old ≤ Self.World.link_faults self.new }
         ensures device_count { Self.World.device_faults self.old ≤ Self.World.device_faults self.new }

@@ -1,13 +1,24 @@
 // What the outside of a server does before and between its turns.
-use crate::{Bytes, DeviceSpec, Wake};
+use crate::{Bytes, CardKind, DeviceSpec, Wake};
 use af_child::CommandLine;
 
 /// What stands behind a device, with the names and words that it was stated by.
 #[derive(Drop)]
-pub enum Backing {
-    Silence,
-    TwoFiles { input: Bytes, output: Bytes },
-    ChildProgram { restarts: u32, words: CommandLine },
+pub enum ToldKind {
+    Silent,
+    Files {
+        input: Bytes,
+        output: Bytes,
+    },
+    Codec {
+        restarts: u32,
+        words: CommandLine,
+    },
+    Card {
+        card: CardKind,
+        restarts: u32,
+        words: CommandLine,
+    },
 }
 
 /// A listen, an attach or a wait that was done.
@@ -19,7 +30,7 @@ pub enum Outer {
     Attached {
         device: u8,
         spec: DeviceSpec,
-        backing: Backing,
+        kind: ToldKind,
     },
     /// A wait, asked with whether there was more to do, gave a wake.
     Waited {

@@ -7,7 +7,7 @@ use Rattle.std.specs.declared.option.Option.TheVariants.{Some}
 use Rattle.af_world.specs.declared.outer.Outer.{Outer}
 use Rattle.af_world.specs.declared.outer.Outer.TheVariants as noted
 use Rattle.af_world.specs.declared.script.DeviceSpec.{DeviceSpec}
-use Rattle.af_world.specs.declared.outer.Backing.{Backing}
+use Rattle.af_world.specs.declared.outer.ToldKind.{ToldKind}
 use Rattle.af_io.specs.Observed.{Appended}
 use Rattle.af_io.proofs.AppendedLemmas.{appended_on}
 use Rattle.af_config.specs.Stating.{Settings}
@@ -25,7 +25,7 @@ take_next (y ∷ xs) (suc n) x e = ap (λ l. y ∷ l) (take_next xs n x e)
 pub stated_at : {A : Type 0} (xs ys : List A) (n : ℕ) (d : A) → ys ≡ xs → n < length ys → slice_get xs n ≡ Some (get_or ys n d)
 stated_at xs ys n d e lt = subst (λ l. slice_get l n ≡ Some (get_or ys n d)) e (slice_get-get_or ys n d lt)
 
-attached_at : (d n : ℕ) (config : List DeviceSpec) (kinds : List Backing) (spec : DeviceSpec) (kind : Backing) → slice_get config n ≡ Some spec → slice_get kinds n ≡ Some kind →
+attached_at : (d n : ℕ) (config : List DeviceSpec) (kinds : List ToldKind) (spec : DeviceSpec) (kind : ToldKind) → slice_get config n ≡ Some spec → slice_get kinds n ≡ Some kind →
     slice_get (attached_from d config kinds) n ≡ Some (noted.Attached (d + n) spec kind)
 attached_at d n [] kinds spec kind e k = absurd cc
 attached_at d n (c ∷ config) [] spec kind e k = absurd cc
@@ -35,14 +35,14 @@ attached_at d zero (c ∷ config) (b ∷ kinds) spec kind e k =
 attached_at d (suc n) (c ∷ config) (b ∷ kinds) spec kind e k =
     let one_more : suc d + n ≡ d + suc n = omega arith in attached_at (suc d) n config kinds spec kind e k ∙ ap (λ x. Some (noted.Attached x spec kind)) one_more
 
-attached_fewer : (d : ℕ) (config : List DeviceSpec) (kinds : List Backing) → length (attached_from d config kinds) ≤ length config
+attached_fewer : (d : ℕ) (config : List DeviceSpec) (kinds : List ToldKind) → length (attached_from d config kinds) ≤ length config
 attached_fewer d [] kinds = omega arith
 attached_fewer d (c ∷ config) [] = omega arith
 attached_fewer d (c ∷ config) (b ∷ kinds) = let fewer = attached_fewer (suc d) config kinds in omega arith
 
 module _ (settings : Settings) (outer outer1 : Option (List Outer)) (n : ℕ) (below : Appended outer (take n (all_attached settings)) outer1) where
   -- one device more
-  pub attached_more : (spec : DeviceSpec) (kind : Backing) (outer2 : Option (List Outer)) → slice_get settings.config n ≡ Some spec → slice_get settings.kinds n ≡ Some kind →
+  pub attached_more : (spec : DeviceSpec) (kind : ToldKind) (outer2 : Option (List Outer)) → slice_get settings.config n ≡ Some spec → slice_get settings.kinds n ≡ Some kind →
       Appended outer1 (noted.Attached n spec kind ∷ []) outer2 → Appended outer (take (n + 1) (all_attached settings)) outer2
   attached_more spec kind outer2 at behind entry =
       let from_none : 0 + n ≡ n = omega arith in

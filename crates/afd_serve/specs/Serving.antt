@@ -7,7 +7,7 @@ use Rattle.af_world.specs.declared.happening.Wake.TheVariants as wake
 use Rattle.af_world.specs.declared.outer.Outer.{Outer}
 use Rattle.af_world.specs.declared.outer.Outer.TheVariants as noted
 use Rattle.af_world.specs.declared.script.DeviceSpec.{DeviceSpec}
-use Rattle.af_world.specs.declared.outer.Backing.{Backing}
+use Rattle.af_world.specs.declared.outer.ToldKind.{ToldKind}
 use Rattle.af_io.specs.Observed.{Appended}
 use Rattle.af_world.specs.Log.{Log}
 use Rattle.af_config.specs.Stating.{Settings}
@@ -50,7 +50,7 @@ Serves s [] log end = (log ≡ []) × (end ≡ s)
 Serves s (wait ∷ waits) log end = (turn : HasTurn s wait log) × Serves turn.next waits turn.rest end
 
 -- the entries of devices that are attached by rising number, the first of which is this
-abbrev pub attached_from : ℕ → List DeviceSpec → List Backing → List Outer
+abbrev pub attached_from : ℕ → List DeviceSpec → List ToldKind → List Outer
 attached_from d [] kinds = []
 attached_from d (spec ∷ config) [] = []
 attached_from d (spec ∷ config) (kind ∷ kinds) = noted.Attached d spec kind ∷ attached_from (suc d) config kinds

@@ -6,7 +6,7 @@ use Rattle.af_text.specs.Lines.{lines, words, is_passed_over, with_first}
 use Rattle.af_text.specs.Reading.{Entry, entries_of}
 use Rattle.af_config.specs.declared.fault.ConfigFault.{ConfigFault}
 use Rattle.af_config.specs.declared.fault.ConfigFault.TheVariants as fault
-use Rattle.af_config.specs.Stating.{Settings, Configured, configured_of, is_program}
+use Rattle.af_config.specs.Stating.{Settings, Configured, configured_of, is_codec}
 
 -- a line is passed over only where it is text
 abbrev pub is_idle : List ℕ → Bool
@@ -20,19 +20,19 @@ config_entries n ls = entries_of is_idle (λ line. line) n ls
 abbrev pub placed_of : List ℕ → Option Configured
 placed_of line = if is_utf8 line then configured_of (words line) else None
 
--- whether it has a child program behind it
-abbrev pub states_program : List ℕ → Bool
-states_program line = unwrap_or (option_map (λ device. is_program device.kind) (placed_of line)) false
+-- whether that device has a codec
+abbrev pub states_codec : List ℕ → Bool
+states_codec line = unwrap_or (option_map (λ device. is_codec device.kind) (placed_of line)) false
 
--- the same, where a device before it may have one: no second one may
+-- the device that a line states, where a device before it may have a codec: no second one may
 abbrev pub placed_behind : Bool → List ℕ → Option Configured
-placed_behind has line = if has && states_program line then None else placed_of line
+placed_behind has line = if has && states_codec line then None else placed_of line
 
--- the devices of these lines, of which there may be so many, and of which one may have a child program if none before them has
+-- the devices of these lines, of which there may be so many, and of which one may have a codec if none before them has
 abbrev pub placed_within : ℕ → Bool → List (Entry (List ℕ)) → Result (List Configured) ℕ
 placed_within most has [] = Ok []
 placed_within zero has (e ∷ es) = Err e.number
-placed_within (suc most) has (e ∷ es) = with_first e.number (placed_behind has e.said) (placed_within most (has || states_program e.said) es)
+placed_within (suc most) has (e ∷ es) = with_first e.number (placed_behind has e.said) (placed_within most (has || states_codec e.said) es)
 
 -- the devices on their own, and what stands behind them
 abbrev pub settings_of : Result (List Configured) ℕ → Result Settings ℕ

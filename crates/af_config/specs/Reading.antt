@@ -4,7 +4,7 @@ use Rattle.af_limits.specs.Limits.{most_devices}
 use Rattle.af_sample.specs.Channels.{IsChannelCount}
 use Rattle.af_sample.specs.Rates.{IsListedRate}
 use Rattle.af_text.specs.Lines.{is_nil}
-use Rattle.af_config.specs.Stating.{Settings, Configured, has_program}
+use Rattle.af_config.specs.Stating.{Settings, Configured, has_codec}
 use Rattle.af_config.specs.Configuration.{is_idle, placed_behind}
 
 -- the configuration so far with one more device
@@ -15,7 +15,7 @@ with_configured s device = record { config = s.config ++ device.spec ∷ []; kin
 abbrev pub with_config_line : Settings → List ℕ → Option Settings
 with_config_line s line =
     if is_idle line then Some s
-    else if nat_lt (length s.config) most_devices then option_map (with_configured s) (placed_behind (has_program s.kinds) line)
+    else if nat_lt (length s.config) most_devices then option_map (with_configured s) (placed_behind (has_codec s.kinds) line)
     else None
 
 -- a configuration has at least one device

@@ -3,43 +3,46 @@ use Rattle.std.specs.Prelude.{ℕ, ◌-◌, ◌^◌, Bool, true, false, nat_le, 
 use Rattle.af_sample.specs.declared.sample_type.SampleType.{SampleType}
 use Rattle.af_text.specs.Words.{number_within, only_if}
 use Rattle.af_text.specs.Sound.{type_of, rate_of, channels_stated, behind_channels}
+use Rattle.af_world.specs.declared.card_kind.CardKind.{CardKind}
+use Rattle.af_world.specs.declared.card_kind.CardKind.TheVariants as card_kind
 use Rattle.af_world.specs.declared.script.DeviceSpec.{DeviceSpec}
-use Rattle.af_world.specs.declared.outer.Backing.{Backing}
-use Rattle.af_world.specs.declared.outer.Backing.TheVariants as backed
-use Rattle.af_world.specs.Kinds.{silence, two_files, child_program}
+use Rattle.af_world.specs.declared.outer.ToldKind.{ToldKind}
+use Rattle.af_world.specs.declared.outer.ToldKind.TheVariants as told
+use Rattle.af_world.specs.Kinds.{silence, two_files, child_program, card_program, most_card_restarts}
 
 -- the devices of a server, and what stands behind each, in the same order
 pub record Settings : Type 0 where
   pub config : List DeviceSpec
-  pub kinds : List Backing
+  pub kinds : List ToldKind
 
 -- a device, and what stands behind it
 pub record Configured : Type 0 where
   pub spec : DeviceSpec
-  pub kind : Backing
+  pub kind : ToldKind
 
 -- how a device line ends: whether it states a telephone line, and what stands behind the device
 pub record EndingState : Type 0 where
   pub line : Bool
-  pub kind : Backing
+  pub kind : ToldKind
 
--- whether a child program stands behind a device
-abbrev pub is_program : Backing → Bool
-is_program backed.Silence = false
-is_program (backed.TwoFiles input output) = false
-is_program (backed.ChildProgram restarts words) = true
+-- whether a device has the codec
+abbrev pub is_codec : ToldKind → Bool
+is_codec told.Silent = false
+is_codec (told.Files input output) = false
+is_codec (told.Codec restarts words) = true
+is_codec (told.Card kind restarts words) = false
 
--- whether one stands behind any of these
-abbrev pub has_program : List Backing → Bool
-has_program kinds = fold (λ has kind. has || is_program kind) false kinds
+-- whether one of these has it
+abbrev pub has_codec : List ToldKind → Bool
+has_codec kinds = fold (λ has kind. has || is_codec kind) false kinds
 
 -- no word comes behind `silent`
-abbrev pub silent_of : List (List ℕ) → Option Backing
+abbrev pub silent_of : List (List ℕ) → Option ToldKind
 silent_of [] = Some silence
 silent_of (name ∷ names) = None
 
 -- the names of two files come behind `files`
-abbrev pub files_of : List (List ℕ) → Option Backing
+abbrev pub files_of : List (List ℕ) → Option ToldKind
 files_of (input ∷ output ∷ []) = Some (two_files input output)
 files_of _ = None
 
@@ -52,30 +55,38 @@ are_short (word ∷ words) = nat_le (length word) 64 && are_short words
 abbrev pub is_command_line : List (List ℕ) → Bool
 is_command_line words = nat_le 1 (length words) && nat_le (length words) 8 && are_short words
 
--- how often a child program is started anew, and its command line, come behind `codec`
-abbrev pub codec_of : List (List ℕ) → Option Backing
+-- how often its program is started anew, and the command line of that, come behind `codec`
+abbrev pub codec_of : List (List ℕ) → Option ToldKind
 codec_of [] = None
 codec_of (restarts ∷ words) = option_and_then (λ n. option_map (child_program n) (only_if is_command_line words)) (number_within 0 100 restarts)
 
--- `silent`, `files INPUT OUTPUT`, or `codec RESTARTS WORD ..`
-abbrev pub backing_stated : List (List ℕ) → Option Backing
-backing_stated [] = None
-backing_stated (word ∷ names) =
+-- the same come behind `speaker`, `microphone` or `card`
+abbrev pub card_of : CardKind → List (List ℕ) → Option ToldKind
+card_of kind [] = None
+card_of kind (restarts ∷ words) = option_and_then (λ n. option_map (card_program kind n) (only_if is_command_line words)) (number_within 0 most_card_restarts restarts)
+
+-- `silent`, `files INPUT OUTPUT`, or one of `codec`, `speaker`, `microphone` and `card` with `RESTARTS WORD ..`
+abbrev pub kind_of : List (List ℕ) → Option ToldKind
+kind_of [] = None
+kind_of (word ∷ names) =
     if bytes_eq word (codes "silent") then silent_of names
     else if bytes_eq word (codes "files") then files_of names
     else if bytes_eq word (codes "codec") then codec_of names
+    else if bytes_eq word (codes "speaker") then card_of card_kind.Speaker names
+    else if bytes_eq word (codes "microphone") then card_of card_kind.Microphone names
+    else if bytes_eq word (codes "card") then card_of card_kind.Card names
     else None
 
 -- with a telephone line, or with none
-abbrev pub ending_with : Bool → Backing → EndingState
+abbrev pub ending_with : Bool → ToldKind → EndingState
 ending_with line kind = record { line = line; kind = kind }
 
 -- `KIND`, or `line KIND`
 abbrev pub ending_of : List (List ℕ) → Option EndingState
 ending_of [] = None
 ending_of (word ∷ rest) =
-    if bytes_eq word (codes "line") then option_map (ending_with true) (backing_stated rest)
-    else option_map (ending_with false) (backing_stated (word ∷ rest))
+    if bytes_eq word (codes "line") then option_map (ending_with true) (kind_of rest)
+    else option_map (ending_with false) (kind_of (word ∷ rest))
 
 -- a device of this type and rate, whose time begins here, of so many channels
 abbrev pub configured_at : SampleType → ℕ → ℕ → ℕ → DeviceSpec

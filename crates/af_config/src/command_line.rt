@@ -1,4 +1,4 @@
-// The command line of a child program, as a line of a configuration states it.
+// The command line of a program, as a line of a configuration states it.
 ghost use Rattle.std.specs.Prelude.{◌≡◌, ◌≤◌, length, map};
 ghost use Rattle.std.specs.Str.{IsUtf8};
 ghost use Rattle.af_child.specs.Acts.{words_of};
@@ -11,7 +11,7 @@ use af_text::next_word;
 use arrayvec::ArrayString;
 use std::str;
 
-/// How often a child program may be started anew.
+/// How often the program of a codec may be started anew.
 pub const MOST_RESTARTS: u32 = 100;
 
 /// How many words there may be.

@@ -4,8 +4,8 @@ ghost use Rattle.std.specs.Str.{IsUtf8, is_utf8};
 ghost use Rattle.af_sample.specs.Channels.{IsChannelCount};
 ghost use Rattle.af_sample.specs.Rates.{IsListedRate};
 ghost use Rattle.af_text.specs.Lines.{words};
-ghost use Rattle.af_config.specs.Stating.{configured_of, configured_with, placed_at, ending_of, backing_stated, silent_of, files_of, codec_of, is_program};
-ghost use Rattle.af_config.specs.Kept.{placed, backing, stated_ending};
+ghost use Rattle.af_config.specs.Stating.{configured_of, configured_with, placed_at, ending_of, kind_of, silent_of, files_of, codec_of, card_of, is_codec};
+ghost use Rattle.af_config.specs.Kept.{placed, owned_told, stated_ending};
 
 use crate::command_line::{MOST_RESTARTS, command_line_stated};
 use af_child::CommandLine;
@@ -13,7 +13,7 @@ use af_text::{
     channel_count, is_word, listed_rate, next_word, number_between, sample_type, two_words,
 };
 use af_time::OutOfMemory;
-use af_world::DeviceSpec;
+use af_world::{CardKind, DeviceSpec, MOST_CARD_RESTARTS};
 use std::alloc::Global;
 use std::str;
 
@@ -21,14 +21,25 @@ use std::str;
 #[derive(Drop)]
 pub enum OwnedKind {
     Silent,
-    Files { input: String, output: String },
-    Codec { restarts: u32, words: CommandLine },
+    Files {
+        input: String,
+        output: String,
+    },
+    Codec {
+        restarts: u32,
+        words: CommandLine,
+    },
+    Card {
+        card: CardKind,
+        restarts: u32,
+        words: CommandLine,
+    },
 }
 
 impl OwnedKind {
-    /// Whether a child program stands behind the device.
+    /// Whether the device has the codec.
     pub fn is_codec(&self) -> bool
-        ensures { result ≡ is_program (backing self.now) }
+        ensures { result ≡ is_codec (owned_told self.now) }
     {
         matches!(self, OwnedKind::Codec { .. })
     }
@@ -110,10 +121,10 @@ fn ending_stated(alloc: Global, arguments: &[u8]) -> Result<Option<Ending>, OutO
     }
 }
 
-/// `silent`, `files INPUT OUTPUT`, or `codec RESTARTS WORD ..`
+/// `silent`, `files INPUT OUTPUT`, or one of `codec`, `speaker`, `microphone` and `card` with `RESTARTS WORD ..`
 fn kind_stated(alloc: Global, arguments: &[u8]) -> Result<Option<OwnedKind>, OutOfMemory>
     requires { IsUtf8 arguments.now }
-    ensures { IfOk result (λ kind. option_map backing kind ≡ backing_stated (words arguments.now)) }
+    ensures { IfOk result (λ kind. option_map owned_told kind ≡ kind_of (words arguments.now)) }
 {
     let Some((word, names)) = next_word(arguments) else {
         return Ok(None);
@@ -124,6 +135,12 @@ fn kind_stated(alloc: Global, arguments: &[u8]) -> Result<Option<OwnedKind>, Out
         files_stated(alloc, names)
     } else if is_word(word, b"codec") {
         Ok(codec_stated(names))
+    } else if is_word(word, b"speaker") {
+        Ok(card_stated(CardKind::Speaker, names))
+    } else if is_word(word, b"microphone") {
+        Ok(card_stated(CardKind::Microphone, names))
+    } else if is_word(word, b"card") {
+        Ok(card_stated(CardKind::Card, names))
     } else {
         Ok(None)
     }
@@ -131,7 +148,7 @@ fn kind_stated(alloc: Global, arguments: &[u8]) -> Result<Option<OwnedKind>, Out
 
 /// No words, behind `silent`.
 fn silent_stated(names: &[u8]) -> Option<OwnedKind>
-    ensures { option_map backing result ≡ silent_of (words names.now) }
+    ensures { option_map owned_told result ≡ silent_of (words names.now) }
 {
     match next_word(names) {
         None => Some(OwnedKind::Silent),
@@ -142,7 +159,7 @@ fn silent_stated(names: &[u8]) -> Option<OwnedKind>
 /// `INPUT OUTPUT`, behind `files`.
 fn files_stated(alloc: Global, names: &[u8]) -> Result<Option<OwnedKind>, OutOfMemory>
     requires { IsUtf8 names.now }
-    ensures { IfOk result (λ kind. option_map backing kind ≡ files_of (words names.now)) }
+    ensures { IfOk result (λ kind. option_map owned_told kind ≡ files_of (words names.now)) }
 {
     match two_words(names) {
         Some((input, output)) => Ok(Some(OwnedKind::Files {
@@ -156,12 +173,27 @@ fn files_stated(alloc: Global, names: &[u8]) -> Result<Option<OwnedKind>, OutOfM
 /// `RESTARTS WORD ..`, behind `codec`.
 fn codec_stated(names: &[u8]) -> Option<OwnedKind>
     requires { IsUtf8 names.now }
-    ensures { option_map backing result ≡ codec_of (words names.now) }
+    ensures { option_map owned_told result ≡ codec_of (words names.now) }
 {
     let (restarts, rest) = next_word(names)?;
     let restarts = number_between(0, MOST_RESTARTS, restarts)?;
     let words = command_line_stated(rest)?;
     Some(OwnedKind::Codec { restarts, words })
+}
+
+/// `RESTARTS WORD ..`, behind `speaker`, `microphone` or `card`.
+fn card_stated(card: CardKind, names: &[u8]) -> Option<OwnedKind>
+    requires { IsUtf8 names.now }
+    ensures { option_map owned_told result ≡ card_of card (words names.now) }
+{
+    let (restarts, rest) = next_word(names)?;
+    let restarts = number_between(0, MOST_CARD_RESTARTS, restarts)?;
+    let words = command_line_stated(rest)?;
+    Some(OwnedKind::Card {
+        card,
+        restarts,
+        words,
+    })
 }
 
 /// A copy of a name.

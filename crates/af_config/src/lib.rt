@@ -7,6 +7,7 @@ mod fault;
 mod read;
 mod setting;
 
+pub use af_world::MOST_CARD_RESTARTS;
 pub use command_line::{MOST_RESTARTS, is_command_line};
 pub use fault::ConfigFault;
 pub use read::read_config;

@@ -1,8 +1,8 @@
 // What a server is started with: its devices, and what stands behind each.
 ghost use Rattle.std.specs.Prelude.{◌≡◌, ◌<◌, [], length, slice_get, Some, IsTrue, nat_eq, OnOk};
 ghost use Rattle.af_limits.specs.Limits.{most_devices};
-ghost use Rattle.af_world.specs.Kinds.{backing_of};
-ghost use Rattle.af_config.specs.Stating.{has_program};
+ghost use Rattle.af_world.specs.Kinds.{told_kind};
+ghost use Rattle.af_config.specs.Stating.{has_codec};
 ghost use Rattle.af_config.specs.Kept.{placed};
 ghost use Rattle.af_config.specs.Reading.{with_configured};
 
@@ -18,19 +18,19 @@ use std::marker::Model;
 pub struct Setting {
     config: Config,
     kinds: Vec<OwnedKind>,
-    has_codec: bool,
+    is_codec_stated: bool,
 }
 
 impl Model for Setting {
     ghost use Rattle.std.specs.Prelude.{◌≡◌, length, map};
-    ghost use Rattle.af_config.specs.Stating.{Settings, has_program};
-    ghost use Rattle.af_config.specs.Kept.{backing};
+    ghost use Rattle.af_config.specs.Stating.{Settings, has_codec};
+    ghost use Rattle.af_config.specs.Kept.{owned_told};
 
     ghost Value = { Settings };
 
-    ghost view = { λ s. record { config = s.config.items; kinds = map backing s.kinds.items } };
+    ghost view = { λ s. record { config = s.config.items; kinds = map owned_told s.kinds.items } };
 
-    ghost invariant = { λ s. (length s.kinds.items ≡ length s.config.items) × (s.has_codec ≡ has_program (map backing s.kinds.items)) };
+    ghost invariant = { λ s. (length s.kinds.items ≡ length s.config.items) × (s.is_codec_stated ≡ has_codec (map owned_told s.kinds.items)) };
 }
 
 impl Setting {
@@ -42,7 +42,7 @@ impl Setting {
         Setting {
             config: ArrayVec::new(),
             kinds: Vec::new(alloc),
-            has_codec: false,
+            is_codec_stated: false,
         }
     }
 
@@ -53,7 +53,7 @@ impl Setting {
     {
         let is_codec = device.kind.is_codec();
         self.kinds.push(device.kind)?;
-        self.has_codec = self.has_codec || is_codec;
+        self.is_codec_stated = self.is_codec_stated || is_codec;
         self.config.push(device.spec);
         Ok(())
     }
@@ -66,17 +66,17 @@ impl Setting {
         &self.config
     }
 
-    /// Whether a child program stands behind a device.
+    /// Whether one of the devices has the codec.
     pub(crate) fn has_codec(&self) -> bool
-        ensures { result ≡ has_program self.now.kinds }
+        ensures { result ≡ has_codec self.now.kinds }
     {
-        self.has_codec
+        self.is_codec_stated
     }
 
     /// What stands behind a device, which is one of these.
     pub fn kind(&self, device: u8) -> Kind<'_>
         requires { device < length self.now.config }
-        ensures { slice_get self.now.kinds device ≡ Some (backing_of result) }
+        ensures { slice_get self.now.kinds device ≡ Some (told_kind result) }
     {
         match &self.kinds[device as usize] {
             OwnedKind::Silent => Kind::Silent,
@@ -85,6 +85,15 @@ impl Setting {
                 output: output.as_str(),
             },
             OwnedKind::Codec { restarts, words } => Kind::Codec {
+                restarts: *restarts,
+                words: words.words(),
+            },
+            OwnedKind::Card {
+                card,
+                restarts,
+                words,
+            } => Kind::Card {
+                card: *card,
                 restarts: *restarts,
                 words: words.words(),
             },

@@ -39,7 +39,7 @@ fn check_line<'a>(line: &'a [u8], before: &Stated) -> Result<(), Finding<'a>> {
     )
 }
 
-/// `silent`, `files INPUT OUTPUT`, or `codec RESTARTS WORD ..`
+/// `silent`, `files INPUT OUTPUT`, or one of `codec`, `speaker`, `microphone` and `card` with `RESTARTS WORD ..`
 fn check_kind<'a>(
     mut words: LineWords<'a>,
     slot: Slot,
@@ -55,15 +55,18 @@ fn check_kind<'a>(
     if is_word(kind, b"silent") {
         return words.end(Slot::End);
     }
+    if !is_word(kind, b"codec") {
+        return check_program(words, Slot::CardRestarts);
+    }
     if has_codec {
         return Err(finding);
     }
-    check_codec(words)
+    check_program(words, Slot::CodecRestarts)
 }
 
 /// `RESTARTS WORD ..`
-fn check_codec<'a>(mut words: LineWords<'a>) -> Result<(), Finding<'a>> {
-    words.take(Slot::Restarts)?;
+fn check_program<'a>(mut words: LineWords<'a>, restarts: Slot) -> Result<(), Finding<'a>> {
+    words.take(restarts)?;
     words.take(Slot::Program)?;
     for _number in 0..MOST_ARGUMENTS {
         if words.peek().is_none() {

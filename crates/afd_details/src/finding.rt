@@ -1,7 +1,7 @@
 // The first word of a line that may not stand where it stands, and what may.
 use crate::Shown;
 use crate::slot::Slot;
-use af_config::MOST_RESTARTS;
+use af_config::{MOST_CARD_RESTARTS, MOST_RESTARTS};
 use af_limits::{LONGEST_SEND, LONGEST_TICK};
 use std::fmt;
 use std::fmt::{Formatter, Write};
@@ -70,7 +70,10 @@ fn word_expected(slot: Slot) -> &'static str {
         Slot::Ending { stereo: false } => "line or nothing was expected",
         Slot::Input => "the name of the file to capture from was expected",
         Slot::Output => "the name of the file to add sound to was expected",
-        Slot::Restarts => "how often the program may be started again was expected: 0 to 100",
+        Slot::CodecRestarts => "how often the program may be started again was expected: 0 to 100",
+        Slot::CardRestarts => {
+            "how often the program may be started again was expected: 0 to 1000000"
+        }
         Slot::Program => "the name of a program was expected, of at most 64 bytes",
         Slot::Argument => "a word of a program has at most 64 bytes",
         Slot::Link => "the number of a link was expected: 0 to 31",
@@ -86,14 +89,22 @@ fn word_expected(slot: Slot) -> &'static str {
 /// What was expected where a kind may stand.
 fn kind_expected(stereo: bool, line: bool) -> &'static str {
     match (stereo, line) {
-        (true, _) => "stereo, line, silent, files or codec was expected",
-        (false, true) => "line, silent, files or codec was expected",
-        (false, false) => "silent, files or codec was expected",
+        (true, _) => {
+            "stereo, line or a kind of device was expected: silent, files, codec, speaker, microphone or card"
+        }
+        (false, true) => {
+            "line or a kind of device was expected: silent, files, codec, speaker, microphone or card"
+        }
+        (false, false) => {
+            "a kind of device was expected: silent, files, codec, speaker, microphone or card"
+        }
     }
 }
 
 // These texts state what the limits are.
 const _: () = prove!(MOST_RESTARTS == 100);
+
+const _: () = prove!(MOST_CARD_RESTARTS == 1000000);
 
 const _: () = prove!(LONGEST_SEND == 16384);
 

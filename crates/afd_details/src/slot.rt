@@ -1,6 +1,6 @@
 // What may stand at a place of a line of a configuration or of a script.
 use crate::stated::LineDevices;
-use af_config::MOST_RESTARTS;
+use af_config::{MOST_CARD_RESTARTS, MOST_RESTARTS};
 use af_limits::{LONGEST_SEND, LONGEST_TICK, MOST_LINKS};
 use af_phone::is_digit;
 use af_text::{is_word, listed_rate, number, number_between, sample_type};
@@ -27,7 +27,8 @@ pub(crate) enum Slot {
     Ending { stereo: bool },
     Input,
     Output,
-    Restarts,
+    CodecRestarts,
+    CardRestarts,
     Program,
     Argument,
     Link,
@@ -66,7 +67,8 @@ impl Slot {
             Slot::Start => number_between(0, u32::MAX, word).is_some(),
             Slot::Kind { .. } => names_kind(word),
             Slot::Input | Slot::Output => true,
-            Slot::Restarts => number_between(0, MOST_RESTARTS, word).is_some(),
+            Slot::CodecRestarts => number_between(0, MOST_RESTARTS, word).is_some(),
+            Slot::CardRestarts => number_between(0, MOST_CARD_RESTARTS, word).is_some(),
             Slot::Program | Slot::Argument => word.len() <= LONGEST_WORD,
             Slot::Link => number_between(0, LAST_LINK, word).is_some(),
             Slot::Bytes => matches!(hex_bytes(word), Some(1..=LONGEST_SEND)),
@@ -84,7 +86,12 @@ impl Slot {
 
 /// Whether a word names what stands behind a device.
 fn names_kind(word: &[u8]) -> bool {
-    is_word(word, b"silent") || is_word(word, b"files") || is_word(word, b"codec")
+    is_word(word, b"silent")
+        || is_word(word, b"files")
+        || is_word(word, b"codec")
+        || is_word(word, b"speaker")
+        || is_word(word, b"microphone")
+        || is_word(word, b"card")
 }
 
 /// How many bytes a word in hexadecimal states.

@@ -1,6 +1,6 @@
 // Configurations are read and their faults numbered, and devices are paced, each against what was worked out by hand.
 use af_live::{ConfigFault, Pace, read_config};
-use af_outside::{DeviceSpec, Kind};
+use af_outside::{CardKind, DeviceSpec, Kind};
 use af_sample::SampleType;
 use std::alloc::Global;
 use std::process::Abort;
@@ -33,6 +33,7 @@ fn names(kind: Kind<'_>) -> Option<(&str, &str)> {
         Kind::Silent => None,
         Kind::Files { input, output } => Some((input, output)),
         Kind::Codec { .. } => None,
+        Kind::Card { .. } => None,
     }
 }
 
@@ -111,52 +112,142 @@ fn configurations_are_read(rt: HostRuntime) -> Result<(), Fail> {
     assert_states(&rt, rt.alloc(), text.as_bytes(), &devices)
 }
 
-// A text states one device, over a codec of so many restarts and of these words.
-fn assert_codec(
+// A device with a program: whether it has a line, its kind of card, or None for a codec, how often the program may be started again,
+// and its words.
+type Program<'a> = (bool, Option<CardKind>, u32, &'a [&'a str]);
+
+// A device has this program.
+fn assert_program(rt: &impl Abort, kind: Kind<'_>, program: &Program<'_>) -> Result<(), Fail> {
+    let (_, wanted, most, texts) = program;
+    let (card, restarts, words) = match kind {
+        Kind::Codec { restarts, words } => (None, restarts, words),
+        Kind::Card {
+            card,
+            restarts,
+            words,
+        } => (Some(card), restarts, words),
+        Kind::Silent => return Err(Fail::from("the device is silent")),
+        Kind::Files { .. } => return Err(Fail::from("the device has files")),
+    };
+    assert_eq!(rt; card, *wanted);
+    assert_eq!(rt; restarts, *most);
+    assert_eq!(rt; words.len(), texts.len());
+    for (word, text) in words.iter().zip(*texts) {
+        assert!(rt; word.as_str() == *text, "{text}");
+    }
+    Ok(())
+}
+
+// A text states devices with these programs, one for each, and no others.
+fn assert_programs(
     rt: &impl Abort,
     alloc: Global,
     text: &[u8],
-    restarts: u32,
-    words: &[&str],
+    programs: &[Program<'_>],
 ) -> Result<(), Fail> {
     if text.len() > 65536 {
         return Err(Fail::from("the text is too long"));
     }
     let setting = read_config(alloc, text)?;
-    assert_eq!(rt; setting.config().len(), 1);
-    let Kind::Codec {
-        restarts: stated,
-        words: found,
-    } = setting.kind(0)
-    else {
-        return Err(Fail::from("the device has no codec"));
-    };
-    assert_eq!(rt; stated, restarts);
-    assert_eq!(rt; found.len(), words.len());
-    for (word, wanted) in found.iter().zip(words) {
-        assert!(rt; word.as_str() == *wanted, "{wanted}");
+    assert_eq!(rt; setting.config().len(), programs.len());
+    for number in 0..8u8 {
+        let place = number as usize;
+        if place < setting.config().len() && place < programs.len() {
+            assert_eq!(rt; setting.config()[place].line, programs[place].0);
+            assert_program(rt, setting.kind(number), &programs[place])?;
+        }
     }
     Ok(())
 }
 
 #[test]
-fn a_codec_has_restarts_and_words(rt: HostRuntime) -> Result<(), Fail> {
-    let longest = "1234567890123456789012345678901234567890123456789012345678901234";
-    let alloc = rt.alloc();
-    assert_codec(
-        &rt,
-        alloc,
-        b"device mu255 8000 0 codec 100  aplay -t raw -f MU_LAW -r 8000 -",
-        100,
-        &["aplay", "-t", "raw", "-f", "MU_LAW", "-r", "8000", "-"],
-    )?;
-    assert_codec(
-        &rt,
-        alloc,
-        b"device mu255 8000 0 stereo line codec 000 1234567890123456789012345678901234567890123456789012345678901234",
-        0,
-        &[longest],
-    )
+fn a_program_has_restarts_and_words(rt: HostRuntime) -> Result<(), Fail> {
+    let cases: &[(&[u8], &[Program<'_>])] = &[
+        (
+            b"device mu255 8000 0 codec 100  aplay -t raw -f MU_LAW -r 8000 -",
+            &[(
+                false,
+                None,
+                100,
+                &["aplay", "-t", "raw", "-f", "MU_LAW", "-r", "8000", "-"],
+            )],
+        ),
+        (
+            b"device mu255 8000 0 stereo line codec 000 1234567890123456789012345678901234567890123456789012345678901234",
+            &[(
+                true,
+                None,
+                0,
+                &["1234567890123456789012345678901234567890123456789012345678901234"],
+            )],
+        ),
+        (
+            b"device mu255 8000 0 speaker 10  aplay -q -t raw -f MU_LAW -r 8000",
+            &[(
+                false,
+                Some(CardKind::Speaker),
+                10,
+                &["aplay", "-q", "-t", "raw", "-f", "MU_LAW", "-r", "8000"],
+            )],
+        ),
+        (
+            b"device alaw 8000 0 line microphone 0 1234567890123456789012345678901234567890123456789012345678901234",
+            &[(
+                true,
+                Some(CardKind::Microphone),
+                0,
+                &["1234567890123456789012345678901234567890123456789012345678901234"],
+            )],
+        ),
+        (
+            b"device lin16 48000 0 stereo line card 1000000 python3 gr\xc3\xbc\xc3\x9fe.py",
+            &[(
+                true,
+                Some(CardKind::Card),
+                1000000,
+                &["python3", "grüße.py"],
+            )],
+        ),
+        // the words of a program may be words that a configuration uses
+        (
+            b"device lin32 44100 0 stereo speaker 0001000000 line speaker card codec stereo silent",
+            &[(
+                false,
+                Some(CardKind::Speaker),
+                1000000,
+                &["line", "speaker", "card", "codec", "stereo", "silent"],
+            )],
+        ),
+        // several cards beside a codec
+        (
+            b"device mu255 8000 0 card 101 a\n device lin16 8000 0 codec 1 b\ndevice alaw 8000 0 card 0 a\n\ndevice mu255 8000 0 line microphone 999999 c\ndevice mu255 8000 0 speaker 5 d\n",
+            &[
+                (false, Some(CardKind::Card), 101, &["a"]),
+                (false, None, 1, &["b"]),
+                (false, Some(CardKind::Card), 0, &["a"]),
+                (true, Some(CardKind::Microphone), 999999, &["c"]),
+                (false, Some(CardKind::Speaker), 5, &["d"]),
+            ],
+        ),
+        // eight cards
+        (
+            b"device alaw 8000 0 card 7 a\ndevice alaw 8000 0 card 7 a\ndevice alaw 8000 0 card 7 a\ndevice alaw 8000 0 card 7 a\ndevice alaw 8000 0 card 7 a\ndevice alaw 8000 0 card 7 a\ndevice alaw 8000 0 card 7 a\ndevice alaw 8000 0 card 7 a",
+            &[
+                (false, Some(CardKind::Card), 7, &["a"]),
+                (false, Some(CardKind::Card), 7, &["a"]),
+                (false, Some(CardKind::Card), 7, &["a"]),
+                (false, Some(CardKind::Card), 7, &["a"]),
+                (false, Some(CardKind::Card), 7, &["a"]),
+                (false, Some(CardKind::Card), 7, &["a"]),
+                (false, Some(CardKind::Card), 7, &["a"]),
+                (false, Some(CardKind::Card), 7, &["a"]),
+            ],
+        ),
+    ];
+    for (text, programs) in cases {
+        assert_programs(&rt, rt.alloc(), text, programs)?;
+    }
+    Ok(())
 }
 
 #[test]
@@ -192,6 +283,28 @@ fn the_first_faulty_line_is_numbered(rt: HostRuntime) -> Result<(), Fail> {
             (
                 b"device lin16 8000 0 codec 1 cat\ndevice lin16 8000 0 silent\ndevice lin16 8000 0 line codec 1 cat",
                 3,
+            ),
+            // a card with no restarts, no words, a ninth word, too many restarts, a word of 65 bytes, its line in the wrong place, or
+            // another name; and a second codec after cards
+            (b"device lin16 8000 0 card", 1),
+            (b"device lin16 8000 0 card cat", 1),
+            (b"device lin16 8000 0 speaker 1", 1),
+            (b"device lin16 8000 0 microphone 0 1 2 3 4 5 6 7 8 9", 1),
+            (b"device lin16 8000 0 speaker 1000001 cat", 1),
+            (b"device lin16 8000 0 microphone 1000001 cat", 1),
+            (b"device lin16 8000 0 card 1000001 cat", 1),
+            (b"device lin16 8000 0 card 00000000001 cat", 1),
+            (
+                b"device lin16 8000 0 card 0 12345678901234567890123456789012345678901234567890123456789012345",
+                1,
+            ),
+            (b"device lin16 8000 0 card line 1 cat", 1),
+            (b"device lin16 8000 0 Card 1 cat", 1),
+            (b"device lin16 8000 0 speakers 1 cat", 1),
+            (b"device lin16 8000 0 mic 1 cat", 1),
+            (
+                b"device lin16 8000 0 card 1 cat\ndevice lin16 8000 0 codec 1 cat\ndevice lin16 8000 0 card 1 cat\ndevice lin16 8000 0 codec 1 cat",
+                4,
             ),
             // a ninth device
             (

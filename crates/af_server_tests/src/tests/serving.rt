@@ -1,7 +1,7 @@
 // The server over a tape: how it ends, what it asks of its world, and what has a turn, on examples worked by hand.
 use crate::tests::checks::holds;
 use af_io::{Args, MemSink, MemSource};
-use af_outside::{Backing, DeviceSpec, Happening, Outer, OuterFaults, Tape, Wake};
+use af_outside::{DeviceSpec, Happening, Outer, OuterFaults, Tape, ToldKind, Wake};
 use af_script::{Script, print_log, read_script};
 use afd_serve::{LiveEnd, afd_live, status_of};
 use std::alloc::Global;
@@ -252,10 +252,10 @@ enum Called<'a> {
     Wait(bool, Wake),
 }
 
-fn is_backed(backing: &Backing, files: Option<(&str, &str)>) -> bool {
-    match (backing, files) {
-        (Backing::Silence, None) => true,
-        (Backing::TwoFiles { input, output }, Some((one, other))) => {
+fn is_backed(kind: &ToldKind, files: Option<(&str, &str)>) -> bool {
+    match (kind, files) {
+        (ToldKind::Silent, None) => true,
+        (ToldKind::Files { input, output }, Some((one, other))) => {
             input.as_slice() == one.as_bytes() && output.as_slice() == other.as_bytes()
         }
         _ => false,
@@ -269,14 +269,8 @@ fn is_attached(spec: &DeviceSpec, rate: u32, line: bool) -> bool {
 fn is_call(found: &Outer, wanted: &Called<'_>) -> bool {
     match (found, wanted) {
         (Outer::Listened(address), Called::Listen(name)) => address.as_slice() == name.as_bytes(),
-        (
-            Outer::Attached {
-                device,
-                spec,
-                backing,
-            },
-            Called::Attach(number, rate, line, files),
-        ) => *device == *number && is_attached(spec, *rate, *line) && is_backed(backing, *files),
+        (Outer::Attached { device, spec, kind }, Called::Attach(number, rate, line, files)) =>
+            *device == *number && is_attached(spec, *rate, *line) && is_backed(kind, *files),
         (Outer::Waited { more, wake }, Called::Wait(asked, given)) => {
             *more == *asked && *wake == *given
         }

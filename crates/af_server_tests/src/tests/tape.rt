@@ -95,7 +95,7 @@ fn lines_of(alloc: Global, outer: &[Outer]) -> Result<String, AllocError> {
             Outer::Attached {
                 device,
                 spec,
-                backing: _,
+                kind: _,
             } => writeln!(text, "attached {device} {}", spec.start)?,
             Outer::Waited { more, wake } => writeln!(text, "waited {more} {wake:?}")?,
         }

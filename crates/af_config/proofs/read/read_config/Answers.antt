@@ -1,7 +1,8 @@
 use Rattle.std.proofs.Common.{inl, sym, ap, ◌∙◌, subst}
 use Rattle.std.specs.Prelude.{Err}
 use Rattle.af_text.specs.Reading.{MeetsFault}
-use Rattle.af_config.proofs.LineByLine.{read_start, some_device}
+use Rattle.af_config.specs.declared.fault.ConfigFault.TheVariants as fault
+use Rattle.af_config.proofs.LineByLine.{read_start, some_device, one_fault}
 use Rattle.af_config.proofs.ListedRateLemmas.{none_sound}
 use Rattle.af_config.proofs.read.read_config.Goals as goal
 
@@ -36,7 +37,4 @@ returns-in-Err-Line-clause-fault c =
 
 pub returns-in-Err-Line-clause-found : goal.returns-in-Err-Line-clause-found
 returns-in-Err-Line-clause-found c =
-    let start = read_start c.args.text.now c.new-setting.result c.new-setting.ensures.config c.new-setting.ensures.kinds in
-    let at = subst (MeetsFault _) c.in-Err-Line.field-0-is c.in-Err-Line.ensures.fault in
-    let line = c.in-Err-Line.line-is in
-    λ n e. inl (cc)
+    λ n e. inl (ap (λ line. Err (fault.Line line)) (one_fault _ _ _ (returns-in-Err-Line-clause-fault c) e))

@@ -10,8 +10,8 @@ use Rattle.std.specs.declared.option.Option.{Option}
 use Rattle.std.specs.declared.option.Option.TheVariants.{None, Some}
 use Rattle.af_io.specs.Observed.{Appended, Unchanged}
 use Rattle.af_program.specs.Acts.{ToldAct, gave, took, ended, captured, emitted, runs_in, runs_after}
-use Rattle.af_card.specs.declared.shape.CardKind.{CardKind}
-use Rattle.af_card.specs.declared.shape.CardKind.TheVariants as kind
+use Rattle.af_world.specs.declared.card_kind.CardKind.{CardKind}
+use Rattle.af_world.specs.declared.card_kind.CardKind.TheVariants as kind
 use Rattle.af_card.specs.declared.shape.Shape.{Shape}
 use Rattle.af_card.specs.declared.starts.Starts.{Starts}
 use Rattle.af_card.specs.declared.running.Running.{Running}

@@ -12,8 +12,8 @@ use Rattle.af_program.specs.declared.program.Took.TheVariants as takes
 use Rattle.af_program.specs.declared.program.Launched.{Launched}
 use Rattle.af_program.specs.declared.program.Launched.TheVariants as launch
 use Rattle.af_program.specs.Acts.{ToldAct, launched, gave, took, ended, captured, emitted}
-use Rattle.af_card.specs.declared.shape.CardKind.{CardKind}
-use Rattle.af_card.specs.declared.shape.CardKind.TheVariants as kind
+use Rattle.af_world.specs.declared.card_kind.CardKind.{CardKind}
+use Rattle.af_world.specs.declared.card_kind.CardKind.TheVariants as kind
 use Rattle.af_card.specs.declared.shape.Shape.{Shape}
 use Rattle.af_card.specs.declared.starts.Starts.{Starts}
 use Rattle.af_card.specs.declared.running.Running.{Running}

@@ -9,13 +9,13 @@ use Rattle.af_program.specs.declared.program.Gave.TheVariants as gives
 use Rattle.af_program.specs.declared.program.Took.{Took}
 use Rattle.af_program.specs.declared.program.Took.TheVariants as takes
 use Rattle.af_program.specs.Acts.{ToldAct, gave, took, runs_in}
-use Rattle.af_card.specs.declared.shape.CardKind.{CardKind}
-use Rattle.af_card.specs.declared.shape.CardKind.TheVariants as kind
+use Rattle.af_world.specs.declared.card_kind.CardKind.{CardKind}
+use Rattle.af_world.specs.declared.card_kind.CardKind.TheVariants as kind
 use Rattle.af_card.specs.declared.shape.Shape.{Shape}
 use Rattle.af_card.specs.declared.starts.Starts.{Starts}
 use Rattle.af_card.specs.declared.running.Running.{Running}
 use Rattle.af_card.specs.Ledger.{Ledger, Run, Start, ledger_of}
-use Rattle.af_card.specs.Fed.{RunFits, PastFits, piece_of}
+use Rattle.af_card.specs.Fed.{RunFits, PastFits, piece_frames, piece_of}
 use Rattle.af_card.specs.Waits.{StartsFit, IsLateEnough, wait_after, no_starts, may_come, is_left}
 
 pub record BetweenState : Type 0 where
@@ -196,7 +196,7 @@ may_emit b bytes = is_tick_of b.tick bytes && nat_le bytes longest_capture && em
 -- The frames that are due by a program: whole frames that it gave, at most as many as a tick has; or a piece, once it is owed nothing
 
 abbrev pub frames_by : CardKind → Shape → List ℕ → List ℕ → ℕ
-frames_by kind.Speaker shape left owed = if length owed == 0 then shape.rate / 100 else 0
+frames_by kind.Speaker shape left owed = if length owed == 0 then piece_frames shape else 0
 frames_by kind.Microphone shape left owed = min (length left / shape.frame_bytes) longest_tick
 frames_by kind.Card shape left owed = min (length left / shape.frame_bytes) longest_tick
 

@@ -1,11 +1,13 @@
 -- A device whose sound a program gives, takes or both, as a caller has it.
-use Rattle.std.specs.Prelude.{◌≡◌, ◌≢◌, ⊤, ℕ, ◌+◌, not, ◌&&◌, ◌==◌, if◌then◌else◌, List, MatchOption}
+use Rattle.std.specs.Prelude.{◌≡◌, ◌≢◌, ◌⊎◌, ⊤, [], ◌∷◌, ℕ, ◌+◌, Bool, not, is_none, nat_lt, ◌&&◌, ◌==◌, if◌then◌else◌, List, MatchOption}
 use Rattle.std.specs.declared.option.Option.{Option}
 use Rattle.std.specs.declared.option.Option.TheVariants.{None, Some}
 use Rattle.af_io.specs.declared.flow.Put.{Put}
 use Rattle.af_io.specs.declared.flow.Put.TheVariants as put
 use Rattle.af_pace.specs.Pacing.{PaceState, begun, due_at, after_due}
-use Rattle.af_program.specs.Acts.{ToldAct}
+use Rattle.af_io.specs.Observed.{Appended, Unchanged}
+use Rattle.af_program.specs.declared.program.Launched.{Launched}
+use Rattle.af_program.specs.Acts.{ToldAct, launched, emitted}
 use Rattle.af_card.specs.declared.shape.Shape.{Shape}
 use Rattle.af_card.specs.declared.running.Running.{Running}
 use Rattle.af_card.specs.Ledger.{Run, ledger_of}
@@ -64,6 +66,20 @@ pub record DueByClock (at frames : ℕ) (before after : BetweenState) (pace pace
   pub paced : pace' ≡ after_due pace at
   pub tried : after.starts.tried ≡ (if (frames == 0) && may_come before.starts at then before.starts.tried + 1 else before.starts.tried)
   pub begins : after.running ≢ None → frames ≡ 0
+
+-- A start is tried as the sound of a tick is emitted, where no program runs, one may come, and by the clock nothing more is due: a server
+-- that has much to do finds no other moment.
+abbrev pub begins_now : {P : Type 0} → CardState P → Bool
+begins_now card = is_none card.between.running && may_come card.between.starts card.at && not (nat_lt 0 (due_at card.pace card.at))
+
+-- Where no program runs, nothing happens to it but one start, by these words.
+abbrev pub StartsOnly : ℕ → List (List ℕ) → Option (List ToldAct) → Option (List ToldAct) → Type 0
+StartsOnly at words before after = Unchanged before after ⊎ ((came : Launched) × Appended before (launched at words came ∷ []) after)
+
+-- the same behind the sound of a tick that is emitted
+abbrev pub EmitsAndStarts : ℕ → List ℕ → List (List ℕ) → Option (List ToldAct) → Option (List ToldAct) → Type 0
+EmitsAndStarts at sound words before after =
+    Appended before (emitted sound ∷ []) after ⊎ ((came : Launched) × Appended before (emitted sound ∷ launched at words came ∷ []) after)
 
 -- Between the two calls of a tick none is due.
 abbrev pub DueOf : Option ℕ → Option Running → ℕ → ℕ → BetweenState → BetweenState → PaceState → PaceState → Type 0

@@ -1,15 +1,19 @@
 -- What a device with a program promises of the sound between the two.
-use Rattle.std.specs.Prelude.{◌≡◌, ⊤, ℕ, ◌*◌, ◌/◌, ◌≤◌, ◌<◌, List, [], ◌∷◌, ◌++◌, length, take, replicate, All}
+use Rattle.std.specs.Prelude.{◌≡◌, ⊤, ℕ, ◌*◌, ◌/◌, ◌≤◌, ◌<◌, min, List, [], ◌∷◌, ◌++◌, length, take, replicate, All}
 use Rattle.std.specs.declared.option.Option.{Option}
 use Rattle.std.specs.declared.option.Option.TheVariants.{None, Some}
-use Rattle.af_card.specs.declared.shape.CardKind.{CardKind}
-use Rattle.af_card.specs.declared.shape.CardKind.TheVariants as kind
+use Rattle.af_limits.specs.Limits.{longest_tick}
+use Rattle.af_world.specs.declared.card_kind.CardKind.{CardKind}
+use Rattle.af_world.specs.declared.card_kind.CardKind.TheVariants as kind
 use Rattle.af_card.specs.declared.shape.Shape.{Shape}
 use Rattle.af_card.specs.Ledger.{Ledger, Run}
 
--- the bytes of a piece: a hundredth of a second of sound
+-- the frames of a piece, a hundredth of a second of sound, and its bytes
+abbrev pub piece_frames : Shape → ℕ
+piece_frames shape = min (shape.rate / 100) longest_tick
+
 abbrev pub piece_of : Shape → ℕ
-piece_of shape = shape.rate / 100 * shape.frame_bytes
+piece_of shape = piece_frames shape * shape.frame_bytes
 
 -- sounds, of which the latest stands first, as one
 abbrev pub sound_of : List (List ℕ) → List ℕ

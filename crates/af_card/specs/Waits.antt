@@ -46,10 +46,6 @@ pub record StartsFit (restarts : ℕ) (starts : List Start) : Type 0 where
 
 -- What is kept of starts
 
--- the most starts beyond the first
-abbrev pub most_restarts : ℕ
-most_restarts = 1000000
-
 -- the wait after an end, by how many starts were tried, the wait before, and how long the program lived
 abbrev pub next_wait : ℕ → ℕ → ℕ → ℕ
 next_wait tried wait life = if nat_lt 1 tried && nat_lt life short_life then min (2 * wait) longest_wait else shortest_wait
@@ -65,6 +61,10 @@ no_starts restarts = record { restarts = restarts; tried = 0; wait = 0; next = S
 -- whether a start is left
 abbrev pub is_left : Starts → Bool
 is_left s = nat_le s.tried s.restarts && is_some s.next
+
+-- from which moment on the next may come, if one is left
+abbrev pub next_start : Starts → Option ℕ
+next_start s = if is_left s then s.next else None
 
 abbrev pub comes_by : Option ℕ → ℕ → Bool
 comes_by None at = false

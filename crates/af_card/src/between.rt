@@ -1,23 +1,26 @@
 // What lies between a device and its program.
-ghost use Rattle.std.specs.Prelude.{◌≡◌, ◌≢◌, ◌≤◌, ◌<◌, ◌+◌, ◌⊎◌, [], ◌∷◌, length, take, replicate, true, false, is_some, IfOk};
+ghost use Rattle.std.specs.Prelude.{◌≡◌, ◌≢◌, ◌≤◌, ◌<◌, ◌+◌, ◌-◌, ◌⊎◌, [], ◌∷◌, length, take, replicate, true, false, is_some, is_none, ◌&&◌, IfOk};
 ghost use Rattle.std.specs.declared.option.Option.TheVariants.{None, Some};
 ghost use Rattle.arrayvec.specs.ArrayVec.{array_vec_len};
-ghost use Rattle.af_limits.specs.Limits.{longest_capture};
+ghost use Rattle.af_limits.specs.Limits.{longest_capture, longest_tick};
 ghost use Rattle.af_io.specs.Observed.{Appended};
-ghost use Rattle.af_program.specs.Acts.{captured, launched, RunsWhereTold};
+ghost use Rattle.af_program.specs.Acts.{captured, emitted, launched, RunsWhereTold};
 ghost use Rattle.af_child.specs.Acts.{words_of};
 ghost use Rattle.af_card.specs.Fed.{IsSilent};
-ghost use Rattle.af_card.specs.Waits.{most_restarts, longest_wait, may_come};
+ghost use Rattle.af_world.specs.Kinds.{most_card_restarts};
+ghost use Rattle.af_card.specs.Waits.{longest_wait, may_come, next_start};
 ghost use Rattle.af_card.specs.Between.{IsWhole, TakesInto, GivesFrom, PassesOn, Accounts, new_between, CanBegin, CanCapture, CanEmit, CanEnd, LeavesLess, gives_sound, is_dead, may_capture, may_emit, frames_of, is_stalled, is_over_of, looked_at, captured_of};
 
+use crate::handing::{give_from, pass_on, take_into};
 use crate::queue::Queue;
 use crate::running::Running;
-use crate::shape::{CardKind, Shape};
+use crate::shape::Shape;
 use crate::starts::Starts;
 use af_child::Words;
 use af_limits::{LONGEST_CAPTURE, LONGEST_TICK};
 use af_program::{Gave, Launched, Program, Took};
 use af_time::OutOfMemory;
+use af_world::CardKind;
 use std::alloc::Global;
 use std::marker::Model;
 
@@ -42,7 +45,8 @@ impl Model for Between {
     ghost use Rattle.std.specs.Prelude.{◌≡◌, ◌≤◌, vec_len};
     ghost use Rattle.af_limits.specs.Limits.{longest_capture};
     ghost use Rattle.af_card.specs.Between.{BetweenState};
-    ghost use Rattle.af_card.specs.Waits.{most_restarts, longest_wait};
+    ghost use Rattle.af_world.specs.Kinds.{most_card_restarts};
+    ghost use Rattle.af_card.specs.Waits.{longest_wait};
 
     ghost Value = { BetweenState };
 
@@ -55,14 +59,14 @@ impl Model for Between {
       tick = b.tick;
     } };
 
-    ghost invariant = { λ b. (vec_len b.room ≡ longest_capture) × (1 ≤ b.shape.frame_bytes) × (b.shape.frame_bytes ≤ 8) × (b.starts.restarts ≤ most_restarts) × (b.starts.wait ≤ longest_wait) };
+    ghost invariant = { λ b. (vec_len b.room ≡ longest_capture) × (1 ≤ b.shape.frame_bytes) × (b.shape.frame_bytes ≤ 8) × (b.starts.restarts ≤ most_card_restarts) × (b.starts.wait ≤ longest_wait) };
 }
 
 impl Between {
     /// Nothing, and no program was started.
     pub(crate) fn new(alloc: Global, shape: Shape, restarts: u32) -> Result<Between, OutOfMemory>
         requires frames { (1 ≤ shape.frame_bytes) × (shape.frame_bytes ≤ 8) }
-        requires restarts { restarts ≤ most_restarts }
+        requires restarts { restarts ≤ most_card_restarts }
         ensures { IfOk result (λ between. between ≡ new_between shape restarts) }
     {
         Ok(Between {
@@ -110,6 +114,27 @@ impl Between {
         self.running.is_some()
     }
 
+    /// How many starts were tried.
+    pub(crate) fn tried(&self) -> u32
+        ensures { result ≡ self.now.starts.tried }
+    {
+        self.starts.tried
+    }
+
+    /// How many starts are left.
+    pub(crate) fn starts_left(&self) -> u32
+        ensures { result ≡ self.now.starts.restarts + 1 - self.now.starts.tried }
+    {
+        (self.starts.restarts + 1).saturating_sub(self.starts.tried)
+    }
+
+    /// From which moment on the next start may come, if there is one.
+    pub(crate) fn next_start(&self) -> Option<u64>
+        ensures { result ≡ next_start self.now.starts }
+    {
+        self.starts.next_start()
+    }
+
     /// Whether no program runs, and no start is left.
     pub(crate) fn is_dead(&self) -> bool
         ensures { result ≡ is_dead self.now }
@@ -131,6 +156,13 @@ impl Between {
         self.starts.may_come(at)
     }
 
+    /// Whether no program runs, and a start may come at a moment.
+    pub(crate) fn may_begin(&self, at: u64) -> bool
+        ensures { result ≡ (is_none self.now.running && may_come self.now.starts at) }
+    {
+        self.running.is_none() && self.starts.may_come(at)
+    }
+
     /// Whether so many bytes may be captured in a tick.
     pub(crate) fn may_capture(&self, bytes: usize) -> bool
         ensures test { result ≡ may_capture self.now bytes }
@@ -140,7 +172,7 @@ impl Between {
             return false;
         }
         match self.running {
-            Some(_) if self.shape.kind.gives_sound() => {
+            Some(_) if self.shape.gives_sound() => {
                 bytes <= self.input.as_slice().len() && bytes % self.shape.frame_bytes == 0
             }
             _ => true,
@@ -167,10 +199,11 @@ impl Between {
     /// nothing.
     pub(crate) fn frames(&self) -> u32
         ensures frames { result ≡ frames_of self.now }
+        ensures most { result ≤ longest_tick }
         ensures none { result ≡ 0 → LeavesLess self.now.shape.kind self.now.shape self.now.left }
     {
         match self.shape.kind {
-            CardKind::Speaker if self.owed.as_slice().is_empty() => self.shape.rate / 100,
+            CardKind::Speaker if self.owed.as_slice().is_empty() => self.shape.piece_frames(),
             CardKind::Speaker => 0,
             CardKind::Microphone | CardKind::Card => {
                 let whole = self.input.as_slice().len() / self.shape.frame_bytes;
@@ -190,7 +223,7 @@ impl Between {
         let Some(running) = self.running else {
             return;
         };
-        if running.is_over || !self.shape.kind.gives_sound() {
+        if running.is_over || !self.shape.gives_sound() {
             return;
         }
         let gave = take_into(program, self.room.as_mut_slice(), &mut self.input);
@@ -205,6 +238,7 @@ impl Between {
         ensures same { (self.new.shape ≡ self.old.shape) × (self.new.starts.restarts ≡ self.old.starts.restarts) }
         ensures tick { self.new.tick ≡ self.old.tick }
         ensures runs { is_some self.new.running ≡ is_some self.old.running }
+        ensures starts { self.new.starts ≡ self.old.starts }
     {
         let Some(running) = self.running else {
             return;
@@ -265,7 +299,7 @@ impl Between {
         ensures sound { into.new ≡ captured_of self.old.running self.old (length into.old) }
     {
         match self.running {
-            Some(_) if self.shape.kind.gives_sound() => self.capture_given(program, into),
+            Some(_) if self.shape.gives_sound() => self.capture_given(program, into),
             _ => self.capture_silence(program, into),
         }
     }
@@ -312,6 +346,9 @@ impl Between {
         ensures fits { Accounts self.new (P.acts program.new) }
         ensures same { (self.new.shape ≡ self.old.shape) × (self.new.starts.restarts ≡ self.old.starts.restarts) }
         ensures tick { self.new.tick ≡ None }
+        ensures runs { is_some self.new.running ≡ is_some self.old.running }
+        ensures starts { self.new.starts ≡ self.old.starts }
+        ensures idle { self.old.running ≡ None → Appended (P.acts program.old) (emitted sound.now ∷ []) (P.acts program.new) }
     {
         match self.running {
             Some(_) if self.shape.kind == CardKind::Speaker => {
@@ -335,6 +372,8 @@ impl Between {
         ensures fits { Accounts self.new (P.acts program.new) }
         ensures same { (self.new.shape ≡ self.old.shape) × (self.new.starts.restarts ≡ self.old.starts.restarts) }
         ensures tick { self.new.tick ≡ None }
+        ensures runs { is_some self.new.running ≡ is_some self.old.running }
+        ensures starts { self.new.starts ≡ self.old.starts }
     {
         program.note_emitted(sound);
         self.owed.append(sound);
@@ -351,6 +390,8 @@ impl Between {
         ensures fits { Accounts self.new (P.acts program.new) }
         ensures same { (self.new.shape ≡ self.old.shape) × (self.new.starts.restarts ≡ self.old.starts.restarts) }
         ensures tick { self.new.tick ≡ None }
+        ensures runs { is_some self.new.running ≡ is_some self.old.running }
+        ensures starts { self.new.starts ≡ self.old.starts }
     {
         program.note_emitted(sound);
         self.tick = None;
@@ -372,6 +413,9 @@ impl Between {
         ensures fits { Accounts self.new (P.acts program.new) }
         ensures same { (self.new.shape ≡ self.old.shape) × (self.new.starts.restarts ≡ self.old.starts.restarts) }
         ensures tick { self.new.tick ≡ None }
+        ensures runs { is_some self.new.running ≡ is_some self.old.running }
+        ensures starts { self.new.starts ≡ self.old.starts }
+        ensures acts { Appended (P.acts program.old) (emitted sound.now ∷ []) (P.acts program.new) }
     {
         program.note_emitted(sound);
         self.tick = None;
@@ -397,54 +441,6 @@ impl Between {
     }
 }
 
-/// Takes what a program gives to the end of a queue, as far as there is room.
-fn take_into<P: Program>(program: &mut P, room: &mut [u8], queue: &mut Queue) -> Gave
-    requires room { length room.old ≡ longest_capture }
-    requires runs { RunsWhereTold (P.acts program.old) }
-    ensures takes { TakesInto result queue.old queue.new (P.acts program.old) (P.acts program.new) }
-    ensures room { length room.new ≡ longest_capture }
-{
-    let free = room.len() - queue.as_slice().len();
-    if free == 0 {
-        return Gave::NotYet;
-    }
-    let gave = program.take(&mut room[..free]);
-    if let Gave::Bytes(count) = gave {
-        queue.append(&room[..count]);
-    }
-    gave
-}
-
-/// Gives a program what stands in a queue, as far as it takes it.
-fn give_from<P: Program>(program: &mut P, queue: &mut Queue) -> Took
-    requires some { 0 < length queue.old }
-    requires runs { RunsWhereTold (P.acts program.old) }
-    ensures { GivesFrom result queue.old queue.new (P.acts program.old) (P.acts program.new) }
-{
-    let took = program.give(queue.as_slice());
-    if let Took::Bytes(count) = took {
-        queue.drop_front(count);
-    }
-    took
-}
-
-/// Gives a program a sound, as far as it takes it. The rest of a frame of which it took a part is owed.
-fn pass_on<P: Program>(program: &mut P, sound: &[u8], frame_bytes: usize, owed: &mut Queue) -> Took
-    requires some { 0 < length sound.now }
-    requires bound { length sound.now ≤ longest_capture }
-    requires frames { 1 ≤ frame_bytes }
-    requires none { owed.old ≡ [] }
-    requires runs { RunsWhereTold (P.acts program.old) }
-    ensures { PassesOn result sound.now frame_bytes owed.new (P.acts program.old) (P.acts program.new) }
-{
-    let took = program.give(sound);
-    if let Took::Bytes(count) = took {
-        let rest = rest_of_frame(count, frame_bytes).min(sound.len() - count);
-        owed.append(&sound[count..count + rest]);
-    }
-    took
-}
-
 /// Whether so much time has gone by that it is a stall.
 fn is_stalled(since: u64, at: u64) -> bool
     ensures { result ≡ is_stalled since at }
@@ -458,14 +454,4 @@ fn silence(into: &mut [u8], byte: u8)
     ensures len { length into.new ≡ length into.old }
 {
     into.fill(byte);
-}
-
-/// How many bytes are missing to whole frames.
-fn rest_of_frame(count: usize, frame_bytes: usize) -> usize
-    requires { 1 ≤ frame_bytes }
-    ensures less { result < frame_bytes }
-    ensures whole { IsWhole frame_bytes (count + result) }
-{
-    let part = count % frame_bytes;
-    if part == 0 { 0 } else { frame_bytes - part }
 }

@@ -1,13 +1,15 @@
 // A device whose sound a program gives, takes or both.
-ghost use Rattle.std.specs.Prelude.{◌≡◌, ◌≢◌, ◌≤◌, ◌<◌, [], ◌∷◌, length, take, true, false, is_some, IfOk};
+ghost use Rattle.std.specs.Prelude.{◌≡◌, ◌≢◌, ◌≤◌, ◌<◌, ◌+◌, ◌-◌, [], ◌∷◌, length, take, true, false, is_some, if◌then◌else◌, IfOk};
 ghost use Rattle.std.specs.declared.option.Option.TheVariants.{None, Some};
 ghost use Rattle.arrayvec.specs.ArrayVec.{array_vec_len};
+ghost use Rattle.af_limits.specs.Limits.{longest_tick};
 ghost use Rattle.af_io.specs.Observed.{Appended, Unchanged};
 ghost use Rattle.af_child.specs.Acts.{words_of};
 ghost use Rattle.af_program.specs.Acts.{captured, launched, TellsNothing};
-ghost use Rattle.af_card.specs.Waits.{most_restarts, may_come};
+ghost use Rattle.af_world.specs.Kinds.{most_card_restarts};
+ghost use Rattle.af_card.specs.Waits.{may_come, next_start};
 ghost use Rattle.af_card.specs.Between.{Accounts, new_between, captured_of};
-ghost use Rattle.af_card.specs.Card.{new_card, SameOrders, captures, emits, DueByClock, DueByProgram, DueOf, IsFedWhereTold};
+ghost use Rattle.af_card.specs.Card.{new_card, begins_now, EmitsAndStarts, SameOrders, StartsOnly, captures, emits, DueByClock, DueByProgram, DueOf, IsFedWhereTold};
 
 use crate::between::Between;
 use crate::shape::Shape;
@@ -65,7 +67,7 @@ impl<P: Program + Drop> Card<P> {
     ) -> Result<Card<P>, OutOfMemory>
         requires none { TellsNothing (P.acts program) }
         requires frames { (1 ≤ shape.frame_bytes) × (shape.frame_bytes ≤ 8) }
-        requires restarts { restarts ≤ most_restarts }
+        requires restarts { restarts ≤ most_card_restarts }
         requires some { 1 ≤ array_vec_len words.now }
         ensures made { IfOk result (λ card. card ≡ new_card program shape restarts (words_of words.now)) }
     {
@@ -86,6 +88,8 @@ impl<P: Program + Drop> Card<P> {
         ensures acts { Appended (P.acts self.old.program) (launched at self.old.words result ∷ []) (P.acts self.new.program) }
         ensures same { SameOrders self.old self.new }
         ensures now { self.new.at ≡ at }
+        ensures tried { self.new.between.starts.tried ≡ self.old.between.starts.tried + 1 }
+        ensures runs { result ≡ Launched.Runs → is_some self.new.between.running ≡ true }
     {
         self.at = at;
         self.between
@@ -94,6 +98,8 @@ impl<P: Program + Drop> Card<P> {
 
     /// The frames of the tick that is due at a moment, at most 4096, or none.
     pub fn due(&mut self, at: u64) -> u32
+        ensures most { result ≤ longest_tick }
+        ensures words { self.old.between.running ≡ None → StartsOnly at self.old.words (P.acts self.old.program) (P.acts self.new.program) }
         ensures due { DueOf self.old.between.tick self.old.between.running at result self.old.between self.new.between self.old.pace self.new.pace }
         ensures fed { IsFedWhereTold P.acts self.new }
         ensures same { SameOrders self.old self.new }
@@ -137,11 +143,14 @@ impl<P: Program + Drop> Card<P> {
     }
 
     /// Emits the sound of a tick. Failed says that no program runs and no start is left, or that this is not the tick that was
-    /// captured; nothing is emitted then.
+    /// captured; nothing is emitted then. Where no program runs, the next start may come here.
     pub fn emit(&mut self, sound: &[u8]) -> Put
         requires some { 0 < length sound.now }
         ensures answer { result ≡ emits self.old.between (length sound.now) }
         ensures failed { result ≡ Put.Failed → self.new ≡ self.old }
+        ensures words { result ≡ Put.Done → self.old.between.running ≡ None →
+            EmitsAndStarts self.old.at sound.now self.old.words (P.acts self.old.program) (P.acts self.new.program) }
+        ensures tried { result ≡ Put.Done → self.new.between.starts.tried ≡ (if begins_now self.old then self.old.between.starts.tried + 1 else self.old.between.starts.tried) }
         ensures fed { IsFedWhereTold P.acts self.new }
         ensures same { SameOrders self.old self.new }
         ensures now { self.new.at ≡ self.old.at }
@@ -150,7 +159,39 @@ impl<P: Program + Drop> Card<P> {
             return Put::Failed;
         }
         self.between.emit(&mut self.program, sound, self.at);
+        if self.between.may_begin(self.at) && !self.pace.is_due(self.at) {
+            self.between
+                .begin(&mut self.program, self.alloc, self.at, &self.words);
+        }
         Put::Done
+    }
+
+    /// How many starts of its program were tried.
+    pub fn tried(&self) -> u32
+        ensures { result ≡ self.now.between.starts.tried }
+    {
+        self.between.tried()
+    }
+
+    /// How many starts of its program are left.
+    pub fn starts_left(&self) -> u32
+        ensures { result ≡ self.now.between.starts.restarts + 1 - self.now.between.starts.tried }
+    {
+        self.between.starts_left()
+    }
+
+    /// Whether its program runs.
+    pub fn runs(&self) -> bool
+        ensures { result ≡ is_some self.now.between.running }
+    {
+        self.between.runs()
+    }
+
+    /// From which moment on the next start may come, if a program has ended and a start is left.
+    pub fn next_start(&self) -> Option<u64>
+        ensures { result ≡ next_start self.now.between.starts }
+    {
+        self.between.next_start()
     }
 
     /// Its program.
@@ -171,6 +212,7 @@ fn due_by_program<P: Program>(
     requires runs { is_some between.old.running ≡ true }
     requires tick { between.old.tick ≡ None }
     requires fits { Accounts between.old (P.acts program.old) }
+    ensures most { result ≤ longest_tick }
     ensures due { DueByProgram at result between.new pace.old pace.new }
     ensures fits { Accounts between.new (P.acts program.new) }
     ensures same { (between.new.shape ≡ between.old.shape) × (between.new.starts.restarts ≡ between.old.starts.restarts) }
@@ -201,7 +243,9 @@ fn due_by_clock<P: Program>(
     requires none { between.old.running ≡ None }
     requires tick { between.old.tick ≡ None }
     requires fits { Accounts between.old (P.acts program.old) }
+    ensures most { result ≤ longest_tick }
     ensures due { DueByClock at result between.old between.new pace.old pace.new }
+    ensures words { StartsOnly at (words_of words.now) (P.acts program.old) (P.acts program.new) }
     ensures fits { Accounts between.new (P.acts program.new) }
     ensures same { (between.new.shape ≡ between.old.shape) × (between.new.starts.restarts ≡ between.old.starts.restarts) }
     ensures tick { between.new.tick ≡ None }

@@ -1,6 +1,7 @@
 // How often programs were started, and when the next start may come.
 ghost use Rattle.std.specs.Prelude.{◌≡◌, ◌≤◌};
-ghost use Rattle.af_card.specs.Waits.{longest_wait, most_restarts, no_starts, is_left, may_come, begun_once_more, after_end};
+ghost use Rattle.af_world.specs.Kinds.{most_card_restarts};
+ghost use Rattle.af_card.specs.Waits.{longest_wait, no_starts, is_left, may_come, next_start, begun_once_more, after_end};
 
 /// The shortest wait for a start, and the longest, in nanoseconds.
 const SHORTEST_WAIT: u64 = 1_000_000_000;
@@ -13,16 +14,16 @@ const SHORT_LIFE: u64 = 10_000_000_000;
 /// How many starts there may be beyond the first; how many were tried; the wait after the latest that has ended; and the moment from which
 /// on the next may come, if there is one. Moments and waits are in nanoseconds.
 #[derive(Clone, Copy)]
-pub(crate) struct Starts {
-    pub(crate) restarts: u32,
-    pub(crate) tried: u32,
-    pub(crate) wait: u64,
-    pub(crate) next: Option<u64>,
+pub struct Starts {
+    pub restarts: u32,
+    pub tried: u32,
+    pub wait: u64,
+    pub next: Option<u64>,
 }
 
 impl Starts {
     /// None was tried, and the first may come at once.
-    pub(crate) fn none(restarts: u32) -> Starts
+    pub fn none(restarts: u32) -> Starts
         ensures { result ≡ no_starts restarts }
     {
         Starts {
@@ -34,14 +35,21 @@ impl Starts {
     }
 
     /// Whether a start is left.
-    pub(crate) fn is_left(&self) -> bool
+    pub fn is_left(&self) -> bool
         ensures { result ≡ is_left self.now }
     {
         self.tried <= self.restarts && self.next.is_some()
     }
 
+    /// From which moment on the next start may come, if one is left.
+    pub fn next_start(&self) -> Option<u64>
+        ensures { result ≡ next_start self.now }
+    {
+        if self.is_left() { self.next } else { None }
+    }
+
     /// Whether a start may come now.
-    pub(crate) fn may_come(&self, at: u64) -> bool
+    pub fn may_come(&self, at: u64) -> bool
         ensures { result ≡ may_come self.now at }
     {
         match self.next {
@@ -51,9 +59,9 @@ impl Starts {
     }
 
     /// A start is tried.
-    pub(crate) fn begin(&mut self)
+    pub fn begin(&mut self)
         requires left { self.old.tried ≤ self.old.restarts }
-        requires bound { self.old.restarts ≤ most_restarts }
+        requires bound { self.old.restarts ≤ most_card_restarts }
         ensures begun { self.new ≡ begun_once_more self.old }
         ensures same { (self.new.restarts ≡ self.old.restarts) × (self.new.wait ≡ self.old.wait) }
     {
@@ -61,7 +69,7 @@ impl Starts {
     }
 
     /// The program that was started at a moment has ended at another.
-    pub(crate) fn end(&mut self, began: u64, ended: u64)
+    pub fn end(&mut self, began: u64, ended: u64)
         requires { self.old.wait ≤ longest_wait }
         ensures ended { self.new ≡ after_end self.old began ended }
         ensures wait { self.new.wait ≤ longest_wait }

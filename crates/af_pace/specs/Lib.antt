@@ -1,2 +1,1 @@
 pub mod Pacing
-pub mod Rounds

@@ -1,8 +1,6 @@
-//! How devices go on by a clock: the pace of each, and rounds over all of them.
+//! How a device goes on by a clock: the frames that are due of it, reading by reading.
 #![tactic(auto)]
 
 mod pace;
-mod round;
 
 pub use pace::Pace;
-pub use round::{LONGEST_STEP_NANOS, Round};

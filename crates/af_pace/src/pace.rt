@@ -1,5 +1,6 @@
 // How many frames of a device are due, by the readings of a clock.
-ghost use Rattle.std.specs.Prelude.{◌≡◌};
+ghost use Rattle.std.specs.Prelude.{◌≡◌, ◌≤◌, ◌-◌, ◌*◌, ◌/◌, min, nat_lt};
+ghost use Rattle.af_limits.specs.Limits.{longest_tick};
 ghost use Rattle.af_pace.specs.Pacing.{begun, due_at, after_due};
 
 use af_limits::LONGEST_TICK;
@@ -45,12 +46,28 @@ impl Pace {
         ensures later { self.new ≡ after_due self.old nanos }
     {
         let first = *self.first.get_or_insert(nanos);
-        let elapsed = u128::from(nanos.saturating_sub(first));
-        let gone_by = elapsed * u128::from(self.rate) / NANOS_A_SECOND;
-        let due = gone_by
-            .saturating_sub(self.answered)
-            .min(u128::from(LONGEST_TICK));
-        self.answered += due;
-        due as u32
+        let due = frames_since(first, nanos, self.rate, self.answered);
+        self.answered += u128::from(due);
+        due
     }
+
+    /// Whether frames are due at this reading of the clock that were not answered yet.
+    pub fn is_due(&self, nanos: u64) -> bool
+        ensures { result ≡ nat_lt 0 (due_at self.now nanos) }
+    {
+        let first = self.first.unwrap_or(nanos);
+        frames_since(first, nanos, self.rate, self.answered) > 0
+    }
+}
+
+/// The frames that have gone by between two readings of the clock and were not answered, at most 4096.
+fn frames_since(first: u64, nanos: u64, rate: u32, answered: u128) -> u32
+    ensures value { result ≡ min ((nanos - first) * rate / 1000000000 - answered) longest_tick }
+    ensures most { result ≤ longest_tick }
+{
+    let elapsed = u128::from(nanos.saturating_sub(first));
+    let gone_by = elapsed * u128::from(rate) / NANOS_A_SECOND;
+    gone_by
+        .saturating_sub(answered)
+        .min(u128::from(LONGEST_TICK)) as u32
 }

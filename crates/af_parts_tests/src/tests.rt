@@ -4,6 +4,7 @@ mod bytes_of_a_link;
 mod card;
 mod codec;
 mod contexts;
+mod exchange;
 mod lines;
 mod messages;
 mod programs;

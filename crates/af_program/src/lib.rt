@@ -8,6 +8,7 @@ mod mem_program;
 mod notes;
 mod pieces;
 mod program;
+mod programs;
 mod running;
 mod socket_program;
 mod sockets;
@@ -15,6 +16,7 @@ mod ways;
 
 pub use act::Act;
 pub use mem_program::{MemProgram, Plan};
-pub use program::{Gave, Launched, Program, Took};
+pub use program::{Gave, Launched, Program, ProgramSockets, Took};
+pub use programs::{MemPrograms, NoProgram, NoPrograms, Programs, SocketPrograms};
 pub use socket_program::SocketProgram;
 pub use ways::Ways;

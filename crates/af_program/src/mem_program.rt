@@ -9,7 +9,7 @@ ghost use Rattle.af_program.specs.Memory.{gave_count, gave_of, took_of};
 ghost use Rattle.af_program.specs.Notes.{told};
 
 use crate::notes::{self, Notes};
-use crate::{Act, Gave, Launched, Program, Took};
+use crate::{Act, Gave, Launched, Program, ProgramSockets, Took};
 use af_child::Words;
 use af_time::OutOfMemory;
 use std::alloc::Global;
@@ -112,6 +112,10 @@ impl MemProgram {
 
 impl Program for MemProgram {
     ghost acts = { λ program. program.acts };
+
+    fn sockets(&self) -> ProgramSockets {
+        ProgramSockets::NONE
+    }
 
     fn note_captured(&mut self, sound: &[u8])
         ensures acts { Appended self.old.acts (captured sound.now ∷ []) self.new.acts }

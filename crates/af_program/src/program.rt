@@ -6,6 +6,7 @@ ghost use Rattle.af_program.specs.Acts.{ToldAct};
 
 use af_child::Words;
 use std::alloc::Global;
+use std::os::fd::RawFd;
 
 /// What a start came to.
 #[derive(Clone, Copy, Debug, PartialEq, Eq)]
@@ -31,6 +32,21 @@ pub enum Took {
     Ended,
 }
 
+/// The descriptors of the sockets between a program that runs and its user, so that these can be waited for: to its standard input, and
+/// from its standard output. A program in memory has none.
+#[derive(Clone, Copy, Debug, PartialEq, Eq)]
+pub struct ProgramSockets {
+    pub input: Option<RawFd>,
+    pub output: Option<RawFd>,
+}
+
+impl ProgramSockets {
+    pub const NONE: ProgramSockets = ProgramSockets {
+        input: None,
+        output: None,
+    };
+}
+
 /// A program that is started, as often as its user likes, and gives and takes bytes while it runs. No call waits. Moments are
 /// nanoseconds of a clock of the caller's.
 ///
@@ -42,6 +58,9 @@ pub trait Program {
 
     /// All acts so far, in order, if they are observed.
     ghost acts: { Self → Option (List ToldAct) };
+
+    /// Its sockets, while it runs.
+    fn sockets(&self) -> ProgramSockets;
 
     /// Notes the sound that was captured in a tick.
     fn note_captured(&mut self, sound: &[u8])

@@ -8,7 +8,7 @@ ghost use Rattle.af_program.specs.Sockets.{is_given, is_giving};
 
 use crate::ending::{Ending, keep, tend};
 use crate::running::{Running, give, start, take};
-use crate::{Gave, Launched, Program, Took, Ways};
+use crate::{Gave, Launched, Program, ProgramSockets, Took, Ways};
 use af_child::Words;
 use af_io::Reason;
 use af_time::OutOfMemory;
@@ -16,6 +16,7 @@ use std::alloc::Global;
 use std::io::{Error, ErrorKind};
 use std::marker::Model;
 use std::net::Net;
+use std::os::fd::AsRawFd;
 use std::os::unix::net::UnixStream;
 use std::process::{OpenProcess, Processes};
 
@@ -121,6 +122,13 @@ impl<R: Processes + Net + Drop> SocketProgram<R> {
 
 impl<R: Processes + Net + Drop> Program for SocketProgram<R> {
     ghost acts = { λ _. None };
+
+    fn sockets(&self) -> ProgramSockets {
+        ProgramSockets {
+            input: self.input().map(|socket| socket.as_raw_fd()),
+            output: self.output().map(|socket| socket.as_raw_fd()),
+        }
+    }
 
     fn note_captured(&mut self, _sound: &[u8])
         ensures same { self.new ≡ self.old }

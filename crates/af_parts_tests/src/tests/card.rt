@@ -2,10 +2,11 @@
 ghost use Rattle.std.specs.Prelude.{◌≤◌};
 ghost use Rattle.arrayvec.specs.ArrayVec.{array_vec_len};
 
-use af_card::{Card, CardKind, Shape};
+use af_card::{Card, Shape};
 use af_child::Words;
 use af_io::Put;
 use af_program::{Act, Launched, MemProgram, Plan};
+use af_world::CardKind;
 use arrayvec::ArrayString;
 use std::alloc::Global;
 use std::process::Abort;
@@ -142,6 +143,19 @@ const DIES: [Call; 12] = [
     Call::Due(SECOND + 40, 0),
 ];
 
+// Where each look finds frames due by the clock, the start comes as their sound is emitted.
+const BUSY: [Call; 9] = [
+    Call::Due(10, 1),
+    Call::Capture(b"ab", Put::Done),
+    Call::Emit(b"AB", Put::Done),
+    Call::Due(20, 0),
+    Call::Due(SECOND, 98),
+    Call::Due(SECOND + 30, 3),
+    Call::Capture(b"\0\0\0\0\0\0", Put::Done),
+    Call::Emit(b"ABCDEF", Put::Done),
+    Call::Due(SECOND + 60, 1),
+];
+
 // With no start left the device is dead, and its time goes on by the clock.
 const SPENT: [Call; 5] = [
     Call::Due(10, 0),
@@ -227,6 +241,20 @@ fn a_device_goes_by_its_program(rt: HostRuntime) -> Result<(), Fail> {
                     ..NOTHING
                 },
                 calls: &DIES,
+                taken: b"",
+            },
+        ),
+        (
+            "busy",
+            Run {
+                kind: CardKind::Microphone,
+                restarts: 1,
+                plan: Plan {
+                    output: b"abcde",
+                    gives: &[Some(3), None, Some(2)],
+                    ..NOTHING
+                },
+                calls: &BUSY,
                 taken: b"",
             },
         ),

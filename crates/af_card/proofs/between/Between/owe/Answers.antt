@@ -1,6 +1,6 @@
 use Rattle.std.proofs.Common.{◌≡◌, ◌≢◌, length, refl, sym, subst}
 use Rattle.std.specs.declared.option.Option.TheVariants.{None}
-use Rattle.af_card.specs.declared.shape.CardKind.TheVariants as kind
+use Rattle.af_world.specs.declared.card_kind.CardKind.TheVariants as kind
 use Rattle.af_card.specs.contracts.between.Between.{the_view}
 use Rattle.af_card.specs.Between.{BetweenState, Accounts, CanEmit}
 use Rattle.af_card.proofs.BetweenLemmas.{Accounts-owed-running}

@@ -1,6 +1,6 @@
 use Rattle.std.proofs.Common.{◌/◌, arith}
 use Rattle.std.proofs.Math.Nat.{div-add-mod}
-use Rattle.af_card.proofs.between.rest_of_frame.Goals as goal
+use Rattle.af_card.proofs.handing.rest_of_frame.Goals as goal
 
 pub returns-then-part-eq0-clause-whole : goal.returns-then-part-eq0-clause-whole
 returns-then-part-eq0-clause-whole c =

@@ -1,0 +1,5 @@
+pub mod ReadingLemmas
+pub mod NoteLemmas
+pub mod RunLemmas
+pub mod AccountLemmas
+pub mod DialogueLemmas

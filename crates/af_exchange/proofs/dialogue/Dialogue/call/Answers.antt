@@ -1,0 +1,38 @@
+use Rattle.std.proofs.Common.{refl, sym, subst, true, ◌∷◌, []}
+use Rattle.af_exchange.specs.contracts.dialogue.Dialogue.{the_view}
+use Rattle.af_program.specs.Acts.{emitted}
+use Rattle.af_exchange.specs.Ledger.{Notes}
+use Rattle.af_exchange.specs.Dialogue.{Accounts}
+use Rattle.af_exchange.proofs.NoteLemmas.{notes}
+use Rattle.af_exchange.proofs.DialogueLemmas.{Accounts-missed, Accounts-owed}
+use Rattle.af_exchange.proofs.dialogue.Dialogue.call.Goals as goal
+
+pub returns-in_default-clause-notes : goal.returns-in_default-clause-notes
+returns-in_default-clause-notes g c = subst (λ x. Notes [] (x ∷ []) [] (g.P.Program.acts c.args.program.now) (g.P.Program.acts c.note_emitted.new.self)) c.hook_text-text.ensures (notes (g.P.Program.acts c.args.program.now) (g.P.Program.acts c.note_emitted.new.self) (emitted c.hook_text-text.result.now ∷ []) c.note_emitted.ensures.acts)
+
+pub returns-then-running-clause-notes : goal.returns-then-running-clause-notes
+returns-then-running-clause-notes g c = subst (λ x. Notes [] (x ∷ []) [] (g.P.Program.acts c.args.program.now) (g.P.Program.acts c.note_emitted.new.self)) c.hook_text-text.ensures (notes (g.P.Program.acts c.args.program.now) (g.P.Program.acts c.note_emitted.new.self) (emitted c.hook_text-text.result.now ∷ []) c.note_emitted.ensures.acts)
+
+pub returns-then-as_slice-text-gt-MOST_BYTES-clause-notes : goal.returns-then-as_slice-text-gt-MOST_BYTES-clause-notes
+returns-then-as_slice-text-gt-MOST_BYTES-clause-notes g c =
+    subst (λ x. Notes [] (x ∷ []) [] (g.P.Program.acts c.args.program.now) (g.P.Program.acts c.note_emitted.new.self)) c.hook_text-text.ensures (notes (g.P.Program.acts c.args.program.now) (g.P.Program.acts c.note_emitted.new.self) (emitted c.hook_text-text.result.now ∷ []) c.note_emitted.ensures.acts)
+
+pub returns-else-as_slice-text-gt-MOST_BYTES-clause-notes : goal.returns-else-as_slice-text-gt-MOST_BYTES-clause-notes
+returns-else-as_slice-text-gt-MOST_BYTES-clause-notes g c =
+    subst (λ x. Notes [] (x ∷ []) [] (g.P.Program.acts c.args.program.now) (g.P.Program.acts c.note_emitted.new.self)) c.hook_text-text.ensures (notes (g.P.Program.acts c.args.program.now) (g.P.Program.acts c.note_emitted.new.self) (emitted c.hook_text-text.result.now ∷ []) c.note_emitted.ensures.acts)
+
+pub returns-then-running-clause-fits : goal.returns-then-running-clause-fits
+returns-then-running-clause-fits g c =
+    subst (λ r. Accounts (record (the_view c.self.inside) { running = r; off = c.args.off }) (g.P.Program.acts c.note_emitted.new.self)) (sym c.in-Some.is)
+    (Accounts-missed (the_view c.self.inside) c.in-Some.running c.in-Some.running c.args.off c.hook_text-text.result.now _ _ c.in-Some.is refl c.if-running.true c.hook_text-text.ensures c.note_emitted.ensures.acts
+    (subst (λ d. Accounts d (g.P.Program.acts c.args.program.now)) (sym c.self.view_is) c.requires.fits))
+
+pub returns-then-as_slice-text-gt-MOST_BYTES-clause-fits : goal.returns-then-as_slice-text-gt-MOST_BYTES-clause-fits
+returns-then-as_slice-text-gt-MOST_BYTES-clause-fits g c =
+    Accounts-missed (the_view c.self.inside) c.in-Some.running (record c.in-Some.running { is_closed = true }) c.args.off c.hook_text-text.result.now _ _ c.in-Some.is refl refl c.hook_text-text.ensures
+    c.note_emitted.ensures.acts (subst (λ d. Accounts d (g.P.Program.acts c.args.program.now)) (sym c.self.view_is) c.requires.fits)
+
+pub returns-else-as_slice-text-gt-MOST_BYTES-clause-fits : goal.returns-else-as_slice-text-gt-MOST_BYTES-clause-fits
+returns-else-as_slice-text-gt-MOST_BYTES-clause-fits g c =
+    Accounts-owed (the_view c.self.inside) c.in-Some.running c.args.off c.hook_text-text.result.now c.append.new.self _ _ c.in-Some.is c.if-running.false c.hook_text-text.ensures c.append.ensures
+    c.note_emitted.ensures.acts (subst (λ d. Accounts d (g.P.Program.acts c.args.program.now)) (sym c.self.view_is) c.requires.fits)

@@ -1,0 +1,108 @@
+-- What lies between a line and its program, and how it fits what the acts tell.
+use Rattle.std.specs.Prelude.{◌≡◌, ⊤, ℕ, Bool, true, false, not, ◌||◌, List, [], ◌∷◌, ◌++◌, length, is_some, All}
+use Rattle.std.specs.List.{fold}
+use Rattle.std.specs.declared.option.Option.{Option}
+use Rattle.std.specs.declared.option.Option.TheVariants.{None, Some}
+use Rattle.af_program.specs.declared.program.Gave.{Gave}
+use Rattle.af_program.specs.declared.program.Gave.TheVariants as gives
+use Rattle.af_program.specs.declared.program.Took.{Took}
+use Rattle.af_program.specs.declared.program.Took.TheVariants as takes
+use Rattle.af_program.specs.Acts.{ToldAct, runs_in}
+use Rattle.af_card.specs.declared.starts.Starts.{Starts}
+use Rattle.af_card.specs.Ledger.{Start}
+use Rattle.af_card.specs.Waits.{StartsFit, IsLateEnough, wait_after, no_starts, may_come}
+use Rattle.af_phone.specs.declared.line.LineChange.{LineChange}
+use Rattle.af_exchange.specs.declared.running.Running.{Running}
+use Rattle.af_exchange.specs.Lines.{hook_text, at_line, after_byte}
+use Rattle.af_exchange.specs.Fronts.{SaysNoMore}
+use Rattle.af_exchange.specs.Ledger.{Ledger, Run, ledger_of}
+use Rattle.af_exchange.specs.Told.{RunTold, PastRunTold}
+
+-- so many bytes of a program, or for one, are kept at most
+abbrev pub most_bytes : ℕ
+most_bytes = 4096
+
+-- the starts, the program that runs, what it gave and was not read, what it is owed, and whether the hook is off
+pub record DialogueState : Type 0 where
+  pub starts : Starts
+  pub running : Option Running
+  pub left : List ℕ
+  pub owed : List ℕ
+  pub off : Bool
+
+abbrev pub new_dialogue : ℕ → DialogueState
+new_dialogue restarts = record { starts = no_starts restarts; running = None; left = []; owed = []; off = false }
+
+-- a program that was started at this moment
+abbrev pub running_begun : ℕ → Running
+running_begun at = record { began = at; is_closed = false; is_ended = false }
+
+-- after a take
+abbrev pub after_take : Gave → Running → Running
+after_take (gives.Bytes n) running = running
+after_take gives.NotYet running = running
+after_take gives.Ended running = record running { is_ended = true }
+
+-- after a give
+abbrev pub after_give : Took → Running → Running
+after_give (takes.Bytes n) running = running
+after_give takes.NoRoom running = running
+after_give takes.Ended running = record running { is_closed = true }
+
+-- whether a program runs that takes lines
+abbrev pub is_open : Option Running → Bool
+is_open None = false
+is_open (Some running) = not running.is_closed
+
+-- whether a program is to be ended, where no change is left of what it gave
+abbrev pub is_over : Option Running → Bool
+is_over None = false
+is_over (Some running) = running.is_closed || running.is_ended
+
+-- How it fits the ledger
+
+-- one program runs for both, or for none
+abbrev pub RunningFits : DialogueState → Option Running → Option Run → Type 0
+RunningFits d None None = ⊤
+RunningFits d None (Some run) = ⊥
+RunningFits d (Some running) None = ⊥
+RunningFits d (Some running) (Some run) = RunTold run d.left d.owed (not running.is_closed)
+
+-- when the next start may come it is late enough, and the wait is the one after the latest end
+abbrev pub NextFits : Starts → Option Running → List Start → Type 0
+NextFits s None starts = (s.wait ≡ wait_after starts) × ((at : ℕ) → may_come s at ≡ true → IsLateEnough at starts)
+NextFits s (Some running) [] = ⊥
+NextFits s (Some running) (start ∷ earlier) =
+    (start.began ≡ running.began) × (start.ended ≡ None) × (s.wait ≡ wait_after earlier)
+
+pub record Account (d : DialogueState) (ledger : Ledger) : Type 0 where
+  pub past : All PastRunTold ledger.past
+  pub running : RunningFits d d.running ledger.running
+  pub none : ledger.idle ≡ []
+  pub hook : ledger.hook ≡ hook_text d.off
+  pub starts : StartsFit d.starts.restarts ledger.starts
+  pub tried : d.starts.tried ≡ length ledger.starts
+  pub next : NextFits d.starts d.running ledger.starts
+
+-- if the acts are observed, all of this holds of them
+abbrev pub Accounts : DialogueState → Option (List ToldAct) → Type 0
+Accounts d None = ⊤
+Accounts d (Some acts) = Account d (ledger_of acts) × (runs_in acts ≡ is_some d.running)
+
+-- What may be done
+
+abbrev pub CanBegin : DialogueState → ℕ → Type 0
+CanBegin d at = (d.running ≡ None) × (may_come d.starts at ≡ true)
+
+-- no change is left of what it gave
+abbrev pub CanEnd : DialogueState → Type 0
+CanEnd d = (is_fault : Bool) × SaysNoMore is_fault d.left
+
+-- whole lines that say nothing are passed over
+abbrev pub PassesOver : List ℕ → List ℕ → Type 0
+PassesOver before after =
+    (passed : List ℕ) × (before ≡ passed ++ after) × ((changes : List LineChange) → fold after_byte (at_line changes []) passed ≡ at_line changes [])
+
+-- no change is left of what a program that runs gave, and no line of it is at fault
+abbrev pub LeavesNone : DialogueState → Type 0
+LeavesNone d = is_some d.running ≡ true → SaysNoMore false d.left

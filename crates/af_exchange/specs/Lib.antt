@@ -1,0 +1,6 @@
+pub mod Lines
+pub mod Fronts
+pub mod Ledger
+pub mod Told
+pub mod Dialogue
+pub mod Exchange

@@ -1,0 +1,48 @@
+-- What is promised of what a program says and of what it is told.
+use Rattle.std.specs.Prelude.{◌≡◌, ⊤, ℕ, Bool, true, false, List, [], ◌++◌, map, All}
+use Rattle.std.specs.declared.option.Option.{Option}
+use Rattle.std.specs.declared.option.Option.TheVariants.{None, Some}
+use Rattle.af_phone.specs.declared.line.LineChange.{LineChange}
+use Rattle.af_program.specs.Acts.{ToldAct}
+use Rattle.af_card.specs.Waits.{StartsFit}
+use Rattle.af_exchange.specs.Lines.{at_line, changes_of, text_of, hook_text}
+use Rattle.af_exchange.specs.Ledger.{Run, ledger_of}
+
+-- While a program runs. The changes that were given are those of a front of what it gave, which are whole lines, in order and each once;
+-- this much is left of it. What it was handed is a front of what it is told, each line in order. This much it is owed; and nothing is
+-- missed, as long as it is open.
+pub record RunTold (run : Run) (left owed : List ℕ) (is_open : Bool) : Type 0 where
+  pub read : List ℕ
+  pub said : List LineChange
+  pub missed : List ℕ
+  pub given : run.given ≡ read ++ left
+  pub reads : changes_of read ≡ at_line said []
+  pub changes : run.changes ≡ map text_of said
+  pub told : run.told ≡ (run.taken ++ owed) ++ missed
+  pub all : is_open ≡ true → missed ≡ []
+
+-- After a program ran. All changes of what it gave were given, up to a line that was at fault.
+pub record PastRunTold (run : Run) : Type 0 where
+  pub missed : List ℕ
+  pub changes : run.changes ≡ map text_of (changes_of run.given).changes
+  pub told : run.told ≡ run.taken ++ missed
+
+-- of the program that runs this much is left, and it is owed this much; and it is open or not
+abbrev pub RunIsTold : List ℕ → List ℕ → Bool → Option Run → Type 0
+RunIsTold left owed is_open None = ⊤
+RunIsTold left owed is_open (Some run) = RunTold run left owed is_open
+
+-- Of all acts, at each moment. Changes: program after program, those of what each gave, in order and each once, whatever the pieces in
+-- which it came; of the latest, a front of them; and none beside these. Hook: what each program was handed is a front of the hook as it was
+-- at its start and of each call while it ran, in order, each a line. Starts: at most one more than there are restarts, each after its wait.
+pub record IsTold (restarts : ℕ) (off : Bool) (left owed : List ℕ) (is_open : Bool) (acts : List ToldAct) : Type 0 where
+  pub past : All PastRunTold (ledger_of acts).past
+  pub now : RunIsTold left owed is_open (ledger_of acts).running
+  pub none : (ledger_of acts).idle ≡ []
+  pub hook : (ledger_of acts).hook ≡ hook_text off
+  pub starts : StartsFit restarts (ledger_of acts).starts
+
+-- all changes of what a program that runs gave so far were given, and no line of it is at fault
+abbrev pub IsDrained : Option Run → Type 0
+IsDrained None = ⊤
+IsDrained (Some run) = (run.changes ≡ map text_of (changes_of run.given).changes) × ((changes_of run.given).is_fault ≡ false)

@@ -1,0 +1,11 @@
+//! The program that stands for the exchange of a telephone line: it says what changes on the line, and is told each hook call.
+#![tactic(auto)]
+
+mod dialogue;
+mod exchange;
+pub mod laws;
+mod line;
+mod queue;
+mod running;
+
+pub use exchange::Exchange;

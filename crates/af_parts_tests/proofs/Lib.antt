@@ -1,0 +1,2 @@
+pub mod CardRuns
+pub mod CardMoreRuns

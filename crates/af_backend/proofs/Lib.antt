@@ -1,2 +1,3 @@
 pub mod ConsumesLemmas
 pub mod BackendLemmas
+pub mod RoundLemmas

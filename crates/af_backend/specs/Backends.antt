@@ -1,4 +1,5 @@
--- What stands behind a device: silence, two files, whose bytes are known where std's readers and writers tell them, or the codec.
+-- What stands behind a device: silence, two files, whose bytes are known where std's readers and writers tell them, the codec, or a
+-- program whose time is that of the device.
 use Rattle.std.specs.Prelude.{◌≡◌, ℕ, Bool, true, false, List, length, map, replicate, slice_index_or, slice_set, option_map}
 use Rattle.std.specs.declared.option.Option.{Option}
 use Rattle.std.specs.declared.option.Option.TheVariants.{None, Some}
@@ -11,25 +12,32 @@ use Rattle.af_world.specs.declared.live.Ready.{Ready}
 use Rattle.af_world.specs.declared.live.Ready.TheVariants as ready
 use Rattle.af_world.specs.declared.live.Kind.{Kind}
 use Rattle.af_world.specs.declared.live.Kind.TheVariants as kind
+use Rattle.af_world.specs.declared.script.DeviceSpec.{DeviceSpec}
 use Rattle.af_world.specs.Outside.{silent_byte}
+use Rattle.af_child.specs.Acts.{words_of}
 use Rattle.af_pace.specs.Pacing.{begun}
-use Rattle.af_pace.specs.Rounds.{RoundState, round_with}
+use Rattle.af_backend.specs.declared.source.Source.{Source}
+use Rattle.af_backend.specs.declared.source.Source.TheVariants as source
+use Rattle.af_backend.specs.Rounds.{RoundState, round_with}
+use Rattle.af_backend.specs.CardUse.{CardUse, IsBegun, CardCaptures, CardEmits, card_orders}
 use Rattle.af_backend.specs.declared.attached_device.Backend.{Backend}
 use Rattle.af_backend.specs.declared.attached_device.Backend.TheVariants as backend
 use Rattle.af_backend.specs.FileBytes.{FileState, FillsRoom}
 use Rattle.af_backend.specs.CodecUse.{CodecUse, CodecTakes}
 
--- what stands behind a device that is attached: silence of a sample type, two files, or the codec, with silence of a sample type to
--- be captured
+-- what stands behind a device that is attached: silence of a sample type; two files; the codec, with silence of a sample type to be
+-- captured; or a program whose time is that of the device
 pub data BackendState : Type 0 where
   always_silent : SampleType → BackendState
   over_files : FileState → BackendState
   over_codec : SampleType → BackendState
+  over_card : CardUse → BackendState
 
-abbrev pub backend_state : {F : Type 0} → Backend F → BackendState
+abbrev pub backend_state : {F : Type 0} → {P : Type 0} → Backend F P → BackendState
 backend_state (backend.Silence ty) = always_silent ty
 backend_state (backend.Files files) = over_files files
 backend_state (backend.Codec ty) = over_codec ty
+backend_state (backend.Card card) = over_card card
 
 -- no device is attached
 abbrev pub none_attached : List (Option BackendState)
@@ -39,13 +47,14 @@ none_attached = replicate most_devices None
 abbrev pub behind_at : List (Option BackendState) → ℕ → Option BackendState
 behind_at devices d = slice_index_or devices d None
 
--- the same, whatever its files hold
+-- the same, whatever its files hold, and whatever went by between it and its program
 abbrev pub without_bytes : BackendState → BackendState
 without_bytes (always_silent ty) = always_silent ty
 without_bytes (over_files f) = over_files (record f { input = None; output = None })
 without_bytes (over_codec ty) = over_codec ty
+without_bytes (over_card card) = over_card (card_orders card)
 
--- what stands behind each device, whatever files hold
+-- what stands behind each device, whatever files hold and whatever went by
 unfoldable pub all_without_bytes : List (Option BackendState) → List (Option BackendState)
 all_without_bytes devices = map (option_map without_bytes) devices
 
@@ -55,14 +64,16 @@ all_without_bytes devices = map (option_map without_bytes) devices
 abbrev pub IsSilence : SampleType → Put → List ℕ → Type 0
 IsSilence ty answer into = (answer ≡ put.Done) × (into ≡ replicate (length into) (silent_byte ty))
 
--- Of silence, and of the codec, silence is captured; of files what the input gives, and nothing else of them changes. None captures
--- nothing.
+-- Of silence, and of the codec, silence is captured; of files what the input gives, and nothing else of them changes; of a card what its
+-- program gave. None captures nothing.
 abbrev pub CapturesBy : Option BackendState → Put → List ℕ → Option BackendState → Type 0
 CapturesBy None answer into after = (answer ≡ put.Failed) × (after ≡ None)
 CapturesBy (Some (always_silent ty)) answer into after = IsSilence ty answer into × (after ≡ Some (always_silent ty))
 CapturesBy (Some (over_codec ty)) answer into after = IsSilence ty answer into × (after ≡ Some (over_codec ty))
 CapturesBy (Some (over_files f)) answer into after =
     (input : Option (List ℕ)) × FillsRoom f.silent answer f.input into input × (after ≡ Some (over_files (record f { input = input })))
+CapturesBy (Some (over_card card)) answer into after =
+    (card' : CardUse) × CardCaptures answer card into card' × (after ≡ Some (over_card card'))
 
 -- a device captures by what stands behind it, and no other device is changed
 abbrev pub CapturesAt : ℕ → Put → List ℕ → List (Option BackendState) → List (Option BackendState) → Type 0
@@ -71,7 +82,7 @@ CapturesAt d answer into old new = (after : Option BackendState) × CapturesBy (
 -- Emits
 
 -- Silence takes all. Files have all of a piece added to their output, or a prefix of it if that failed. The codec takes it as it does,
--- and nothing else is given to it. None takes nothing.
+-- and nothing else is given to it. A card hands it to its program. None takes nothing.
 abbrev pub EmitsBy : Option BackendState → Put → List ℕ → Option BackendState → CodecUse → CodecUse → Type 0
 EmitsBy None answer sound after codec codec' = (answer ≡ put.Failed) × (after ≡ None) × (codec' ≡ codec)
 EmitsBy (Some (always_silent ty)) answer sound after codec codec' =
@@ -80,6 +91,8 @@ EmitsBy (Some (over_files f)) answer sound after codec codec' =
     (output : Option (List ℕ)) × WritesOn answer f.output sound output × (after ≡ Some (over_files (record f { output = output }))) × (codec' ≡ codec)
 EmitsBy (Some (over_codec ty)) answer sound after codec codec' =
     (after ≡ Some (over_codec ty)) × CodecTakes answer sound codec codec'
+EmitsBy (Some (over_card card)) answer sound after codec codec' =
+    (card' : CardUse) × CardEmits answer card sound card' × (after ≡ Some (over_card card')) × (codec' ≡ codec)
 
 -- a device hands sound out by what stands behind it, and no other device is changed
 abbrev pub EmitsAt : ℕ → Put → List ℕ → List (Option BackendState) → List (Option BackendState) → CodecUse → CodecUse → Type 0
@@ -88,24 +101,34 @@ EmitsAt d answer sound old new codec codec' =
 
 -- Attaches
 
--- a device of this kind opens files, which the system may refuse
-abbrev pub opens_files : Kind → Bool
-opens_files (kind.Files input output) = true
-opens_files kind.Silent = false
-opens_files (kind.Codec restarts words) = false
+-- a device of this kind opens files or starts a program, which the system may refuse
+abbrev pub may_be_refused : Kind → Bool
+may_be_refused (kind.Files input output) = true
+may_be_refused (kind.Card which restarts words) = true
+may_be_refused kind.Silent = false
+may_be_refused (kind.Codec restarts words) = false
 
--- what stands behind a device of this kind and sample type that was just attached
-abbrev pub IsBackend : Kind → SampleType → BackendState → Type 0
-IsBackend kind.Silent ty b = b ≡ always_silent ty
-IsBackend (kind.Files input output) ty b = (f : FileState) × (f.silent ≡ silent_byte ty) × (b ≡ over_files f)
-IsBackend (kind.Codec restarts words) ty b = b ≡ over_codec ty
+-- what stands behind a device of this kind that was just attached
+abbrev pub IsBackend : Kind → DeviceSpec → BackendState → Type 0
+IsBackend kind.Silent spec b = b ≡ always_silent spec.ty
+IsBackend (kind.Files input output) spec b = (f : FileState) × (f.silent ≡ silent_byte spec.ty) × (b ≡ over_files f)
+IsBackend (kind.Codec restarts words) spec b = b ≡ over_codec spec.ty
+IsBackend (kind.Card which restarts words) spec b =
+    (begun_card : CardUse) × IsBegun which restarts (words_of words.now) spec begun_card × (b ≡ over_card begun_card)
 
 -- an attach that was done puts a device there; no other attach changes any
-abbrev pub AttachesAt : Ready → Kind → ℕ → SampleType → List (Option BackendState) → List (Option BackendState) → Type 0
-AttachesAt ready.Done k d ty old new = (b : BackendState) × IsBackend k ty b × (new ≡ slice_set old d (Some b))
-AttachesAt _ k d ty old new = new ≡ old
+abbrev pub AttachesAt : Ready → Kind → ℕ → DeviceSpec → List (Option BackendState) → List (Option BackendState) → Type 0
+AttachesAt ready.Done k d spec old new = (b : BackendState) × IsBackend k spec b × (new ≡ slice_set old d (Some b))
+AttachesAt _ k d spec old new = new ≡ old
 
--- the round after an attach: where that was done, the device goes on at this rate
-abbrev pub round_after : Ready → RoundState → ℕ → ℕ → RoundState
-round_after ready.Done r d rate = round_with r d (begun rate)
-round_after _ r d rate = r
+-- the clock of a device of this kind: that of its program, or that of the system, of which it has so many frames a second
+abbrev pub source_of : Kind → ℕ → Source
+source_of (kind.Card which restarts words) rate = source.Program
+source_of (kind.Files input output) rate = source.Clock (begun rate)
+source_of (kind.Codec restarts words) rate = source.Clock (begun rate)
+source_of kind.Silent rate = source.Clock (begun rate)
+
+-- the round after an attach: where that was done, the device goes on by its clock
+abbrev pub round_after : Ready → Kind → RoundState → ℕ → ℕ → RoundState
+round_after ready.Done k r d rate = round_with r d (source_of k rate)
+round_after _ k r d rate = r

@@ -75,6 +75,7 @@ with_orders u restarts words = record u { orders = record { restarts = restarts;
 abbrev pub codec_with : Kind → CodecUse → CodecUse
 codec_with (kind.Codec restarts words) u = with_orders u restarts (words_of words.now)
 codec_with (kind.Files input output) u = u
+codec_with (kind.Card which restarts words) u = u
 codec_with kind.Silent u = u
 
 -- the codec behind an attach
@@ -86,4 +87,5 @@ codec_behind _ k u = u
 abbrev pub codec_allows : CodecUse → Kind → Bool
 codec_allows u (kind.Codec restarts words) = may_set u.stage restarts (words_of words.now)
 codec_allows u (kind.Files input output) = true
+codec_allows u (kind.Card which restarts words) = true
 codec_allows u kind.Silent = true

@@ -1,35 +1,44 @@
 // A device that is attached, and what stands behind it.
-ghost use Rattle.std.specs.Prelude.{◌≡◌, ◌<◌, length, false, IfOk, IsOk};
+ghost use Rattle.std.specs.Prelude.{◌≡◌, ◌≤◌, ◌<◌, length, false, IfOk, IsOk};
 ghost use Rattle.std.specs.declared.option.Option.TheVariants.{Some};
-ghost use Rattle.af_backend.specs.Backends.{opens_files, CapturesBy, EmitsBy, IsBackend, IsSilence};
+ghost use Rattle.af_limits.specs.Limits.{longest_tick};
+ghost use Rattle.af_backend.specs.Backends.{may_be_refused, CapturesBy, EmitsBy, IsBackend, IsSilence};
+ghost use Rattle.af_backend.specs.Asked.{IsAskedOf};
 
+use crate::card_device::{CardDevice, CardOrders};
 use crate::codec_device::CodecDevice;
+use crate::devices::NewDevice;
 use crate::file_device::FileDevice;
+use af_card::Card;
 use af_child::Spawner;
 use af_io::Put;
+use af_program::{Program, Programs};
 use af_sample::SampleType;
-use af_world::{Kind, silent_byte};
+use af_world::{DeviceSpec, Kind, silent_byte};
+use std::alloc::Global;
 use std::io::{self, Read, Write};
 use std::marker::Model;
 use std::rt::Files;
 
 /// What stands behind a device.
 #[derive(Drop)]
-pub enum Backend<F: Read + Write + Drop> {
+pub enum Backend<F: Read + Write + Drop, P: Program + Drop> {
     /// Nothing: it captures silence of its sample type, and what it hands out is gone.
     Silence(SampleType),
     Files(FileDevice<F>),
     /// The codec of the world. It captures silence of its sample type.
     Codec(SampleType),
+    /// A program whose time is that of the device.
+    Card(CardDevice<P>),
 }
 
 /// A device that is attached.
 #[derive(Drop)]
-pub struct AttachedDevice<F: Read + Write + Drop> {
-    behind: Backend<F>,
+pub struct AttachedDevice<F: Read + Write + Drop, P: Program + Drop> {
+    behind: Backend<F, P>,
 }
 
-impl<F: Read + Write + Drop> Model for AttachedDevice<F> {
+impl<F: Read + Write + Drop, P: Program + Drop> Model for AttachedDevice<F, P> {
     ghost use Rattle.af_backend.specs.Backends.{BackendState, backend_state};
 
     ghost Value = { BackendState };
@@ -37,25 +46,64 @@ impl<F: Read + Write + Drop> Model for AttachedDevice<F> {
     ghost view = { λ a. backend_state a.behind };
 }
 
-impl<F: Read + Write + Drop> AttachedDevice<F> {
-    /// A device of this sample type, with what its kind names behind it. Files are opened, and the output is made where it is not
-    /// there.
-    pub fn new<R: Files<File = F>>(
+impl<F: Read + Write + Drop, P: Program + Drop> AttachedDevice<F, P> {
+    /// A device with what its kind names behind it. Files are opened, and the output is made where it is not there. A program whose time
+    /// is that of the device is started.
+    pub fn new<R: Files<File = F>, G: Programs<Made = P>>(
         rt: &R,
-        ty: SampleType,
-        kind: Kind<'_>,
-    ) -> io::Result<AttachedDevice<F>>
-        ensures made { IfOk result (λ device. IsBackend kind.entry ty device) }
-        ensures done { opens_files kind.entry ≡ false → IsOk result }
+        programs: &mut G,
+        asked: &NewDevice<'_>,
+    ) -> io::Result<AttachedDevice<F, P>>
+        ensures made { IfOk result (λ device. IsBackend asked.now.kind asked.now.spec.now device) }
+        ensures done { may_be_refused asked.now.kind ≡ false → IsOk result }
     {
-        let behind = match kind {
+        let ty = asked.spec.ty;
+        let behind = match asked.kind {
             Kind::Silent => Backend::Silence(ty),
             Kind::Files { input, output } => {
                 Backend::Files(FileDevice::open(rt, ty, input, output)?)
             }
             Kind::Codec { .. } => Backend::Codec(ty),
+            Kind::Card {
+                card,
+                restarts,
+                words,
+            } => {
+                let orders = CardOrders {
+                    card,
+                    restarts,
+                    words,
+                };
+                let device = CardDevice::start(
+                    asked.alloc,
+                    programs,
+                    orders,
+                    asked.spec,
+                    asked.at,
+                )?;
+                Backend::Card(device)
+            }
         };
         Ok(AttachedDevice { behind })
+    }
+
+    /// The device of a program whose time it goes by, if it does.
+    pub fn card(&self) -> Option<&Card<P>> {
+        match &self.behind {
+            Backend::Card(card) => Some(card.card()),
+            _ => None,
+        }
+    }
+
+    /// The frames that its program has due at a moment, at most 4096.
+    pub fn due(&mut self, at: u64) -> u32
+        ensures most { result ≤ longest_tick }
+        ensures asked { IsAskedOf at result (Some self.old) (Some self.new) }
+    {
+        match &mut self.behind {
+            Backend::Card(card) => card.due(at),
+            Backend::Silence(_) | Backend::Files(_) | Backend::Codec(_) => 0,
+        }
     }
 
     /// Captures as many bytes as there is room for.
@@ -66,6 +114,7 @@ impl<F: Read + Write + Drop> AttachedDevice<F> {
             Backend::Silence(ty) => capture_silence(*ty, into),
             Backend::Files(files) => files.capture(into),
             Backend::Codec(ty) => capture_silence(*ty, into),
+            Backend::Card(card) => card.capture(into),
         }
     }
 
@@ -78,6 +127,7 @@ impl<F: Read + Write + Drop> AttachedDevice<F> {
             Backend::Silence(_) => Put::Done,
             Backend::Files(files) => files.emit(sound),
             Backend::Codec(_) => codec.emit(sound),
+            Backend::Card(card) => card.emit(sound),
         }
     }
 }

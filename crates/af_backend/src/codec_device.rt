@@ -88,6 +88,7 @@ impl<S: Spawner + Drop> CodecDevice<S> {
         match kind {
             Kind::Silent => true,
             Kind::Files { .. } => true,
+            Kind::Card { .. } => true,
             Kind::Codec { restarts, words } => self.set(restarts, words),
         }
     }

@@ -3,43 +3,48 @@ ghost use Rattle.std.specs.Prelude.{◌≡◌, ◌≢◌, ◌<◌, [], length, f
 ghost use Rattle.std.specs.declared.option.Option.TheVariants.{Some};
 ghost use Rattle.af_limits.specs.Limits.{most_devices};
 ghost use Rattle.af_codec.specs.Codec.{TellsThese};
-ghost use Rattle.af_backend.specs.Backends.{none_attached, opens_files, CapturesBy, CapturesAt, EmitsBy, EmitsAt, AttachesAt};
+ghost use Rattle.af_backend.specs.Backends.{none_attached, may_be_refused, CapturesBy, CapturesAt, EmitsBy, EmitsAt, AttachesAt};
 ghost use Rattle.af_backend.specs.CodecUse.{begun_codec, codec_allows, codec_behind};
-ghost use Rattle.af_backend.specs.Backends.{round_after};
-ghost use Rattle.af_pace.specs.Rounds.{new_round, is_paced};
+ghost use Rattle.af_backend.specs.Backends.{round_after, source_of};
+ghost use Rattle.af_backend.specs.Rounds.{new_round, is_attached, GoesOn};
+ghost use Rattle.af_backend.specs.Asked.{GoesOver};
 
 use crate::attached_device::AttachedDevice;
 use crate::codec_device::CodecDevice;
+use crate::round::Round;
+use crate::source::Source;
+use af_card::Card;
 use af_child::Spawner;
 use af_io::Put;
 use af_limits::MOST_DEVICES;
-use af_pace::Round;
-use af_sample::SampleType;
-use af_world::{Kind, Ready};
+use af_pace::Pace;
+use af_program::{Program, Programs};
+use af_world::{DeviceSpec, Kind, Ready};
 use std::alloc::Global;
 use std::io::{self, ErrorKind, Read, Write};
 use std::rt::Files;
 
-/// A device that is to be attached.
+/// A device that is to be attached at a moment.
 #[derive(Clone, Copy)]
 pub struct NewDevice<'a> {
+    pub alloc: Global,
     pub number: u8,
-    pub ty: SampleType,
-    pub rate: u32,
+    pub spec: &'a DeviceSpec,
     pub kind: Kind<'a>,
+    pub at: u64,
 }
 
 /// The devices that are attached, the codec, which one of them may stand over, and the round over all of them.
 #[derive(Drop)]
-pub struct Devices<F: Read + Write + Drop, S: Spawner + Drop> {
-    pub attached: [Option<AttachedDevice<F>>; MOST_DEVICES],
+pub struct Devices<F: Read + Write + Drop, S: Spawner + Drop, P: Program + Drop> {
+    pub attached: [Option<AttachedDevice<F, P>>; MOST_DEVICES],
     pub codec: CodecDevice<S>,
     pub round: Round,
 }
 
-impl<F: Read + Write + Drop, S: Spawner + Drop> Devices<F, S> {
+impl<F: Read + Write + Drop, S: Spawner + Drop, P: Program + Drop> Devices<F, S, P> {
     /// No devices. It takes no memory.
-    pub fn new(alloc: Global, spawner: S) -> Devices<F, S>
+    pub fn new(alloc: Global, spawner: S) -> Devices<F, S, P>
         requires { TellsThese [] (S.acts spawner) }
         ensures attached { result.attached ≡ none_attached }
         ensures codec { result.codec ≡ begun_codec (S.acts spawner) }
@@ -53,20 +58,25 @@ impl<F: Read + Write + Drop, S: Spawner + Drop> Devices<F, S> {
     }
 
     /// Attaches a device, if it is not yet. One device alone may have the codec behind it.
-    pub fn attach<R: Files<File = F>>(&mut self, rt: &R, asked: NewDevice<'_>) -> Ready
-        ensures attaches { result ≡ Ready.Done → (asked.entry.number < most_devices) × (is_paced self.old.round asked.entry.number ≡ false) }
+    pub fn attach<R: Files<File = F>, G: Programs<Made = P>>(
+        &mut self,
+        rt: &R,
+        programs: &mut G,
+        asked: NewDevice<'_>,
+    ) -> Ready
+        ensures attaches { result ≡ Ready.Done → (asked.entry.number < most_devices) × (is_attached self.old.round asked.entry.number ≡ false) }
         ensures allowed { result ≡ Ready.Done → codec_allows self.old.codec asked.entry.kind ≡ true }
-        ensures done { asked.entry.number < most_devices → is_paced self.old.round asked.entry.number ≡ false →
-            codec_allows self.old.codec asked.entry.kind ≡ true → opens_files asked.entry.kind ≡ false → result ≡ Ready.Done }
-        ensures round { self.new.round ≡ round_after result self.old.round asked.entry.number asked.entry.rate }
-        ensures attached { AttachesAt result asked.entry.kind asked.entry.number asked.entry.ty self.old.attached self.new.attached }
+        ensures done { asked.entry.number < most_devices → is_attached self.old.round asked.entry.number ≡ false →
+            codec_allows self.old.codec asked.entry.kind ≡ true → may_be_refused asked.entry.kind ≡ false → result ≡ Ready.Done }
+        ensures round { self.new.round ≡ round_after result asked.entry.kind self.old.round asked.entry.number asked.entry.spec.now.rate }
+        ensures attached { AttachesAt result asked.entry.kind asked.entry.number asked.entry.spec.now self.old.attached self.new.attached }
         ensures codec { self.new.codec ≡ codec_behind result asked.entry.kind self.old.codec }
     {
         let place = asked.number as usize;
-        if place >= self.attached.len() || self.round.is_paced(asked.number) {
+        if place >= self.attached.len() || self.round.is_attached(asked.number) {
             return Ready::Failed;
         }
-        let device = match AttachedDevice::new(rt, asked.ty, asked.kind) {
+        let device = match AttachedDevice::new(rt, programs, &asked) {
             Ok(device) => device,
             Err(e) if e.kind() == ErrorKind::OutOfMemory => return Ready::OutOfMemory,
             Err(_) => return Ready::Failed,
@@ -75,8 +85,24 @@ impl<F: Read + Write + Drop, S: Spawner + Drop> Devices<F, S> {
             return Ready::Failed;
         }
         self.attached[place] = Some(device);
-        self.round.add(asked.number, asked.rate);
+        self.round
+            .add(asked.number, source_of(asked.kind, asked.spec.rate));
         Ready::Done
+    }
+
+    /// The next device of the round of which a frame is due at this reading of the clock, and how many are. Devices whose time is that of
+    /// their program are asked.
+    pub fn next_tick(&mut self, nanos: u64) -> Option<(u8, u32)>
+        ensures on { GoesOn nanos self.old.round result self.new.round }
+        ensures over { GoesOver nanos self.old.round result self.new.round self.old.attached self.new.attached }
+        ensures rest { self.new ≡ record self.old { attached = self.new.attached; round = self.new.round } }
+    {
+        self.round.next_tick(nanos, &mut self.attached)
+    }
+
+    /// The device of a program whose time is that of the device, if this is one.
+    pub fn card(&self, device: u8) -> Option<&Card<P>> {
+        self.attached.get(device as usize)?.as_ref()?.card()
     }
 
     /// Captures of a device as many bytes as there is room for, by what stands behind it.
@@ -105,8 +131,21 @@ impl<F: Read + Write + Drop, S: Spawner + Drop> Devices<F, S> {
     }
 }
 
+/// The clock of a device of this kind, of which so many frames a second go by where it is that of the system.
+fn source_of(kind: Kind<'_>, rate: u32) -> Source
+    ensures { result ≡ source_of kind.entry rate }
+{
+    match kind {
+        Kind::Card { .. } => Source::Program,
+        Kind::Silent | Kind::Files { .. } | Kind::Codec { .. } => Source::Clock(Pace::new(rate)),
+    }
+}
+
 /// Captures of the device at a place, if there is one.
-fn capture_by<F: Read + Write + Drop>(place: &mut Option<AttachedDevice<F>>, into: &mut [u8]) -> Put
+fn capture_by<F: Read + Write + Drop, P: Program + Drop>(
+    place: &mut Option<AttachedDevice<F, P>>,
+    into: &mut [u8],
+) -> Put
     ensures { CapturesBy place.old result into.new place.new }
 {
     match place {
@@ -116,8 +155,8 @@ fn capture_by<F: Read + Write + Drop>(place: &mut Option<AttachedDevice<F>>, int
 }
 
 /// Hands sound out by the device at a place, if there is one.
-fn emit_by<F: Read + Write + Drop, S: Spawner + Drop>(
-    place: &mut Option<AttachedDevice<F>>,
+fn emit_by<F: Read + Write + Drop, S: Spawner + Drop, P: Program + Drop>(
+    place: &mut Option<AttachedDevice<F, P>>,
     codec: &mut CodecDevice<S>,
     sound: &[u8],
 ) -> Put

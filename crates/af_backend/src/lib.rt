@@ -1,9 +1,14 @@
-//! The devices of a server on real time, each over what stands behind it: silence, two files, or the codec.
+//! The devices of a server on real time, each over what stands behind it: silence, two files, the codec, or a program whose time is that
+//! of the device; and rounds over all of them.
 #![tactic(auto)]
 
 mod attached_device;
+mod card_device;
 mod codec_device;
 mod devices;
 mod file_device;
+mod round;
+mod source;
 
 pub use devices::{Devices, NewDevice, refusal};
+pub use round::{LONGEST_STEP_NANOS, Round};

@@ -1,3 +1,4 @@
 pub mod HeldLinksLemmas
 pub mod PollsLemmas
 pub mod RoundLemmas
+pub mod WakingLemmas

@@ -1,5 +1,5 @@
 -- A wait loses no frame of a device: what is due of it is given, or stays due.
-use Rattle.std.proofs.Common.{◌≡◌, ◌⊎◌, ⊎_elim, ℕ, ◌+◌, ◌-◌, ◌*◌, ◌/◌, ◌<◌, ◌≤◌, min, List, slice_index_or, sym, ap, ◌∙◌, arith, Option, Some, None}
+use Rattle.std.proofs.Common.{◌≡◌, ◌⊎◌, ⊎_elim, ℕ, ◌+◌, ◌-◌, ◌*◌, ◌/◌, ◌<◌, ◌≤◌, min, List, slice_index_or, sym, ap, ◌∙◌, arith, Option, Some, None, Bool, if◌then◌else◌}
 use Rattle.std.proofs.lemmas.Grind.{common_steps}
 use Rattle.std.proofs.lemmas.Bool.{cases_lt, cases_eq, eq-eqb}
 use Rattle.std.proofs.Math.Nat.{le_refl}
@@ -7,7 +7,10 @@ use Rattle.af_limits.specs.Limits.{longest_tick}
 use Rattle.af_world.specs.declared.happening.Wake.{Wake}
 use Rattle.af_world.specs.declared.happening.Wake.TheVariants as wake
 use Rattle.af_pace.specs.Pacing.{PaceState, due_at, after_due}
-use Rattle.af_pace.specs.Rounds.{RoundState, pace_at, due_of, read_at, PacesAsked, RoundTicks, round_begun}
+use Rattle.af_backend.specs.declared.source.Source.{Source}
+use Rattle.af_backend.specs.declared.source.Source.TheVariants as source
+use Rattle.af_backend.specs.Rounds.{RoundState, source_at, source_in, due_of, read_at, SourcesRead, RoundTicks, round_begun}
+use Rattle.af_backend.specs.Backends.{BackendState}
 use Rattle.af_live.specs.declared.link_table.LinkEntry.{LinkEntry}
 use Rattle.af_live.specs.RealWorld.{GivesKept, PassesAll, LeadsRound, LosesNoFrame, ticked_by}
 
@@ -25,26 +28,27 @@ pace_keeps : (rate : ℕ) (first : Option ℕ) (answered nanos t : ℕ) → let 
 pace_keeps rate None answered nanos t = omega (arith, unread rate answered t)
 pace_keeps rate (Some first) answered nanos t = given_or_due rate answered first nanos t
 
-device_keeps : (o : Option PaceState) (nanos t : ℕ) → due_of t o ≤ due_of nanos o + due_of t (read_at nanos o)
+device_keeps : (o : Option Source) (nanos t : ℕ) → due_of t o ≤ due_of nanos o + due_of t (read_at nanos o)
 device_keeps None nanos t = le_refl 0
-device_keeps (Some p) nanos t = pace_keeps p.rate p.first p.answered nanos t
+device_keeps (Some (source.Clock p)) nanos t = pace_keeps p.rate p.first p.answered nanos t
+device_keeps (Some source.Program) nanos t = le_refl 0
 
 -- of devices that were asked, no frame is lost but those that were due at the reading
-asked_keeps : (nanos from to : ℕ) (old new : List (Option PaceState)) → PacesAsked nanos from to old new → (d t : ℕ) → due_of t (slice_index_or old d None) ≤ due_of nanos (slice_index_or old d None) + due_of t (slice_index_or new d None)
+asked_keeps : (nanos from to : ℕ) (old new : List (Option Source)) → SourcesRead nanos from to old new → (d t : ℕ) → due_of t (source_in old d) ≤ due_of nanos (source_in old d) + due_of t (source_in new d)
 asked_keeps nanos from to old new asked d t =
-    let stays : slice_index_or new d None ≡ slice_index_or old d None → due_of t (slice_index_or old d None) ≤ due_of nanos (slice_index_or old d None) + due_of t (slice_index_or new d None)
+    let stays : source_in new d ≡ source_in old d → due_of t (source_in old d) ≤ due_of nanos (source_in old d) + due_of t (source_in new d)
     = λ same. omega (arith, ap (due_of t) same) in
     ⊎_elim (λ below. stays (asked.below d below))
     (λ on. ⊎_elim
-    (λ within. omega (arith, ap (due_of t) (asked.inside d within on), device_keeps (slice_index_or old d None) nanos t))
+    (λ within. omega (arith, ap (due_of t) (asked.inside d within on), device_keeps (source_in old d) nanos t))
     (λ above. stays (asked.above d above))
     (cases_lt d to))
     (cases_lt d from)
 
 -- nor of one of which nothing was due
-quiet_keeps : (nanos from to : ℕ) (old new : List (Option PaceState)) → PacesAsked nanos from to old new → (d t : ℕ) → (d < to → from ≤ d → due_of nanos (slice_index_or old d None) ≡ 0) → due_of t (slice_index_or old d None) ≤ due_of t (slice_index_or new d None)
+quiet_keeps : (nanos from to : ℕ) (old new : List (Option Source)) → SourcesRead nanos from to old new → (d t : ℕ) → (d < to → from ≤ d → due_of nanos (source_in old d) ≡ 0) → due_of t (source_in old d) ≤ due_of t (source_in new d)
 quiet_keeps nanos from to old new asked d t none =
-    let stays : slice_index_or new d None ≡ slice_index_or old d None → due_of t (slice_index_or old d None) ≤ due_of t (slice_index_or new d None)
+    let stays : source_in new d ≡ source_in old d → due_of t (source_in old d) ≤ due_of t (source_in new d)
     = λ same. omega (arith, ap (due_of t) same) in
     ⊎_elim (λ below. stays (asked.below d below))
     (λ on. ⊎_elim
@@ -53,29 +57,34 @@ quiet_keeps nanos from to old new asked d t none =
     (cases_lt d to))
     (cases_lt d from)
 
-passes_keeps : (old past : RoundState) → PassesAll old past → (d t : ℕ) → due_of t (pace_at old d) ≤ due_of t (pace_at past d)
-passes_keeps old past h d t = quiet_keeps h.0 old.next past.next old.paces past.paces h.2.0.asked d t (h.2.0.none d)
+passes_keeps : (old past : RoundState) (behind behind' : List (Option BackendState)) → PassesAll old behind past behind' →
+    (d t : ℕ) → due_of t (source_at old d) ≤ due_of t (source_at past d)
+passes_keeps old past behind behind' h d t =
+    quiet_keeps h.0 old.next past.next old.sources past.sources h.2.0.read d t (h.2.0.none d)
 
-frames_of : (d n e due : ℕ) → e ≡ d → n ≡ due → ticked_by (Some (wake.Ticked d n)) e ≡ due
-frames_of d n e due same is = rw (eq-eqb e d same) is
+frames_of : (d n e : ℕ) → e ≡ d → ticked_by (Some (wake.Ticked d n)) e ≡ n
+frames_of d n e same = ap (λ (b : Bool). if b then n else 0) (eq-eqb e d same)
 
-tick_keeps : (nanos d n : ℕ) (old new : RoundState) → RoundTicks nanos d n old new → (e t : ℕ) → due_of t (pace_at old e) ≤ ticked_by (Some (wake.Ticked d n)) e + due_of t (pace_at new e)
+tick_keeps : (nanos d n : ℕ) (old new : RoundState) → RoundTicks nanos d n old new → (e t : ℕ) →
+    due_of t (source_at old e) ≤ ticked_by (Some (wake.Ticked d n)) e + due_of t (source_at new e)
 tick_keeps nanos d n old new r e t =
     ⊎_elim
-    (λ same. omega (arith, asked_keeps nanos old.next (d + 1) old.paces new.paces r.asked e t, frames_of d n e (due_of nanos (pace_at old e)) same (r.frames ∙ ap (λ k. due_of nanos (pace_at old k)) (sym same))))
-    (λ other. omega (arith, quiet_keeps nanos old.next (d + 1) old.paces new.paces r.asked e t (λ within on. r.none e (omega arith) on)))
+    (λ same. omega (arith, asked_keeps nanos old.next (d + 1) old.sources new.sources r.read e t, frames_of d n e same, r.all, ap (λ k. due_of nanos (source_at old k)) same))
+    (λ other. omega (arith, quiet_keeps nanos old.next (d + 1) old.sources new.sources r.read e t (λ within on. r.none e (omega arith) on)))
     (cases_eq e d)
 
 -- a wait that does not tick loses no frame
-begins_keeps : (w : Wake) (links links' : List (Option LinkEntry)) (old new : RoundState) →
-    GivesKept (Some w) links old links' new ⊎ ((past : RoundState) × PassesAll old past × (new ≡ round_begun past)) → (d t : ℕ) → due_of t (pace_at old d) ≤ due_of t (pace_at new d)
-begins_keeps w links links' old new h d t =
-    ⊎_elim (λ still. omega (arith, ap (λ (r : RoundState). due_of t (pace_at r d)) still.1))
-    (λ on. omega (arith, passes_keeps old on.0 on.1 d t, ap (λ (r : RoundState). due_of t (pace_at r d)) on.2))
+begins_keeps : (w : Wake) (links links' : List (Option LinkEntry)) (old new : RoundState) (behind behind' : List (Option BackendState)) →
+    (GivesKept (Some w) links old links' new × (behind' ≡ behind)) ⊎ ((past : RoundState) × PassesAll old behind past behind' × (new ≡ round_begun past)) →
+    (d t : ℕ) → due_of t (source_at old d) ≤ due_of t (source_at new d)
+begins_keeps w links links' old new behind behind' h d t =
+    ⊎_elim (λ still. omega (arith, ap (λ (r : RoundState). due_of t (source_at r d)) still.0.1))
+    (λ on. omega (arith, passes_keeps old on.0 behind behind' on.1 d t, ap (λ (r : RoundState). due_of t (source_at r d)) on.2))
     h
 
-pub waits_lose_none : (w : Option Wake) (links links' : List (Option LinkEntry)) (old new : RoundState) → LeadsRound w links old links' new → LosesNoFrame w old new
-waits_lose_none None links links' old new h = λ d t.
-    ⊎_elim (λ still. omega (arith, ap (λ (r : RoundState). due_of t (pace_at r d)) still)) (λ passed. omega (arith, passes_keeps old new passed d t)) h
-waits_lose_none (Some (wake.Ticked d n)) links links' old new h = λ e t. tick_keeps h.0 d n old new h.2 e t
-waits_lose_none (Some w) links links' old new h = λ d t. omega (arith, begins_keeps w links links' old new h d t)
+pub waits_lose_none : (w : Option Wake) (links links' : List (Option LinkEntry)) (old new : RoundState) (behind behind' : List (Option BackendState)) →
+    LeadsRound w links old behind links' new behind' → LosesNoFrame w old new
+waits_lose_none None links links' old new behind behind' h = λ d t.
+    ⊎_elim (λ still. omega (arith, ap (λ (r : RoundState). due_of t (source_at r d)) still.0)) (λ passed. omega (arith, passes_keeps old new behind behind' passed d t)) h
+waits_lose_none (Some (wake.Ticked d n)) links links' old new behind behind' h = λ e t. tick_keeps h.0 d n old new h.2 e t
+waits_lose_none (Some w) links links' old new behind behind' h = λ d t. omega (arith, begins_keeps w links links' old new behind behind' h d t)

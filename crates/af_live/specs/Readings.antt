@@ -1,6 +1,6 @@
 -- What a wait goes by: the reading of a round, and for how long a poll waits.
-use Rattle.std.specs.Prelude.{◌≡◌, ℕ, ◌-◌, ◌%◌, Bool, if◌then◌else◌, Option, Some, None}
-use Rattle.af_pace.specs.Rounds.{reading_after}
+use Rattle.std.specs.Prelude.{◌≡◌, ℕ, ◌-◌, ◌%◌, ◌||◌, Bool, if◌then◌else◌, Option, Some, None}
+use Rattle.af_backend.specs.Rounds.{reading_after}
 
 -- what a clock shows, in nanoseconds, rounded down to whole milliseconds
 abbrev pub whole_millis : ℕ → ℕ
@@ -12,7 +12,7 @@ abbrev pub IsReadingBy : Option ℕ → Option ℕ → ℕ → Type 0
 IsReadingBy None last nanos = (shown : ℕ) × (nanos ≡ reading_after last (whole_millis shown))
 IsReadingBy (Some taken) last nanos = nanos ≡ taken
 
--- For how many nanoseconds a poll waits at most: for none if there is more to do; for a millisecond if the server is behind the clock
--- by a whole step; for none if a device ticked in the round.
+-- For how many nanoseconds a poll waits at most: for none if there is more to do, if a device ticked in the round, or if the server is
+-- behind the clock by a whole step.
 abbrev pub pause_of : Bool → Bool → Bool → ℕ
-pause_of more ticked behind = if more then 0 else (if behind then 1000000 else (if ticked then 0 else 10000000))
+pause_of more ticked behind = if more || ticked || behind then 0 else 10000000

@@ -17,7 +17,8 @@ use Rattle.af_live.specs.LinkTable.{free_entry, LinkWakeFits, GivesFirst}
 use Rattle.af_backend.specs.Backends.{BackendState, none_attached, all_without_bytes}
 use Rattle.af_backend.specs.CodecUse.{CodecUse, begun_codec}
 use Rattle.af_live.specs.Readings.{IsReadingBy}
-use Rattle.af_pace.specs.Rounds.{RoundState, new_round, pace_at, is_paced, round_begun, due_of, GoesOn}
+use Rattle.af_backend.specs.Rounds.{RoundState, new_round, source_at, is_attached, round_begun, due_of, GoesOn}
+use Rattle.af_backend.specs.Asked.{GoesOver}
 
 -- Whether it listens; the links that it holds; what stands behind each device that is attached; its codec; its round over the
 -- devices; and how often each kind of call has failed.
@@ -64,7 +65,7 @@ RealLeadsTo-trans a b c p q = record {
 
 -- A wake opens a link that is not open, names one that is, or ticks a device that is attached by 1 to 4096 frames.
 abbrev pub WakeFits : List (Option LinkEntry) → RoundState → Wake → Type 0
-WakeFits links round (wake.Ticked d n) = (is_paced round d ≡ true) × (1 ≤ n) × (n ≤ longest_tick)
+WakeFits links round (wake.Ticked d n) = (is_attached round d ≡ true) × (1 ≤ n) × (n ≤ longest_tick)
 WakeFits links round w = LinkWakeFits links w
 
 -- What is ready first is given, and the round stays where it is.
@@ -73,27 +74,29 @@ GivesKept None links round links' round' = ⊥
 GivesKept (Some w) links round links' round' = GivesFirst links (Some w) links' × (round' ≡ round)
 
 -- Each device that the round has left is asked at its one reading, and none has a frame due.
-abbrev pub PassesAll : RoundState → RoundState → Type 0
-PassesAll old past = (nanos : ℕ) × IsReadingBy old.reading old.last nanos × GoesOn nanos old None past
+abbrev pub PassesAll : RoundState → List (Option BackendState) → RoundState → List (Option BackendState) → Type 0
+PassesAll old behind past behind' =
+    (nanos : ℕ) × IsReadingBy old.reading old.last nanos × GoesOn nanos old None past × GoesOver nanos old None past behind behind'
 
--- A tick is that of the next device of the round of which frames are due, at the one reading of the round. Any other wake was
--- kept ready, and the round stays where it is; or it comes after the last of the devices, of which none has a frame due then, and a
--- new round begins. A wait that failed begins none.
-abbrev pub LeadsRound : Option Wake → List (Option LinkEntry) → RoundState → List (Option LinkEntry) → RoundState → Type 0
-LeadsRound None links old links' new = (new ≡ old) ⊎ PassesAll old new
-LeadsRound (Some (wake.Ticked d n)) links old links' new =
-    (nanos : ℕ) × IsReadingBy old.reading old.last nanos × GoesOn nanos old (Some (d, n)) new
-LeadsRound (Some w) links old links' new =
-    GivesKept (Some w) links old links' new ⊎ ((past : RoundState) × PassesAll old past × (new ≡ round_begun past))
+-- A tick is that of the next device of the round of which frames are due, at the one reading of the round: by the system's clock, or by
+-- its program. Any other wake was kept ready, and the round and the devices stay where they are; or it comes after the last of the
+-- devices, of which none has a frame due then, and a new round begins. A wait that failed begins none.
+abbrev pub LeadsRound : Option Wake → List (Option LinkEntry) → RoundState → List (Option BackendState) → List (Option LinkEntry) → RoundState → List (Option BackendState) → Type 0
+LeadsRound None links old behind links' new behind' = ((new ≡ old) × (behind' ≡ behind)) ⊎ PassesAll old behind new behind'
+LeadsRound (Some (wake.Ticked d n)) links old behind links' new behind' =
+    (nanos : ℕ) × IsReadingBy old.reading old.last nanos × GoesOn nanos old (Some (d, n)) new × GoesOver nanos old (Some (d, n)) new behind behind'
+LeadsRound (Some w) links old behind links' new behind' =
+    (GivesKept (Some w) links old links' new × (behind' ≡ behind))
+    ⊎ ((past : RoundState) × PassesAll old behind past behind' × (new ≡ round_begun past))
 
 -- how many frames of a device a wait gave
 abbrev pub ticked_by : Option Wake → ℕ → ℕ
 ticked_by (Some (wake.Ticked d n)) e = if e == d then n else 0
 ticked_by _ e = 0
 
--- No frame is lost: what is due of a device at any reading is given, or stays due.
+-- No frame is lost: what is due of a device at any reading of the system's clock is given, or stays due.
 abbrev pub LosesNoFrame : Option Wake → RoundState → RoundState → Type 0
-LosesNoFrame w old new = (d nanos : ℕ) → due_of nanos (pace_at old d) ≤ ticked_by w d + due_of nanos (pace_at new d)
+LosesNoFrame w old new = (d nanos : ℕ) → due_of nanos (source_at old d) ≤ ticked_by w d + due_of nanos (source_at new d)
 
 -- whether it listens behind a listen
 abbrev pub listens_behind : Ready → Bool → Bool

@@ -9,6 +9,7 @@ mod links;
 mod mio_world;
 mod sockets;
 mod turned_away;
+mod waking;
 
 pub use af_config::{ConfigFault, Setting, read_config};
 pub use af_pace::Pace;

@@ -1,72 +1,56 @@
-// The real outside of a server: sockets, the clock of the system, and devices that are silent or stand over files or a codec.
+// The real outside of a server: sockets, the clock of the system, and devices that are silent or stand over files, a codec or a program
+// of their own.
 // How it lies: `links` has a place for each of 32 numbers: the key of the link's stream, and what is ready of it and was not
 // given yet. The streams lie under these keys in the slab of `sockets`, beside the poll and the listener. Of each of 8 devices
-// `devices` has the pace and what stands behind it, and beside them the codec, which may stand behind one. Faults of links, devices,
+// `devices` has the clock and what stands behind it, and beside them the codec, which may stand behind one. Faults of links, devices,
 // listens and waits are counted apart. Contracts see these tables and counts; of the sockets only whether there are any.
-ghost use Rattle.std.specs.Prelude.{◌≡◌, ◌≤◌, ◌<◌, ◌^◌, [], ℕ, length, not, true, false, is_some, IfSome, MatchOption};
+ghost use Rattle.std.specs.Prelude.{◌≡◌, ◌≤◌, ◌<◌, [], ℕ, length, not, true, false, is_some, IfSome, MatchOption};
 ghost use Rattle.std.specs.declared.option.Option.TheVariants.{None};
-ghost use Rattle.std.specs.Duration.{as_nanos};
 ghost use Rattle.af_limits.specs.Limits.{most_links, most_devices, longest_read, output_room};
 ghost use Rattle.af_io.specs.Observed.{FaultCounted};
 ghost use Rattle.af_world.specs.World.{LinkGotFits, TookFits};
 ghost use Rattle.af_live.specs.LinkTable.{is_drained, is_free, link_at, something_ready, AfterRead, AfterWrite, KeepsOpen, ClosesOne, LinkWakeFits, Opens};
 ghost use Rattle.af_live.specs.Counting.{CountsOne, CountsStand};
 ghost use Rattle.af_codec.specs.Codec.{TellsThese};
-ghost use Rattle.af_backend.specs.Backends.{opens_files, round_after, CapturesAt, EmitsAt, AttachesAt};
+ghost use Rattle.af_backend.specs.Backends.{may_be_refused, round_after, CapturesAt, EmitsAt, AttachesAt};
 ghost use Rattle.af_backend.specs.CodecUse.{codec_allows, codec_behind};
-ghost use Rattle.af_live.specs.Readings.{whole_millis, pause_of, IsReadingBy};
-ghost use Rattle.af_pace.specs.Rounds.{is_paced, round_begun};
-ghost use Rattle.af_live.specs.Polls.{LeadsLinks, PolledGives, TakesLeast};
+ghost use Rattle.af_backend.specs.Rounds.{is_attached};
+ghost use Rattle.af_live.specs.Polls.{LeadsLinks, TakesLeast};
 ghost use Rattle.af_live.specs.RealWorld.{RealLeadsTo, begun_world, given, listens_behind, GivesKept, LeadsRound, LosesNoFrame, WakeFits};
 
 use crate::counting::{count_got, count_put, count_ready, count_took, count_waited};
 use crate::held_links::HeldLinks;
 use crate::links::{close_link, read_link, write_link};
 use crate::sockets::Sockets;
+use crate::waking::{Step, answer, next_wake, time_of};
 use af_backend::{Devices, NewDevice, refusal};
+use af_card::Card;
 use af_child::Spawner;
 use af_codec::Codec;
 use af_io::Put;
-use af_pace::{LONGEST_STEP_NANOS, Round};
+use af_program::{NoPrograms, Programs};
 use af_world::{DeviceSpec, Kind, LinkGot, LinkTook, Live, Ready, Waited, Wake, Why, World};
 use mio::net::TcpStream;
 use std::alloc::Global;
 use std::marker::Model;
 use std::net::Net;
 use std::rt::Files;
-use std::time::{Clock, Duration};
-
-/// How many milliseconds a wait with nothing to do waits at most, and so the longest that a device may be late.
-const LONGEST_PAUSE_MILLIS: u64 = 10;
-
-/// How many milliseconds a server that catches up serves its clients between two steps, and how long a wait of it waits at most for what
-/// they send. Without this a fast server leaves them behind.
-const CATCHING_UP_PAUSE_MILLIS: u64 = 1;
-
-const NANOS_A_MILLISECOND: u64 = 1_000_000;
-
-/// The last step of the readings: what the clock showed then, the reading itself, and whether the clock was ahead of it by a whole step
-/// of a server that catches up, or more.
-#[derive(Clone, Copy, Default)]
-struct Step {
-    shown: u64,
-    reading: u64,
-    is_behind: bool,
-}
+use std::time::Clock;
 
 /// The real outside of a server. It listens at one address, whose links it numbers from 0, at most 32 at a time; a further one is
-/// accepted and ended at once. Up to 8 devices go on by the clock of the system, a Pace for each.
+/// accepted and ended at once. Up to 8 devices go on by the clock of the system, or by that of their program.
 ///
-/// A server's `main` makes one with `MioWorld::new(rt.clone()?, rt.alloc(), spawner)` and hands it, with the words of its command line and its
+/// A server's `main` makes one with `MioWorld::with_programs(rt.clone()?, rt.alloc(), spawner, programs)` and hands it, with the words of its command line and its
 /// configuration, to the server: `listen` comes first, then an `attach` of each device, then a `wait` before each turn.
 ///
 /// It tells nothing of what happened. The counts of its faults stand still at 2^64 - 1.
 #[derive(Drop)]
-pub struct MioWorld<R: Net + Clock + Files + Drop, S: Spawner + Drop> {
+pub struct MioWorld<R: Net + Clock + Files + Drop, S: Spawner + Drop, G: Programs + Drop> {
     rt: R,
+    programs: G,
     sockets: Option<Sockets>,
     links: HeldLinks,
-    devices: Devices<R::File, S>,
+    devices: Devices<R::File, S, G::Made>,
     step: Step,
     link_faults: u64,
     device_faults: u64,
@@ -74,7 +58,8 @@ pub struct MioWorld<R: Net + Clock + Files + Drop, S: Spawner + Drop> {
     wait_faults: u64,
 }
 
-impl<R: Net + Clock + Files + Drop, S: Spawner + Drop> Model for MioWorld<R, S> {
+impl<R: Net + Clock + Files + Drop, S: Spawner + Drop, G: Programs + Drop> Model
+    for MioWorld<R, S, G> {
     ghost use Rattle.std.specs.Prelude.{is_some};
     ghost use Rattle.af_live.specs.RealWorld.{RealState};
 
@@ -93,15 +78,27 @@ impl<R: Net + Clock + Files + Drop, S: Spawner + Drop> Model for MioWorld<R, S> 
     } };
 }
 
-impl<R: Net + Clock + Files + Drop, S: Spawner + Drop> MioWorld<R, S> {
-    /// A world over the sockets, the files and the clock of this runtime, and over a spawner that tells of no act. It takes no
-    /// memory and asks nothing of the system.
-    pub fn new(rt: R, alloc: Global, spawner: S) -> MioWorld<R, S>
+impl<R: Net + Clock + Files + Drop, S: Spawner + Drop> MioWorld<R, S, NoPrograms> {
+    /// A world over the sockets, the files and the clock of this runtime, and over a spawner that tells of no act. No device has a program
+    /// whose time it goes by. It takes no memory and asks nothing of the system.
+    pub fn new(rt: R, alloc: Global, spawner: S) -> MioWorld<R, S, NoPrograms>
+        requires { TellsThese [] (S.acts spawner) }
+        ensures { result ≡ begun_world (S.acts spawner) }
+    {
+        MioWorld::with_programs(rt, alloc, spawner, NoPrograms)
+    }
+}
+
+impl<R: Net + Clock + Files + Drop, S: Spawner + Drop, G: Programs + Drop> MioWorld<R, S, G> {
+    /// A world over the sockets, the files and the clock of this runtime, over a spawner that tells of no act, and over these programs. It
+    /// takes no memory and asks nothing of the system.
+    pub fn with_programs(rt: R, alloc: Global, spawner: S, programs: G) -> MioWorld<R, S, G>
         requires { TellsThese [] (S.acts spawner) }
         ensures { result ≡ begun_world (S.acts spawner) }
     {
         MioWorld {
             rt,
+            programs,
             sockets: None,
             links: HeldLinks::new(),
             devices: Devices::new(alloc, spawner),
@@ -122,6 +119,11 @@ impl<R: Net + Clock + Files + Drop, S: Spawner + Drop> MioWorld<R, S> {
         self.devices.codec.codec()
     }
 
+    /// The device of a program whose time is that of the device, if this is one.
+    pub fn card(&self, device: u8) -> Option<&Card<G::Made>> {
+        self.devices.card(device)
+    }
+
     /// What it listens with, if it does.
     pub fn sockets(&self) -> Option<&Sockets> {
         self.sockets.as_ref()
@@ -134,7 +136,8 @@ impl<R: Net + Clock + Files + Drop, S: Spawner + Drop> MioWorld<R, S> {
     }
 }
 
-impl<R: Net + Clock + Files + Drop, S: Spawner + Drop> World for MioWorld<R, S> {
+impl<R: Net + Clock + Files + Drop, S: Spawner + Drop, G: Programs + Drop> World
+    for MioWorld<R, S, G> {
     ghost use Rattle.af_live.specs.RealWorld.{RealLeadsTo-refl, RealLeadsTo-trans};
 
     ghost log = { λ _. None };
@@ -230,7 +233,8 @@ impl<R: Net + Clock + Files + Drop, S: Spawner + Drop> World for MioWorld<R, S> 
     }
 }
 
-impl<R: Net + Clock + Files + Drop, S: Spawner + Drop> Live for MioWorld<R, S> {
+impl<R: Net + Clock + Files + Drop, S: Spawner + Drop, G: Programs + Drop> Live
+    for MioWorld<R, S, G> {
     ghost listen_faults = { λ world. world.listen_faults };
 
     ghost wait_faults = { λ world. world.wait_faults };
@@ -257,26 +261,27 @@ impl<R: Net + Clock + Files + Drop, S: Spawner + Drop> Live for MioWorld<R, S> {
         listened
     }
 
-    fn attach(&mut self, _alloc: Global, device: u8, spec: &DeviceSpec, kind: Kind<'_>) -> Ready
+    fn attach(&mut self, alloc: Global, device: u8, spec: &DeviceSpec, kind: Kind<'_>) -> Ready
         ensures faults { CountsOne (result ≡ Ready.Failed) self.old.device_faults self.new.device_faults }
-        ensures attaches { result ≡ Ready.Done → (device < most_devices) × (is_paced self.old.round device ≡ false) }
-        ensures round { self.new.round ≡ round_after result self.old.round device spec.now.rate }
+        ensures attaches { result ≡ Ready.Done → (device < most_devices) × (is_attached self.old.round device ≡ false) }
+        ensures round { self.new.round ≡ round_after result kind.entry self.old.round device spec.now.rate }
         ensures allowed { result ≡ Ready.Done → codec_allows self.old.codec kind.entry ≡ true }
-        ensures done { device < most_devices → is_paced self.old.round device ≡ false →
-            codec_allows self.old.codec kind.entry ≡ true → opens_files kind.entry ≡ false → result ≡ Ready.Done }
-        ensures behind { AttachesAt result kind.entry device spec.now.ty self.old.behind self.new.behind }
+        ensures done { device < most_devices → is_attached self.old.round device ≡ false →
+            codec_allows self.old.codec kind.entry ≡ true → may_be_refused kind.entry ≡ false → result ≡ Ready.Done }
+        ensures behind { AttachesAt result kind.entry device spec.now self.old.behind self.new.behind }
         ensures codec { self.new.codec ≡ codec_behind result kind.entry self.old.codec }
         ensures rest { self.new ≡ record self.old
             { behind = self.new.behind; codec = self.new.codec; round = self.new.round; device_faults = self.new.device_faults } }
         ensures counts { CountsStand self.old self.new }
     {
         let asked = NewDevice {
+            alloc,
             number: device,
-            ty: spec.ty,
-            rate: spec.rate,
+            spec,
             kind,
+            at: time_of(&self.rt),
         };
-        let attached = self.devices.attach(&self.rt, asked);
+        let attached = self.devices.attach(&self.rt, &mut self.programs, asked);
         count_ready(attached, &mut self.device_faults);
         attached
     }
@@ -291,10 +296,10 @@ impl<R: Net + Clock + Files + Drop, S: Spawner + Drop> Live for MioWorld<R, S> {
             (λ wake. Opens wake self.old.links self.new.links) }
         ensures links { LeadsLinks (given result) self.old.links self.new.links }
         ensures least { TakesLeast self.old.links self.new.links }
-        ensures round { LeadsRound (given result) self.old.links self.old.round self.new.links self.new.round }
+        ensures round { LeadsRound (given result) self.old.links self.old.round self.old.behind self.new.links self.new.round self.new.behind }
         ensures frames { LosesNoFrame (given result) self.old.round self.new.round }
         ensures rest { self.new
-            ≡ record self.old { links = self.new.links; round = self.new.round; wait_faults = self.new.wait_faults } }
+            ≡ record self.old { links = self.new.links; behind = self.new.behind; round = self.new.round; wait_faults = self.new.wait_faults } }
         ensures counts { CountsStand self.old self.new }
     {
         let next = next_wake(
@@ -302,7 +307,7 @@ impl<R: Net + Clock + Files + Drop, S: Spawner + Drop> Live for MioWorld<R, S> {
             more,
             &mut self.sockets,
             &mut self.links,
-            &mut self.devices.round,
+            &mut self.devices,
             &mut self.step,
         );
         let waited = answer(next);
@@ -330,121 +335,5 @@ fn begin_to_listen<R: Net>(
             Ready::Done
         }
         Err(e) => refusal(&e),
-    }
-}
-
-/// What a clock shows, in nanoseconds and rounded down to whole milliseconds: no frame ticks before its time, and a round that
-/// follows another within the millisecond finds nothing due, and sleeps.
-fn whole_millis(shown: Duration) -> Option<u64>
-    ensures { MatchOption result (2 ^ 64 ≤ as_nanos shown) (λ nanos. nanos ≡ whole_millis (as_nanos shown)) }
-{
-    let nanos = u64::try_from(shown.as_nanos()).ok()?;
-    Some(nanos - nanos % NANOS_A_MILLISECOND)
-}
-
-/// The reading of the clock that a round goes by: its own, or one that is taken now. After the server stood still that is behind
-/// what the clock shows, step by step at most 20 milliseconds further. Between two steps rounds go by the same reading for a
-/// millisecond, in which all clients are served.
-fn reading<R: Clock>(rt: &R, round: &Round, step: &mut Step) -> Option<u64>
-    ensures { IfSome result (λ nanos. IsReadingBy round.now.reading round.now.last nanos) }
-{
-    if let Some(taken) = round.reading() {
-        return Some(taken);
-    }
-    let shown = rt.monotonic().ok()?;
-    let next = round.reading_after(whole_millis(shown)?);
-    let shown = u64::try_from(shown.as_nanos()).ok()?;
-    let is_behind = shown.saturating_sub(next) >= LONGEST_STEP_NANOS;
-    let pause = CATCHING_UP_PAUSE_MILLIS * NANOS_A_MILLISECOND;
-    if is_behind && shown.saturating_sub(step.shown) < pause {
-        return Some(round.reading_after(whole_millis(Duration::from_nanos(step.reading))?));
-    }
-    *step = Step {
-        shown,
-        reading: next,
-        is_behind,
-    };
-    Some(next)
-}
-
-/// What a poll finds first, at this reading of the clock. A new round over the devices begins behind it.
-fn poll_once(
-    sockets: &mut Sockets,
-    pause: Duration,
-    nanos: u64,
-    links: &mut HeldLinks,
-    round: &mut Round,
-) -> Option<Wake>
-    ensures fits { IfSome result (λ wake. LinkWakeFits links.old wake) }
-    ensures opens { MatchOption result (KeepsOpen links.old links.new) (λ wake. Opens wake links.old links.new) }
-    ensures links { MatchOption result (links.new ≡ links.old) (λ wake. PolledGives wake links.old links.new) }
-    ensures round { MatchOption result (round.new ≡ round.old) (λ wake. round.new ≡ round_begun round.old) }
-{
-    if !sockets.poll(pause, nanos, links) {
-        return None;
-    }
-    round.begin();
-    match links.take_ready() {
-        Some(wake) => Some(wake),
-        None => Some(Wake::Idle),
-    }
-}
-
-/// The next wake: what is kept ready, or the next device of the round of which frames are due, or what the next poll finds. None
-/// if the system was not to be asked.
-fn next_wake<R: Clock>(
-    rt: &R,
-    more: bool,
-    sockets: &mut Option<Sockets>,
-    links: &mut HeldLinks,
-    round: &mut Round,
-    step: &mut Step,
-) -> Option<Wake>
-    ensures listens { is_some sockets.new ≡ is_some sockets.old }
-    ensures unlistened { is_some sockets.old ≡ false → result ≡ None }
-    ensures kept { (k : ℕ) → is_some sockets.old ≡ true → k < most_links → something_ready (link_at links.old k) ≡ true →
-        GivesKept result links.old round.old links.new round.new }
-    ensures fits { IfSome result (λ wake. WakeFits links.old round.old wake) }
-    ensures opens { MatchOption result (KeepsOpen links.old links.new) (λ wake. Opens wake links.old links.new) }
-    ensures links { LeadsLinks result links.old links.new }
-    ensures round { LeadsRound result links.old round.old links.new round.new }
-{
-    let Some(sockets) = sockets else {
-        return None;
-    };
-    if let Some(wake) = links.take_ready() {
-        return Some(wake);
-    }
-    let nanos = reading(rt, round, step)?;
-    if let Some((device, frames)) = round.next_tick(nanos) {
-        return Some(Wake::Ticked(device, frames));
-    }
-    let pause = pause(more, round.has_ticked(), step.is_behind);
-    poll_once(sockets, pause, nanos, links, round)
-}
-
-/// What a wait answers that found this wake, or none.
-fn answer(next: Option<Wake>) -> Waited
-    ensures given { given result ≡ next }
-    ensures failed { next ≡ None → result ≡ Waited.Failed }
-{
-    match next {
-        Some(wake) => Waited::Woke(wake),
-        None => Waited::Failed,
-    }
-}
-
-/// How long a poll waits at most.
-fn pause(more: bool, ticked: bool, behind: bool) -> Duration
-    ensures { as_nanos result ≡ pause_of more ticked behind }
-{
-    if more {
-        Duration::ZERO
-    } else if behind {
-        Duration::from_millis(CATCHING_UP_PAUSE_MILLIS)
-    } else if ticked {
-        Duration::ZERO
-    } else {
-        Duration::from_millis(LONGEST_PAUSE_MILLIS)
     }
 }

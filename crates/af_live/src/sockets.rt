@@ -8,9 +8,11 @@ use crate::held_links::HeldLinks;
 use crate::link_table::Told;
 use crate::turned_away::TurnedAway;
 use af_io::keep_alive;
-use af_limits::MOST_LINKS;
+use af_limits::{MOST_DEVICES, MOST_LINKS};
+use af_program::ProgramSockets;
 use mio::event::Event;
 use mio::net::{TcpListener, TcpStream};
+use mio::unix::SourceFd;
 use mio::{Events, Interest, Poll, Token};
 use slab::Slab;
 use std::alloc::Global;
@@ -20,6 +22,9 @@ use std::time::Duration;
 
 /// The listener's token. Those of the links are their numbers.
 const LISTENER: Token = Token(MOST_LINKS);
+
+/// The token of the programs of devices. Their events end a poll, and the devices are asked in any case.
+const PROGRAMS: Token = Token(MOST_LINKS + 1);
 
 /// How many events one poll takes. Those that are left come with the next.
 const EVENTS_A_POLL: usize = 64;
@@ -39,6 +44,8 @@ pub struct Sockets {
     waiting: bool,
     pub(crate) streams: Slab<TcpStream>,
     leaving: TurnedAway,
+    /// How many starts the program of each device had as its sockets came to the poll.
+    watched: [u32; MOST_DEVICES],
 }
 
 impl Sockets {
@@ -58,7 +65,31 @@ impl Sockets {
             waiting: false,
             streams,
             leaving: TurnedAway::new(),
+            watched: [0; MOST_DEVICES],
         })
+    }
+
+    /// Whether a link is held.
+    pub(crate) fn has_links(&self) -> bool {
+        self.streams.len() > 0
+    }
+
+    /// Has the poll look at the sockets of the program of a device too, once for each of its starts. They leave the poll as they are
+    /// closed. Where the system refuses, the device is asked as often as a poll waits at most.
+    pub(crate) fn watch(&mut self, device: usize, starts: u32, ends: ProgramSockets) {
+        if self.watched.get(device) == Some(&starts) {
+            return;
+        }
+        if let Some(watched) = self.watched.get_mut(device) {
+            *watched = starts;
+        }
+        let registry = self.poll.registry();
+        if let Some(input) = ends.input {
+            let _ = registry.register(&mut SourceFd(&input), PROGRAMS, Interest::WRITABLE);
+        }
+        if let Some(output) = ends.output {
+            let _ = registry.register(&mut SourceFd(&output), PROGRAMS, Interest::READABLE);
+        }
     }
 
     /// Waits for at most so long until something is ready, and notes it. New links are accepted, at this reading of the clock. The

@@ -1,5 +1,6 @@
 // One file for each subject.
 mod adapters;
+mod card_device;
 mod children;
 mod codec_device;
 mod programs;

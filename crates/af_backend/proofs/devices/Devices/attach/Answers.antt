@@ -1,13 +1,13 @@
 use Rattle.std.proofs.Common.{arith}
 use Rattle.std.proofs.lemmas.Bool.{false≢true}
-use Rattle.af_backend.proofs.devices.Devices.attach.Goals.{then-place-ge8-via-then-place-ge8, then-place-ge8-via-else-place-ge8+then-is_paced}
+use Rattle.af_backend.proofs.devices.Devices.attach.Goals.{then-place-ge8-via-then-place-ge8, then-place-ge8-via-else-place-ge8+then-is_attached}
 use Rattle.af_backend.proofs.devices.Devices.attach.Goals as goal
 
 pub returns-then-place-ge8-clause-done : goal.returns-then-place-ge8-clause-done
 returns-then-place-ge8-clause-done g c = λ below paced allowed opens.
     let never : ⊥ = elim c.then-place-ge8.branch [
       | then-place-ge8-via-then-place-ge8 w ↦ omega arith
-      | then-place-ge8-via-else-place-ge8+then-is_paced w ↦ cc
+      | then-place-ge8-via-else-place-ge8+then-is_attached w ↦ cc
     ] in
     absurd never
 

@@ -2,11 +2,11 @@ use Rattle.std.proofs.Common.{◌≡◌, ◌≤◌, ◌<◌, true, false, subst}
 use Rattle.std.proofs.Math.Nat.{le_refl}
 use Rattle.af_limits.specs.Limits.{most_devices}
 use Rattle.af_world.specs.declared.live.Ready.TheVariants.{Done, Failed}
-use Rattle.af_backend.specs.Backends.{opens_files, AttachesAt}
+use Rattle.af_backend.specs.Backends.{may_be_refused, AttachesAt}
 use Rattle.af_backend.specs.CodecUse.{codec_allows, codec_behind}
 use Rattle.af_live.specs.Counting.{CountsOne}
 use Rattle.af_backend.specs.Backends.{round_after}
-use Rattle.af_pace.specs.Rounds.{is_paced}
+use Rattle.af_backend.specs.Rounds.{is_attached}
 use Rattle.af_live.specs.RealWorld.{RealState}
 use Rattle.af_live.proofs.mio_world.MioWorldLive.attach.Goals as goal
 
@@ -14,19 +14,19 @@ pub returns-clause-faults : goal.returns-clause-faults
 returns-clause-faults g c = subst (λ (s : RealState). CountsOne (c.attach-attached.result ≡ Failed) s.device_faults c.count_ready.new.faults) c.self.view_is c.count_ready.ensures
 
 pub returns-clause-attaches : goal.returns-clause-attaches
-returns-clause-attaches g c = subst (λ (s : RealState). c.attach-attached.result ≡ Done → (c.args.device < most_devices) × (is_paced s.round c.args.device ≡ false)) c.self.view_is c.attach-attached.ensures.attaches
+returns-clause-attaches g c = subst (λ (s : RealState). c.attach-attached.result ≡ Done → (c.args.device < most_devices) × (is_attached s.round c.args.device ≡ false)) c.self.view_is c.attach-attached.ensures.attaches
 
 pub returns-clause-round : goal.returns-clause-round
-returns-clause-round g c = subst (λ (s : RealState). c.attach-attached.new.self.round ≡ round_after c.attach-attached.result s.round c.args.device c.args.spec.now.rate) c.self.view_is c.attach-attached.ensures.round
+returns-clause-round g c = subst (λ (s : RealState). c.attach-attached.new.self.round ≡ round_after c.attach-attached.result c.args.kind s.round c.args.device c.args.spec.now.rate) c.self.view_is c.attach-attached.ensures.round
 
 pub returns-clause-allowed : goal.returns-clause-allowed
 returns-clause-allowed g c = subst (λ (s : RealState). c.attach-attached.result ≡ Done → codec_allows s.codec c.args.kind ≡ true) c.self.view_is c.attach-attached.ensures.allowed
 
 pub returns-clause-done : goal.returns-clause-done
-returns-clause-done g c = subst (λ (s : RealState). c.args.device < most_devices → is_paced s.round c.args.device ≡ false → codec_allows s.codec c.args.kind ≡ true → opens_files c.args.kind ≡ false → c.attach-attached.result ≡ Done) c.self.view_is c.attach-attached.ensures.done
+returns-clause-done g c = subst (λ (s : RealState). c.args.device < most_devices → is_attached s.round c.args.device ≡ false → codec_allows s.codec c.args.kind ≡ true → may_be_refused c.args.kind ≡ false → c.attach-attached.result ≡ Done) c.self.view_is c.attach-attached.ensures.done
 
 pub returns-clause-behind : goal.returns-clause-behind
-returns-clause-behind g c = subst (λ (s : RealState). AttachesAt c.attach-attached.result c.args.kind c.args.device c.args.spec.now.ty s.behind c.attach-attached.new.self.attached) c.self.view_is c.attach-attached.ensures.attached
+returns-clause-behind g c = subst (λ (s : RealState). AttachesAt c.attach-attached.result c.args.kind c.args.device c.args.spec.now s.behind c.attach-attached.new.self.attached) c.self.view_is c.attach-attached.ensures.attached
 
 pub returns-clause-codec : goal.returns-clause-codec
 returns-clause-codec g c = subst (λ (s : RealState). c.attach-attached.new.self.codec ≡ codec_behind c.attach-attached.result c.args.kind s.codec) c.self.view_is c.attach-attached.ensures.codec

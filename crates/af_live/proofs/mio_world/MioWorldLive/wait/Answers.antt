@@ -21,8 +21,8 @@ returns-clause-unlistened g c = subst (λ (s : RealState). s.listens ≡ false �
 pub returns-clause-kept : goal.returns-clause-kept
 returns-clause-kept g c =
     let w = sym c.answer-waited.ensures.given in
-    subst (λ (s : RealState). (k : ℕ) → s.listens ≡ true → k < most_links → something_ready (link_at s.links k) ≡ true → GivesKept (given c.answer-waited.result) s.links s.round c.next_wake-next.new.links c.next_wake-next.new.round) c.self.view_is
-    (λ k l b r. subst (λ (o : Option Wake). GivesKept o c.self.inside.links c.self.inside.devices.round c.next_wake-next.new.links c.next_wake-next.new.round) w (c.next_wake-next.ensures.kept k l b r))
+    subst (λ (s : RealState). (k : ℕ) → s.listens ≡ true → k < most_links → something_ready (link_at s.links k) ≡ true → GivesKept (given c.answer-waited.result) s.links s.round c.next_wake-next.new.links c.next_wake-next.new.devices.round) c.self.view_is
+    (λ k l b r. subst (λ (o : Option Wake). GivesKept o c.self.inside.links c.self.inside.devices.round c.next_wake-next.new.links c.next_wake-next.new.devices.round) w (c.next_wake-next.ensures.kept k l b r))
 
 pub returns-clause-fits : goal.returns-clause-fits
 returns-clause-fits g c =
@@ -45,13 +45,13 @@ returns-clause-least g c =
 
 pub returns-clause-round : goal.returns-clause-round
 returns-clause-round g c =
-    subst (λ (s : RealState). LeadsRound (given c.answer-waited.result) s.links s.round c.next_wake-next.new.links c.next_wake-next.new.round) c.self.view_is
-    (subst (λ (o : Option Wake). LeadsRound o c.self.inside.links c.self.inside.devices.round c.next_wake-next.new.links c.next_wake-next.new.round) (sym c.answer-waited.ensures.given) c.next_wake-next.ensures.round)
+    subst (λ (s : RealState). LeadsRound (given c.answer-waited.result) s.links s.round s.behind c.next_wake-next.new.links c.next_wake-next.new.devices.round c.next_wake-next.new.devices.attached) c.self.view_is
+    (subst (λ (o : Option Wake). LeadsRound o c.self.inside.links c.self.inside.devices.round c.self.inside.devices.attached c.next_wake-next.new.links c.next_wake-next.new.devices.round c.next_wake-next.new.devices.attached) (sym c.answer-waited.ensures.given) c.next_wake-next.ensures.round)
 
 pub returns-clause-frames : goal.returns-clause-frames
 returns-clause-frames g c =
-    subst (λ (s : RealState). LosesNoFrame (given c.answer-waited.result) s.round c.next_wake-next.new.round) c.self.view_is
-    (subst (λ (o : Option Wake). LosesNoFrame o c.self.inside.devices.round c.next_wake-next.new.round) (sym c.answer-waited.ensures.given) (waits_lose_none _ _ _ _ _ c.next_wake-next.ensures.round))
+    subst (λ (s : RealState). LosesNoFrame (given c.answer-waited.result) s.round c.next_wake-next.new.devices.round) c.self.view_is
+    (subst (λ (o : Option Wake). LosesNoFrame o c.self.inside.devices.round c.next_wake-next.new.devices.round) (sym c.answer-waited.ensures.given) (waits_lose_none _ _ _ _ _ _ _ c.next_wake-next.ensures.round))
 
 pub returns-clause-counts : goal.returns-clause-counts
 returns-clause-counts g c = let v = c.self.view_is in record {

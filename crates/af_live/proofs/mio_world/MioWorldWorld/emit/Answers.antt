@@ -2,7 +2,7 @@ use Rattle.std.proofs.Common.{◌≡◌, ◌≤◌, ap, subst, ◌∙◌}
 use Rattle.std.proofs.Math.Nat.{le_refl}
 use Rattle.af_io.specs.declared.flow.Put.TheVariants.{Failed}
 use Rattle.af_backend.specs.declared.devices.Devices.{Devices}
-use Rattle.af_backend.specs.Backends.{all_without_bytes}
+use Rattle.af_backend.specs.Backends.{all_without_bytes, EmitsAt}
 use Rattle.af_live.specs.Counting.{CountsOne}
 use Rattle.af_live.specs.RealWorld.{RealState}
 use Rattle.af_backend.proofs.BackendLemmas.{emits_same, emits_orders}
@@ -16,9 +16,14 @@ returns-clause-leads g c = let v = c.self.view_is in record {
   listens = ap (λ (s : RealState). s.listens) v;
   behind = emits_same _ _ _ _ _ _ _ c.emit-put.ensures.emits ∙ ap (λ (s : RealState). all_without_bytes s.behind) v;
   orders = emits_orders _ _ _ _ _ _ _ c.emit-put.ensures.emits ∙ ap (λ (s : RealState). s.codec.orders) v;
-  round = ap (λ (d : Devices _ _). d.round) c.emit-put.ensures.rest ∙ ap (λ (s : RealState). s.round) v;
+  round = ap (λ (d : Devices _ _ _). d.round) c.emit-put.ensures.rest ∙ ap (λ (s : RealState). s.round) v;
   link_faults = subst (λ (s : RealState). s.link_faults ≤ c.self.inside.link_faults) v (le_refl c.self.inside.link_faults);
   device_faults = subst (λ (s : RealState). s.device_faults ≤ c.count_put.new.faults) v c.count_put.ensures.cause.0;
   listen_faults = ap (λ (s : RealState). s.listen_faults) v;
   wait_faults = ap (λ (s : RealState). s.wait_faults) v;
 }
+
+pub returns-clause-behind : goal.returns-clause-behind
+returns-clause-behind g c =
+    subst (λ (s : RealState). EmitsAt c.args.device c.emit-put.result c.args.sound.now s.behind c.emit-put.new.self.attached s.codec c.emit-put.new.self.codec) c.self.view_is
+    c.emit-put.ensures.emits

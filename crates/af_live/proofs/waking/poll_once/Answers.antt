@@ -1,6 +1,6 @@
 use Rattle.std.proofs.Common.{rules}
 use Rattle.af_live.proofs.PollsLemmas.{polls_keep_open}
-use Rattle.af_live.proofs.mio_world.poll_once.Goals as goal
+use Rattle.af_live.proofs.waking.poll_once.Goals as goal
 
 pub returns-in-Some-clause-fits : goal.returns-in-Some-clause-fits
 returns-in-Some-clause-fits c = let keeps = polls_keep_open _ _ c.poll.ensures.polls in search rules

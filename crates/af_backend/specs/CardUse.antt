@@ -1,0 +1,86 @@
+-- A device whose time is that of a program, as a server has it: of the program its acts alone.
+use Rattle.std.specs.Prelude.{◌≡◌, ⊤, ℕ, true, is_some, List, [], ◌∷◌, length, MatchOption}
+use Rattle.std.specs.declared.option.Option.{Option}
+use Rattle.std.specs.declared.option.Option.TheVariants.{None}
+use Rattle.af_sample.specs.SampleTypes.{frame_bytes}
+use Rattle.af_io.specs.declared.flow.Put.{Put}
+use Rattle.af_io.specs.declared.flow.Put.TheVariants as put
+use Rattle.af_io.specs.Observed.{Appended}
+use Rattle.af_program.specs.declared.program.Launched.TheVariants as launch
+use Rattle.af_program.specs.Acts.{ToldAct, captured, launched}
+use Rattle.af_world.specs.declared.card_kind.CardKind.{CardKind}
+use Rattle.af_world.specs.declared.script.DeviceSpec.{DeviceSpec}
+use Rattle.af_world.specs.Outside.{silent_byte}
+use Rattle.af_pace.specs.Pacing.{PaceState, begun}
+use Rattle.af_card.specs.declared.shape.Shape.{Shape}
+use Rattle.af_card.specs.Between.{BetweenState, new_between, captured_of}
+use Rattle.af_card.specs.Card.{CardState, DueOf, EmitsAndStarts, IsFed, StartsOnly, captures, emits}
+
+-- the acts of its program, if they are observed; what lies between the two; the words of each start; its pace while no program runs; and
+-- the latest moment
+pub record CardUse : Type 0 where
+  pub acts : Option (List ToldAct)
+  pub between : BetweenState
+  pub words : List (List ℕ)
+  pub pace : PaceState
+  pub at : ℕ
+
+abbrev pub card_use : {P : Type 0} → (P → Option (List ToldAct)) → CardState P → CardUse
+card_use acts card = record { acts = acts card.program; between = card.between; words = card.words; pace = card.pace; at = card.at }
+
+-- if the acts are observed, what a card promises holds of them
+abbrev pub IsFedUse : CardUse → Type 0
+IsFedUse card = MatchOption card.acts ⊤ (λ told. IsFed card.between.shape card.between.starts.restarts told)
+
+-- what kind of device it is, how often its program may be started, and by which words, stay
+pub record KeepsOrders (before after : CardUse) : Type 0 where
+  pub shape : after.between.shape ≡ before.between.shape
+  pub restarts : after.between.starts.restarts ≡ before.between.starts.restarts
+  pub words : after.words ≡ before.words
+
+-- the same, whatever went by
+abbrev pub orders_of : Shape → ℕ → List (List ℕ) → CardUse
+orders_of shape restarts words =
+    record { acts = None; between = new_between shape restarts; words = words; pace = begun shape.rate; at = 0 }
+
+abbrev pub card_orders : CardUse → CardUse
+card_orders card = orders_of card.between.shape card.between.starts.restarts card.words
+
+-- the shape of a device of this kind, whose frames have so many bytes
+abbrev pub shape_of : CardKind → ℕ → DeviceSpec → Shape
+shape_of kind width spec = record { kind = kind; frame_bytes = width; silence = silent_byte spec.ty; rate = spec.rate }
+
+-- It was just attached: its program was started once, by these words, and runs.
+pub record IsBegun (kind : CardKind) (restarts : ℕ) (words : List (List ℕ)) (spec : DeviceSpec) (card : CardUse) : Type 0 where
+  pub shape : card.between.shape ≡ shape_of kind (frame_bytes spec.ty spec.channels) spec
+  pub started_anew : card.between.starts.restarts ≡ restarts
+  pub started_by : card.words ≡ words
+  pub tried : card.between.starts.tried ≡ 1
+  pub runs : is_some card.between.running ≡ true
+  pub launched_once : MatchOption card.acts ⊤ (λ acts. acts ≡ launched card.at words launch.Runs ∷ [])
+  pub fed : IsFedUse card
+
+-- It is asked at a moment, and so many frames are due: those that its program gave or takes next while it runs, else those of the clock.
+pub record AsksCard (at frames : ℕ) (before after : CardUse) : Type 0 where
+  pub due : DueOf before.between.tick before.between.running at frames before.between after.between before.pace after.pace
+  pub words : before.between.running ≡ None → StartsOnly at before.words before.acts after.acts
+  pub fed : IsFedUse after
+  pub same : KeepsOrders before after
+  pub now : after.at ≡ at
+
+-- It captures what its program gave first, or silence. It fails exactly if it is dead, or if this is not the tick that is due.
+pub record CardCaptures (answer : Put) (before : CardUse) (into : List ℕ) (after : CardUse) : Type 0 where
+  pub answers : answer ≡ captures before.between (length into)
+  pub sound : answer ≡ put.Done → into ≡ captured_of before.between.running before.between (length into)
+  pub acts : answer ≡ put.Done → Appended before.acts (captured into ∷ []) after.acts
+  pub fed : IsFedUse after
+  pub same : KeepsOrders before after
+
+-- It hands its sound to its program, as far as that takes it. It fails exactly if it is dead, or if this is not the tick that was
+-- captured.
+pub record CardEmits (answer : Put) (before : CardUse) (sound : List ℕ) (after : CardUse) : Type 0 where
+  pub answers : answer ≡ emits before.between (length sound)
+  pub failed : answer ≡ put.Failed → after ≡ before
+  pub words : answer ≡ put.Done → before.between.running ≡ None → EmitsAndStarts before.at sound before.words before.acts after.acts
+  pub fed : IsFedUse after
+  pub same : KeepsOrders before after

@@ -1,0 +1,49 @@
+-- What a wait gives: what was kept ready, or what a poll finds where nothing was.
+use Rattle.std.proofs.Common.{◌≡◌, inl, inr, ℕ, ◌<◌, Bool, true, false, List, length, refl, sym, subst, ◌∙◌, arith, IfSome, MatchOption}
+use Rattle.std.proofs.lemmas.Bool.{false≢true}
+use Rattle.std.specs.declared.option.Option.{Option}
+use Rattle.std.specs.declared.option.Option.TheVariants.{None, Some}
+use Rattle.af_limits.specs.Limits.{most_links}
+use Rattle.af_world.specs.declared.happening.Wake.{Wake}
+use Rattle.af_world.specs.declared.happening.Wake.TheVariants as wake
+use Rattle.af_backend.specs.Rounds.{RoundState}
+use Rattle.af_backend.specs.Backends.{BackendState}
+use Rattle.af_live.specs.declared.link_table.LinkEntry.{LinkEntry}
+use Rattle.af_live.specs.LinkTable.{link_at, something_ready, GivesFirst, LinkWakeFits}
+use Rattle.af_live.specs.Polls.{LeadsLinks, PolledGives}
+use Rattle.af_live.specs.RealWorld.{LeadsRound}
+
+pub kept_links : (w : Wake) (old new : List (Option LinkEntry)) → LinkWakeFits old w → GivesFirst old (Some w) new → LeadsLinks (Some w) old new
+kept_links (wake.Opened k) old new fits h = inl h
+kept_links (wake.Readable k) old new fits h = inl h
+kept_links (wake.Writable k) old new fits h = inl h
+kept_links wake.Idle old new fits h = inl h
+kept_links (wake.Ticked d n) old new fits h = absurd fits
+kept_links (wake.Line d change) old new fits h = absurd fits
+kept_links wake.Stop old new fits h = absurd fits
+
+pub kept_round : (w : Wake) (old new : List (Option LinkEntry)) (round : RoundState) (behind : List (Option BackendState)) →
+    LinkWakeFits old w → GivesFirst old (Some w) new → LeadsRound (Some w) old round behind new round behind
+kept_round (wake.Opened k) old new round behind fits h = inl ((h, refl), refl)
+kept_round (wake.Readable k) old new round behind fits h = inl ((h, refl), refl)
+kept_round (wake.Writable k) old new round behind fits h = inl ((h, refl), refl)
+kept_round wake.Idle old new round behind fits h = inl ((h, refl), refl)
+kept_round (wake.Ticked d n) old new round behind fits h = absurd fits
+kept_round (wake.Line d change) old new round behind fits h = absurd fits
+kept_round wake.Stop old new round behind fits h = absurd fits
+
+-- where nothing is given of what is kept, nothing is
+pub nothing_kept : (links new : List (Option LinkEntry)) → length links ≡ most_links → GivesFirst links None new →
+    (k : ℕ) → k < most_links → something_ready (link_at links k) ≡ true → ⊥
+nothing_kept links new count h k below ready = false≢true (sym (h.0 k (omega (arith, count))) ∙ ready)
+
+pub polled_links : (o : Option Wake) (links now new : List (Option LinkEntry)) → GivesFirst links None now → IfSome o (λ w. LinkWakeFits now w) →
+    MatchOption o (new ≡ now) (λ w. PolledGives w now new) → LeadsLinks o links new
+polled_links None links now new h fits polled = polled ∙ h.1
+polled_links (Some (wake.Opened k)) links now new h fits polled = inr ((h.0, refl), subst (λ x. PolledGives (wake.Opened k) x new) h.1 polled)
+polled_links (Some (wake.Readable k)) links now new h fits polled = inr ((h.0, refl), subst (λ x. PolledGives (wake.Readable k) x new) h.1 polled)
+polled_links (Some (wake.Writable k)) links now new h fits polled = inr ((h.0, refl), subst (λ x. PolledGives (wake.Writable k) x new) h.1 polled)
+polled_links (Some wake.Idle) links now new h fits polled = inr ((h.0, refl), subst (λ x. PolledGives wake.Idle x new) h.1 polled)
+polled_links (Some (wake.Ticked d n)) links now new h fits polled = absurd fits
+polled_links (Some (wake.Line d change)) links now new h fits polled = absurd fits
+polled_links (Some wake.Stop) links now new h fits polled = absurd fits

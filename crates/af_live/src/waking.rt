@@ -1,0 +1,172 @@
+// How a wait finds its wake: what is kept ready of a link, then the next device of the round, then what a poll finds.
+ghost use Rattle.std.specs.Prelude.{◌≡◌, ◌≤◌, ◌<◌, ◌^◌, ℕ, true, false, is_some, IfSome, MatchOption};
+ghost use Rattle.std.specs.declared.option.Option.TheVariants.{None};
+ghost use Rattle.std.specs.Duration.{as_nanos};
+ghost use Rattle.af_limits.specs.Limits.{most_links};
+ghost use Rattle.af_backend.specs.Rounds.{round_begun};
+ghost use Rattle.af_live.specs.LinkTable.{link_at, something_ready, KeepsOpen, LinkWakeFits, Opens};
+ghost use Rattle.af_live.specs.Polls.{LeadsLinks, PolledGives};
+ghost use Rattle.af_live.specs.Readings.{whole_millis, pause_of, IsReadingBy};
+ghost use Rattle.af_live.specs.RealWorld.{given, GivesKept, LeadsRound, WakeFits};
+
+use crate::held_links::HeldLinks;
+use crate::sockets::Sockets;
+use af_backend::{Devices, LONGEST_STEP_NANOS, Round};
+use af_child::Spawner;
+use af_limits::MOST_DEVICES;
+use af_program::Program;
+use af_world::{Waited, Wake};
+use std::io::{Read, Write};
+use std::time::{Clock, Duration};
+
+/// How many milliseconds a wait with nothing to do waits at most, and so the longest that a device may be late.
+const LONGEST_PAUSE_MILLIS: u64 = 10;
+
+/// For how many nanoseconds a server that catches up serves its clients between two steps. Without this a fast server leaves them
+/// behind.
+const CATCHING_UP_PAUSE_NANOS: u64 = 500_000;
+
+const NANOS_A_MILLISECOND: u64 = 1_000_000;
+
+/// The last step of the readings: what the clock showed then, the reading itself, and whether the clock was ahead of it by a whole step
+/// of a server that catches up, or more.
+#[derive(Clone, Copy, Default)]
+pub(crate) struct Step {
+    shown: u64,
+    reading: u64,
+    is_behind: bool,
+}
+
+/// What a clock shows, in nanoseconds and rounded down to whole milliseconds: no frame ticks before its time, and a round that
+/// follows another within the millisecond finds nothing due, and sleeps.
+fn whole_millis(shown: Duration) -> Option<u64>
+    ensures { MatchOption result (2 ^ 64 ≤ as_nanos shown) (λ nanos. nanos ≡ whole_millis (as_nanos shown)) }
+{
+    let nanos = u64::try_from(shown.as_nanos()).ok()?;
+    Some(nanos - nanos % NANOS_A_MILLISECOND)
+}
+
+/// The time as a reading of the clock is, in nanoseconds, or zero if it cannot be read.
+pub(crate) fn time_of<R: Clock>(rt: &R) -> u64 {
+    match rt.monotonic() {
+        Ok(shown) => whole_millis(shown).unwrap_or(0),
+        Err(_) => 0,
+    }
+}
+
+/// The reading of the clock that a round goes by: its own, or one that is taken now. After the server stood still that is behind
+/// what the clock shows, step by step at most 20 milliseconds further. Between two steps rounds go by the same reading for half a
+/// millisecond, in which all clients are served, if there are any.
+fn reading<R: Clock>(rt: &R, round: &Round, has_links: bool, step: &mut Step) -> Option<u64>
+    ensures { IfSome result (λ nanos. IsReadingBy round.now.reading round.now.last nanos) }
+{
+    if let Some(taken) = round.reading() {
+        return Some(taken);
+    }
+    let shown = rt.monotonic().ok()?;
+    let next = round.reading_after(whole_millis(shown)?);
+    let shown = u64::try_from(shown.as_nanos()).ok()?;
+    let is_behind = shown.saturating_sub(next) >= LONGEST_STEP_NANOS;
+    let is_served = shown.saturating_sub(step.shown) >= CATCHING_UP_PAUSE_NANOS;
+    if is_behind && has_links && !is_served {
+        return Some(round.reading_after(whole_millis(Duration::from_nanos(step.reading))?));
+    }
+    *step = Step {
+        shown,
+        reading: next,
+        is_behind,
+    };
+    Some(next)
+}
+
+/// What a poll finds first, at this reading of the clock. A new round over the devices begins behind it.
+fn poll_once(
+    sockets: &mut Sockets,
+    pause: Duration,
+    nanos: u64,
+    links: &mut HeldLinks,
+    round: &mut Round,
+) -> Option<Wake>
+    ensures fits { IfSome result (λ wake. LinkWakeFits links.old wake) }
+    ensures opens { MatchOption result (KeepsOpen links.old links.new) (λ wake. Opens wake links.old links.new) }
+    ensures links { MatchOption result (links.new ≡ links.old) (λ wake. PolledGives wake links.old links.new) }
+    ensures round { MatchOption result (round.new ≡ round.old) (λ wake. round.new ≡ round_begun round.old) }
+{
+    if !sockets.poll(pause, nanos, links) {
+        return None;
+    }
+    round.begin();
+    match links.take_ready() {
+        Some(wake) => Some(wake),
+        None => Some(Wake::Idle),
+    }
+}
+
+/// The next wake: what is kept ready, or the next device of the round of which frames are due, or what the next poll finds. None
+/// if the system was not to be asked.
+pub(crate) fn next_wake<R: Clock, F: Read + Write + Drop, S: Spawner + Drop, P: Program + Drop>(
+    rt: &R,
+    more: bool,
+    sockets: &mut Option<Sockets>,
+    links: &mut HeldLinks,
+    devices: &mut Devices<F, S, P>,
+    step: &mut Step,
+) -> Option<Wake>
+    ensures listens { is_some sockets.new ≡ is_some sockets.old }
+    ensures unlistened { is_some sockets.old ≡ false → result ≡ None }
+    ensures kept { (k : ℕ) → is_some sockets.old ≡ true → k < most_links → something_ready (link_at links.old k) ≡ true →
+        GivesKept result links.old devices.old.round links.new devices.new.round }
+    ensures fits { IfSome result (λ wake. WakeFits links.old devices.old.round wake) }
+    ensures opens { MatchOption result (KeepsOpen links.old links.new) (λ wake. Opens wake links.old links.new) }
+    ensures links { LeadsLinks result links.old links.new }
+    ensures round { LeadsRound result links.old devices.old.round devices.old.attached links.new devices.new.round devices.new.attached }
+    ensures rest { devices.new ≡ record devices.old { round = devices.new.round; attached = devices.new.attached } }
+{
+    let Some(sockets) = sockets else {
+        return None;
+    };
+    if let Some(wake) = links.take_ready() {
+        return Some(wake);
+    }
+    let nanos = reading(rt, &devices.round, sockets.has_links(), step)?;
+    if let Some((device, frames)) = devices.next_tick(nanos) {
+        return Some(Wake::Ticked(device, frames));
+    }
+    watch_programs(sockets, devices);
+    let pause = pause(more, devices.round.has_ticked(), step.is_behind);
+    poll_once(sockets, pause, nanos, links, &mut devices.round)
+}
+
+/// Has the poll look at the programs whose time is that of their device.
+fn watch_programs<F: Read + Write + Drop, S: Spawner + Drop, P: Program + Drop>(
+    sockets: &mut Sockets,
+    devices: &Devices<F, S, P>,
+) {
+    for device in 0..MOST_DEVICES {
+        if let Some(card) = devices.card(device as u8) {
+            sockets.watch(device, card.tried(), card.program().sockets());
+        }
+    }
+}
+
+/// What a wait answers that found this wake, or none.
+pub(crate) fn answer(next: Option<Wake>) -> Waited
+    ensures given { given result ≡ next }
+    ensures failed { next ≡ None → result ≡ Waited.Failed }
+{
+    match next {
+        Some(wake) => Waited::Woke(wake),
+        None => Waited::Failed,
+    }
+}
+
+/// How long a poll waits at most.
+fn pause(more: bool, ticked: bool, behind: bool) -> Duration
+    ensures { as_nanos result ≡ pause_of more ticked behind }
+{
+    if more || ticked || behind {
+        Duration::ZERO
+    } else {
+        Duration::from_millis(LONGEST_PAUSE_MILLIS)
+    }
+}

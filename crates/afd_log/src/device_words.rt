@@ -1,7 +1,7 @@
 // What a device is, in words.
 use af_child::Words;
 use af_sample::SampleType;
-use af_world::{DeviceSpec, Kind};
+use af_world::{CardKind, DeviceSpec, Kind};
 use afd_details::Shown;
 use std::fmt;
 use std::fmt::{Formatter, Write};
@@ -54,6 +54,24 @@ fn write_kind<W: Write>(kind: Kind<'_>, f: &mut Formatter<W>) -> fmt::Result {
             write!(f, "codec, started again at most {restarts} times:")?;
             write_words(words, f)
         }
+        Kind::Card {
+            card,
+            restarts,
+            words,
+        } => {
+            let name = card_name(card);
+            write!(f, "{name}, started again at most {restarts} times:")?;
+            write_words(words, f)
+        }
+    }
+}
+
+/// The name of what the program of a device does, as a configuration has it.
+fn card_name(card: CardKind) -> &'static str {
+    match card {
+        CardKind::Speaker => "speaker",
+        CardKind::Microphone => "microphone",
+        CardKind::Card => "card",
     }
 }
 

@@ -1,6 +1,7 @@
 //! The log of the server: what a world of sockets, files and programs does, told line by line on standard error.
 #![tactic(auto)]
 
+mod card_lines;
 mod device_words;
 mod gate;
 mod listening;
@@ -9,6 +10,7 @@ mod logged_spawner;
 mod logged_world;
 mod refusal;
 mod watched_file;
+mod watched_programs;
 mod watched_runtime;
 
 pub use listening::ListenRefusal;
@@ -16,4 +18,5 @@ pub use log::Log;
 pub use logged_spawner::LoggedSpawner;
 pub use logged_world::LoggedWorld;
 pub use refusal::Refusal;
+pub use watched_programs::WatchedPrograms;
 pub use watched_runtime::WatchedRuntime;

@@ -181,6 +181,14 @@ impl<'a> Log<'a> {
         }
     }
 
+    /// What the clock shows, in nanoseconds, or zero if it cannot be read.
+    pub(crate) fn nanos(&self) -> u64 {
+        match self.rt.monotonic() {
+            Ok(shown) => u64::try_from(shown.as_nanos()).unwrap_or(0),
+            Err(_) => 0,
+        }
+    }
+
     /// Begins another second, if there is one, by saying how many lines were left out before it.
     fn begin_second(&self) {
         let second = match self.rt.monotonic() {

@@ -2,27 +2,30 @@
 ghost use Rattle.std.specs.Prelude.{◌≡◌};
 ghost use Rattle.std.specs.declared.option.Option.TheVariants.{None};
 
+use crate::card_lines::CardLines;
 use crate::device_words::DeviceWords;
 use crate::listening::{ListenRefusal, listen_refusal};
-use crate::{Log, LoggedSpawner, WatchedRuntime};
+use crate::{Log, LoggedSpawner, WatchedPrograms, WatchedRuntime};
 use af_child::StdSpawner;
 use af_deadline::DeadlineRuntime;
 use af_io::Put;
+use af_limits::MOST_DEVICES;
 use af_live::MioWorld;
 use af_world::{DeviceSpec, Kind, LinkGot, LinkTook, Live, Ready, Waited, Wake, Why, World};
 use std::alloc::Global;
 
-/// The programs of a codec, which hold nobody up.
-type Programs<'a> = DeadlineRuntime<'a, WatchedRuntime<'a, HostRuntime>, HostRuntime>;
+/// The child programs of a codec, which hold nobody up.
+type ChildPrograms<'a> = DeadlineRuntime<'a, WatchedRuntime<'a, HostRuntime>, HostRuntime>;
 
 /// The world that is told of.
 type RealWorld<'a> = MioWorld<
     WatchedRuntime<'a, HostRuntime>,
-    LoggedSpawner<'a, StdSpawner<Programs<'a>>>,
+    LoggedSpawner<'a, StdSpawner<ChildPrograms<'a>>>,
+    WatchedPrograms<'a>,
 >;
 
 /// The world of sockets, files and programs, to which each call is handed on. It tells in a log at which address it listens, what the
-/// devices are, who connects, why a link is closed and why a device has died.
+/// devices are, what the programs of devices do, who connects, why a link is closed and why a device has died.
 #[derive(Drop)]
 pub struct LoggedWorld<'a> {
     world: RealWorld<'a>,
@@ -30,6 +33,7 @@ pub struct LoggedWorld<'a> {
     log: &'a Log<'a>,
     turned_away: u64,
     refusal: Option<ListenRefusal>,
+    cards: CardLines,
 }
 
 impl<'a> LoggedWorld<'a> {
@@ -37,12 +41,15 @@ impl<'a> LoggedWorld<'a> {
     pub fn new(rt: &'a HostRuntime, log: &'a Log<'a>) -> LoggedWorld<'a> {
         let programs = DeadlineRuntime::new(WatchedRuntime::new(rt, log), rt, log.late());
         let spawner = LoggedSpawner::new(StdSpawner::new(programs), log);
+        let watched = WatchedRuntime::new(rt, log);
+        let programs = WatchedPrograms::new(rt, log);
         LoggedWorld {
-            world: MioWorld::new(WatchedRuntime::new(rt, log), rt.alloc(), spawner),
+            world: MioWorld::with_programs(watched, rt.alloc(), spawner, programs),
             rt,
             log,
             turned_away: 0,
             refusal: None,
+            cards: CardLines::new(),
         }
     }
 
@@ -146,12 +153,18 @@ impl Live for LoggedWorld<'_> {
             spec,
             kind,
         });
-        self.world.attach(alloc, device, spec, kind)
+        let ready = self.world.attach(alloc, device, spec, kind);
+        if ready == Ready::Failed {
+            note_program(self.log, kind);
+        }
+        tell_cards(&self.world, self.log, &mut self.cards);
+        ready
     }
 
     fn wait(&mut self, more: bool) -> Waited {
         let waited = self.world.wait(more);
         tell_turned_away(&self.world, self.log, &mut self.turned_away);
+        tell_cards(&self.world, self.log, &mut self.cards);
         waited
     }
 }
@@ -196,6 +209,28 @@ fn tell_dead(log: &Log<'_>, device: u8, what: &str) {
     match log.take_reason() {
         Some(reason) => log.line(format_args!("device {device} failed, {what}: {reason}")),
         None => log.line(format_args!("device {device} failed, {what}")),
+    }
+}
+
+/// Tells what the programs have done whose time is that of a device.
+fn tell_cards(world: &RealWorld<'_>, log: &Log<'_>, lines: &mut CardLines) {
+    if !log.is_wanted() {
+        return;
+    }
+    for device in 0..MOST_DEVICES as u8 {
+        if let Some(card) = world.card(device) {
+            lines.tell(log, device, card);
+        }
+    }
+}
+
+/// Notes which program the system refused, for a device that could not be attached.
+fn note_program(log: &Log<'_>, kind: Kind<'_>) {
+    if let Kind::Card { words, .. } = kind
+        && let Some(name) = words.first()
+        && let Some(reason) = log.take_reason()
+    {
+        log.note_refusal(name.as_str(), reason);
     }
 }
 

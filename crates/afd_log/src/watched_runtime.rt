@@ -6,6 +6,7 @@ use std::alloc::Allocator;
 use std::fs::{Metadata, OpenOptions};
 use std::io;
 use std::net::{Net, SocketAddr};
+use std::os::unix::net::UnixStream;
 use std::process::{Child, Command, Processes, Stdio};
 use std::rt::Files;
 use std::time::{Clock, Duration};
@@ -50,6 +51,14 @@ impl<R: Net> Net for WatchedRuntime<'_, R> {
 
     fn lookup_host(&self, host: &str, port: u16, found: &mut [SocketAddr]) -> io::Result<usize> {
         self.rt.lookup_host(host, port, found)
+    }
+
+    fn unix_pair(&self) -> io::Result<(UnixStream, UnixStream)> {
+        let pair = self.rt.unix_pair();
+        if let Err(e) = &pair {
+            self.log.note(Reason::new(*e));
+        }
+        pair
     }
 }
 

@@ -45,7 +45,8 @@ BASH_COMPLETIONS = $(DESTDIR)$(PREFIX)/share/bash-completion/completions
 ZSH_COMPLETIONS = $(DESTDIR)$(ZSH)
 PAGES = $(DESTDIR)$(PREFIX)/share/doc/audiofile
 DISSECTORS = $(DESTDIR)$(WIRESHARK)
-EXAMPLES = contrib/afd.conf contrib/asoundrc $(wildcard examples/*.script examples/*.py) contrib/python/audiofile.py
+CARDS = $(wildcard contrib/audiofile-*-card)
+EXAMPLES = $(wildcard contrib/*.conf) contrib/asoundrc $(wildcard examples/*.script examples/*.py) contrib/python/audiofile.py
 DISSECTOR = $(wildcard contrib/audiofile.lua)
 
 install: ## puts programs, manual pages, units, completions, examples and dissector below PREFIX (/usr/local); after make build
@@ -55,6 +56,7 @@ install: ## puts programs, manual pages, units, completions, examples and dissec
 	install -d $(PAGES)/examples $(DISSECTORS) $(BASH_COMPLETIONS) $(ZSH_COMPLETIONS)
 	install -m 755 $(AFD) $(PROGRAMS)/afd
 	install -m 755 $(AF) $(PROGRAMS)/af
+	install -m 755 $(CARDS) $(PROGRAMS)
 	install -m 644 man/af.1 $(MANUALS)/man1/af.1
 	install -m 644 man/afd-script.5 $(MANUALS)/man5/afd-script.5
 	install -m 644 man/audiofile-protocol.7 $(MANUALS)/man7/audiofile-protocol.7
@@ -69,7 +71,7 @@ install: ## puts programs, manual pages, units, completions, examples and dissec
 	for file in $(DISSECTOR); do install -m 644 $$file $(DISSECTORS); done
 
 uninstall: ## takes away what install put there, with the same PREFIX and DESTDIR, and leaves configuration and sound
-	rm -f $(PROGRAMS)/afd $(PROGRAMS)/af $(UNITS)/afd.service $(USER_UNITS)/afd.service $(PAGES)/copyright
+	rm -f $(PROGRAMS)/afd $(PROGRAMS)/af $(addprefix $(PROGRAMS)/,$(notdir $(CARDS))) $(UNITS)/afd.service $(USER_UNITS)/afd.service $(PAGES)/copyright
 	rm -f $(BASH_COMPLETIONS)/af $(BASH_COMPLETIONS)/afd $(ZSH_COMPLETIONS)/_audiofile
 	rm -f $(MANUALS)/man1/af.1 $(MANUALS)/man5/afd-script.5 $(MANUALS)/man7/audiofile-protocol.7 $(MANUALS)/man8/afd.8
 	rm -f $(addprefix $(PAGES)/examples/,$(notdir $(EXAMPLES))) $(addprefix $(DISSECTORS)/,$(notdir $(DISSECTOR)))

@@ -172,6 +172,10 @@ class Server:
             time.sleep(0.02)
         sys.exit("the time of the device stands still")
 
+    def threads(self):
+        """The threads whose processor time counts."""
+        return os.listdir("/proc/%d/task" % self.process.pid)
+
     def got(self, name):
         with open(os.path.join(self.folder, name), "rb") as file:
             return file.read()

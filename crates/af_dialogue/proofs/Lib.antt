@@ -1,0 +1,3 @@
+pub mod DialogueLemmas
+pub mod PartnerLemmas
+pub mod PartLemmas

@@ -1,0 +1,119 @@
+-- Code that comes through parts of a program, one after the other.
+use Rattle.std.proofs.Common.{◌≡◌, true, List, [], ◌++◌, refl, sym, ap, ◌∙◌, subst, append_assoc, append-nil, inl, inr}
+use Rattle.std.proofs.lemmas.Grind.{flat_map-append}
+use Rattle.std.specs.Prelude.{Result, Ok, Err}
+use Rattle.af_dialogue.specs.Dialogue.{Dialogue, Exchange, Reaches, Follows, ends, calls, exchange, followed_by}
+use Rattle.af_dialogue.specs.Partner.{Partner, Gives, run_with, state_after}
+use Rattle.af_dialogue.specs.Parts.{Part, Ending, Came, IsSight, MayShow, Shows, Sight, Tells, goes_on, or_ends, seen_of}
+use Rattle.af_dialogue.proofs.DialogueLemmas.{follows_on, reaches_first, reaches_on}
+use Rattle.af_dialogue.proofs.PartnerLemmas.{run_is}
+
+module _ {Call F E : Type 0} {Answer : Call → Type 0} (ending : Ending F E) where
+  -- the end of a program in its first part is that of both
+  stopped : {X Y : Type 0} (rest : Part Answer X F) (next : X → Part Answer Y F) (how : E) (finish : Result X F) → rest ≡ ends finish → Tells ending (Err how) finish →
+      (last : Result Y F) × (goes_on rest next ≡ ends last) × Tells {X = Y} ending (Err how) last
+  stopped rest next how (Ok x) is told = absurd told
+  stopped {X} {Y} rest next how (Err f) is told = (Err f, ap (λ (d : Part Answer X F). goes_on {Y = Y} d next) is, told)
+
+  pub came_stop : {X Y : Type 0} (part : Part Answer X F) (next : X → Part Answer Y F) (how : E) (run : List (Exchange Answer)) (rest : Part Answer X F) →
+      Came {X = X} ending part (Err how) run rest → Came {X = Y} ending (goes_on part next) (Err how) run (goes_on rest next)
+  came_stop part next how run rest c = record {
+    reached = reaches_first part rest (or_ends next) run c.reached;
+    ended = elim c.ended [ inl w ↦ inl (stopped rest next how w.0 w.1 w.2) | inr outside ↦ inr outside ];
+  }
+
+  -- a part that code came through was made to its end
+  valued : {X : Type 0} (rest : Part Answer X F) (x : X) (finish : Result X F) → rest ≡ ends finish → Tells {E = E} ending (Ok x) finish → rest ≡ ends (Ok x)
+  valued {X} rest x (Ok y) is told = is ∙ ap (λ (z : X). (let d : Part Answer X F = ends (Ok z) in d)) (sym told)
+  valued rest x (Err f) is told = absurd told
+
+  pub came_end : {X : Type 0} (part : Part Answer X F) (x : X) (run : List (Exchange Answer)) (rest : Part Answer X F) → Came {E = E} ending part (Ok x) run rest → rest ≡ ends (Ok x)
+  came_end part x run rest c = elim c.ended [ inl w ↦ valued rest x w.0 w.1 w.2 | inr outside ↦ absurd outside ]
+
+  pub came_through : {X : Type 0} (part : Part Answer X F) (x : X) (run : List (Exchange Answer)) (rest : Part Answer X F) → Came {E = E} ending part (Ok x) run rest → Follows part run (Ok x)
+  came_through {X} part x run rest c = subst (λ (d : Part Answer X F). Reaches part run d) (came_end part x run rest c) c.reached
+
+  -- a part, and the one after it
+  pub came_on : {X Y : Type 0} (part : Part Answer X F) (next : X → Part Answer Y F) (x : X) (result : Result Y E) (run more : List (Exchange Answer)) (rest : Part Answer X F) (rest' : Part Answer Y F) →
+      Came ending part (Ok x) run rest → Came ending (next x) result more rest' → Came ending (goes_on part next) result (run ++ more) rest'
+  came_on part next x result run more rest rest' c d = record {
+    reached = follows_on part (or_ends next) (Ok x) rest' run more (came_through part x run rest c) d.reached;
+    ended = d.ended;
+  }
+
+  -- what is left of a part, and how code came through that
+  pub came_after : {X : Type 0} (part now : Part Answer X F) (result : Result X E) (run more : List (Exchange Answer)) (rest : Part Answer X F) →
+      Reaches part run now → Came ending now result more rest → Came ending part result (run ++ more) rest
+  came_after part now result run more rest r c = record { reached = reaches_on part now rest run more r c.reached; ended = c.ended }
+
+  -- a part that only has a value, or is the end of the program
+  pub came_value : {X : Type 0} (x : X) → Came {Answer = Answer} ending (ends (Ok x)) (Ok x) [] (ends (Ok x))
+  came_value x = record { reached = refl; ended = inl (Ok x, refl, refl) }
+
+  pub came_finish : {X : Type 0} (finish : F) (how : E) → how ≡ ending.of finish → Came {X = X} {Answer = Answer} ending (ends (Err finish)) (Err how) [] (ends (Err finish))
+  came_finish finish how is = record { reached = refl; ended = inl (Err finish, refl, is) }
+
+  -- something from outside ended the program before its next call was answered
+  pub came_outside : {X : Type 0} (part : Part Answer X F) (how : E) → ending.is_outer how ≡ true → Came {X = X} ending part (Err how) [] part
+  came_outside part how outer = record { reached = refl; ended = inr outer }
+
+module _ {Call B : Type 0} {Answer : Call → Type 0} (sight : Sight Answer B) where
+  -- nothing need be seen of the next call
+  pub shows_none : {X : Type 0} (d : Dialogue Answer X) → MayShow sight d []
+  shows_none (ends x) = refl
+  shows_none (calls call next) = (sight.begun call, refl)
+
+  ends_shown : {X : Type 0} (d : Dialogue Answer X) (x : X) (piece : List B) → d ≡ ends x → MayShow sight d piece → piece ≡ []
+  ends_shown {X} d x piece is m = subst (λ (e : Dialogue Answer X). MayShow sight e piece) is m
+
+  -- what may be seen of the first of two dialogues may be seen of both
+  may_show_first : {X Y : Type 0} (d : Dialogue Answer X) (next : X → Dialogue Answer Y) (piece : List B) → MayShow sight d piece → MayShow sight (followed_by d next) piece
+  may_show_first {X} {Y} (ends x) next piece none = subst (λ (l : List B). MayShow sight (next x) l) (sym none) (shows_none (next x))
+  may_show_first (calls call more) next piece m = m
+
+  pub shows_first : {X Y : Type 0} (d : Dialogue Answer X) (next : X → Dialogue Answer Y) (run : List (Exchange Answer)) (seen : List B) → Shows sight run d seen → Shows sight run (followed_by d next) seen
+  shows_first d next run seen s = (s.0, s.1, may_show_first d next s.0 s.2)
+
+  -- exchanges one after the other
+  pub seen_on : (run more : List (Exchange Answer)) → seen_of sight (run ++ more) ≡ seen_of sight run ++ seen_of sight more
+  seen_on run more = flat_map-append sight.whole run more
+
+  pub shows_on : {X Y : Type 0} (d : Dialogue Answer X) (x : X) (rest : Dialogue Answer Y) (run more : List (Exchange Answer)) (seen seen' : List B) → d ≡ ends x →
+      Shows sight run d seen → Shows sight more rest seen' → Shows sight (run ++ more) rest (seen ++ seen')
+  shows_on d x rest run more seen seen' is s t = (
+    t.0,
+    ap (λ l. l ++ seen') (s.1 ∙ ap (λ l. seen_of sight run ++ l) (ends_shown d x s.0 is s.2) ∙ append-nil (seen_of sight run))
+        ∙ ap (λ l. seen_of sight run ++ l) t.1 ∙ sym (append_assoc (seen_of sight run) (seen_of sight more) t.0)
+        ∙ ap (λ l. l ++ t.0) (sym (seen_on run more)),
+    t.2,
+  )
+
+  module _ {S : Type 0} (partner : Partner Answer S) (is : IsSight sight) where
+    -- what may be seen of the next call is the beginning of what is seen of the run
+    may_show_front : {X : Type 0} (d : Dialogue Answer X) (s : S) (piece : List B) → MayShow sight d piece → (unseen : List B) × (seen_of sight (run_with partner s d) ≡ piece ++ unseen)
+    may_show_front (ends x) s piece none = ([], sym (ap (λ l. l ++ []) none))
+    may_show_front (calls call next) s piece m =
+        let e = exchange {Answer = Answer} call (partner.answer s call) in
+        let more = seen_of sight (run_with partner (partner.after s call) (next (partner.answer s call))) in
+        let all = is e in (
+          (m.0 ++ all.0) ++ more,
+          ap (λ l. l ++ more) (all.1 ∙ ap (λ l. l ++ all.0) m.1 ∙ append_assoc piece m.0 all.0) ∙ append_assoc piece (m.0 ++ all.0) more,
+        )
+
+    -- what is seen of a program is the beginning of what is seen of the run with its partner
+    pub shows_front : {X : Type 0} (d rest : Dialogue Answer X) (s : S) (run : List (Exchange Answer)) (seen : List B) → Reaches d run rest → Gives partner s run → Shows sight run rest seen →
+        (unseen : List B) × (seen_of sight (run_with partner s d) ≡ seen ++ unseen)
+    shows_front d rest s run seen r g shows =
+        let later = run_with partner (state_after partner s run) rest in
+        let f = may_show_front rest (state_after partner s run) shows.0 shows.2 in (
+          f.0,
+          ap (λ l. seen_of sight l) (run_is partner d rest s run r g) ∙ seen_on run later ∙ ap (λ l. seen_of sight run ++ l) f.1
+              ∙ sym (append_assoc (seen_of sight run) shows.0 f.0) ∙ ap (λ l. l ++ f.0) (sym shows.1),
+        )
+
+    -- and all of it where the run is whole
+    pub shows_whole : {X : Type 0} (d : Dialogue Answer X) (x : X) (s : S) (run : List (Exchange Answer)) (seen : List B) → Follows d run x → Gives partner s run → Shows sight run (ends x) seen →
+        seen_of sight (run_with partner s d) ≡ seen
+    shows_whole d x s run seen r g shows =
+        ap (λ l. seen_of sight l) (run_is partner d (ends x) s run r g ∙ append-nil run)
+        ∙ sym (shows.1 ∙ ap (λ l. seen_of sight run ++ l) shows.2 ∙ append-nil (seen_of sight run))

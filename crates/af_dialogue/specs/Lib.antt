@@ -1,0 +1,4 @@
+pub mod Dialogue
+pub mod Partner
+pub mod Parts
+pub mod Errand

@@ -1,4 +1,5 @@
+pub mod ProgramLemmas
 pub mod LineByLine
 pub mod Utf8Lemmas
-pub mod ListedRateLemmas
+pub mod SoundLemmas
 pub mod CommandLineLemmas

@@ -1,12 +1,15 @@
 -- The configuration that a text is, or the line of its first fault.
-use Rattle.std.specs.Prelude.{◌≡◌, ℕ, zero, suc, ◌+◌, Bool, false, ◌&&◌, ◌||◌, List, [], ◌∷◌, length, map, Option, None, option_map, unwrap_or, Result, Ok, Err, if◌then◌else◌}
+use Rattle.std.specs.Prelude.{◌≡◌, ℕ, zero, suc, ◌+◌, Bool, false, ◌&&◌, ◌||◌, List, [], ◌∷◌, ◌++◌, length, map, Option, None, option_map, option_and_then, option_to_list, unwrap_or, Result, Ok, Err, if◌then◌else◌}
 use Rattle.std.specs.Str.{is_utf8}
 use Rattle.af_limits.specs.Limits.{most_devices}
 use Rattle.af_text.specs.Lines.{lines, words, is_passed_over, with_first}
 use Rattle.af_text.specs.Reading.{Entry, entries_of}
+use Rattle.af_text.specs.Words.{only_if}
+use Rattle.af_world.specs.declared.outer.ToldKind.{ToldKind}
+use Rattle.af_world.specs.declared.script.DeviceSpec.{DeviceSpec}
 use Rattle.af_config.specs.declared.fault.ConfigFault.{ConfigFault}
 use Rattle.af_config.specs.declared.fault.ConfigFault.TheVariants as fault
-use Rattle.af_config.specs.Stating.{Settings, Configured, configured_of, is_codec}
+use Rattle.af_config.specs.Stating.{Settings, Configured, LineProgram, configured_of, is_codec, is_phone_line, line_program_of, has_free_line}
 
 -- a line is passed over only where it is text
 abbrev pub is_idle : List ℕ → Bool
@@ -34,15 +37,48 @@ placed_within most has [] = Ok []
 placed_within zero has (e ∷ es) = Err e.number
 placed_within (suc most) has (e ∷ es) = with_first e.number (placed_behind has e.said) (placed_within most (has || states_codec e.said) es)
 
--- the devices on their own, and what stands behind them
-abbrev pub settings_of : Result (List Configured) ℕ → Result Settings ℕ
-settings_of (Ok devices) = Ok (record { config = map (λ d. d.spec) devices; kinds = map (λ d. d.kind) devices })
-settings_of (Err n) = Err n
+-- the lines before the first phone line: they state devices
+abbrev pub device_lines : List (Entry (List ℕ)) → List (Entry (List ℕ))
+device_lines [] = []
+device_lines (e ∷ es) = if is_phone_line (words e.said) then [] else e ∷ device_lines es
 
--- at least one device, or the number behind that of the last line
+-- the first phone line and all lines after it: they state programs of telephone lines
+abbrev pub phone_lines : List (Entry (List ℕ)) → List (Entry (List ℕ))
+phone_lines [] = []
+phone_lines (e ∷ es) = if is_phone_line (words e.said) then e ∷ es else phone_lines es
+
+-- the program that a line states, as a list of one; a line that states none gives none
+abbrev pub program_stated : List ℕ → List LineProgram
+program_stated line = option_to_list (line_program_of (words line))
+
+-- the program that a line states, which has to be text; its device has a telephone line, and none of these programs is of it
+abbrev pub program_after : List DeviceSpec → List LineProgram → List ℕ → Option LineProgram
+program_after config before line =
+    if is_utf8 line then option_and_then (only_if (λ program. has_free_line config before program.device)) (line_program_of (words line)) else None
+
+-- the programs of these lines for these devices, where the lines before them state these programs
+abbrev pub programs_within : List DeviceSpec → List LineProgram → List (Entry (List ℕ)) → Result (List LineProgram) ℕ
+programs_within config before [] = Ok []
+programs_within config before (e ∷ es) = with_first e.number (program_after config before e.said) (programs_within config (before ++ program_stated e.said) es)
+
+-- the configuration of these devices, with these programs of their telephone lines
+abbrev pub settings_with : List DeviceSpec → List ToldKind → Result (List LineProgram) ℕ → Result Settings ℕ
+settings_with config kinds (Ok programs) = Ok (record { config = config; kinds = kinds; phones = programs })
+settings_with config kinds (Err n) = Err n
+
+-- the configuration of these devices, with the programs that these lines state
+abbrev pub settings_within : List DeviceSpec → List ToldKind → List (Entry (List ℕ)) → Result Settings ℕ
+settings_within config kinds es = settings_with config kinds (programs_within config [] es)
+
+-- the devices on their own, what stands behind them, and the programs of their telephone lines
+abbrev pub settings_of : Result (List Configured) ℕ → List (Entry (List ℕ)) → Result Settings ℕ
+settings_of (Ok devices) phones = settings_within (map (λ d. d.spec) devices) (map (λ d. d.kind) devices) phones
+settings_of (Err n) phones = Err n
+
+-- at least one line, or the number after that of the last
 abbrev pub settings_by : List (Entry (List ℕ)) → ℕ → Result Settings ℕ
-settings_by [] behind = Err behind
-settings_by (e ∷ es) behind = settings_of (placed_within most_devices false (e ∷ es))
+settings_by [] after = Err after
+settings_by (e ∷ es) after = settings_of (placed_within most_devices false (device_lines (e ∷ es))) (phone_lines (e ∷ es))
 
 -- the configuration that a text is, or the number of the first line that may not stand where it stands
 unfoldable pub config_of : List ℕ → Result Settings ℕ

@@ -6,7 +6,8 @@ use Rattle.af_config.specs.declared.device.OwnedKind.{OwnedKind}
 use Rattle.af_config.specs.declared.device.OwnedKind.TheVariants as held
 use Rattle.af_config.specs.declared.device.ConfiguredDevice.{ConfiguredDevice}
 use Rattle.af_config.specs.declared.device.Ending as kept
-use Rattle.af_config.specs.Stating.{Configured, EndingState}
+use Rattle.af_config.specs.declared.line_program.OwnedLineProgram.{OwnedLineProgram}
+use Rattle.af_config.specs.Stating.{Configured, EndingState, LineProgram}
 
 -- what stands behind a device
 abbrev pub owned_told : OwnedKind → ToldKind
@@ -22,3 +23,7 @@ placed device = record { spec = device.spec; kind = owned_told device.kind }
 -- the end of a device line
 abbrev pub stated_ending : kept.Ending → EndingState
 stated_ending stated = record { line = stated.line; kind = owned_told stated.kind }
+
+-- the program of a telephone line
+abbrev pub owned_program : OwnedLineProgram → LineProgram
+owned_program program = record { device = program.device; restarts = program.restarts; words = program.words }

@@ -1,5 +1,6 @@
--- What the words of a line of a configuration state: a device, and what stands behind it.
-use Rattle.std.specs.Prelude.{ℕ, ◌-◌, ◌^◌, Bool, true, false, nat_le, ◌&&◌, ◌||◌, List, [], ◌∷◌, length, fold, codes, bytes_eq, Option, Some, None, option_map, option_and_then, if◌then◌else◌}
+-- What the words of a line of a configuration state: a device and what stands behind it, or the program of a telephone line.
+use Rattle.std.specs.Prelude.{ℕ, ◌-◌, ◌^◌, Bool, true, false, not, nat_le, ◌==◌, ◌&&◌, ◌||◌, List, [], ◌∷◌, length, fold, codes, bytes_eq, Option, Some, None, option_map, option_and_then, if◌then◌else◌}
+use Rattle.af_limits.specs.Limits.{most_devices}
 use Rattle.af_sample.specs.declared.sample_type.SampleType.{SampleType}
 use Rattle.af_text.specs.Words.{number_within, only_if}
 use Rattle.af_text.specs.Sound.{type_of, rate_of, channels_stated, behind_channels}
@@ -8,12 +9,20 @@ use Rattle.af_world.specs.declared.card_kind.CardKind.TheVariants as card_kind
 use Rattle.af_world.specs.declared.script.DeviceSpec.{DeviceSpec}
 use Rattle.af_world.specs.declared.outer.ToldKind.{ToldKind}
 use Rattle.af_world.specs.declared.outer.ToldKind.TheVariants as told
+use Rattle.af_world.specs.Outside.{spec_has_line}
 use Rattle.af_world.specs.Kinds.{silence, two_files, child_program, card_program, most_card_restarts}
 
--- the devices of a server, and what stands behind each, in the same order
+-- the program that stands for the exchange of a telephone line: of which device, how often it is started anew, and its words
+pub record LineProgram : Type 0 where
+  pub device : ℕ
+  pub restarts : ℕ
+  pub words : List (List ℕ)
+
+-- the devices of a server, what stands behind each, in the same order, and the programs of their telephone lines
 pub record Settings : Type 0 where
   pub config : List DeviceSpec
   pub kinds : List ToldKind
+  pub phones : List LineProgram
 
 -- a device, and what stands behind it
 pub record Configured : Type 0 where
@@ -55,15 +64,18 @@ are_short (word ∷ words) = nat_le (length word) 64 && are_short words
 abbrev pub is_command_line : List (List ℕ) → Bool
 is_command_line words = nat_le 1 (length words) && nat_le (length words) 8 && are_short words
 
--- how often its program is started anew, and the command line of that, come behind `codec`
-abbrev pub codec_of : List (List ℕ) → Option ToldKind
-codec_of [] = None
-codec_of (restarts ∷ words) = option_and_then (λ n. option_map (child_program n) (only_if is_command_line words)) (number_within 0 100 restarts)
+-- how often a program is started anew, so many times at most, and its command line
+abbrev pub program_of : {A : Type 0} → (ℕ → List (List ℕ) → A) → ℕ → List (List ℕ) → Option A
+program_of made most [] = None
+program_of made most (restarts ∷ words) = option_and_then (λ n. option_map (made n) (only_if is_command_line words)) (number_within 0 most restarts)
 
--- the same come behind `speaker`, `microphone` or `card`
+-- they come behind `codec`
+abbrev pub codec_of : List (List ℕ) → Option ToldKind
+codec_of words = program_of child_program 100 words
+
+-- and behind `speaker`, `microphone` or `card`
 abbrev pub card_of : CardKind → List (List ℕ) → Option ToldKind
-card_of kind [] = None
-card_of kind (restarts ∷ words) = option_and_then (λ n. option_map (card_program kind n) (only_if is_command_line words)) (number_within 0 most_card_restarts restarts)
+card_of kind words = program_of (card_program kind) most_card_restarts words
 
 -- `silent`, `files INPUT OUTPUT`, or one of `codec`, `speaker`, `microphone` and `card` with `RESTARTS WORD ..`
 abbrev pub kind_of : List (List ℕ) → Option ToldKind
@@ -107,3 +119,33 @@ configured_with _ = None
 abbrev pub configured_of : List (List ℕ) → Option Configured
 configured_of [] = None
 configured_of (name ∷ arguments) = if bytes_eq name (codes "device") then configured_with arguments else None
+
+-- Programs of telephone lines
+
+-- the program of the telephone line of a device
+abbrev pub line_program : ℕ → ℕ → List (List ℕ) → LineProgram
+line_program device restarts words = record { device = device; restarts = restarts; words = words }
+
+-- the program of `DEVICE RESTARTS WORD ..`
+abbrev pub line_program_with : List (List ℕ) → Option LineProgram
+line_program_with [] = None
+line_program_with (device ∷ words) = option_and_then (λ d. program_of (line_program d) most_card_restarts words) (number_within 0 (most_devices - 1) device)
+
+-- whether the words of a line begin with `phone`
+abbrev pub is_phone_line : List (List ℕ) → Bool
+is_phone_line [] = false
+is_phone_line (name ∷ arguments) = bytes_eq name (codes "phone")
+
+-- the program that the words of a phone line state, whatever the devices are
+abbrev pub line_program_of : List (List ℕ) → Option LineProgram
+line_program_of [] = None
+line_program_of (name ∷ arguments) = if bytes_eq name (codes "phone") then line_program_with arguments else None
+
+-- whether one of these programs is of this device
+abbrev pub has_program : List LineProgram → ℕ → Bool
+has_program [] device = false
+has_program (program ∷ programs) device = program.device == device || has_program programs device
+
+-- whether a device has a telephone line, and none of these programs is of it
+abbrev pub has_free_line : List DeviceSpec → List LineProgram → ℕ → Bool
+has_free_line config programs device = spec_has_line config device && not (has_program programs device)

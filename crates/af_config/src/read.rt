@@ -1,11 +1,16 @@
 // A text is read as a configuration, line by line.
-ghost use Rattle.std.specs.Prelude.{◌≡◌, ◌≤◌, ◌⊎◌, ℕ, length, All, IfOk, IfErr};
+ghost use Rattle.std.specs.Prelude.{◌≡◌, ◌≤◌, ◌⊎◌, ℕ, [], length, All, IfOk, IfErr, IsTrue};
+ghost use Rattle.std.specs.Str.{is_utf8};
 ghost use Rattle.af_limits.specs.Limits.{most_devices, longest_config};
 ghost use Rattle.af_sample.specs.Channels.{IsChannelCount};
 ghost use Rattle.af_sample.specs.Rates.{IsListedRate};
+ghost use Rattle.af_text.specs.Words.{then_some};
+ghost use Rattle.af_world.specs.Outside.{spec_has_line};
 ghost use Rattle.af_config.specs.Configuration.{config_of, IsConfigFault};
+ghost use Rattle.af_config.specs.Reading.{with_device_line, with_phone_line, IsSound};
 
 use crate::device::{device_stated, is_text};
+use crate::line_program::{is_phone_line, line_program_stated};
 use crate::{ConfigFault, Setting};
 use af_limits::MOST_DEVICES;
 use af_text::{ByLine, LineFault, passes_over, read_lines};
@@ -24,6 +29,8 @@ pub fn read_config(alloc: Global, text: &[u8]) -> Result<Setting, ConfigFault>
     ensures kinds { IfOk result (λ s. length s.kinds ≡ length s.config) }
     ensures rates { IfOk result (λ s. All (λ device. IsListedRate device.rate) s.config) }
     ensures channels { IfOk result (λ s. All (λ device. IsChannelCount device.channels) s.config) }
+    ensures phones { IfOk result (λ s. length s.phones ≤ most_devices) }
+    ensures lines { IfOk result (λ s. All (λ program. IsTrue (spec_has_line s.config program.device)) s.phones) }
 {
     let mut setting = Setting::new(alloc);
     match read_lines(alloc, text, &mut setting) {
@@ -49,22 +56,52 @@ impl ByLine for Setting {
         if passes_over(line) {
             return Ok(true);
         }
-        if self.config().len() >= MOST_DEVICES {
-            return Ok(false);
+        if self.has_programs() || is_phone_line(line) {
+            return add_phone_line(self, line);
         }
-        match device_stated(alloc, line)? {
-            Some(device) => {
-                if self.has_codec() && device.kind.is_codec() {
-                    return Ok(false);
-                }
-                self.add(device)?;
-                Ok(true)
-            }
-            None => Ok(false),
-        }
+        add_device_line(self, alloc, line)
     }
 
     fn is_wanting(&self) -> bool {
         self.config().is_empty()
+    }
+}
+
+/// Adds the device that a line of text states, and says whether the line was allowed there.
+fn add_device_line(setting: &mut Setting, alloc: Global, line: &[u8]) -> Result<bool, OutOfMemory>
+    requires { IsTrue (is_utf8 line.now) }
+    ensures value { IfOk result (λ allowed. with_device_line setting.old line.now ≡ then_some allowed setting.new) }
+    ensures kept { IsSound setting.old → setting.old.phones ≡ [] → IfOk result (λ _. IsSound setting.new) }
+{
+    if setting.config().len() >= MOST_DEVICES {
+        return Ok(false);
+    }
+    match device_stated(alloc, line)? {
+        Some(device) => {
+            if setting.has_codec() && device.kind.is_codec() {
+                return Ok(false);
+            }
+            setting.add_device(device)?;
+            Ok(true)
+        }
+        None => Ok(false),
+    }
+}
+
+/// Adds the program that a line of text states, and says whether the line was allowed there.
+fn add_phone_line(setting: &mut Setting, line: &[u8]) -> Result<bool, OutOfMemory>
+    requires { IsTrue (is_utf8 line.now) }
+    ensures value { IfOk result (λ allowed. with_phone_line setting.old line.now ≡ then_some allowed setting.new) }
+    ensures kept { IsSound setting.old → IfOk result (λ _. IsSound setting.new) }
+{
+    match line_program_stated(line) {
+        Some(program) => {
+            if !setting.has_free_line(program.device) {
+                return Ok(false);
+            }
+            setting.add_program(program)?;
+            Ok(true)
+        }
+        None => Ok(false),
     }
 }

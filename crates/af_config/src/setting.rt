@@ -1,34 +1,41 @@
-// What a server is started with: its devices, and what stands behind each.
-ghost use Rattle.std.specs.Prelude.{◌≡◌, ◌<◌, [], length, slice_get, Some, IsTrue, nat_eq, OnOk};
+// What a server is started with: its devices, what stands behind each, and the programs of their telephone lines.
+ghost use Rattle.std.specs.Prelude.{◌≡◌, ◌<◌, [], length, map, not, slice_get, Some, IsTrue, nat_eq, OnOk};
 ghost use Rattle.af_limits.specs.Limits.{most_devices};
+ghost use Rattle.af_text.specs.Lines.{is_nil};
 ghost use Rattle.af_world.specs.Kinds.{told_kind};
-ghost use Rattle.af_config.specs.Stating.{has_codec};
-ghost use Rattle.af_config.specs.Kept.{placed};
-ghost use Rattle.af_config.specs.Reading.{with_configured};
+ghost use Rattle.af_config.specs.Stating.{has_codec, has_free_line};
+ghost use Rattle.af_config.specs.Kept.{placed, owned_program};
+ghost use Rattle.af_config.specs.Reading.{with_configured, with_program};
 
 use crate::device::{ConfiguredDevice, OwnedKind};
+use crate::line_program::{OwnedLineProgram, has_program};
 use af_time::OutOfMemory;
-use af_world::{Config, Kind};
+use af_world::{Config, Kind, has_line};
 use arrayvec::ArrayVec;
 use std::alloc::Global;
 use std::marker::Model;
 
-/// The devices of a server, and what stands behind each of them.
+/// The devices of a server, what stands behind each of them, and the programs of their telephone lines.
 #[derive(Drop)]
 pub struct Setting {
     config: Config,
     kinds: Vec<OwnedKind>,
+    phones: Vec<OwnedLineProgram>,
     is_codec_stated: bool,
 }
 
 impl Model for Setting {
     ghost use Rattle.std.specs.Prelude.{◌≡◌, length, map};
     ghost use Rattle.af_config.specs.Stating.{Settings, has_codec};
-    ghost use Rattle.af_config.specs.Kept.{owned_told};
+    ghost use Rattle.af_config.specs.Kept.{owned_told, owned_program};
 
     ghost Value = { Settings };
 
-    ghost view = { λ s. record { config = s.config.items; kinds = map owned_told s.kinds.items } };
+    ghost view = { λ s. record {
+      config = s.config.items;
+      kinds = map owned_told s.kinds.items;
+      phones = map owned_program s.phones.items;
+    } };
 
     ghost invariant = { λ s. (length s.kinds.items ≡ length s.config.items) × (s.is_codec_stated ≡ has_codec (map owned_told s.kinds.items)) };
 }
@@ -38,16 +45,18 @@ impl Setting {
     pub(crate) fn new(alloc: Global) -> Setting
         ensures config { result.config ≡ [] }
         ensures kinds { result.kinds ≡ [] }
+        ensures phones { result.phones ≡ [] }
     {
         Setting {
             config: ArrayVec::new(),
             kinds: Vec::new(alloc),
+            phones: Vec::new(alloc),
             is_codec_stated: false,
         }
     }
 
     /// Adds a device at the end, of which there may be 8. Where memory runs out nothing is promised of the setting.
-    pub(crate) fn add(&mut self, device: ConfiguredDevice) -> Result<(), OutOfMemory>
+    pub(crate) fn add_device(&mut self, device: ConfiguredDevice) -> Result<(), OutOfMemory>
         requires { length self.old.config < most_devices }
         ensures { OnOk result (self.new ≡ with_configured self.old (placed device)) }
     {
@@ -55,6 +64,14 @@ impl Setting {
         self.kinds.push(device.kind)?;
         self.is_codec_stated = self.is_codec_stated || is_codec;
         self.config.push(device.spec);
+        Ok(())
+    }
+
+    /// Adds a program at the end. Where memory runs out nothing is promised of the setting.
+    pub(crate) fn add_program(&mut self, program: OwnedLineProgram) -> Result<(), OutOfMemory>
+        ensures { OnOk result (self.new ≡ with_program self.old (owned_program program)) }
+    {
+        self.phones.push(program)?;
         Ok(())
     }
 
@@ -71,6 +88,27 @@ impl Setting {
         ensures { result ≡ has_codec self.now.kinds }
     {
         self.is_codec_stated
+    }
+
+    /// The programs of the telephone lines, in the order of their lines.
+    pub fn line_programs(&self) -> &[OwnedLineProgram]
+        ensures { self.now.phones ≡ map owned_program result.now }
+    {
+        self.phones.as_slice()
+    }
+
+    /// Whether one of the telephone lines has a program.
+    pub(crate) fn has_programs(&self) -> bool
+        ensures { result ≡ not (is_nil self.now.phones) }
+    {
+        !self.phones.is_empty()
+    }
+
+    /// Whether a device has a telephone line that has no program.
+    pub(crate) fn has_free_line(&self, device: u8) -> bool
+        ensures { result ≡ has_free_line self.now.config self.now.phones device }
+    {
+        has_line(self.config.as_slice(), device) && !has_program(&self.phones, device)
     }
 
     /// What stands behind a device, which is one of these.

@@ -1,5 +1,5 @@
 // What lies between a line and its program.
-ghost use Rattle.std.specs.Prelude.{◌≡◌, ◌≢◌, ◌↔◌, ◌≤◌, ◌<◌, ◌+◌, [], ◌∷◌, length, drop, true, false, not, ◌&&◌, ◌||◌, is_some, List, IfOk};
+ghost use Rattle.std.specs.Prelude.{◌≡◌, ◌≢◌, ◌↔◌, ◌≤◌, ◌<◌, ◌+◌, ◌-◌, [], ◌∷◌, length, drop, true, false, not, ◌&&◌, ◌||◌, is_some, List, IfOk};
 ghost use Rattle.std.specs.declared.option.Option.{Option};
 ghost use Rattle.std.specs.declared.option.Option.TheVariants.{None, Some};
 ghost use Rattle.arrayvec.specs.ArrayVec.{array_vec_len};
@@ -7,7 +7,7 @@ ghost use Rattle.af_io.specs.Observed.{Appended};
 ghost use Rattle.af_program.specs.Acts.{ToldAct, launched, RunsWhereTold};
 ghost use Rattle.af_child.specs.Acts.{words_of};
 ghost use Rattle.af_world.specs.Kinds.{most_card_restarts};
-ghost use Rattle.af_card.specs.Waits.{may_come, is_left};
+ghost use Rattle.af_card.specs.Waits.{may_come, is_left, next_start};
 ghost use Rattle.af_card.specs.Between.{TakesInto, GivesFrom};
 ghost use Rattle.af_exchange.specs.Lines.{text_of, hook_text};
 ghost use Rattle.af_exchange.specs.Fronts.{FrontOf, NoComment};
@@ -137,6 +137,20 @@ impl Dialogue {
         ensures { result ≡ self.now.starts.tried }
     {
         self.starts.tried
+    }
+
+    /// How many starts are left.
+    pub(crate) fn starts_left(&self) -> u32
+        ensures { result ≡ self.now.starts.restarts + 1 - self.now.starts.tried }
+    {
+        (self.starts.restarts + 1).saturating_sub(self.starts.tried)
+    }
+
+    /// From which moment on the next start may come, if there is one.
+    pub(crate) fn next_start(&self) -> Option<u64>
+        ensures { result ≡ next_start self.now.starts }
+    {
+        self.starts.next_start()
     }
 
     /// Whether a start is left.

@@ -1,5 +1,5 @@
 // The program that stands for the exchange of a telephone line.
-ghost use Rattle.std.specs.Prelude.{◌≡◌, ◌↔◌, ◌≤◌, ◌+◌, [], ◌∷◌, true, false, is_some, IfOk, IfSome};
+ghost use Rattle.std.specs.Prelude.{◌≡◌, ◌↔◌, ◌≤◌, ◌+◌, ◌-◌, [], ◌∷◌, true, false, is_some, IfOk, IfSome};
 ghost use Rattle.std.specs.declared.option.Option.TheVariants.{None, Some};
 ghost use Rattle.arrayvec.specs.ArrayVec.{array_vec_len};
 ghost use Rattle.af_io.specs.Observed.{Appended};
@@ -7,6 +7,7 @@ ghost use Rattle.af_child.specs.Acts.{words_of};
 ghost use Rattle.af_phone.specs.Lines.{is_change};
 ghost use Rattle.af_program.specs.Acts.{TellsNothing};
 ghost use Rattle.af_world.specs.Kinds.{most_card_restarts};
+ghost use Rattle.af_card.specs.Waits.{next_start};
 ghost use Rattle.af_exchange.specs.Lines.{hook_text};
 ghost use Rattle.af_exchange.specs.Ledger.{Notes};
 ghost use Rattle.af_exchange.specs.Fronts.{FrontOf, NoComment};
@@ -144,6 +145,27 @@ impl<P: Program + Drop> Exchange<P> {
         ensures { result ≡ self.now.dialogue.starts.tried }
     {
         self.dialogue.tried()
+    }
+
+    /// How many starts of its program are left.
+    pub fn starts_left(&self) -> u32
+        ensures { result ≡ self.now.dialogue.starts.restarts + 1 - self.now.dialogue.starts.tried }
+    {
+        self.dialogue.starts_left()
+    }
+
+    /// Whether its program runs.
+    pub fn runs(&self) -> bool
+        ensures { result ≡ is_some self.now.dialogue.running }
+    {
+        self.dialogue.runs()
+    }
+
+    /// From which moment on the next start may come, if a program has ended and a start is left.
+    pub fn next_start(&self) -> Option<u64>
+        ensures { result ≡ next_start self.now.dialogue.starts }
+    {
+        self.dialogue.next_start()
     }
 
     /// Its program.

@@ -112,4 +112,5 @@ either_first old new w = ⊎_elim (leads_first old new (Some w)) (λ g. polled_f
 pub waits_take_least : (w : Option Wake) (old new : List (Option LinkEntry)) → LeadsLinks w old new → TakesLeast old new
 waits_take_least None old new same = subst (TakesLeast old) (sym same) (none_taken old)
 waits_take_least (Some (wake.Ticked d n)) old new g = leads_first old new None g
+waits_take_least (Some (wake.Line d change)) old new g = leads_first old new None g
 waits_take_least (Some w) old new g = either_first old new w g

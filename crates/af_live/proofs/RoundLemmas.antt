@@ -87,4 +87,5 @@ pub waits_lose_none : (w : Option Wake) (links links' : List (Option LinkEntry))
 waits_lose_none None links links' old new behind behind' h = λ d t.
     ⊎_elim (λ still. omega (arith, ap (λ (r : RoundState). due_of t (source_at r d)) still.0)) (λ passed. omega (arith, passes_keeps old new behind behind' passed d t)) h
 waits_lose_none (Some (wake.Ticked d n)) links links' old new behind behind' h = λ e t. tick_keeps h.0 d n old new h.2 e t
+waits_lose_none (Some (wake.Line d change)) links links' old new behind behind' h = λ e t. omega (arith, passes_keeps old new behind behind' h e t)
 waits_lose_none (Some w) links links' old new behind behind' h = λ d t. omega (arith, begins_keeps w links links' old new behind behind' h d t)

@@ -11,7 +11,8 @@ use Rattle.af_backend.specs.Backends.{BackendState}
 use Rattle.af_live.specs.declared.link_table.LinkEntry.{LinkEntry}
 use Rattle.af_live.specs.LinkTable.{link_at, something_ready, GivesFirst, LinkWakeFits}
 use Rattle.af_live.specs.Polls.{LeadsLinks, PolledGives}
-use Rattle.af_live.specs.RealWorld.{LeadsRound}
+use Rattle.af_lines.specs.HeldLines.{LinesState, lines_begun}
+use Rattle.af_live.specs.RealWorld.{LeadsRound, LeadsLines, PassesLines}
 
 pub kept_links : (w : Wake) (old new : List (Option LinkEntry)) → LinkWakeFits old w → GivesFirst old (Some w) new → LeadsLinks (Some w) old new
 kept_links (wake.Opened k) old new fits h = inl h
@@ -32,6 +33,16 @@ kept_round (wake.Ticked d n) old new round behind fits h = absurd fits
 kept_round (wake.Line d change) old new round behind fits h = absurd fits
 kept_round wake.Stop old new round behind fits h = absurd fits
 
+pub kept_lines : (w : Wake) (old new : List (Option LinkEntry)) (round : RoundState) (lines : LinesState) →
+    LinkWakeFits old w → GivesFirst old (Some w) new → LeadsLines (Some w) old round lines new round lines
+kept_lines (wake.Opened k) old new round lines fits h = inl ((h, refl), refl)
+kept_lines (wake.Readable k) old new round lines fits h = inl ((h, refl), refl)
+kept_lines (wake.Writable k) old new round lines fits h = inl ((h, refl), refl)
+kept_lines wake.Idle old new round lines fits h = inl ((h, refl), refl)
+kept_lines (wake.Ticked d n) old new round lines fits h = absurd fits
+kept_lines (wake.Line d change) old new round lines fits h = absurd fits
+kept_lines wake.Stop old new round lines fits h = absurd fits
+
 -- where nothing is given of what is kept, nothing is
 pub nothing_kept : (links new : List (Option LinkEntry)) → length links ≡ most_links → GivesFirst links None new →
     (k : ℕ) → k < most_links → something_ready (link_at links k) ≡ true → ⊥
@@ -47,3 +58,16 @@ polled_links (Some wake.Idle) links now new h fits polled = inr ((h.0, refl), su
 polled_links (Some (wake.Ticked d n)) links now new h fits polled = absurd fits
 polled_links (Some (wake.Line d change)) links now new h fits polled = absurd fits
 polled_links (Some wake.Stop) links now new h fits polled = absurd fits
+
+-- a poll comes after the last line, and a new round begins behind it
+pub polled_lines : (o : Option Wake) (now links' : List (Option LinkEntry)) (links : List (Option LinkEntry)) (round round' : RoundState) (lines past lines' : LinesState) →
+    IfSome o (λ w. LinkWakeFits now w) → PassesLines round lines past → MatchOption o (lines' ≡ past) (λ w. lines' ≡ lines_begun past) →
+    LeadsLines o links round lines links' round' lines'
+polled_lines None now links' links round round' lines past lines' fits passes is = inr (subst (λ l. PassesLines round lines l) (sym is) passes)
+polled_lines (Some (wake.Opened k)) now links' links round round' lines past lines' fits passes is = inr (past, passes, is)
+polled_lines (Some (wake.Readable k)) now links' links round round' lines past lines' fits passes is = inr (past, passes, is)
+polled_lines (Some (wake.Writable k)) now links' links round round' lines past lines' fits passes is = inr (past, passes, is)
+polled_lines (Some wake.Idle) now links' links round round' lines past lines' fits passes is = inr (past, passes, is)
+polled_lines (Some (wake.Ticked d n)) now links' links round round' lines past lines' fits passes is = absurd fits
+polled_lines (Some (wake.Line d change)) now links' links round round' lines past lines' fits passes is = absurd fits
+polled_lines (Some wake.Stop) now links' links round round' lines past lines' fits passes is = absurd fits

@@ -46,11 +46,12 @@ ready_of w = Some w
 abbrev pub PolledGives : Wake → List (Option LinkEntry) → List (Option LinkEntry) → Type 0
 PolledGives w old new = (polled : List (Option LinkEntry)) × PollsTo old polled × GivesFirst polled (ready_of w) new
 
--- The links after a wait: what was kept ready first is given, or nothing was kept and a poll finds the wake. A tick comes only
--- where nothing is kept ready, and changes no link. A wait that failed changes none.
+-- The links after a wait: what was kept ready first is given, or nothing was kept and a poll finds the wake. A tick, and the change of a
+-- line, come only where nothing is kept ready, and change no link. A wait that failed changes none.
 abbrev pub LeadsLinks : Option Wake → List (Option LinkEntry) → List (Option LinkEntry) → Type 0
 LeadsLinks None old new = new ≡ old
 LeadsLinks (Some (wake.Ticked d n)) old new = GivesFirst old None new
+LeadsLinks (Some (wake.Line d change)) old new = GivesFirst old None new
 LeadsLinks (Some w) old new = GivesFirst old (Some w) new ⊎ (GivesFirst old None old × PolledGives w old new)
 
 -- No link is let go, and a free number is taken only where no lower one is left free.

@@ -12,7 +12,7 @@ abbrev pub IsReadingBy : Option ℕ → Option ℕ → ℕ → Type 0
 IsReadingBy None last nanos = (shown : ℕ) × (nanos ≡ reading_after last (whole_millis shown))
 IsReadingBy (Some taken) last nanos = nanos ≡ taken
 
--- For how many nanoseconds a poll waits at most: for none if there is more to do, if a device ticked in the round, or if the server is
--- behind the clock by a whole step.
+-- For how many nanoseconds a poll waits at most: for none if there is more to do, if a device ticked or a line changed in the round, or if
+-- the server is behind the clock by a whole step.
 abbrev pub pause_of : Bool → Bool → Bool → ℕ
-pause_of more ticked behind = if more || ticked || behind then 0 else 10000000
+pause_of more went_on behind = if more || went_on || behind then 0 else 10000000

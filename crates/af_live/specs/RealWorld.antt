@@ -16,18 +16,21 @@ use Rattle.af_live.specs.declared.link_table.LinkEntry.{LinkEntry}
 use Rattle.af_live.specs.LinkTable.{free_entry, LinkWakeFits, GivesFirst}
 use Rattle.af_backend.specs.Backends.{BackendState, none_attached, all_without_bytes}
 use Rattle.af_backend.specs.CodecUse.{CodecUse, begun_codec}
+use Rattle.af_phone.specs.Lines.{is_change}
+use Rattle.af_lines.specs.HeldLines.{LinesState, no_lines, line_at, has_exchange, lines_begun, all_line_orders, GoesOverLines}
 use Rattle.af_live.specs.Readings.{IsReadingBy}
 use Rattle.af_backend.specs.Rounds.{RoundState, new_round, source_at, is_attached, round_begun, due_of, GoesOn}
 use Rattle.af_backend.specs.Asked.{GoesOver}
 
 -- Whether it listens; the links that it holds; what stands behind each device that is attached; its codec; its round over the
--- devices; and how often each kind of call has failed.
+-- devices; their telephone lines; and how often each kind of call has failed.
 pub record RealState : Type 0 where
   pub listens : Bool
   pub links : List (Option LinkEntry)
   pub behind : List (Option BackendState)
   pub codec : CodecUse
   pub round : RoundState
+  pub lines : LinesState
   pub link_faults : ℕ
   pub device_faults : ℕ
   pub listen_faults : ℕ
@@ -35,7 +38,7 @@ pub record RealState : Type 0 where
 
 -- it was just made, over a spawner with these acts
 abbrev pub begun_world : Option (List Told) → RealState
-begun_world acts = record { listens = false; links = replicate most_links free_entry; behind = none_attached; codec = begun_codec acts; round = new_round; link_faults = 0; device_faults = 0; listen_faults = 0; wait_faults = 0 }
+begun_world acts = record { listens = false; links = replicate most_links free_entry; behind = none_attached; codec = begun_codec acts; round = new_round; lines = no_lines; link_faults = 0; device_faults = 0; listen_faults = 0; wait_faults = 0 }
 
 -- what the server's calls leave alone, and the counts that they may raise
 pub record RealLeadsTo (old new : RealState) : Type 0 where
@@ -43,13 +46,14 @@ pub record RealLeadsTo (old new : RealState) : Type 0 where
   pub behind : all_without_bytes new.behind ≡ all_without_bytes old.behind
   pub orders : new.codec.orders ≡ old.codec.orders
   pub round : new.round ≡ old.round
+  pub lines : (all_line_orders new.lines.lines ≡ all_line_orders old.lines.lines) × (new.lines.next ≡ old.lines.next)
   pub link_faults : old.link_faults ≤ new.link_faults
   pub device_faults : old.device_faults ≤ new.device_faults
   pub listen_faults : new.listen_faults ≡ old.listen_faults
   pub wait_faults : new.wait_faults ≡ old.wait_faults
 
 pub RealLeadsTo-refl : (a : RealState) → RealLeadsTo a a
-RealLeadsTo-refl a = record { listens = refl; behind = refl; orders = refl; round = refl; link_faults = le_refl a.link_faults; device_faults = le_refl a.device_faults; listen_faults = refl; wait_faults = refl }
+RealLeadsTo-refl a = record { listens = refl; behind = refl; orders = refl; round = refl; lines = (refl, refl); link_faults = le_refl a.link_faults; device_faults = le_refl a.device_faults; listen_faults = refl; wait_faults = refl }
 
 pub RealLeadsTo-trans : (a b c : RealState) → RealLeadsTo a b → RealLeadsTo b c → RealLeadsTo a c
 RealLeadsTo-trans a b c p q = record {
@@ -57,16 +61,19 @@ RealLeadsTo-trans a b c p q = record {
   behind = q.behind ∙ p.behind;
   orders = q.orders ∙ p.orders;
   round = q.round ∙ p.round;
+  lines = (q.lines.0 ∙ p.lines.0, q.lines.1 ∙ p.lines.1);
   link_faults = le_trans p.link_faults q.link_faults;
   device_faults = le_trans p.device_faults q.device_faults;
   listen_faults = q.listen_faults ∙ p.listen_faults;
   wait_faults = q.wait_faults ∙ p.wait_faults;
 }
 
--- A wake opens a link that is not open, names one that is, or ticks a device that is attached by 1 to 4096 frames.
-abbrev pub WakeFits : List (Option LinkEntry) → RoundState → Wake → Type 0
-WakeFits links round (wake.Ticked d n) = (is_attached round d ≡ true) × (1 ≤ n) × (n ≤ longest_tick)
-WakeFits links round w = LinkWakeFits links w
+-- A wake opens a link that is not open, names one that is, ticks a device that is attached by 1 to 4096 frames, or changes a line for whose
+-- exchange a program stands.
+abbrev pub WakeFits : List (Option LinkEntry) → RoundState → LinesState → Wake → Type 0
+WakeFits links round lines (wake.Ticked d n) = (is_attached round d ≡ true) × (1 ≤ n) × (n ≤ longest_tick)
+WakeFits links round lines (wake.Line d change) = (has_exchange (line_at lines.lines d) ≡ true) × (is_change change ≡ true)
+WakeFits links round lines w = LinkWakeFits links w
 
 -- What is ready first is given, and the round stays where it is.
 abbrev pub GivesKept : Option Wake → List (Option LinkEntry) → RoundState → List (Option LinkEntry) → RoundState → Type 0
@@ -79,15 +86,32 @@ PassesAll old behind past behind' =
     (nanos : ℕ) × IsReadingBy old.reading old.last nanos × GoesOn nanos old None past × GoesOver nanos old None past behind behind'
 
 -- A tick is that of the next device of the round of which frames are due, at the one reading of the round: by the system's clock, or by
--- its program. Any other wake was kept ready, and the round and the devices stay where they are; or it comes after the last of the
+-- its program. A line changes once the round has left the last device. Any other wake was kept ready, and the round and the devices stay where they are; or it comes after the last of the
 -- devices, of which none has a frame due then, and a new round begins. A wait that failed begins none.
 abbrev pub LeadsRound : Option Wake → List (Option LinkEntry) → RoundState → List (Option BackendState) → List (Option LinkEntry) → RoundState → List (Option BackendState) → Type 0
 LeadsRound None links old behind links' new behind' = ((new ≡ old) × (behind' ≡ behind)) ⊎ PassesAll old behind new behind'
 LeadsRound (Some (wake.Ticked d n)) links old behind links' new behind' =
     (nanos : ℕ) × IsReadingBy old.reading old.last nanos × GoesOn nanos old (Some (d, n)) new × GoesOver nanos old (Some (d, n)) new behind behind'
+LeadsRound (Some (wake.Line d change)) links old behind links' new behind' = PassesAll old behind new behind'
 LeadsRound (Some w) links old behind links' new behind' =
     (GivesKept (Some w) links old links' new × (behind' ≡ behind))
     ⊎ ((past : RoundState) × PassesAll old behind past behind' × (new ≡ round_begun past))
+
+-- Each line that the round has left is asked at its one reading, and none changes.
+abbrev pub PassesLines : RoundState → LinesState → LinesState → Type 0
+PassesLines old lines lines' = (nanos : ℕ) × IsReadingBy old.reading old.last nanos × GoesOverLines nanos lines None lines'
+
+-- A change is that of the next line of the round whose program gave one, at the one reading of the round. A tick leaves the lines as they
+-- are. Any other wake was kept ready, and they stay as they are; or each line that the round has left is asked, none changes, and a new
+-- round begins. A wait that failed begins none.
+abbrev pub LeadsLines : Option Wake → List (Option LinkEntry) → RoundState → LinesState → List (Option LinkEntry) → RoundState → LinesState → Type 0
+LeadsLines None links old lines links' new lines' = (lines' ≡ lines) ⊎ PassesLines old lines lines'
+LeadsLines (Some (wake.Ticked d n)) links old lines links' new lines' = lines' ≡ lines
+LeadsLines (Some (wake.Line d change)) links old lines links' new lines' =
+    (nanos : ℕ) × IsReadingBy old.reading old.last nanos × GoesOverLines nanos lines (Some (d, change)) lines'
+LeadsLines (Some w) links old lines links' new lines' =
+    (GivesKept (Some w) links old links' new × (lines' ≡ lines))
+    ⊎ ((past : LinesState) × PassesLines old lines past × (lines' ≡ lines_begun past))
 
 -- how many frames of a device a wait gave
 abbrev pub ticked_by : Option Wake → ℕ → ℕ

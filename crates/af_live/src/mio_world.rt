@@ -2,7 +2,8 @@
 // of their own.
 // How it lies: `links` has a place for each of 32 numbers: the key of the link's stream, and what is ready of it and was not
 // given yet. The streams lie under these keys in the slab of `sockets`, beside the poll and the listener. Of each of 8 devices
-// `devices` has the clock and what stands behind it, and beside them the codec, which may stand behind one. Faults of links, devices,
+// `devices` has the clock and what stands behind it, and beside them the codec, which may stand behind one. `lines` has their telephone
+// lines. Faults of links, devices,
 // listens and waits are counted apart. Contracts see these tables and counts; of the sockets only whether there are any.
 ghost use Rattle.std.specs.Prelude.{◌≡◌, ◌≤◌, ◌<◌, [], ℕ, length, not, true, false, is_some, IfSome, MatchOption};
 ghost use Rattle.std.specs.declared.option.Option.TheVariants.{None};
@@ -15,8 +16,10 @@ ghost use Rattle.af_codec.specs.Codec.{TellsThese};
 ghost use Rattle.af_backend.specs.Backends.{may_be_refused, round_after, CapturesAt, EmitsAt, AttachesAt};
 ghost use Rattle.af_backend.specs.CodecUse.{codec_allows, codec_behind};
 ghost use Rattle.af_backend.specs.Rounds.{is_attached};
+ghost use Rattle.af_child.specs.Acts.{words_of};
+ghost use Rattle.af_lines.specs.HeldLines.{is_quiet, line_at, lines_after, AttachesLine, HooksAt};
 ghost use Rattle.af_live.specs.Polls.{LeadsLinks, TakesLeast};
-ghost use Rattle.af_live.specs.RealWorld.{RealLeadsTo, begun_world, given, listens_behind, GivesKept, LeadsRound, LosesNoFrame, WakeFits};
+ghost use Rattle.af_live.specs.RealWorld.{RealLeadsTo, begun_world, given, listens_behind, GivesKept, LeadsLines, LeadsRound, LosesNoFrame, WakeFits};
 
 use crate::counting::{count_got, count_put, count_ready, count_took, count_waited};
 use crate::held_links::HeldLinks;
@@ -27,9 +30,13 @@ use af_backend::{Devices, NewDevice, refusal};
 use af_card::Card;
 use af_child::Spawner;
 use af_codec::Codec;
+use af_exchange::Exchange;
 use af_io::Put;
+use af_lines::Lines;
 use af_program::{NoPrograms, Programs};
-use af_world::{DeviceSpec, Kind, LinkGot, LinkTook, Live, Ready, Waited, Wake, Why, World};
+use af_world::{
+    DeviceSpec, Kind, LineProgram, LinkGot, LinkTook, Live, Ready, Waited, Wake, Why, World,
+};
 use mio::net::TcpStream;
 use std::alloc::Global;
 use std::marker::Model;
@@ -46,16 +53,17 @@ use std::time::Clock;
 /// It tells nothing of what happened. The counts of its faults stand still at 2^64 - 1.
 #[derive(Drop)]
 pub struct MioWorld<R: Net + Clock + Files + Drop, S: Spawner + Drop, G: Programs + Drop> {
-    rt: R,
-    programs: G,
     sockets: Option<Sockets>,
     links: HeldLinks,
-    devices: Devices<R::File, S, G::Made>,
+    lines: Lines<G::Made>,
     step: Step,
     link_faults: u64,
     device_faults: u64,
     listen_faults: u64,
     wait_faults: u64,
+    rt: R,
+    programs: G,
+    devices: Devices<R::File, S, G::Made>,
 }
 
 impl<R: Net + Clock + Files + Drop, S: Spawner + Drop, G: Programs + Drop> Model
@@ -71,6 +79,7 @@ impl<R: Net + Clock + Files + Drop, S: Spawner + Drop, G: Programs + Drop> Model
       behind = w.devices.attached;
       codec = w.devices.codec;
       round = w.devices.round;
+      lines = w.lines;
       link_faults = w.link_faults;
       device_faults = w.device_faults;
       listen_faults = w.listen_faults;
@@ -97,16 +106,17 @@ impl<R: Net + Clock + Files + Drop, S: Spawner + Drop, G: Programs + Drop> MioWo
         ensures { result ≡ begun_world (S.acts spawner) }
     {
         MioWorld {
-            rt,
-            programs,
             sockets: None,
             links: HeldLinks::new(),
-            devices: Devices::new(alloc, spawner),
+            lines: Lines::new(),
             step: Step::default(),
             link_faults: 0,
             device_faults: 0,
             listen_faults: 0,
             wait_faults: 0,
+            rt,
+            programs,
+            devices: Devices::new(alloc, spawner),
         }
     }
 
@@ -122,6 +132,11 @@ impl<R: Net + Clock + Files + Drop, S: Spawner + Drop, G: Programs + Drop> MioWo
     /// The device of a program whose time is that of the device, if this is one.
     pub fn card(&self, device: u8) -> Option<&Card<G::Made>> {
         self.devices.card(device)
+    }
+
+    /// The exchange of the telephone line of a device, if a program stands for it.
+    pub fn exchange(&self, device: u8) -> Option<&Exchange<G::Made>> {
+        self.lines.exchange(device)
     }
 
     /// What it listens with, if it does.
@@ -223,13 +238,15 @@ impl<R: Net + Clock + Files + Drop, S: Spawner + Drop, G: Programs + Drop> World
         put
     }
 
-    fn hook(&mut self, _device: u8, _off: bool) -> Put
-        ensures cause { result ≡ Put.Failed → FaultCounted self.old.device_faults self.new.device_faults }
+    fn hook(&mut self, device: u8, off: bool) -> Put
+        ensures faults { CountsOne (result ≡ Put.Failed) self.old.device_faults self.new.device_faults }
         ensures leads { RealLeadsTo self.old self.new }
-        ensures done { result ≡ Put.Done }
-        ensures same { self.new ≡ self.old }
+        ensures hooks { HooksAt device off result self.old.lines self.new.lines }
+        ensures rest { self.new ≡ record self.old { lines = self.new.lines; device_faults = self.new.device_faults } }
     {
-        Put::Done
+        let put = self.lines.hook(device, off, time_of(&self.rt));
+        count_put(put, &mut self.device_faults);
+        put
     }
 }
 
@@ -270,8 +287,9 @@ impl<R: Net + Clock + Files + Drop, S: Spawner + Drop, G: Programs + Drop> Live
             codec_allows self.old.codec kind.entry ≡ true → may_be_refused kind.entry ≡ false → result ≡ Ready.Done }
         ensures behind { AttachesAt result kind.entry device spec.now self.old.behind self.new.behind }
         ensures codec { self.new.codec ≡ codec_behind result kind.entry self.old.codec }
+        ensures lines { self.new.lines ≡ lines_after result device spec.now.line self.old.lines }
         ensures rest { self.new ≡ record self.old
-            { behind = self.new.behind; codec = self.new.codec; round = self.new.round; device_faults = self.new.device_faults } }
+            { behind = self.new.behind; codec = self.new.codec; round = self.new.round; lines = self.new.lines; device_faults = self.new.device_faults } }
         ensures counts { CountsStand self.old self.new }
     {
         let asked = NewDevice {
@@ -282,6 +300,22 @@ impl<R: Net + Clock + Files + Drop, S: Spawner + Drop, G: Programs + Drop> Live
             at: time_of(&self.rt),
         };
         let attached = self.devices.attach(&self.rt, &mut self.programs, asked);
+        self.lines.note_attach(attached, device, spec.line);
+        count_ready(attached, &mut self.device_faults);
+        attached
+    }
+
+    fn attach_line(&mut self, alloc: Global, device: u8, program: LineProgram<'_>) -> Ready
+        ensures faults { CountsOne (result ≡ Ready.Failed) self.old.device_faults self.new.device_faults }
+        ensures quiet { result ≡ Ready.Done → is_quiet (line_at self.old.lines.lines device) ≡ true }
+        ensures attaches { AttachesLine result program.entry.restarts (words_of program.entry.words.now) device self.old.lines self.new.lines }
+        ensures rest { self.new ≡ record self.old { lines = self.new.lines; device_faults = self.new.device_faults } }
+        ensures counts { CountsStand self.old self.new }
+    {
+        let at = time_of(&self.rt);
+        let attached = self
+            .lines
+            .attach(alloc, &mut self.programs, device, program, at);
         count_ready(attached, &mut self.device_faults);
         attached
     }
@@ -291,15 +325,16 @@ impl<R: Net + Clock + Files + Drop, S: Spawner + Drop, G: Programs + Drop> Live
         ensures unlistened { self.old.listens ≡ false → result ≡ Waited.Failed }
         ensures kept { (k : ℕ) → self.old.listens ≡ true → k < most_links → something_ready (link_at self.old.links k) ≡ true →
             GivesKept (given result) self.old.links self.old.round self.new.links self.new.round }
-        ensures fits { IfSome (given result) (λ wake. WakeFits self.old.links self.old.round wake) }
+        ensures fits { IfSome (given result) (λ wake. WakeFits self.old.links self.old.round self.old.lines wake) }
         ensures opens { MatchOption (given result) (KeepsOpen self.old.links self.new.links)
             (λ wake. Opens wake self.old.links self.new.links) }
         ensures links { LeadsLinks (given result) self.old.links self.new.links }
         ensures least { TakesLeast self.old.links self.new.links }
         ensures round { LeadsRound (given result) self.old.links self.old.round self.old.behind self.new.links self.new.round self.new.behind }
         ensures frames { LosesNoFrame (given result) self.old.round self.new.round }
-        ensures rest { self.new
-            ≡ record self.old { links = self.new.links; behind = self.new.behind; round = self.new.round; wait_faults = self.new.wait_faults } }
+        ensures lines { LeadsLines (given result) self.old.links self.old.round self.old.lines self.new.links self.new.round self.new.lines }
+        ensures rest { self.new ≡ record self.old
+            { links = self.new.links; behind = self.new.behind; round = self.new.round; lines = self.new.lines; wait_faults = self.new.wait_faults } }
         ensures counts { CountsStand self.old self.new }
     {
         let next = next_wake(
@@ -308,6 +343,7 @@ impl<R: Net + Clock + Files + Drop, S: Spawner + Drop, G: Programs + Drop> Live
             &mut self.sockets,
             &mut self.links,
             &mut self.devices,
+            &mut self.lines,
             &mut self.step,
         );
         let waited = answer(next);

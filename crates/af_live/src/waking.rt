@@ -1,19 +1,22 @@
-// How a wait finds its wake: what is kept ready of a link, then the next device of the round, then what a poll finds.
+// How a wait finds its wake: what is kept ready of a link, then the next device of the round, then the next telephone line, then what a
+// poll finds.
 ghost use Rattle.std.specs.Prelude.{◌≡◌, ◌≤◌, ◌<◌, ◌^◌, ℕ, true, false, is_some, IfSome, MatchOption};
 ghost use Rattle.std.specs.declared.option.Option.TheVariants.{None};
 ghost use Rattle.std.specs.Duration.{as_nanos};
 ghost use Rattle.af_limits.specs.Limits.{most_links};
 ghost use Rattle.af_backend.specs.Rounds.{round_begun};
+ghost use Rattle.af_lines.specs.HeldLines.{lines_begun};
 ghost use Rattle.af_live.specs.LinkTable.{link_at, something_ready, KeepsOpen, LinkWakeFits, Opens};
 ghost use Rattle.af_live.specs.Polls.{LeadsLinks, PolledGives};
 ghost use Rattle.af_live.specs.Readings.{whole_millis, pause_of, IsReadingBy};
-ghost use Rattle.af_live.specs.RealWorld.{given, GivesKept, LeadsRound, WakeFits};
+ghost use Rattle.af_live.specs.RealWorld.{given, GivesKept, LeadsLines, LeadsRound, WakeFits};
 
 use crate::held_links::HeldLinks;
 use crate::sockets::Sockets;
 use af_backend::{Devices, LONGEST_STEP_NANOS, Round};
 use af_child::Spawner;
 use af_limits::MOST_DEVICES;
+use af_lines::Lines;
 use af_program::Program;
 use af_world::{Waited, Wake};
 use std::io::{Read, Write};
@@ -79,47 +82,52 @@ fn reading<R: Clock>(rt: &R, round: &Round, has_links: bool, step: &mut Step) ->
     Some(next)
 }
 
-/// What a poll finds first, at this reading of the clock. A new round over the devices begins behind it.
-fn poll_once(
+/// What a poll finds first, at this reading of the clock. A new round over the devices and their lines begins after it.
+fn poll_once<P: Program + Drop>(
     sockets: &mut Sockets,
     pause: Duration,
     nanos: u64,
     links: &mut HeldLinks,
     round: &mut Round,
+    lines: &mut Lines<P>,
 ) -> Option<Wake>
     ensures fits { IfSome result (λ wake. LinkWakeFits links.old wake) }
     ensures opens { MatchOption result (KeepsOpen links.old links.new) (λ wake. Opens wake links.old links.new) }
     ensures links { MatchOption result (links.new ≡ links.old) (λ wake. PolledGives wake links.old links.new) }
     ensures round { MatchOption result (round.new ≡ round.old) (λ wake. round.new ≡ round_begun round.old) }
+    ensures lines { MatchOption result (lines.new ≡ lines.old) (λ wake. lines.new ≡ lines_begun lines.old) }
 {
     if !sockets.poll(pause, nanos, links) {
         return None;
     }
     round.begin();
+    lines.begin();
     match links.take_ready() {
         Some(wake) => Some(wake),
         None => Some(Wake::Idle),
     }
 }
 
-/// The next wake: what is kept ready, or the next device of the round of which frames are due, or what the next poll finds. None
-/// if the system was not to be asked.
+/// The next wake: what is kept ready, or the next device of the round of which frames are due, or the next line that changes, or what the
+/// next poll finds. None if the system was not to be asked.
 pub(crate) fn next_wake<R: Clock, F: Read + Write + Drop, S: Spawner + Drop, P: Program + Drop>(
     rt: &R,
     more: bool,
     sockets: &mut Option<Sockets>,
     links: &mut HeldLinks,
     devices: &mut Devices<F, S, P>,
+    lines: &mut Lines<P>,
     step: &mut Step,
 ) -> Option<Wake>
     ensures listens { is_some sockets.new ≡ is_some sockets.old }
     ensures unlistened { is_some sockets.old ≡ false → result ≡ None }
     ensures kept { (k : ℕ) → is_some sockets.old ≡ true → k < most_links → something_ready (link_at links.old k) ≡ true →
         GivesKept result links.old devices.old.round links.new devices.new.round }
-    ensures fits { IfSome result (λ wake. WakeFits links.old devices.old.round wake) }
+    ensures fits { IfSome result (λ wake. WakeFits links.old devices.old.round lines.old wake) }
     ensures opens { MatchOption result (KeepsOpen links.old links.new) (λ wake. Opens wake links.old links.new) }
     ensures links { LeadsLinks result links.old links.new }
     ensures round { LeadsRound result links.old devices.old.round devices.old.attached links.new devices.new.round devices.new.attached }
+    ensures lines { LeadsLines result links.old devices.old.round lines.old links.new devices.new.round lines.new }
     ensures rest { devices.new ≡ record devices.old { round = devices.new.round; attached = devices.new.attached } }
 {
     let Some(sockets) = sockets else {
@@ -132,9 +140,13 @@ pub(crate) fn next_wake<R: Clock, F: Read + Write + Drop, S: Spawner + Drop, P: 
     if let Some((device, frames)) = devices.next_tick(nanos) {
         return Some(Wake::Ticked(device, frames));
     }
+    if let Some((device, change)) = lines.next_change(nanos) {
+        return Some(Wake::Line(device, change));
+    }
     watch_programs(sockets, devices);
-    let pause = pause(more, devices.round.has_ticked(), step.is_behind);
-    poll_once(sockets, pause, nanos, links, &mut devices.round)
+    let went_on = devices.round.has_ticked() || lines.has_changed();
+    let pause = pause(more, went_on, step.is_behind);
+    poll_once(sockets, pause, nanos, links, &mut devices.round, lines)
 }
 
 /// Has the poll look at the programs whose time is that of their device.
@@ -161,10 +173,10 @@ pub(crate) fn answer(next: Option<Wake>) -> Waited
 }
 
 /// How long a poll waits at most.
-fn pause(more: bool, ticked: bool, behind: bool) -> Duration
-    ensures { as_nanos result ≡ pause_of more ticked behind }
+fn pause(more: bool, went_on: bool, behind: bool) -> Duration
+    ensures { as_nanos result ≡ pause_of more went_on behind }
 {
-    if more || ticked || behind {
+    if more || went_on || behind {
         Duration::ZERO
     } else {
         Duration::from_millis(LONGEST_PAUSE_MILLIS)

@@ -15,8 +15,8 @@ pub use af_io::{
     StdSink, StdSource, TcpDial, TcpLink, TextFault, WordsFault, program_words, read_text,
 };
 pub use af_world::{
-    CardKind, Config, DeviceSpec, Happening, Kind, LinkGot, LinkTook, Live, Outer, ReadGot, Ready,
-    Step, ToldKind, Waited, Wake, Why, World, laws, silent_byte,
+    CardKind, Config, DeviceSpec, Happening, Kind, LineProgram, LinkGot, LinkTook, Live, Outer,
+    ReadGot, Ready, Step, ToldKind, Waited, Wake, Why, World, laws, silent_byte,
 };
 pub use outer_faults::OuterFaults;
 pub use tape::Tape;

@@ -1,13 +1,14 @@
 // What a tape keeps of the listens, attaches and waits that were made, and which of them it lets fail.
 ghost use Rattle.std.specs.Prelude.{◌≡◌, ◌≤◌, ◌∷◌, ◌++◌, [], IfOk};
 ghost use Rattle.std.specs.declared.option.Option.TheVariants.{None, Some};
-ghost use Rattle.af_world.specs.declared.outer.Outer.TheVariants.{Listened, Attached, Waited};
+ghost use Rattle.af_world.specs.declared.outer.Outer.TheVariants.{Listened, Attached, LineAttached, Waited};
+ghost use Rattle.af_child.specs.Acts.{words_of};
 ghost use Rattle.af_world.specs.Kinds.{told_kind};
 ghost use Rattle.af_io.specs.Observed.{counted, faults_after};
 ghost use Rattle.af_outside.specs.OuterState.{EntryNoted, is_stated, outer_start};
 
 use crate::logbook::Logbook;
-use crate::{Bytes, DeviceSpec, Kind, Outer, OuterFaults, ToldKind, Wake};
+use crate::{Bytes, DeviceSpec, Kind, LineProgram, Outer, OuterFaults, ToldKind, Wake};
 use af_child::CommandLine;
 use af_io::faults_after;
 use af_time::OutOfMemory;
@@ -157,6 +158,17 @@ pub(crate) fn attach_of(
         spec: *spec,
         kind: kept_kind(alloc, kind)?,
     })
+}
+
+// The entry of the program of a telephone line.
+pub(crate) fn line_attach_of(device: u8, program: LineProgram<'_>) -> Outer
+    ensures { result ≡ LineAttached device program.entry.restarts (words_of program.entry.words.now) }
+{
+    Outer::LineAttached {
+        device,
+        restarts: program.restarts,
+        words: CommandLine::of(program.words),
+    }
 }
 
 // The entry of a wait.

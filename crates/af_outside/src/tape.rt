@@ -1,29 +1,31 @@
 // A world in memory: it plays the steps of a script, answers as the script states, and keeps a log.
-ghost use Rattle.std.specs.Prelude.{◌≡◌, ◌≢◌, ◌↔◌, ◌≤◌, ◌<◌, ◌∷◌, [], List, IsTrue, false, if◌then◌else◌, length, not, slice_get, is_some, IfOk, IfSome};
+ghost use Rattle.std.specs.Prelude.{◌≡◌, ◌≢◌, ◌↔◌, ◌≤◌, ◌<◌, ◌∷◌, [], List, IsTrue, true, false, if◌then◌else◌, length, not, slice_get, is_some, IfOk, IfSome};
 ghost use Rattle.std.specs.declared.option.Option.TheVariants.{Some};
 ghost use Rattle.af_limits.specs.Limits.{longest_read, output_room};
 ghost use Rattle.af_world.specs.declared.happening.Happening.TheVariants.{Read, Wrote, Captured, Emitted, Hooked, Woke, Closed};
 ghost use Rattle.af_world.specs.declared.script.Step.{Step};
 ghost use Rattle.af_io.specs.Observed.{counted, faults_after, Appended, FaultCounted, Unchanged};
 ghost use Rattle.af_world.specs.World.{got_of, took_of, captured_of, is_done, LinkGotFits, TookFits};
-ghost use Rattle.af_world.specs.Outside.{answered_as_stated, stepped, wake_of, ScriptedDevice};
+ghost use Rattle.af_child.specs.Acts.{words_of};
+ghost use Rattle.af_world.specs.Outside.{answered_as_stated, spec_has_line, stepped, wake_of, ScriptedDevice};
 ghost use Rattle.af_world.specs.Kinds.{told_kind};
-ghost use Rattle.af_world.specs.Outer.{attached, listened, waited};
+ghost use Rattle.af_world.specs.Outer.{attached, line_attached, listened, waited};
 ghost use Rattle.af_outside.specs.TapeState.{made, TakesStep, TapeLeadsTo, left_after, outer_told, NoCountFalls, wait_answer, wait_fails, waited_outside};
 ghost use Rattle.af_outside.specs.OuterState.{is_stated, was_refused};
 ghost use Rattle.af_outside.specs.Tape.{HasRoomForSteps, outside_of, devices_of, read_failed, write_failed};
 
 use crate::happenings::{capture_of, emit_of, hook_of, read_of, write_of};
 use crate::logbook::Logbook;
-use crate::outer_book::{OuterBook, attach_of, listen_of, wait_of};
+use crate::outer_book::{OuterBook, attach_of, line_attach_of, listen_of, wait_of};
 use crate::scripted_device::{self, DeviceCall, KeptScriptedDevice, new_devices};
 use crate::scripted_link::ScriptedLink;
 use crate::{
-    Bytes, Config, DeviceSpec, Happening, Kind, LinkGot, LinkTook, Live, Outer, OuterFaults, Put,
-    Ready, Step, Waited, Wake, Why, World, links,
+    Bytes, Config, DeviceSpec, Happening, Kind, LineProgram, LinkGot, LinkTook, Live, Outer,
+    OuterFaults, Put, Ready, Step, Waited, Wake, Why, World, links,
 };
 use af_io::faults_after;
 use af_time::OutOfMemory;
+use af_world::has_line;
 use std::alloc::Global;
 use std::marker::Model;
 
@@ -421,6 +423,29 @@ impl Live for Tape {
         }
         self.outer
             .note(attach_of(alloc, device, spec, kind), &mut self.logbook);
+        Ready::Done
+    }
+
+    fn attach_line(&mut self, _alloc: Global, device: u8, program: LineProgram<'_>) -> Ready
+        ensures log { Unchanged self.old.log self.new.log }
+        ensures outer { Appended (outer_told self.old) (line_attached result device program.entry.restarts (words_of program.entry.words.now)) (outer_told self.new) }
+        ensures cause { result ≡ Ready.Failed → FaultCounted self.old.device_faults self.new.device_faults }
+        ensures counts { NoCountFalls self.old self.new }
+        ensures answer { (result ≡ Ready.Done) ↔ (spec_has_line self.old.config device ≡ true) }
+        ensures memory { result ≢ Ready.OutOfMemory }
+        ensures faults { self.new.device_faults ≡ faults_after self.old.device_faults (was_refused result) }
+        ensures rest { self.new ≡ record self.old {
+          log = self.new.log;
+          device_faults = self.new.device_faults;
+          outer = record self.old.outer { entries = self.new.outer.entries };
+        } }
+    {
+        if !has_line(self.config.as_slice(), device) {
+            self.device_faults = faults_after(self.device_faults, true);
+            return Ready::Failed;
+        }
+        self.outer
+            .note(Ok(line_attach_of(device, program)), &mut self.logbook);
         Ready::Done
     }
 

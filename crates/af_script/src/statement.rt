@@ -1,7 +1,7 @@
 // What a line states: a device, or a step.
 ghost use Rattle.std.specs.Prelude.{◌≡◌, ◌≤◌, IfOk, length};
 ghost use Rattle.af_limits.specs.Limits.{most_devices};
-ghost use Rattle.af_world.specs.Outside.{frame_bytes_at, spec_has_line};
+ghost use Rattle.af_world.specs.Outside.{frame_bytes_at};
 ghost use Rattle.af_script.specs.Lines.{words};
 ghost use Rattle.af_script.specs.Words.{bytes_within};
 ghost use Rattle.af_script.specs.Statement.{line_kind_of, line_stated, device_with, device_number, line_number, link_of, switch_of, digit_of, open_of, send_of, end_of, room_stated, room_of, capture_of, tick_of, ring_of, loop_of, dial_of, fail_read_of, fail_write_of, fail_capture_of, fail_emit_of, fail_hook_of, idle_of, step_of_kind};
@@ -14,7 +14,7 @@ use af_text::{
     two_words,
 };
 use af_time::OutOfMemory;
-use af_world::{DeviceSpec, Step};
+use af_world::{DeviceSpec, Step, has_line};
 use hex::FromHexError;
 use std::alloc::Global;
 
@@ -146,16 +146,6 @@ fn line(config: &[DeviceSpec], word: &[u8]) -> Option<u8>
         Some(device)
     } else {
         None
-    }
-}
-
-/// Whether a device has a line.
-fn has_line(config: &[DeviceSpec], device: u8) -> bool
-    ensures { result ≡ spec_has_line config.now device }
-{
-    match config.get(device as usize) {
-        Some(device) => device.line,
-        None => false,
     }
 }
 

@@ -21,6 +21,12 @@ attached ready.Done device spec kind = outer.Attached device spec kind ∷ []
 attached ready.Failed device spec kind = []
 attached ready.OutOfMemory device spec kind = []
 
+-- the entry of a program that stands for the exchange of a telephone line
+abbrev pub line_attached : Ready → ℕ → ℕ → List (List ℕ) → List Outer
+line_attached ready.Done device restarts words = outer.LineAttached device restarts words ∷ []
+line_attached ready.Failed device restarts words = []
+line_attached ready.OutOfMemory device restarts words = []
+
 -- the entry of a wait
 abbrev pub waited : Bool → Waited → List Outer
 waited more (answer.Woke wake) = outer.Waited more wake ∷ []

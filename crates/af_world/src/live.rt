@@ -4,7 +4,8 @@ ghost use Rattle.std.specs.declared.option.Option.{Option};
 ghost use Rattle.af_world.specs.declared.outer.Outer.{Outer};
 ghost use Rattle.af_io.specs.Observed.{Appended, FaultCounted, Unchanged};
 ghost use Rattle.af_world.specs.Kinds.{told_kind};
-ghost use Rattle.af_world.specs.Outer.{listened, attached, waited};
+ghost use Rattle.af_child.specs.Acts.{words_of};
+ghost use Rattle.af_world.specs.Outer.{listened, attached, line_attached, waited};
 
 use crate::{CardKind, DeviceSpec, Wake, World};
 use af_child::Words;
@@ -32,6 +33,13 @@ pub enum Kind<'a> {
         restarts: u32,
         words: &'a Words,
     },
+}
+
+/// The program that stands for the exchange of a telephone line: one of these words, which is started anew so often.
+#[derive(Clone, Copy, Debug)]
+pub struct LineProgram<'a> {
+    pub restarts: u32,
+    pub words: &'a Words,
 }
 
 /// What a listen or an attach did.
@@ -75,6 +83,16 @@ pub trait Live: World {
     fn attach(&mut self, alloc: Global, device: u8, spec: &DeviceSpec, kind: Kind<'_>) -> Ready
         ensures log { Unchanged (Self.World.log self.old) (Self.World.log self.new) }
         ensures outer { Appended (outer self.old) (attached result device spec.now (told_kind kind.entry)) (outer self.new) }
+        ensures cause { result ≡ Ready.Failed → FaultCounted (Self.World.device_faults self.old) (Self.World.device_faults self.new) }
+        ensures link_count { Self.World.link_faults self.old ≤ Self.World.link_faults self.new }
+        ensures device_count { Self.World.device_faults self.old ≤ Self.World.device_faults self.new }
+        ensures listen_count { listen_faults self.old ≤ listen_faults self.new }
+        ensures wait_count { wait_faults self.old ≤ wait_faults self.new };
+
+    /// Puts the program that stands for the exchange of the telephone line of a device there.
+    fn attach_line(&mut self, alloc: Global, device: u8, program: LineProgram<'_>) -> Ready
+        ensures log { Unchanged (Self.World.log self.old) (Self.World.log self.new) }
+        ensures outer { Appended (outer self.old) (line_attached result device program.entry.restarts (words_of program.entry.words.now)) (outer self.new) }
         ensures cause { result ≡ Ready.Failed → FaultCounted (Self.World.device_faults self.old) (Self.World.device_faults self.new) }
         ensures link_count { Self.World.link_faults self.old ≤ Self.World.link_faults self.new }
         ensures device_count { Self.World.device_faults self.old ≤ Self.World.device_faults self.new }

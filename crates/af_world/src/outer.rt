@@ -32,6 +32,12 @@ pub enum Outer {
         spec: DeviceSpec,
         kind: ToldKind,
     },
+    /// A program was put behind the telephone line of a device, which stands for its exchange.
+    LineAttached {
+        device: u8,
+        restarts: u32,
+        words: CommandLine,
+    },
     /// A wait, asked with whether there was more to do, gave a wake.
     Waited {
         more: bool,

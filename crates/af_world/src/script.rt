@@ -1,4 +1,7 @@
 // What a script states: its devices, and its steps.
+ghost use Rattle.std.specs.Prelude.{◌≡◌};
+ghost use Rattle.af_world.specs.Outside.{spec_has_line};
+
 use crate::Bytes;
 use af_limits::MOST_DEVICES;
 use af_phone::LineChange;
@@ -30,6 +33,16 @@ impl Default for DeviceSpec {
 
 /// The devices of a server, 1 to 8, which are numbered from 0.
 pub type Config = ArrayVec<DeviceSpec, MOST_DEVICES>;
+
+/// Whether a device has a telephone line. One that is not there has none.
+pub fn has_line(config: &[DeviceSpec], device: u8) -> bool
+    ensures { result ≡ spec_has_line config.now device }
+{
+    match config.get(device as usize) {
+        Some(device) => device.line,
+        None => false,
+    }
+}
 
 /// A step of a script.
 #[derive(Drop)]

@@ -4,7 +4,7 @@ use crate::line_words::LineWords;
 use crate::slot::Slot;
 use crate::stated::Stated;
 use af_limits::MOST_DEVICES;
-use af_text::is_word;
+use af_text::{is_word, number};
 
 /// How many words a program may have after its name.
 const MOST_ARGUMENTS: u32 = 7;
@@ -17,9 +17,27 @@ pub(crate) fn config_finding<'a>(line: &'a [u8], before: &Stated) -> Option<Find
     }
 }
 
-/// `device TYPE RATE START`, then `stereo` or nothing, then `line` or nothing, then what stands behind the device.
+/// A device line, or a phone line.
 fn check_line<'a>(line: &'a [u8], before: &Stated) -> Result<(), Finding<'a>> {
-    let mut words = LineWords::new(line);
+    let first = LineWords::new(line);
+    let mut words = first;
+    if words.skip(b"phone") {
+        if before.devices == 0 {
+            return Err(first.finding(Slot::PhoneBeforeDevice));
+        }
+        return check_phone(words, before);
+    }
+    if before.programs.are_none() {
+        check_device(first, before)
+    } else if words.skip(b"device") {
+        Err(first.finding(Slot::DeviceAfterPhone))
+    } else {
+        Err(first.finding(Slot::Phone))
+    }
+}
+
+/// `device TYPE RATE START`, then `stereo` or nothing, then `line` or nothing, then what stands behind the device.
+fn check_device<'a>(mut words: LineWords<'a>, before: &Stated) -> Result<(), Finding<'a>> {
     if before.devices >= MOST_DEVICES {
         return Err(words.finding(Slot::NinthDevice));
     }
@@ -37,6 +55,20 @@ fn check_line<'a>(line: &'a [u8], before: &Stated) -> Result<(), Finding<'a>> {
         },
         before.has_codec,
     )
+}
+
+/// `DEVICE RESTARTS WORD ..`, after `phone`
+fn check_phone<'a>(mut words: LineWords<'a>, before: &Stated) -> Result<(), Finding<'a>> {
+    let first = words;
+    let device = words.take(Slot::DeviceNumber(before.devices))?;
+    let place = number(device).unwrap_or(0);
+    if !before.lines.has(device) {
+        return Err(first.finding(Slot::DeviceWithoutLine(place)));
+    }
+    if before.programs.has(device) {
+        return Err(first.finding(Slot::SecondProgram(place)));
+    }
+    check_program(words, Slot::CardRestarts)
 }
 
 /// `silent`, `files INPUT OUTPUT`, or one of `codec`, `speaker`, `microphone` and `card` with `RESTARTS WORD ..`

@@ -28,6 +28,10 @@ impl fmt::Display for Finding<'_> {
                 "the {count} bytes of so many frames were expected, two hexadecimal digits each, or nothing"
             ),
             Slot::LineNumber(lines) if lines.are_none() => f.write_str("no device has a line"),
+            Slot::DeviceWithoutLine(device) => write!(f, "device {device} has no line"),
+            Slot::SecondProgram(device) => {
+                write!(f, "the line of device {device} has a program already")
+            }
             slot => f.write_str(expectation(slot)),
         }
     }
@@ -44,7 +48,7 @@ fn write_device_number<W: Write>(count: usize, f: &mut Formatter<W>) -> fmt::Res
 /// What was expected, or why nothing may stand there.
 fn expectation(slot: Slot) -> &'static str {
     match slot {
-        Slot::Device => "each line of a configuration begins with device",
+        Slot::Device => "each line of a configuration begins with device or phone",
         Slot::Statement => {
             "a line of a script begins with device, open, send, end, room, tick, ring, loop, digit, failread, failwrite, \
              failcapture, failemit, failhook or idle"
@@ -54,6 +58,9 @@ fn expectation(slot: Slot) -> &'static str {
         Slot::LateDevice => "device lines come before all steps",
         Slot::EarlyStep => "a script begins with a device line",
         Slot::SecondCodec => "at most one device has a codec",
+        Slot::Phone => "each line after a phone line begins with phone",
+        Slot::DeviceAfterPhone => "device lines come before all phone lines",
+        Slot::PhoneBeforeDevice => "phone lines come after all device lines",
         Slot::End => "nothing more was expected",
         _ => word_expected(slot),
     }

@@ -1,5 +1,5 @@
 // What may stand at a place of a line of a configuration or of a script.
-use crate::stated::LineDevices;
+use crate::stated::DeviceSet;
 use af_config::{MOST_CARD_RESTARTS, MOST_RESTARTS};
 use af_limits::{LONGEST_SEND, LONGEST_TICK, MOST_LINKS};
 use af_phone::is_digit;
@@ -37,7 +37,7 @@ pub(crate) enum Slot {
     /// One of so many devices.
     DeviceNumber(usize),
     /// One of these devices.
-    LineNumber(LineDevices),
+    LineNumber(DeviceSet),
     Frames,
     /// So many bytes, or nothing.
     Captured(usize),
@@ -55,6 +55,16 @@ pub(crate) enum Slot {
     EarlyStep,
     /// No codec, since there is one before it.
     SecondCodec,
+    /// Nothing but `phone`, since there is a phone line before it.
+    Phone,
+    /// No device line, since there is a phone line before it.
+    DeviceAfterPhone,
+    /// No phone line, since there is no device line before it.
+    PhoneBeforeDevice,
+    /// Another device, since this one has no telephone line.
+    DeviceWithoutLine(u64),
+    /// Another device, since the telephone line of this one has a program.
+    SecondProgram(u64),
 }
 
 impl Slot {

@@ -3,32 +3,51 @@ use crate::line_words::LineWords;
 use af_limits::MOST_DEVICES;
 use af_text::{channel_count, is_word, next_line, next_word, number, passes_over, sample_type};
 
-/// Which devices have a telephone line.
+/// Some of the devices.
 #[derive(Clone, Copy)]
-pub(crate) struct LineDevices {
-    with_line: [bool; MOST_DEVICES],
+pub(crate) struct DeviceSet {
+    members: [bool; MOST_DEVICES],
 }
 
-impl LineDevices {
+impl DeviceSet {
+    /// None of them.
+    fn none() -> DeviceSet {
+        DeviceSet {
+            members: [false; MOST_DEVICES],
+        }
+    }
+
+    /// Adds the device whose number a word is.
+    fn add(&mut self, word: &[u8]) {
+        if let Some(number) = number(word)
+            && number < MOST_DEVICES as u64
+        {
+            self.members[number as usize] = true;
+        }
+    }
+
     /// Whether a word is the number of one of them.
     pub fn has(&self, word: &[u8]) -> bool {
         match number(word) {
-            Some(number) if number < MOST_DEVICES as u64 => self.with_line[number as usize],
+            Some(number) if number < MOST_DEVICES as u64 => self.members[number as usize],
             _ => false,
         }
     }
 
     /// Whether there is none.
     pub fn are_none(&self) -> bool {
-        !self.with_line.contains(&true)
+        !self.members.contains(&true)
     }
 }
 
-/// The devices and steps that lines state.
+/// The devices, the programs of telephone lines and the steps that lines state.
 #[derive(Clone, Copy)]
 pub(crate) struct Stated {
     pub devices: usize,
-    pub lines: LineDevices,
+    /// The devices with a telephone line.
+    pub lines: DeviceSet,
+    /// The devices whose telephone line has a program.
+    pub programs: DeviceSet,
     pub has_steps: bool,
     pub has_codec: bool,
     frame_bytes: [usize; MOST_DEVICES],
@@ -39,9 +58,8 @@ impl Stated {
     fn nothing() -> Stated {
         Stated {
             devices: 0,
-            lines: LineDevices {
-                with_line: [false; MOST_DEVICES],
-            },
+            lines: DeviceSet::none(),
+            programs: DeviceSet::none(),
             has_steps: false,
             has_codec: false,
             frame_bytes: [0; MOST_DEVICES],
@@ -63,6 +81,7 @@ impl Stated {
         }
         match next_word(line) {
             Some((name, arguments)) if is_word(name, b"device") => self.add_device(arguments),
+            Some((name, arguments)) if is_word(name, b"phone") => self.add_program(arguments),
             _ => self.has_steps = true,
         }
     }
@@ -84,9 +103,16 @@ impl Stated {
             self.frame_bytes[place] = ty.frame_bytes(channels);
         }
         let mut words = LineWords::new(rest);
-        self.lines.with_line[place] = words.skip(b"line");
+        self.lines.members[place] = words.skip(b"line");
         self.has_codec |= words.skip(b"codec");
         self.devices = place + 1;
+    }
+
+    /// Adds the program of `DEVICE RESTARTS WORD ..`.
+    fn add_program(&mut self, arguments: &[u8]) {
+        if let Some((device, _)) = next_word(arguments) {
+            self.programs.add(device);
+        }
     }
 }
 

@@ -76,7 +76,7 @@ fn card_name(card: CardKind) -> &'static str {
 }
 
 /// Writes the words of a program, each behind a space.
-fn write_words<W: Write>(words: &Words, f: &mut Formatter<W>) -> fmt::Result {
+pub(crate) fn write_words<W: Write>(words: &Words, f: &mut Formatter<W>) -> fmt::Result {
     for word in words {
         write!(f, " {}", Shown::new(word.as_bytes()))?;
     }

@@ -1,13 +1,14 @@
 //! The log of the server: what a world of sockets, files and programs does, told line by line on standard error.
 #![tactic(auto)]
 
-mod card_lines;
 mod device_words;
 mod gate;
+mod line_words;
 mod listening;
 mod log;
 mod logged_spawner;
 mod logged_world;
+mod program_lines;
 mod refusal;
 mod watched_file;
 mod watched_programs;

@@ -2,16 +2,19 @@
 ghost use Rattle.std.specs.Prelude.{◌≡◌};
 ghost use Rattle.std.specs.declared.option.Option.TheVariants.{None};
 
-use crate::card_lines::CardLines;
 use crate::device_words::DeviceWords;
+use crate::line_words::{LineWords, tell_change, tell_hook};
 use crate::listening::{ListenRefusal, listen_refusal};
+use crate::program_lines::ProgramLines;
 use crate::{Log, LoggedSpawner, WatchedPrograms, WatchedRuntime};
-use af_child::StdSpawner;
+use af_child::{StdSpawner, Words};
 use af_deadline::DeadlineRuntime;
 use af_io::Put;
 use af_limits::MOST_DEVICES;
 use af_live::MioWorld;
-use af_world::{DeviceSpec, Kind, LinkGot, LinkTook, Live, Ready, Waited, Wake, Why, World};
+use af_world::{
+    DeviceSpec, Kind, LineProgram, LinkGot, LinkTook, Live, Ready, Waited, Wake, Why, World,
+};
 use std::alloc::Global;
 
 /// The child programs of a codec, which hold nobody up.
@@ -33,7 +36,7 @@ pub struct LoggedWorld<'a> {
     log: &'a Log<'a>,
     turned_away: u64,
     refusal: Option<ListenRefusal>,
-    cards: CardLines,
+    programs: ProgramLines,
 }
 
 impl<'a> LoggedWorld<'a> {
@@ -49,7 +52,7 @@ impl<'a> LoggedWorld<'a> {
             log,
             turned_away: 0,
             refusal: None,
-            cards: CardLines::new(),
+            programs: ProgramLines::new(),
         }
     }
 
@@ -80,8 +83,10 @@ impl World for LoggedWorld<'_> {
 
     fn woke(&mut self, wake: Wake) {
         self.world.woke(wake);
-        if let Wake::Opened(link) = wake {
-            tell_opened(&self.world, self.log, link);
+        match wake {
+            Wake::Opened(link) => tell_opened(&self.world, self.log, link),
+            Wake::Line(device, change) => tell_change(self.log, device, change),
+            _ => {}
         }
     }
 
@@ -115,7 +120,13 @@ impl World for LoggedWorld<'_> {
     }
 
     fn hook(&mut self, device: u8, off: bool) -> Put {
-        self.world.hook(device, off)
+        let put = self.world.hook(device, off);
+        if put == Put::Failed {
+            tell_dead(self.log, device, "its line takes no hook call any more");
+        } else if self.world.exchange(device).is_some() {
+            tell_hook(self.log, device, off);
+        }
+        put
     }
 }
 
@@ -154,17 +165,32 @@ impl Live for LoggedWorld<'_> {
             kind,
         });
         let ready = self.world.attach(alloc, device, spec, kind);
-        if ready == Ready::Failed {
-            note_program(self.log, kind);
+        if ready == Ready::Failed
+            && let Kind::Card { words, .. } = kind
+        {
+            note_program(self.log, words);
         }
-        tell_cards(&self.world, self.log, &mut self.cards);
+        tell_programs(&self.world, self.log, &mut self.programs);
+        ready
+    }
+
+    fn attach_line(&mut self, alloc: Global, device: u8, program: LineProgram<'_>) -> Ready {
+        self.log.line(LineWords {
+            number: device,
+            program,
+        });
+        let ready = self.world.attach_line(alloc, device, program);
+        if ready == Ready::Failed {
+            note_program(self.log, program.words);
+        }
+        tell_programs(&self.world, self.log, &mut self.programs);
         ready
     }
 
     fn wait(&mut self, more: bool) -> Waited {
         let waited = self.world.wait(more);
         tell_turned_away(&self.world, self.log, &mut self.turned_away);
-        tell_cards(&self.world, self.log, &mut self.cards);
+        tell_programs(&self.world, self.log, &mut self.programs);
         waited
     }
 }
@@ -212,22 +238,24 @@ fn tell_dead(log: &Log<'_>, device: u8, what: &str) {
     }
 }
 
-/// Tells what the programs have done whose time is that of a device.
-fn tell_cards(world: &RealWorld<'_>, log: &Log<'_>, lines: &mut CardLines) {
+/// Tells what the programs of devices and of telephone lines have done.
+fn tell_programs(world: &RealWorld<'_>, log: &Log<'_>, told: &mut ProgramLines) {
     if !log.is_wanted() {
         return;
     }
     for device in 0..MOST_DEVICES as u8 {
         if let Some(card) = world.card(device) {
-            lines.tell(log, device, card);
+            told.tell_card(log, device, card);
+        }
+        if let Some(exchange) = world.exchange(device) {
+            told.tell_line(log, device, exchange);
         }
     }
 }
 
-/// Notes which program the system refused, for a device that could not be attached.
-fn note_program(log: &Log<'_>, kind: Kind<'_>) {
-    if let Kind::Card { words, .. } = kind
-        && let Some(name) = words.first()
+/// Notes which program the system refused, for a device or a telephone line that could not be attached.
+fn note_program(log: &Log<'_>, words: &Words) {
+    if let Some(name) = words.first()
         && let Some(reason) = log.take_reason()
     {
         log.note_refusal(name.as_str(), reason);

@@ -74,7 +74,7 @@ module _ (words : List (List ℕ)) (left left' : Option (List ℕ)) (job : Serve
     pub failed_at : (ended : LiveEnd) → StartedUntil ended job.address settings outer outer' → (d : ℕ) → ended ≡ end.AttachFault d → FailedAt d words left left' outer outer'
     failed_at ended s d e =
         let at = subst (λ x. StartedUntil x job.address settings outer outer') e s in
-        record { told = is_told; is_device = at.0; appended = at.1 }
+        record { told = is_told; failed = at }
 
     pub started_in_part : (ended : LiveEnd) → StartedUntil ended job.address settings outer outer' → ended ≡ end.OutOfMemory → StartedInPart words left left' outer outer'
     started_in_part ended s e =

@@ -1,20 +1,25 @@
--- A listen, and devices that are attached one by one behind it.
-use Rattle.std.proofs.Common.{◌≡◌, ℕ, zero, suc, ◌+◌, ◌<◌, ◌≤◌, List, [], ◌∷◌, ◌++◌, length, take, drop, get_or, slice_get, refl, sym, ap, ◌∙◌, subst, arith, take-append-drop}
+-- A listen, and devices and programs of lines that are attached one by one behind it.
+use Rattle.std.proofs.Common.{◌≡◌, inl, inr, ℕ, map, zero, suc, ◌+◌, ◌<◌, ◌≤◌, List, [], ◌∷◌, ◌++◌, length, take, drop, get_or, slice_get, refl, sym, ap, ◌∙◌, subst, arith, take-append-drop, append_assoc, All, IsTrue, IfErr, Ok, Err}
 use Rattle.std.proofs.lemmas.List.{take_all}
+use Rattle.std.proofs.lemmas.List.Elements.{All-head, All-tail}
 use Rattle.std.proofs.lemmas.Option.{slice_get-get_or}
 use Rattle.std.specs.declared.option.Option.{Option}
 use Rattle.std.specs.declared.option.Option.TheVariants.{Some}
+use Rattle.std.specs.declared.result.Result.{Result}
 use Rattle.af_world.specs.declared.outer.Outer.{Outer}
 use Rattle.af_world.specs.declared.outer.Outer.TheVariants as noted
 use Rattle.af_world.specs.declared.script.DeviceSpec.{DeviceSpec}
 use Rattle.af_world.specs.declared.outer.ToldKind.{ToldKind}
 use Rattle.af_io.specs.Observed.{Appended}
-use Rattle.af_io.proofs.AppendedLemmas.{appended_on}
-use Rattle.af_config.specs.Stating.{Settings}
+use Rattle.af_io.proofs.AppendedLemmas.{appended_on, appended_by_none}
+use Rattle.af_world.specs.Outside.{spec_has_line}
+use Rattle.af_config.specs.declared.line_program.OwnedLineProgram.{OwnedLineProgram}
+use Rattle.af_config.specs.Kept.{owned_program}
+use Rattle.af_config.specs.Stating.{Settings, LineProgram}
 use Rattle.afd_serve.specs.declared.live.LiveEnd.{LiveEnd}
 use Rattle.afd_serve.specs.declared.live.LiveEnd.TheVariants as end
-use Rattle.afd_serve.specs.Serving.{all_attached, attached_from, started}
-use Rattle.afd_serve.specs.Starting.{AttachedUntil, AppendedInPart, StartedUntil}
+use Rattle.afd_serve.specs.Serving.{all_attached, all_lines, line_entry, attached_from, started}
+use Rattle.afd_serve.specs.Starting.{AttachFailed, AttachedUntil, AppendedInPart, DevicesUntil, LineFailed, LinesUntil, StartedUntil}
 
 take_next : {A : Type 0} (xs : List A) (n : ℕ) (x : A) → slice_get xs n ≡ Some x → take (suc n) xs ≡ take n xs ++ x ∷ []
 take_next [] n x e = absurd cc
@@ -58,14 +63,129 @@ module _ (settings : Settings) (outer outer1 : Option (List Outer)) (n : ℕ) (b
   pub attached_in_part : AppendedInPart (all_attached settings) outer outer1
   attached_in_part = record { front = take n (all_attached settings); rest = drop n (all_attached settings); whole = sym (take-append-drop n (all_attached settings)); appended = below }
 
+mapped_at : (kept : List OwnedLineProgram) (n : ℕ) (d : OwnedLineProgram) → n < length kept → slice_get (map owned_program kept) n ≡ Some (owned_program (get_or kept n d))
+mapped_at [] n d lt = absurd (omega (arith, lt))
+mapped_at (p ∷ kept) zero d lt = refl
+mapped_at (p ∷ kept) (suc n) d lt = mapped_at kept n d (omega (arith, lt))
+
+entry_at : (programs : List LineProgram) (n : ℕ) (p : LineProgram) → slice_get programs n ≡ Some p → slice_get (map line_entry programs) n ≡ Some (line_entry p)
+entry_at [] n p e = absurd cc
+entry_at (q ∷ programs) zero p e = let same : q ≡ p = cc in ap (λ x. Some (line_entry x)) same
+entry_at (q ∷ programs) (suc n) p e = entry_at programs n p e
+
+entries_count : (programs : List LineProgram) → length (map line_entry programs) ≡ length programs
+entries_count [] = refl
+entries_count (p ∷ programs) = ap suc (entries_count programs)
+
+module _ (settings : Settings) (outer outer1 : Option (List Outer)) (n : ℕ) (below : Appended outer (take n (all_lines settings)) outer1) where
+  -- one program of a line more
+  pub lines_more : (p : LineProgram) (outer2 : Option (List Outer)) → slice_get settings.phones n ≡ Some p →
+      Appended outer1 (line_entry p ∷ []) outer2 → Appended outer (take (n + 1) (all_lines settings)) outer2
+  lines_more p outer2 stated entry =
+      let one_more : suc n ≡ n + 1 = omega arith in
+      subst (λ m. Appended outer (take m (all_lines settings)) outer2) one_more
+      (subst (λ l. Appended outer l outer2) (sym (take_next (all_lines settings) n (line_entry p) (entry_at settings.phones n p stated)))
+      (appended_on outer outer1 outer2 (take n (all_lines settings)) (line_entry p ∷ []) below entry))
+
+  pub lines_all : length settings.phones ≤ n → Appended outer (all_lines settings) outer1
+  lines_all l = subst (λ x. Appended outer x outer1) (take_all n (all_lines settings) (omega (arith, entries_count settings.phones, l))) below
+
+  pub lines_in_part : AppendedInPart (all_lines settings) outer outer1
+  lines_in_part = record { front = take n (all_lines settings); rest = drop n (all_lines settings); whole = sym (take-append-drop n (all_lines settings)); appended = below }
+
+-- a program that is stated, as it is kept
+program_at : (programs : List LineProgram) (kept : List OwnedLineProgram) (n : ℕ) (d : OwnedLineProgram) → programs ≡ map owned_program kept → n < length kept →
+    slice_get programs n ≡ Some (owned_program (get_or kept n d))
+program_at programs kept n d e lt = subst (λ l. slice_get l n ≡ Some (owned_program (get_or kept n d))) (sym e) (mapped_at kept n d lt)
+
+pub program_read : (programs : List LineProgram) (kept : List OwnedLineProgram) (n : ℕ) (d : OwnedLineProgram) → d ≡ get_or kept n d → programs ≡ map owned_program kept → n < length kept →
+    slice_get programs n ≡ Some (owned_program d)
+program_read programs kept n d is e lt = program_at programs kept n d e lt ∙ ap (λ x. Some (owned_program x)) (sym is)
+
+-- its device is one of the devices
+all_at : (P : LineProgram → Type 0) (programs : List LineProgram) (n : ℕ) (p : LineProgram) → All P programs → slice_get programs n ≡ Some p → P p
+all_at P [] n p all e = absurd cc
+all_at P (q ∷ programs) zero p all e = let same : q ≡ p = cc in subst P same (All-head P q programs all)
+all_at P (q ∷ programs) (suc n) p all e = all_at P programs n p (All-tail P q programs all) e
+
+has_line_below : (config : List DeviceSpec) (d : ℕ) → IsTrue (spec_has_line config d) → d < length config
+has_line_below [] d h = absurd cc
+has_line_below (c ∷ config) zero h = omega arith
+has_line_below (c ∷ config) (suc d) h = let below = has_line_below config d h in omega (arith, below)
+
+-- the program of a line that is stated could not be put there
+pub line_failed : (settings : Settings) (outer outer1 outer2 : Option (List Outer)) (n : ℕ) (p : LineProgram) →
+    All (λ program. IsTrue (spec_has_line settings.config program.device)) settings.phones → slice_get settings.phones n ≡ Some p →
+    Appended outer (take n (all_lines settings)) outer1 → Appended outer1 [] outer2 → LineFailed p.device settings outer outer2
+line_failed settings outer outer1 outer2 n p all stated below none = record {
+  is_device = has_line_below settings.config p.device (all_at (λ program. IsTrue (spec_has_line settings.config program.device)) settings.phones n p all stated);
+  number = n;
+  program = p;
+  stated = stated;
+  of_device = refl;
+  appended = appended_by_none outer outer1 outer2 (take n (all_lines settings)) below none;
+}
+
+-- the attaches of devices ended early
+pub devices_until : (ended : LiveEnd) (settings : Settings) (outer outer1 : Option (List Outer)) → DevicesUntil ended settings outer outer1 → AttachedUntil ended settings outer outer1
+devices_until (end.AttachFault d) settings outer outer1 s = record { is_device = s.0; before = take d (all_attached settings); cause = inl refl; appended = s.1 }
+devices_until end.OutOfMemory settings outer outer1 s = record {
+  front = s.front;
+  rest = s.rest ++ all_lines settings;
+  whole = ap (λ l. l ++ all_lines settings) s.whole ∙ append_assoc s.front s.rest (all_lines settings);
+  appended = s.appended;
+}
+devices_until end.Done settings outer outer1 s = absurd s
+devices_until end.Usage settings outer outer1 s = absurd s
+devices_until end.ReadFault settings outer outer1 s = absurd s
+devices_until end.TooLong settings outer outer1 s = absurd s
+devices_until (end.ConfigFault line) settings outer outer1 s = absurd s
+devices_until end.ListenFault settings outer outer1 s = absurd s
+devices_until end.WaitFault settings outer outer1 s = absurd s
+devices_until end.WaitsSpent settings outer outer1 s = absurd s
+
+-- the attaches of programs of lines ended early, after those of all devices
+pub lines_until : (ended : LiveEnd) (settings : Settings) (outer outer1 outer2 : Option (List Outer)) → Appended outer (all_attached settings) outer1 →
+    LinesUntil ended settings outer1 outer2 → AttachedUntil ended settings outer outer2
+lines_until (end.AttachFault d) settings outer outer1 outer2 all s = record {
+  is_device = s.is_device;
+  before = all_attached settings ++ take s.number (all_lines settings);
+  cause = inr (record { number = s.number; program = s.program; stated = s.stated; of_device = s.of_device; entries_are = refl });
+  appended = appended_on outer outer1 outer2 (all_attached settings) (take s.number (all_lines settings)) all s.appended;
+}
+lines_until end.OutOfMemory settings outer outer1 outer2 all s = record {
+  front = all_attached settings ++ s.front;
+  rest = s.rest;
+  whole = ap (λ l. all_attached settings ++ l) s.whole ∙ sym (append_assoc (all_attached settings) s.front s.rest);
+  appended = appended_on outer outer1 outer2 (all_attached settings) s.front all s.appended;
+}
+lines_until end.Done settings outer outer1 outer2 all s = absurd s
+lines_until end.Usage settings outer outer1 outer2 all s = absurd s
+lines_until end.ReadFault settings outer outer1 outer2 all s = absurd s
+lines_until end.TooLong settings outer outer1 outer2 all s = absurd s
+lines_until (end.ConfigFault line) settings outer outer1 outer2 all s = absurd s
+lines_until end.ListenFault settings outer outer1 outer2 all s = absurd s
+lines_until end.WaitFault settings outer outer1 outer2 all s = absurd s
+lines_until end.WaitsSpent settings outer outer1 outer2 all s = absurd s
+
+pub lines_ended : {A : Type 0} (r : Result A LiveEnd) (settings : Settings) (outer outer1 outer2 : Option (List Outer)) → Appended outer (all_attached settings) outer1 →
+    IfErr r (λ ended. LinesUntil ended settings outer1 outer2) → IfErr r (λ ended. AttachedUntil ended settings outer outer2)
+lines_ended (Ok x) settings outer outer1 outer2 all h = tt
+lines_ended (Err ended) settings outer outer1 outer2 all h = lines_until ended settings outer outer1 outer2 all h
+
 module _ (address : List ℕ) (settings : Settings) (outer outer1 : Option (List Outer)) (heard : Appended outer (noted.Listened address ∷ []) outer1) where
   -- memory ran out behind the listen
   pub listened_alone : AppendedInPart (started address settings) outer outer1
-  listened_alone = record { front = noted.Listened address ∷ []; rest = all_attached settings; whole = refl; appended = heard }
+  listened_alone = record { front = noted.Listened address ∷ []; rest = all_attached settings ++ all_lines settings; whole = refl; appended = heard }
 
   -- the attaches ended behind the listen
   pub started_until : (ended : LiveEnd) (outer2 : Option (List Outer)) → AttachedUntil ended settings outer1 outer2 → StartedUntil ended address settings outer outer2
-  started_until (end.AttachFault d) outer2 s = (s.0, appended_on outer outer1 outer2 (noted.Listened address ∷ []) (take d (all_attached settings)) heard s.1)
+  started_until (end.AttachFault d) outer2 s = record {
+    is_device = s.is_device;
+    before = s.before;
+    cause = s.cause;
+    appended = appended_on outer outer1 outer2 (noted.Listened address ∷ []) s.before heard s.appended;
+  }
   started_until end.OutOfMemory outer2 s = record {
     front = noted.Listened address ∷ s.front;
     rest = s.rest;

@@ -17,7 +17,8 @@ use Rattle.af_model.specs.More.{has_more}
 use Rattle.afd_serve.specs.declared.live.LiveEnd.{LiveEnd}
 use Rattle.afd_serve.specs.declared.live.LiveEnd.TheVariants as end
 use Rattle.afd_serve.specs.Words.{ServeJob, serve_job_of}
-use Rattle.afd_serve.specs.Serving.{WaitMade, Served, all_attached, started}
+use Rattle.afd_serve.specs.Serving.{WaitMade, Served, started}
+use Rattle.afd_serve.specs.Starting.{AttachFailed}
 
 -- all that the source gave is no configuration, and this is the first line that may not stand where it stands
 pub record IsFaultyConfig (line : ℕ) (left left' : Option (List ℕ)) : Type 0 where
@@ -95,11 +96,11 @@ pub record Unheard (words : List (List ℕ)) (left left' : Option (List ℕ)) (o
   pub told : IsTold words left left'
   pub appended : Appended outer [] outer'
 
--- the attach of this device failed, behind a listen and the attaches of exactly the devices below it
+-- The attach of this device, or that of the program of its line, failed: after a listen and exactly the attaches that come before it, which
+-- are those of the devices below it, or of all devices and of the programs of lines that are stated before.
 pub record FailedAt (d : ℕ) (words : List (List ℕ)) (left left' : Option (List ℕ)) (outer outer' : Option (List Outer)) : Type 0 where
   pub told : IsTold words left left'
-  pub is_device : d < length told.settings.config
-  pub appended : Appended outer (noted.Listened told.job.address ∷ take d (all_attached told.settings)) outer'
+  pub failed : AttachFailed d (noted.Listened told.job.address ∷ []) told.settings outer outer'
 
 -- a prefix of a whole start was made
 pub record StartedInPart (words : List (List ℕ)) (left left' : Option (List ℕ)) (outer outer' : Option (List Outer)) : Type 0 where
@@ -109,8 +110,8 @@ pub record StartedInPart (words : List (List ℕ)) (left left' : Option (List �
   pub whole : started told.job.address told.settings ≡ front ++ rest
   pub appended : Appended outer front outer'
 
--- What was asked of the world where no wait came: nothing where the listen failed, the listen and the devices below one whose
--- attach failed, and if memory ran out a part of the whole, unless the world was not called.
+-- What was asked of the world where no wait came: nothing where the listen failed, the listen and the attaches before the one that failed,
+-- and if memory ran out a part of the whole, unless the world was not called.
 pub record EndsBeforeWaits {W : Type 0} (outer : W → Option (List Outer)) (ended : LiveEnd) (words : List (List ℕ)) (left left' : Option (List ℕ)) (world world' : W) : Type 0 where
   pub unlistened : ended ≡ end.ListenFault → Unheard words left left' (outer world) (outer world')
   pub attached : (d : ℕ) → ended ≡ end.AttachFault d → FailedAt d words left left' (outer world) (outer world')

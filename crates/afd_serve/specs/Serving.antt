@@ -10,7 +10,7 @@ use Rattle.af_world.specs.declared.script.DeviceSpec.{DeviceSpec}
 use Rattle.af_world.specs.declared.outer.ToldKind.{ToldKind}
 use Rattle.af_io.specs.Observed.{Appended}
 use Rattle.af_world.specs.Log.{Log}
-use Rattle.af_config.specs.Stating.{Settings}
+use Rattle.af_config.specs.Stating.{Settings, LineProgram}
 use Rattle.af_model.specs.State.{State, opening, outline}
 use Rattle.af_model.specs.Turn.{IsTurn, fits}
 use Rattle.af_model.specs.Run.{wakes, IsRun}
@@ -58,9 +58,16 @@ attached_from d (spec ∷ config) (kind ∷ kinds) = noted.Attached d spec kind 
 abbrev pub all_attached : Settings → List Outer
 all_attached settings = attached_from 0 settings.config settings.kinds
 
--- the entries of a whole start: the listen, and each device
+-- the entries of the programs of telephone lines, in the order in which they are stated
+abbrev pub line_entry : LineProgram → Outer
+line_entry program = noted.LineAttached program.device program.restarts program.words
+
+abbrev pub all_lines : Settings → List Outer
+all_lines settings = map line_entry settings.phones
+
+-- the entries of a whole start: the listen, each device, and the program of each telephone line
 abbrev pub started : List ℕ → Settings → List Outer
-started address settings = noted.Listened address ∷ all_attached settings
+started address settings = noted.Listened address ∷ (all_attached settings ++ all_lines settings)
 
 -- What a server did with these devices from its opening state on: what was added to the log is a run, the outer list grew by what
 -- stood before, by the waits, each of which had its turn, and by what stands behind them in the last state. The laws of whole runs hold

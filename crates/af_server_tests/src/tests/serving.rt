@@ -15,6 +15,9 @@ const DEVICE: &[u8] = b"device lin16 8000 0 silent";
 const TWO_DEVICES: &[u8] =
     b"device lin16 8000 0 silent\ndevice alaw 44100 7 stereo line files a b\n";
 
+const WITH_A_PHONE: &[u8] =
+    b"device lin16 8000 0 silent\ndevice alaw 44100 7 stereo line files a b\nphone 1 5 p q\n";
+
 const TIME: &[u8] = b"device lin16 8000 0\nopen 0\nsend 0 414642000001000002000001\n";
 
 const TWO: &[u8] =
@@ -245,10 +248,12 @@ fn other_words_are_usage(rt: HostRuntime) -> Result<(), Fail> {
 }
 
 // A call of the world that is to be: a listen at an address; an attach of a device, with its rate, whether it has a line, and its
-// two files, if any; a wait that was asked with whether there was more to do, and the wake that it gave.
+// two files, if any; a program for the line of a device, with its restarts, and how many words it has; a wait that was asked with whether
+// there was more to do, and the wake that it gave.
 enum Called<'a> {
     Listen(&'a str),
     Attach(u8, u32, bool, Option<(&'a str, &'a str)>),
+    AttachLine(u8, u32, usize),
     Wait(bool, Wake),
 }
 
@@ -271,6 +276,14 @@ fn is_call(found: &Outer, wanted: &Called<'_>) -> bool {
         (Outer::Listened(address), Called::Listen(name)) => address.as_slice() == name.as_bytes(),
         (Outer::Attached { device, spec, kind }, Called::Attach(number, rate, line, files)) =>
             *device == *number && is_attached(spec, *rate, *line) && is_backed(kind, *files),
+        (
+            Outer::LineAttached {
+                device,
+                restarts,
+                words,
+            },
+            Called::AttachLine(number, times, count),
+        ) => *device == *number && *restarts == *times && words.words().len() == *count,
         (Outer::Waited { more, wake }, Called::Wait(asked, given)) => {
             *more == *asked && *wake == *given
         }
@@ -331,7 +344,7 @@ fn assert_served(rt: &impl Abort, alloc: Global, case: &Served<'_>) -> Result<()
     Ok(())
 }
 
-static SERVED: [Served<'static>; 6] = [
+static SERVED: [Served<'static>; 7] = [
     Served {
         what: "a link is ready until a read of it gives nothing: there is more to do before the last wait",
         words: NINE,
@@ -375,6 +388,26 @@ static SERVED: [Served<'static>; 6] = [
             Called::Listen("x"),
             Called::Attach(0, 8000, false, None),
             Called::Attach(1, 44100, true, Some(("a", "b"))),
+            Called::Wait(false, Wake::Opened(3)),
+            Called::Wait(false, Wake::Ticked(1, 5)),
+            Called::Wait(false, Wake::Idle),
+            Called::Wait(false, Wake::Stop),
+        ],
+        turns: &[Wake::Opened(3), Wake::Ticked(1, 5), Wake::Idle],
+        printed: "emit 1 d5d5d5d5d5d5d5d5d5d5\n",
+    },
+    Served {
+        what: "the program of a line is put there after all devices",
+        words: NINE,
+        config: WITH_A_PHONE,
+        script: TWO,
+        faults: NONE,
+        end: LiveEnd::Done,
+        calls: &[
+            Called::Listen("x"),
+            Called::Attach(0, 8000, false, None),
+            Called::Attach(1, 44100, true, Some(("a", "b"))),
+            Called::AttachLine(1, 5, 2),
             Called::Wait(false, Wake::Opened(3)),
             Called::Wait(false, Wake::Ticked(1, 5)),
             Called::Wait(false, Wake::Idle),

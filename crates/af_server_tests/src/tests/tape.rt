@@ -1,9 +1,10 @@
 // A tape as a world that gives its own wakes: what its calls answer, and what it tells of listens, attaches and waits.
 use crate::tests::checks::{holds, same_text};
+use af_child::Words;
 use af_io::{Bytes, Put};
 use af_outside::{
-    Config, DeviceSpec, Kind, LinkGot, LinkTook, Live, Outer, OuterFaults, Ready, Step, Tape,
-    Waited, Wake, Why, World,
+    Config, DeviceSpec, Kind, LineProgram, LinkGot, LinkTook, Live, Outer, OuterFaults, Ready,
+    Step, Tape, Waited, Wake, Why, World,
 };
 use af_phone::LineChange;
 use af_sample::SampleType;
@@ -17,6 +18,8 @@ use std::test::Fail;
 enum Call {
     Listen(Ready),
     Attach(u8, u32, Ready),
+    // a program is to stand for the exchange of the line of a device
+    AttachLine(u8, Ready),
     // asked with whether there is more to do
     Wait(bool, Waited),
     Read(LinkGot),
@@ -38,6 +41,14 @@ fn call_live<W: Live>(rt: &impl Abort, alloc: Global, world: &mut W, calls: &[Ca
                 let found = world.attach(alloc, device, &device_from(start), Kind::Silent);
                 holds(rt, "an attach", found == ready);
             }
+            Call::AttachLine(device, ready) => {
+                let program = LineProgram {
+                    restarts: 5,
+                    words: &Words::new(),
+                };
+                let found = world.attach_line(alloc, device, program);
+                holds(rt, "an attach of a line", found == ready);
+            }
             Call::Wait(more, waited) => holds(rt, "a wait", world.wait(more) == waited),
             _ => call_world(rt, world, *call),
         }
@@ -57,7 +68,7 @@ fn call_world<W: World>(rt: &impl Abort, world: &mut W, call: Call) {
         Call::Capture(device, bytes, put) => capture(rt, world, device, bytes, put),
         Call::Emit(put) => holds(rt, "an emit", world.emit(0, &[1, 2]) == put),
         Call::Hook(put) => holds(rt, "a hook call", world.hook(2, true) == put),
-        Call::Listen(_) | Call::Attach(..) | Call::Wait(..) => {}
+        Call::Listen(_) | Call::Attach(..) | Call::AttachLine(..) | Call::Wait(..) => {}
     }
 }
 
@@ -82,7 +93,7 @@ fn device_from(start: u32) -> DeviceSpec {
         rate: 8000,
         start,
         channels: 1,
-        line: false,
+        line: start == 9,
     }
 }
 
@@ -97,6 +108,11 @@ fn lines_of(alloc: Global, outer: &[Outer]) -> Result<String, AllocError> {
                 spec,
                 kind: _,
             } => writeln!(text, "attached {device} {}", spec.start)?,
+            Outer::LineAttached {
+                device,
+                restarts,
+                words: _,
+            } => writeln!(text, "line {device} {restarts}")?,
             Outer::Waited { more, wake } => writeln!(text, "waited {more} {wake:?}")?,
         }
     }
@@ -124,7 +140,7 @@ fn all_steps(alloc: Global) -> Result<Vec<Step>, Fail> {
     Ok(steps)
 }
 
-const CALLS: [Call; 38] = [
+const CALLS: [Call; 41] = [
     Call::Listen(Ready::Done),
     // the attaches of device 1 are to fail, device 3 is not there, and device 2 has another start
     Call::Attach(0, 7, Ready::Done),
@@ -132,6 +148,10 @@ const CALLS: [Call; 38] = [
     Call::Attach(2, 9, Ready::Done),
     Call::Attach(3, 9, Ready::Failed),
     Call::Attach(2, 7, Ready::Failed),
+    // device 2 has a line, device 0 has none, and device 3 is not there
+    Call::AttachLine(2, Ready::Done),
+    Call::AttachLine(0, Ready::Failed),
+    Call::AttachLine(3, Ready::Failed),
     // wait 1 is to fail, and takes no step
     Call::Wait(false, Waited::Woke(Wake::Opened(3))),
     Call::Wait(true, Waited::Failed),
@@ -175,6 +195,7 @@ const CALLS: [Call; 38] = [
 const TOLD: &str = "listened [104]\n\
                     attached 0 7\n\
                     attached 2 9\n\
+                    line 2 5\n\
                     waited false Opened(3)\n\
                     waited true Readable(3)\n\
                     waited false Readable(3)\n\

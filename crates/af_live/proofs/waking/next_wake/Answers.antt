@@ -1,4 +1,5 @@
-use Rattle.af_live.proofs.WakingLemmas.{kept_links, kept_round, nothing_kept, polled_links}
+use Rattle.af_lines.proofs.LinesLemmas.{change_fits}
+use Rattle.af_live.proofs.WakingLemmas.{kept_lines, kept_links, kept_round, nothing_kept, polled_lines, polled_links}
 use Rattle.af_live.proofs.waking.next_wake.Goals as goal
 
 pub returns-in-Some-take_ready-clause-links : goal.returns-in-Some-take_ready-clause-links
@@ -9,6 +10,10 @@ pub returns-in-Some-take_ready-clause-round : goal.returns-in-Some-take_ready-cl
 returns-in-Some-take_ready-clause-round g c =
     kept_round c.in-Some-take_ready.wake _ _ c.args.devices.now.round c.args.devices.now.attached c.in-Some-take_ready.ensures.fits c.in-Some-take_ready.ensures.first
 
+pub returns-in-Some-take_ready-clause-lines : goal.returns-in-Some-take_ready-clause-lines
+returns-in-Some-take_ready-clause-lines g c =
+    kept_lines c.in-Some-take_ready.wake _ _ c.args.devices.now.round c.args.lines.now c.in-Some-take_ready.ensures.fits c.in-Some-take_ready.ensures.first
+
 pub returns-in_err-nanos-clause-kept : goal.returns-in_err-nanos-clause-kept
 returns-in_err-nanos-clause-kept g c = λ k _ below ready.
     absurd (nothing_kept _ _ c.in_default-take_ready.ensures.count c.in_default-take_ready.ensures.first k below ready)
@@ -17,9 +22,21 @@ pub returns-in-Some-next_tick-clause-kept : goal.returns-in-Some-next_tick-claus
 returns-in-Some-next_tick-clause-kept g c = λ k _ below ready.
     absurd (nothing_kept _ _ c.in_default-take_ready.ensures.count c.in_default-take_ready.ensures.first k below ready)
 
+pub returns-in-Some-next_change-clause-kept : goal.returns-in-Some-next_change-clause-kept
+returns-in-Some-next_change-clause-kept g c = λ k _ below ready.
+    absurd (nothing_kept _ _ c.in_default-take_ready.ensures.count c.in_default-take_ready.ensures.first k below ready)
+
+pub returns-in-Some-next_change-clause-fits : goal.returns-in-Some-next_change-clause-fits
+returns-in-Some-next_change-clause-fits g c = change_fits _ c.args.lines.now c.next_change.new.self _ _ c.in-Some-next_change.ensures.over
+
 pub returns-clause-kept : goal.returns-clause-kept
 returns-clause-kept g c = λ k _ below ready.
     absurd (nothing_kept _ _ c.in_default-take_ready.ensures.count c.in_default-take_ready.ensures.first k below ready)
 
 pub returns-clause-links : goal.returns-clause-links
 returns-clause-links g c = polled_links c.poll_once.result _ _ _ c.in_default-take_ready.ensures.first c.poll_once.ensures.fits c.poll_once.ensures.links
+
+pub returns-clause-lines : goal.returns-clause-lines
+returns-clause-lines g c =
+    polled_lines c.poll_once.result _ _ _ _ _ _ _ _ c.poll_once.ensures.fits
+    (c.in_ok-nanos.nanos, c.in_ok-nanos.ensures, c.in_default-next_change.ensures.over) c.poll_once.ensures.lines

@@ -1,4 +1,4 @@
-use Rattle.std.proofs.Common.{◌≡◌, ◌≤◌, ◌<◌, true, false, subst}
+use Rattle.std.proofs.Common.{◌≡◌, ◌≤◌, ◌<◌, true, false, subst, arith}
 use Rattle.std.proofs.Math.Nat.{le_refl}
 use Rattle.af_limits.specs.Limits.{most_devices}
 use Rattle.af_world.specs.declared.live.Ready.TheVariants.{Done, Failed}
@@ -7,6 +7,7 @@ use Rattle.af_backend.specs.CodecUse.{codec_allows, codec_behind}
 use Rattle.af_live.specs.Counting.{CountsOne}
 use Rattle.af_backend.specs.Backends.{round_after}
 use Rattle.af_backend.specs.Rounds.{is_attached}
+use Rattle.af_lines.specs.HeldLines.{lines_after}
 use Rattle.af_live.specs.RealWorld.{RealState}
 use Rattle.af_live.proofs.mio_world.MioWorldLive.attach.Goals as goal
 
@@ -31,6 +32,9 @@ returns-clause-behind g c = subst (λ (s : RealState). AttachesAt c.attach-attac
 pub returns-clause-codec : goal.returns-clause-codec
 returns-clause-codec g c = subst (λ (s : RealState). c.attach-attached.new.self.codec ≡ codec_behind c.attach-attached.result c.args.kind s.codec) c.self.view_is c.attach-attached.ensures.codec
 
+pub returns-clause-lines : goal.returns-clause-lines
+returns-clause-lines g c = subst (λ (s : RealState). c.note_attach.new.self ≡ lines_after c.attach-attached.result c.args.device c.args.spec.now.line s.lines) c.self.view_is c.note_attach.ensures
+
 pub returns-clause-counts : goal.returns-clause-counts
 returns-clause-counts g c = let v = c.self.view_is in record {
   links = subst (λ (s : RealState). s.link_faults ≤ c.self.inside.link_faults) v (le_refl c.self.inside.link_faults);
@@ -38,3 +42,6 @@ returns-clause-counts g c = let v = c.self.view_is in record {
   listens = subst (λ (s : RealState). s.listen_faults ≤ c.self.inside.listen_faults) v (le_refl c.self.inside.listen_faults);
   waits = subst (λ (s : RealState). s.wait_faults ≤ c.self.inside.wait_faults) v (le_refl c.self.inside.wait_faults);
 }
+
+pub note_attach-requires : goal.note_attach-requires
+note_attach-requires g c = (omega arith, λ done. (c.attach-attached.ensures.attaches done).0)

@@ -7,7 +7,7 @@ use Rattle.af_world.specs.declared.live.Waited.TheVariants.{Failed}
 use Rattle.af_live.specs.LinkTable.{link_at, something_ready, KeepsOpen, Opens}
 use Rattle.af_live.specs.Counting.{CountsOne}
 use Rattle.af_live.specs.Polls.{LeadsLinks, TakesLeast}
-use Rattle.af_live.specs.RealWorld.{RealState, given, GivesKept, LeadsRound, LosesNoFrame, WakeFits}
+use Rattle.af_live.specs.RealWorld.{RealState, given, GivesKept, LeadsLines, LeadsRound, LosesNoFrame, WakeFits}
 use Rattle.af_live.proofs.PollsLemmas.{waits_take_least}
 use Rattle.af_live.proofs.RoundLemmas.{waits_lose_none}
 use Rattle.af_live.proofs.mio_world.MioWorldLive.wait.Goals as goal
@@ -26,8 +26,8 @@ returns-clause-kept g c =
 
 pub returns-clause-fits : goal.returns-clause-fits
 returns-clause-fits g c =
-    subst (λ (s : RealState). IfSome (given c.answer-waited.result) (λ wake. WakeFits s.links s.round wake)) c.self.view_is
-    (subst (λ (o : Option Wake). IfSome o (λ wake. WakeFits c.self.inside.links c.self.inside.devices.round wake)) (sym c.answer-waited.ensures.given) c.next_wake-next.ensures.fits)
+    subst (λ (s : RealState). IfSome (given c.answer-waited.result) (λ wake. WakeFits s.links s.round s.lines wake)) c.self.view_is
+    (subst (λ (o : Option Wake). IfSome o (λ wake. WakeFits c.self.inside.links c.self.inside.devices.round c.self.inside.lines wake)) (sym c.answer-waited.ensures.given) c.next_wake-next.ensures.fits)
 
 pub returns-clause-opens : goal.returns-clause-opens
 returns-clause-opens g c =
@@ -47,6 +47,11 @@ pub returns-clause-round : goal.returns-clause-round
 returns-clause-round g c =
     subst (λ (s : RealState). LeadsRound (given c.answer-waited.result) s.links s.round s.behind c.next_wake-next.new.links c.next_wake-next.new.devices.round c.next_wake-next.new.devices.attached) c.self.view_is
     (subst (λ (o : Option Wake). LeadsRound o c.self.inside.links c.self.inside.devices.round c.self.inside.devices.attached c.next_wake-next.new.links c.next_wake-next.new.devices.round c.next_wake-next.new.devices.attached) (sym c.answer-waited.ensures.given) c.next_wake-next.ensures.round)
+
+pub returns-clause-lines : goal.returns-clause-lines
+returns-clause-lines g c =
+    subst (λ (s : RealState). LeadsLines (given c.answer-waited.result) s.links s.round s.lines c.next_wake-next.new.links c.next_wake-next.new.devices.round c.next_wake-next.new.lines) c.self.view_is
+    (subst (λ (o : Option Wake). LeadsLines o c.self.inside.links c.self.inside.devices.round c.self.inside.lines c.next_wake-next.new.links c.next_wake-next.new.devices.round c.next_wake-next.new.lines) (sym c.answer-waited.ensures.given) c.next_wake-next.ensures.lines)
 
 pub returns-clause-frames : goal.returns-clause-frames
 returns-clause-frames g c =

@@ -4,6 +4,7 @@ use Rattle.af_io.specs.declared.flow.Put.TheVariants.{Failed}
 use Rattle.af_backend.specs.declared.devices.Devices.{Devices}
 use Rattle.af_backend.specs.Backends.{all_without_bytes, EmitsAt}
 use Rattle.af_live.specs.Counting.{CountsOne}
+use Rattle.af_lines.specs.HeldLines.{all_line_orders}
 use Rattle.af_live.specs.RealWorld.{RealState}
 use Rattle.af_backend.proofs.BackendLemmas.{emits_same, emits_orders}
 use Rattle.af_live.proofs.mio_world.MioWorldWorld.emit.Goals as goal
@@ -17,6 +18,7 @@ returns-clause-leads g c = let v = c.self.view_is in record {
   behind = emits_same _ _ _ _ _ _ _ c.emit-put.ensures.emits ∙ ap (λ (s : RealState). all_without_bytes s.behind) v;
   orders = emits_orders _ _ _ _ _ _ _ c.emit-put.ensures.emits ∙ ap (λ (s : RealState). s.codec.orders) v;
   round = ap (λ (d : Devices _ _ _). d.round) c.emit-put.ensures.rest ∙ ap (λ (s : RealState). s.round) v;
+  lines = (ap (λ (s : RealState). all_line_orders s.lines.lines) v, ap (λ (s : RealState). s.lines.next) v);
   link_faults = subst (λ (s : RealState). s.link_faults ≤ c.self.inside.link_faults) v (le_refl c.self.inside.link_faults);
   device_faults = subst (λ (s : RealState). s.device_faults ≤ c.count_put.new.faults) v c.count_put.ensures.cause.0;
   listen_faults = ap (λ (s : RealState). s.listen_faults) v;

@@ -4,6 +4,7 @@ use Rattle.af_world.specs.declared.world.LinkTook.TheVariants.{Failed}
 use Rattle.af_live.specs.LinkTable.{is_free, link_at, KeepsOpen}
 use Rattle.af_backend.specs.Backends.{all_without_bytes}
 use Rattle.af_live.specs.Counting.{CountsOne}
+use Rattle.af_lines.specs.HeldLines.{all_line_orders}
 use Rattle.af_live.specs.RealWorld.{RealState}
 use Rattle.af_live.proofs.mio_world.MioWorldWorld.write.Goals as goal
 
@@ -16,6 +17,7 @@ returns-clause-leads g c = let v = c.self.view_is in record {
   behind = ap (λ (s : RealState). all_without_bytes s.behind) v;
   orders = ap (λ (s : RealState). s.codec.orders) v;
   round = ap (λ (s : RealState). s.round) v;
+  lines = (ap (λ (s : RealState). all_line_orders s.lines.lines) v, ap (λ (s : RealState). s.lines.next) v);
   link_faults = subst (λ (s : RealState). s.link_faults ≤ c.count_took.new.faults) v c.count_took.ensures.cause.0;
   device_faults = subst (λ (s : RealState). s.device_faults ≤ c.self.inside.device_faults) v (le_refl c.self.inside.device_faults);
   listen_faults = ap (λ (s : RealState). s.listen_faults) v;

@@ -1,0 +1,2 @@
+pub mod ExchangeUse
+pub mod HeldLines

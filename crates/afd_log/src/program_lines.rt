@@ -1,0 +1,166 @@
+// What is told of the programs of devices and of telephone lines.
+use crate::Log;
+use crate::watched_programs::WatchedProgram;
+use af_card::Card;
+use af_exchange::Exchange;
+use af_limits::MOST_DEVICES;
+use std::fmt;
+use std::fmt::{Display, Formatter, Write};
+
+const NANOS_A_SECOND: u64 = 1_000_000_000;
+
+/// Whose program it is: that of a device whose time it is, or of the telephone line of one.
+#[derive(Clone, Copy)]
+enum Owner {
+    Device(u8),
+    Line(u8),
+}
+
+impl Display for Owner {
+    fn fmt<W: Write>(&self, f: &mut Formatter<W>) -> fmt::Result {
+        match self {
+            Owner::Device(device) => write!(f, "device {device}: its program"),
+            Owner::Line(device) => write!(f, "device {device}: the program of its line"),
+        }
+    }
+}
+
+/// How a program stands now: how many starts were tried, whether it runs, when the next start may come, and how many are left.
+#[derive(Clone, Copy)]
+struct Standing {
+    starts: u32,
+    runs: bool,
+    next: Option<u64>,
+    left: u32,
+}
+
+/// What was told of the program of each device, and of that of each line.
+#[derive(Clone, Copy)]
+pub(crate) struct ProgramLines {
+    cards: [ToldProgram; MOST_DEVICES],
+    lines: [ToldProgram; MOST_DEVICES],
+}
+
+/// How many starts of a program were told, and whether its end is to be told still.
+#[derive(Clone, Copy)]
+struct ToldProgram {
+    starts: u32,
+    runs: bool,
+}
+
+impl ProgramLines {
+    /// Nothing was told.
+    pub fn new() -> ProgramLines {
+        let nothing = ToldProgram {
+            starts: 0,
+            runs: false,
+        };
+        ProgramLines {
+            cards: [nothing; MOST_DEVICES],
+            lines: [nothing; MOST_DEVICES],
+        }
+    }
+
+    /// Tells what the program of a device has done since the last time.
+    pub fn tell_card(&mut self, log: &Log<'_>, device: u8, card: &Card<WatchedProgram<'_>>) {
+        let standing = Standing {
+            starts: card.tried(),
+            runs: card.runs(),
+            next: card.next_start(),
+            left: card.starts_left(),
+        };
+        if let Some(told) = self.cards.get_mut(device as usize) {
+            tell(log, Owner::Device(device), standing, card.program(), told);
+        }
+    }
+
+    /// Tells what the program of a telephone line has done since the last time.
+    pub fn tell_line(
+        &mut self,
+        log: &Log<'_>,
+        device: u8,
+        exchange: &Exchange<WatchedProgram<'_>>,
+    ) {
+        let standing = Standing {
+            starts: exchange.tried(),
+            runs: exchange.runs(),
+            next: exchange.next_start(),
+            left: exchange.starts_left(),
+        };
+        if let Some(told) = self.lines.get_mut(device as usize) {
+            tell(log, Owner::Line(device), standing, exchange.program(), told);
+        }
+    }
+}
+
+/// Tells what a program has done since the last time.
+fn tell(
+    log: &Log<'_>,
+    owner: Owner,
+    standing: Standing,
+    program: &WatchedProgram<'_>,
+    told: &mut ToldProgram,
+) {
+    if standing.starts != told.starts {
+        told.starts = standing.starts;
+        told.runs = standing.runs;
+        tell_start(log, owner, standing, program);
+    } else if told.runs
+        && !standing.runs
+        && let Some(status) = program.ended()
+    {
+        told.runs = false;
+        let next = NextStart::of(log, standing);
+        log.line(format_args!("{owner} ended with status {status}; {next}"));
+    }
+}
+
+/// Tells that a program was started, or could not be.
+fn tell_start(log: &Log<'_>, owner: Owner, standing: Standing, program: &WatchedProgram<'_>) {
+    if standing.runs {
+        log.line(format_args!("{owner} was started"));
+        return;
+    }
+    let _ = log.take_reason();
+    let next = NextStart::of(log, standing);
+    match program.reason() {
+        Some(reason) => log.line(format_args!("{owner} could not be started: {reason}; {next}")),
+        None => log.line(format_args!("{owner} could not be started; {next}")),
+    }
+}
+
+/// When a program is started again: in so many seconds, if a start is left, and of how many.
+#[derive(Clone, Copy)]
+struct NextStart {
+    seconds: Option<u64>,
+    left: u32,
+}
+
+impl NextStart {
+    fn of(log: &Log<'_>, standing: Standing) -> NextStart {
+        let now = log.nanos();
+        NextStart {
+            seconds: standing
+                .next
+                .map(|next| next.saturating_sub(now).div_ceil(NANOS_A_SECOND)),
+            left: standing.left,
+        }
+    }
+}
+
+impl Display for NextStart {
+    fn fmt<W: Write>(&self, f: &mut Formatter<W>) -> fmt::Result {
+        match (self.seconds, self.left) {
+            (None, _) => f.write_str("it has no start left"),
+            (Some(0), _) => f.write_str("it is started again now"),
+            (Some(seconds), 1) => write!(
+                f,
+                "it is started again in {seconds} s, for the last time"
+            ),
+            (Some(seconds), left) => write!(
+                f,
+                "it is started again in {seconds} s, one of {left} starts left"
+            ),
+        }
+    }
+}

@@ -1,5 +1,5 @@
 """Devices whose time is that of a program, what is played to them and recorded from them, and how the two are compared: what the
-trials of tools/try-cards share. The program is tools/card_program.py."""
+trials of tools/try-cards share. The program is tools/card_program.py. Those of tools/try-phone go by the same trial."""
 
 import contextlib
 import multiprocessing
@@ -24,24 +24,8 @@ PLAYED = 100
 LEAD = 1.5
 
 
-class Card:
-    """A device of a type, with its rate and its channels. Its program has a name, and behaves by the words of card_program.py."""
-
-    def __init__(self, name, type, rate, channels=1, kind="card", restarts=0, start=0, **words):
-        self.name, self.type, self.rate, self.channels, self.kind = name, type, rate, channels, kind
-        self.restarts, self.start, self.words = restarts, start, words
-        self.width = audiofile.WIDTHS[type] * channels
-        self.is_coded = type == "mu255"
-        self.silence = b"\xff" if self.is_coded else b"\0"
-
-    def line(self):
-        """Its line of the configuration."""
-        kept = {"speaker": {"gives": "no"}, "microphone": {"takes": "no"}, "card": {}}[self.kind]
-        # a command line has eight words of 64 bytes at most
-        options = ",".join([*("%s=%s" % it for it in {**kept, **self.words}.items()), *["coded"] * self.is_coded])
-        program = "%s card.py name=%s,rate=%d,width=%d %s" % (sys.executable, self.name, self.rate, self.width, options)
-        shape = "%s %d %d%s" % (self.type, self.rate, self.start, " stereo" if self.channels == 2 else "")
-        return "device %s %s %d %s" % (shape, self.kind, self.restarts, program)
+class Noted:
+    """A program of a server that notes what happens, in files of its name and the number of its start, and in the server's folder."""
 
     def lies_in(self, folder):
         self.folder = folder
@@ -68,6 +52,26 @@ class Card:
         wait_for(lambda: self.told(start))
         told = self.told(start)
         return int(told[0][1].split()[1]) if told else None
+
+
+class Card(Noted):
+    """A device of a type, with its rate and its channels. Its program has a name, and behaves by the words of card_program.py."""
+
+    def __init__(self, name, type, rate, channels=1, kind="card", restarts=0, start=0, **words):
+        self.name, self.type, self.rate, self.channels, self.kind = name, type, rate, channels, kind
+        self.restarts, self.start, self.words = restarts, start, words
+        self.width = audiofile.WIDTHS[type] * channels
+        self.is_coded = type == "mu255"
+        self.silence = b"\xff" if self.is_coded else b"\0"
+
+    def line(self):
+        """Its line of the configuration."""
+        kept = {"speaker": {"gives": "no"}, "microphone": {"takes": "no"}, "card": {}}[self.kind]
+        # a command line has eight words of 64 bytes at most
+        options = ",".join([*("%s=%s" % it for it in {**kept, **self.words}.items()), *["coded"] * self.is_coded])
+        program = "%s card.py name=%s,rate=%d,width=%d %s" % (sys.executable, self.name, self.rate, self.width, options)
+        shape = "%s %d %d%s" % (self.type, self.rate, self.start, " stereo" if self.channels == 2 else "")
+        return "device %s %s %d %s" % (shape, self.kind, self.restarts, program)
 
     def counts(self, start=0):
         """How many frames it was about to give, how many it had given, and how many bytes it had taken."""
@@ -103,9 +107,11 @@ class Watched(Server):
 class Trial(Trials):
     """What is tried by a function, with a folder of its own. What was not so is told at the end."""
 
+    tool = "try-cards"
+
     def __init__(self, name, afd, af):
         self.room = tempfile.TemporaryDirectory()
-        super().__init__("try-cards", afd, af, self.room.name)
+        super().__init__(self.tool, afd, af, self.room.name)
         self.trial, self.told, self.servers, self.begun = name, [], [], waited(os.getpid())
 
     def holds(self, what, true):
@@ -119,15 +125,15 @@ class Trial(Trials):
         return sum(server.starved for server in self.servers) + waited(os.getpid()) - self.begun
 
     def serve(self, *devices, before=(), folder=None):
-        """A server with these devices: cards, or lines."""
+        """A server with these devices, in order: what notes, or lines."""
         folder = folder or tempfile.mkdtemp(dir=self.folder)
         if not os.path.exists(os.path.join(folder, "card.py")):
             os.symlink(card_program.__file__, os.path.join(folder, "card.py"))
-        for card in devices:
-            if isinstance(card, Card):
-                card.lies_in(folder)
+        for it in devices:
+            if isinstance(it, Noted):
+                it.lies_in(folder)
         with BEGINS:
-            server = Watched(self.afd, folder, [it.line() if isinstance(it, Card) else it for it in devices], before)
+            server = Watched(self.afd, folder, [it.line() if isinstance(it, Noted) else it for it in devices], before)
         self.servers.append(server)
         return server
 

@@ -1,0 +1,147 @@
+"""Trials of tools/try-phone: the program for baresip, which another baresip calls over the loopback, alone and then before the answering
+machine of a real server. Where baresip is not installed they are passed over."""
+
+import json
+import os
+import shutil
+import socket
+import subprocess
+import tempfile
+import time
+
+import sound_files
+from cards import wait_for
+from phone_alone import BEGINS, CONTRIB, FINDS, Line, is_called, run
+from phone_calls import GREETING, MESSAGE, telephone
+from phones import Machine, Watcher
+from serving import free_port
+
+BARESIP = os.path.join(CONTRIB, "audiofile-phone-baresip")
+MODULES = ("/usr/lib/baresip/modules", "/usr/local/lib/baresip/modules")
+# a baresip without a sound card: it says what a file has, and nobody hears what it is told
+CONFIG = """
+module_path {modules}
+module g711.so
+module aufile.so
+module aubridge.so
+module_app account.so
+module_app menu.so
+module_app ctrl_tcp.so
+sip_listen 127.0.0.1:{sip}
+ctrl_tcp_listen 127.0.0.1:{control}
+call_max_calls 1
+audio_source aufile,{folder}/said.wav
+audio_player aubridge,nowhere
+audio_alert aubridge,nowhere
+"""
+
+
+def is_missing():
+    """Whether there is no baresip, which is told then."""
+    if shutil.which("baresip") and any(map(os.path.isdir, MODULES)):
+        return False
+    print("try-phone: there is no baresip, so its trials are passed over")
+    return True
+
+
+class Baresip:
+    """A SIP telephone that does what it is told. Used with `with`, it is ended at the end."""
+
+    def __init__(self, trial):
+        folder = tempfile.mkdtemp(dir=trial.folder)
+        self.sip, self.control = even_port(), free_port()
+        modules = next(filter(os.path.isdir, MODULES))
+        trial.file(folder, "config", CONFIG.format(modules=modules, sip=self.sip, control=self.control, folder=folder).encode())
+        self.name = "sip:phone@127.0.0.1:%d" % self.sip
+        trial.file(folder, "accounts", ("<%s>;regint=0\n" % self.name).encode())
+        # it says silence, and hangs up at the end of that
+        trial.file(folder, "said.wav", sound_files.wave(1, 16, bytes(60 * 16000)))
+        self.address = "127.0.0.1:%d" % self.control
+        self.process = subprocess.Popen(
+            ["baresip", "-f", folder], cwd=folder, stdin=subprocess.DEVNULL, stdout=subprocess.DEVNULL, stderr=subprocess.DEVNULL)
+        trial.holds("baresip runs", wait_for(self.connect))
+
+    def __enter__(self):
+        return self
+
+    def __exit__(self, *_):
+        self.process.kill()
+        self.process.wait()
+
+    def connect(self):
+        try:
+            socket.create_connection(("127.0.0.1", self.control)).close()
+            return True
+        except OSError:
+            return False
+
+    def tell(self, command, params=""):
+        octets = json.dumps({"command": command, "params": params}).encode()
+        with socket.create_connection(("127.0.0.1", self.control)) as link:
+            link.sendall(b"%d:%s," % (len(octets), octets))
+            link.settimeout(5)
+            # it answers once it has begun
+            link.recv(4096)
+
+
+def even_port():
+    """A port of the loopback that is free, and the next one too, which baresip takes for its own."""
+    while True:
+        port = free_port()
+        if port < 65535:
+            with socket.socket() as following:
+                if following.connect_ex(("127.0.0.1", port + 1)):
+                    return port
+
+
+def baresip(trial):
+    """Calls over the loopback: what the line says."""
+    if is_missing():
+        return
+    with Baresip(trial) as near, Baresip(trial) as far, Line(trial.folder, BARESIP, near.address) as line:
+        line.hand("onhook")
+        trial.holds("it begins without a call", line.says("ring off", "loop off"))
+        far.tell("dial", near.name)
+        trial.holds("a call rings for two seconds of six", line.says("ring on", "ring off", "ring on"))
+        line.hand("offhook")
+        trial.holds("until it is answered, and current flows", line.says("ring off", "loop on"))
+        for digit in "5#":
+            far.tell("sndcode", digit)
+            trial.holds("a digit is said", line.says("digit " + digit))
+        far.tell("hangup")
+        trial.holds("a caller who hangs up is told", line.says("loop off"))
+        far.tell("dial", near.name)
+        time.sleep(1)
+        trial.holds("a line that is off the hook is busy", line.says())
+        line.hand("onhook")
+        far.tell("dial", near.name)
+        trial.holds("then it rings", line.says("ring on"))
+        far.tell("hangup")
+        trial.holds("a caller may give up", line.says("ring off"))
+        far.tell("dial", near.name)
+        line.says("ring on")
+        line.hand("offhook")
+        trial.holds("the next one is answered", line.says("ring off", "loop on"))
+        line.hand("onhook")
+        trial.holds("and hung up", line.says("loop off"))
+        near.process.kill()
+        ended = line.ended()
+        trial.holds("a baresip that is gone ends it: %s" % (ended,), ended[0] == 1 and ended[1].count(b"\n") == 1)
+    refused = (1, b"", ("audiofile-phone-baresip: %s: Connection refused\n" % near.address).encode())
+    trial.holds("without a baresip it says so", run(trial.folder, BARESIP, near.address) == refused)
+    trial.holds("an address has a port", run(trial.folder, BARESIP, "localhost")[0] == 2)
+
+
+def baresip_call(trial):
+    """A baresip calls another one, and the answering machine of a real server answers by that."""
+    if is_missing():
+        return
+    with Baresip(trial) as near, Baresip(trial) as far:
+        phone = "phone 0 9 audiofile-phone-baresip %s" % near.address
+        with telephone(trial, phone, FINDS) as server:
+            watcher = Watcher(server)
+            # the program says so as it begins, and maybe before anybody was told
+            wait_for(lambda: BEGINS in watcher.told(), 3)
+            with Machine(trial, server, 1, GREETING, MESSAGE) as machine:
+                far.tell("dial", near.name)
+                is_called(trial, server, watcher, machine)

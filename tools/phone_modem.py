@@ -1,0 +1,153 @@
+"""Trials of tools/try-phone: the program for a modem, over a terminal that speaks as a modem does, alone and then before the answering
+machine of a real server."""
+
+import os
+import termios
+import time
+
+from cards import wait_for
+from phone_alone import CONTRIB, FINDS, Line, Pty, is_called, run
+from phone_calls import GREETING, MESSAGE, telephone
+from phones import LATE, Machine, Watcher
+
+MODEM = os.path.join(CONTRIB, "audiofile-phone-modem")
+SETUP = "ATE0Q0V1&C1&D2S0=0"
+
+
+class FakeModem(Pty):
+    """A modem: it notes each command and answers it, by `answers` or else with OK. Until it is told not to, it repeats what it reads."""
+
+    def __init__(self, answers=()):
+        self.commands, self.rest, self.answers, self.echoes = [], b"", {"": None, **dict(answers)}, True
+        super().__init__()
+
+    def see(self, octets):
+        if self.echoes:
+            self.say(octets)
+        *lines, self.rest = (self.rest + octets).split(b"\r")
+        for command in (line.decode() for line in lines):
+            self.commands.append(command)
+            self.echoes = self.echoes and "E0" not in command
+            answer = self.answers.get(command[2:4], "OK")
+            if answer:
+                self.tell(answer)
+
+    def say(self, octets):
+        os.write(self.master, octets)
+
+    def tell(self, text):
+        self.say(b"\r\n%s\r\n" % text.encode())
+
+    def gets(self, *commands, seconds=20):
+        """Waits for so many commands. Whether these came and no more since it was asked last."""
+        wait_for(lambda: len(self.commands) >= len(commands), seconds)
+        got, self.commands = self.commands, []
+        return got == list(commands)
+
+
+def modem(trial):
+    """Calls by a modem: what it is told, and what the line says."""
+    with FakeModem() as device, Line(trial.folder, MODEM, device.path, "--setup=AT+FCLASS=8") as line:
+        line.hand("onhook")
+        trial.holds("it begins without a call", line.says("ring off", "loop off"))
+        trial.holds("the modem is set up, and hangs up", device.gets(SETUP, "AT+FCLASS=8", "ATH"))
+        mode = device.mode()
+        trial.holds("the serial line is raw, at its speed", mode[3] & (termios.ICANON | termios.ECHO) == 0 and mode[4] == termios.B115200)
+        for _ in range(2):
+            device.tell("RING")
+            trial.holds("a ring is said", line.says("ring on"))
+        line.hand("offhook")
+        trial.holds("a call is answered", device.gets("ATA") and line.says("ring off", "loop on"))
+        for octets in (b"\x10/\x105\x105\x10~", b"\x10/\x105", b"\x10~\x10", b"#", b"\r\nNO\r\n\x10\x10\x10s"):
+            device.say(octets)
+        trial.holds("digits are said once", line.says("digit 5", "digit 5", "digit #"))
+        device.tell("NO CARRIER")
+        trial.holds("a caller who hangs up is told", line.says("loop off"))
+        line.hand("onhook")
+        trial.holds("then the modem hangs up", device.gets("ATH") and line.says())
+        device.tell("RING")
+        device.tell("NO CARRIER")
+        trial.holds("a caller may give up", line.says("ring on", "ring off"))
+        line.hand("offhook")
+        trial.holds("without a call the line is taken too", device.gets("ATH1") and line.says("loop on"))
+        line.hand("onhook")
+        trial.holds("and let go", device.gets("ATH") and line.says("loop off"))
+        line.hand("offhook")
+        trial.holds("once more", device.gets("ATH1") and line.says("loop on"))
+        trial.holds("it ends with the server, and says nothing", line.close() == (0, b""))
+        trial.holds("and hangs up", device.gets("ATH"))
+
+
+def modem_waits(trial):
+    """A modem says of a ring only that it is one: the line rings no more after eight seconds. A hook that is put on again does not wait
+    for the answer to the last one."""
+    with FakeModem({"A": None}) as device, Line(trial.folder, MODEM, device.path) as line:
+        line.hand("onhook")
+        trial.holds("it is set up", line.says("ring off", "loop off") and device.gets(SETUP, "ATH"))
+        device.tell("RING")
+        wait_for(lambda: len(line.said) == 2, 8 + LATE)
+        passed = line.said[-1][1] - line.said[0][1]
+        trial.holds("it rings eight seconds: %.3f s" % passed, line.says("ring on", "ring off") and 7.5 <= passed <= 8 + LATE)
+        device.tell("RING")
+        line.says("ring on")
+        line.hand("offhook")
+        trial.holds("it tries to answer", device.gets("ATA") and line.says("ring off"))
+        line.hand("onhook")
+        trial.holds("a byte ends the try", device.gets(""))
+        device.tell("NO CARRIER")
+        trial.holds("and the modem hangs up", device.gets("ATH") and line.says("loop off"))
+        device.answers["H1"] = "ERROR"
+        line.hand("offhook")
+        trial.holds("a line that is not had is without current", device.gets("ATH1") and line.says("loop off"))
+
+
+def modem_faults(trial):
+    """A modem that is of no use ends the program, with one line that says why. The server starts it again."""
+    def ends(what, answers, words, told, disturbs=lambda device, line: None):
+        with FakeModem(answers) as device, Line(trial.folder, MODEM, device.path, *words) as line:
+            line.hand("onhook")
+            disturbs(device, line)
+            wanted = ("audiofile-phone-modem: %s: %s\n" % (device.path, told)).encode()
+            ended = line.ended()
+            trial.holds("%s: %s" % (what, ended), ended == (1, wanted))
+
+    def connects(device, line):
+        device.gets(SETUP, "ATH")
+        device.tell("RING")
+        wait_for(lambda: "ring on" in [it for it, _ in line.said])
+        line.hand("offhook")
+
+    ends("no setup", {"E0": "ERROR"}, [], "the modem answers ERROR to " + SETUP)
+    ends("no voice class", {"+F": "ERROR"}, ["--setup=AT+FCLASS=8"], "the modem answers ERROR to AT+FCLASS=8")
+    ends("no answer", {"E0": None}, [], "the modem does not answer to " + SETUP)
+    data = "the modem has answered for data: give it --answer=ATH1, or its voice class by --setup"
+    ends("a modem for data", {"A": "CONNECT 9600"}, [], data, connects)
+    missing = (1, b"", b"audiofile-phone-modem: no/modem: No such file or directory\n")
+    trial.holds("no device", run(trial.folder, MODEM, "no/modem") == missing)
+    trial.file(trial.folder, "file", b"")
+    ended = run(trial.folder, MODEM, "file")
+    trial.holds("no serial device: %s" % (ended,), ended == (1, b"", b"audiofile-phone-modem: file: Inappropriate ioctl for device\n"))
+    for words in ([], ["no/modem", "--speed=12345"], ["no/modem", "--baud=300"]):
+        ended = run(trial.folder, MODEM, *words)
+        trial.holds("%s is no use of it: %s" % (words, ended), ended[0] == 2 and ended[2].startswith(b"usage: audiofile-phone-modem"))
+    with FakeModem() as device, Line(trial.folder, MODEM, device.path) as line:
+        line.hand("onhook")
+        trial.holds("it is set up", device.gets(SETUP, "ATH"))
+        device.close()
+        ended = line.ended()
+        trial.holds("a modem that is unplugged ends it: %s" % (ended,), ended[0] == 1 and ended[1].count(b"\n") == 1)
+
+
+def modem_call(trial):
+    """A modem rings, and the answering machine of a real server answers by it."""
+    with FakeModem() as device:
+        phone = "phone 0 9 audiofile-phone-modem %s" % device.path
+        with telephone(trial, phone, FINDS) as server, Machine(trial, server, 1, GREETING, MESSAGE) as machine:
+            trial.holds("the modem is set up", device.gets(SETUP, "ATH"))
+            watcher = Watcher(server)
+            device.tell("RING")
+            time.sleep(1)
+            trial.holds("at the first ring nobody takes the call", device.commands == [])
+            device.tell("RING")
+            trial.holds("at the second one the modem takes it, and then hangs up", device.gets("ATA", "ATH"))
+            is_called(trial, server, watcher, machine)

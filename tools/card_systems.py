@@ -41,6 +41,8 @@ while True:
 WAITS_SPENT = 11
 # how long sound is compared, how long a program of ALSA runs ahead at first, and how late sound may be, in seconds
 WATCHED, AHEAD, MOST_LATE = 6, 1, 0.6
+# what PulseAudio holds ahead of its sink for so long a trial as one of minutes, on a busy machine, in milliseconds
+HELD_AHEAD = 400
 
 
 def is_missing(trial, *programs):
@@ -335,17 +337,19 @@ def minutes(trial):
     seconds = 60 * int(os.environ["MINUTES"])
     card = Card("pulse", "lin16", 48000)
     shape = "rate=48000 format=s16be channels=1"
-    raw = ["--raw", "--rate=48000", "--channels=1", "--format=s16be", "--latency-msec=2000"]
-    line = "device lin16 48000 0 card 0 audiofile-pulse-card 48000 1 s16be given.monitor null 400"
-    with pulse_audio(trial, card) as (folder, before):
+    raw = ["--raw", "--rate=48000", "--channels=1", "--format=s16be"]
+    line = "device lin16 48000 0 card 0 audiofile-pulse-card 48000 1 s16be given.monitor null %d" % HELD_AHEAD
+    with pulse_audio(trial, card) as (folder, before), tempfile.TemporaryFile() as heard:
         environment = {**os.environ, **dict(it.split("=", 1) for it in before[1:])}
         subprocess.run(
             ["pactl", "load-module", "module-null-sink", "sink_name=given", *shape.split()], env=environment, stdout=subprocess.DEVNULL)
-        giver = subprocess.Popen(["pacat", "--playback", "-dgiven", *raw], env=environment, stdin=subprocess.PIPE)
+        giver = subprocess.Popen(["pacat", "--playback", "-dgiven", *raw, "--latency-msec=4000"], env=environment, stdin=subprocess.PIPE)
         threading.Thread(target=feed, args=(giver, card, (seconds + 60) * card.rate), daemon=True).start()
-        with tempfile.TemporaryFile() as heard, trial.serve(line, before=before, folder=folder) as server:
-            taker = subprocess.Popen(["parec", "-dnull.monitor", *raw], env=environment, stdout=heard)
-            player = Client(server, "play", 0, Counted(card, PLAYED, (seconds - 5) * card.rate), 2)
+        # as long as nobody asks for less, the sink takes two seconds at a time
+        taker = subprocess.Popen(["parec", "-dnull.monitor", *raw, "--latency-msec=50"], env=environment, stdout=heard)
+        time.sleep(3)
+        with trial.serve(line, before=before, folder=folder) as server:
+            player = Client(server, "play", 0, Counted(card, PLAYED, (seconds - 5) * card.rate), 3)
             recorded_on(trial, server, card, seconds)
             played = player.given(trial)
             time.sleep(5)
@@ -363,7 +367,7 @@ def is_heard(trial, card, heard, played):
     sound = card.sound(played.frames if played else 1, PLAYED)
     # no frame that is played is silence
     heard = array.array("H", filter(None, array.array("H", heard))).tobytes()
-    lost = left_out(heard, sound, card.width)
-    told = "%s frames of %d are lost" % (lost, len(sound) // card.width)
+    lost, late = left_out(heard, sound, card.width), played.late if played else None
+    told = "%s frames of %d are lost, and %s were played too late" % (lost, len(sound) // card.width, late)
     trial.holds("what is played is heard in order: " + told, lost is not None and 100 * lost <= len(sound) // card.width)
     print("try-cards: %d seconds heard, %s" % (len(sound) // card.width // card.rate, told))

@@ -1,5 +1,6 @@
 """Servers on real time, and what is said to them: what the scripts beside this file share."""
 
+import contextlib
 import os
 import select
 import socket
@@ -142,16 +143,27 @@ class Server:
             [*words, "serve", self.address, "1000000000000"], stdin=subprocess.PIPE, stdout=subprocess.DEVNULL, stderr=self.said, cwd=cwd)
         self.process.stdin.write("".join(line + "\n" for line in devices).encode())
         self.process.stdin.close()
+        try:
+            listens = self.listens(patience)
+        except BaseException:
+            # whoever waits was told to end meanwhile
+            self.end()
+            raise
+        if not listens:
+            self.end()
+            self.said.seek(0)
+            sys.exit("the server does not listen\n" + self.said.read().decode(errors="replace"))
+
+    def listens(self, patience):
+        """Waits until it listens, so many seconds at most. Whether it does."""
         begun = time.monotonic()
         while time.monotonic() - begun < patience and self.process.poll() is None:
             try:
                 connect(self.address).close()
-                return
+                return True
             except OSError:
                 time.sleep(patience / 20000)
-        self.end()
-        self.said.seek(0)
-        sys.exit("the server does not listen\n" + self.said.read().decode(errors="replace"))
+        return False
 
     def __enter__(self):
         return self
@@ -212,7 +224,8 @@ class Tap:
 
     def carry(self):
         client, _ = self.listener.accept()
-        with self.listener, self.server, client:
+        # a side that ends with unread bytes resets its link
+        with self.listener, self.server, client, contextlib.suppress(ConnectionError):
             while True:
                 for link in select.select([client, self.server], [], [])[0]:
                     piece = link.recv(65536)

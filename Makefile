@@ -1,4 +1,4 @@
-# `make` alone lists its targets. The text behind ## is what it says of each.
+# `make` alone lists its targets. The text after ## is what it says of each.
 
 SCRIPT = examples/time.script
 
@@ -11,18 +11,22 @@ demo: ## starts the server, plays to it, records: a sound file and a picture in 
 script: ## runs a script (SCRIPT=examples/time.script) and says in words what came of it; needs no build, half a minute
 	@room=$$(mktemp -d) && trap 'rm -rf "$$room"' EXIT && \
 	if [ -x bin/afd ]; then echo "(the proved program)"; bin/afd script < $(SCRIPT) > "$$room/transcript"; \
-	else echo "(no proved program in bin/: run before any proof, by rt try)"; \
+	else $(MAKE) -s kit || exit 1; echo "(no proved program in bin/: run before any proof, by rt try)"; \
 	(cd crates/afd && rt try -- script < $(abspath $(SCRIPT)) > "$$room/transcript" 2> "$$room/said") || { cat "$$room/said"; exit 1; }; fi && \
 	if [ -x tools/explain ]; then tools/explain $(SCRIPT) "$$room/transcript"; else cat "$$room/transcript"; fi
 
-build: ## proves everything, and leaves the programs bin/afd and bin/af: an hour of processor time and more, once
+# rt is the command of Rattle's kit
+kit:
+	@command -v rt > /dev/null || { echo "make: rt, the command of Rattle's kit, is not on the path" >&2; exit 1; }
+
+build: kit ## proves everything, and leaves the programs bin/afd and bin/af: some two hours of processor time, once
 	rt all check && mkdir -p bin && cd crates/afd && rt run -- script < stdin > /dev/null && cp out/afd ../../bin/afd
 	cd crates/af && rm -f out/af && { rt run -- arecord 127.0.0.1:1 --frames=1 2> /dev/null; cp out/af ../../bin/af; }
 
 check-scripts: ## the worked scripts and exercises of tests/, by the proved program: seconds
 	@tools/check-scripts
 
-test: ## the gate: every proof, test, wrong body and worked case
+test: kit ## the gate: every proof, test, wrong body and worked case
 	.ci/run
 
 fmt: ## lays out each crate's files
@@ -45,7 +49,7 @@ BASH_COMPLETIONS = $(DESTDIR)$(PREFIX)/share/bash-completion/completions
 ZSH_COMPLETIONS = $(DESTDIR)$(ZSH)
 PAGES = $(DESTDIR)$(PREFIX)/share/doc/audiofile
 DISSECTORS = $(DESTDIR)$(WIRESHARK)
-CARDS = $(wildcard contrib/audiofile-*-card)
+ADAPTERS = $(wildcard contrib/audiofile-*-card contrib/audiofile-phone-*)
 EXAMPLES = $(wildcard contrib/*.conf) contrib/asoundrc $(wildcard examples/*.script examples/*.py) contrib/python/audiofile.py
 DISSECTOR = $(wildcard contrib/audiofile.lua)
 
@@ -56,7 +60,7 @@ install: ## puts programs, manual pages, units, completions, examples and dissec
 	install -d $(PAGES)/examples $(DISSECTORS) $(BASH_COMPLETIONS) $(ZSH_COMPLETIONS)
 	install -m 755 $(AFD) $(PROGRAMS)/afd
 	install -m 755 $(AF) $(PROGRAMS)/af
-	install -m 755 $(CARDS) $(PROGRAMS)
+	install -m 755 $(ADAPTERS) $(PROGRAMS)
 	install -m 644 man/af.1 $(MANUALS)/man1/af.1
 	install -m 644 man/afd-script.5 $(MANUALS)/man5/afd-script.5
 	install -m 644 man/audiofile-protocol.7 $(MANUALS)/man7/audiofile-protocol.7
@@ -71,7 +75,7 @@ install: ## puts programs, manual pages, units, completions, examples and dissec
 	for file in $(DISSECTOR); do install -m 644 $$file $(DISSECTORS); done
 
 uninstall: ## takes away what install put there, with the same PREFIX and DESTDIR, and leaves configuration and sound
-	rm -f $(PROGRAMS)/afd $(PROGRAMS)/af $(addprefix $(PROGRAMS)/,$(notdir $(CARDS))) $(UNITS)/afd.service $(USER_UNITS)/afd.service $(PAGES)/copyright
+	rm -f $(PROGRAMS)/afd $(PROGRAMS)/af $(addprefix $(PROGRAMS)/,$(notdir $(ADAPTERS))) $(UNITS)/afd.service $(USER_UNITS)/afd.service $(PAGES)/copyright
 	rm -f $(BASH_COMPLETIONS)/af $(BASH_COMPLETIONS)/afd $(ZSH_COMPLETIONS)/_audiofile
 	rm -f $(MANUALS)/man1/af.1 $(MANUALS)/man5/afd-script.5 $(MANUALS)/man7/audiofile-protocol.7 $(MANUALS)/man8/afd.8
 	rm -f $(addprefix $(PAGES)/examples/,$(notdir $(EXAMPLES))) $(addprefix $(DISSECTORS)/,$(notdir $(DISSECTOR)))
@@ -82,4 +86,4 @@ uninstall: ## takes away what install put there, with the same PREFIX and DESTDI
 check-install: ## tries install and uninstall in a temporary folder, and the manual pages: seconds
 	@tools/check-install
 
-.PHONY: help demo script build install uninstall check-install check-scripts test fmt
+.PHONY: help demo script kit build install uninstall check-install check-scripts test fmt

@@ -13,7 +13,7 @@ import threading
 import time
 import types
 
-from cards import PLAYED, Card, Client, audiofile, emitted, left_out, playing, recording, wait_for
+from cards import LOGGED, PLAYED, Card, Client, audiofile, emitted, left_out, playing, recording, told_lost, wait_for
 from peers import PulseAudio
 from serving import ROOT, WORD
 
@@ -348,7 +348,7 @@ def minutes(trial):
         # as long as nobody asks for less, the sink takes two seconds at a time
         taker = subprocess.Popen(["parec", "-dnull.monitor", *raw, "--latency-msec=50"], env=environment, stdout=heard)
         time.sleep(3)
-        with trial.serve(line, before=before, folder=folder) as server:
+        with trial.serve(line, before=[*LOGGED, *before], folder=folder) as server:
             player = Client(server, "play", 0, Counted(card, PLAYED, (seconds - 5) * card.rate), 3)
             recorded_on(trial, server, card, seconds)
             played = player.given(trial)
@@ -358,6 +358,7 @@ def minutes(trial):
                 program.wait()
             heard.seek(0)
             is_heard(trial, card, heard.read(), played)
+            print("try-cards: the server says that %d frames found no room" % told_lost(server))
             ends(trial, server, "pacat", "parec")
 
 

@@ -6,7 +6,7 @@ import subprocess
 import threading
 import time
 
-from cards import LEAD, PLAYED, Card, emitted, is_captured, is_handed, left_out, playing, recording, waited
+from cards import LEAD, LOGGED, PLAYED, Card, emitted, is_captured, is_handed, left_out, playing, recording, told_lost, waited
 from serving import WORD, asked_time, set_up
 
 # how long cards are compared, in seconds
@@ -102,7 +102,7 @@ def delay(card, lost):
 def loses(trial, seconds=7, least=0.4, most=1.2, disturb=None, **words):
     """A card that takes nothing for a second, or is away: some of what left the device is lost, and no delay stays."""
     card = Card("lost", "lin16", 48000, 2, **words)
-    with trial.serve(card) as server:
+    with trial.serve(card, before=LOGGED) as server:
         recorder, player = recording(server, 0, card, seconds), playing(server, 0, card, seconds - LEAD - 1)
         if disturb:
             disturb(server)
@@ -119,8 +119,9 @@ def loses(trial, seconds=7, least=0.4, most=1.2, disturb=None, **words):
             if lost is not None:
                 trial.holds("it lost what found no room: " + told, least * card.rate <= lost <= most * card.rate)
                 trial.holds("no delay stays: %.3f s" % delay(card, lost), delay(card, lost) <= MOST_DELAY)
+                trial.holds("the log counts what was lost: %d of %s" % (told_lost(server), told), told_lost(server) == lost)
         trial.holds("it was started once", card.told(1) == [])
-        trial.ends(server)
+        trial.ends(server, is_logged=True)
 
 
 def deaf(trial):

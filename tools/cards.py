@@ -4,6 +4,7 @@ trials of tools/try-cards share. The program is tools/card_program.py. Those of 
 import contextlib
 import multiprocessing
 import os
+import re
 import struct
 import sys
 import tempfile
@@ -20,6 +21,8 @@ import audiofile
 BEGINS = multiprocessing.Lock()
 # the sound that is played, beside that of a program's starts
 PLAYED = 100
+# what is put before a server that keeps a log
+LOGGED = ("env", "AUDIOFILE_DETAILS=1")
 # how far ahead is played, in seconds: a machine that does much else is to be in time too
 LEAD = 1.5
 
@@ -137,11 +140,18 @@ class Trial(Trials):
         self.servers.append(server)
         return server
 
-    def ends(self, server):
-        """Ends a server, which said nothing, and neither did its programs."""
+    def ends(self, server, is_logged=False):
+        """Ends a server, which said nothing unless it keeps a log, and neither did its programs."""
         runs = server.end()
         server.said.seek(0)
-        self.holds("the server runs, and says nothing: %s" % server.said.read()[:200], runs)
+        self.holds("the server runs, and says nothing: %s" % (b"" if is_logged else server.said.read()[:200]), runs)
+
+
+def told_lost(server):
+    """How many frames of sound the log of a server says that a program had no room for."""
+    # the server writes on at the place of this file
+    said = os.pread(server.said.fileno(), 1 << 20, 0)
+    return sum(int(frames) for frames in re.findall(rb"its program had no room, and (\d+) frames were lost\n", said))
 
 
 def wait_for(is_so, seconds=10):

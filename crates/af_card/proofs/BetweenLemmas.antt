@@ -11,16 +11,19 @@ use Rattle.af_program.specs.declared.program.Took.{Took}
 use Rattle.af_program.specs.declared.program.Took.TheVariants as takes
 use Rattle.af_program.specs.declared.program.Launched.{Launched}
 use Rattle.af_program.specs.declared.program.Launched.TheVariants as launch
+use Rattle.af_program.specs.declared.starts.Starts.{Starts}
 use Rattle.af_program.specs.Acts.{ToldAct, launched, gave, took, ended, captured, emitted}
+use Rattle.af_program.specs.Handing.{TakesInto, GivesFrom}
+use Rattle.af_program.specs.Waits.{may_come, begun_once_more, after_end}
 use Rattle.af_world.specs.declared.card_kind.CardKind.{CardKind}
 use Rattle.af_world.specs.declared.card_kind.CardKind.TheVariants as kind
 use Rattle.af_card.specs.declared.shape.Shape.{Shape}
-use Rattle.af_card.specs.declared.starts.Starts.{Starts}
 use Rattle.af_card.specs.declared.running.Running.{Running}
 use Rattle.af_card.specs.Fed.{IsSilent}
-use Rattle.af_card.specs.Waits.{may_come, begun_once_more, after_end}
-use Rattle.af_card.specs.Between.{BetweenState, running_begun, Accounts, TakesInto, GivesFrom, PassesOn, CapturesBy, CapturesOf, IsWhole, CanCapture, LeavesLess, EmitsBy, EmitsTo, gives_sound}
-use Rattle.af_card.proofs.AccountLemmas.{Accounts-on, Accounts-same, Account-gave, Account-took, Account-knows, Account-untaken, Account-passed, Account-idle, Account-idles, Account-silent, Account-front, Account-begun, Account-failed, Account-ended, handed-nothing, handed-piece, handed-lost}
+use Rattle.af_card.specs.Lost.{lost_after, without_room}
+use Rattle.af_card.specs.Between.{BetweenState, running_begun, Accounts, PassesOn, CapturesBy, CapturesOf, IsWhole, CanCapture, LeavesLess, EmitsBy, EmitsTo, gives_sound}
+use Rattle.af_card.proofs.AccountLemmas.{Accounts-on, Accounts-same, Account-gave, Account-took, Account-knows, Account-untaken, Account-passed, Account-idle, Account-idles, Account-silent, Account-front, Account-begun, Account-failed, Account-ended, counts-none, counts-all}
+use Rattle.af_card.proofs.FedLemmas.{handed-nothing, handed-piece, handed-lost}
 
 pub Accounts-taken : (b : BetweenState) (r r' : Running) (result : Gave) (left : List ℕ) (acts acts' : Option (List ToldAct)) → b.running ≡ Some r → r'.began ≡ r.began →
     gives_sound b.shape.kind ≡ true → TakesInto result b.left left acts acts' → Accounts b acts → Accounts (record b { running = Some r'; left = left }) acts'
@@ -74,19 +77,23 @@ pub Accounts-owed : (b : BetweenState) (r : Running) (sound : List ℕ) (acts ac
     Accounts (record b { running = Some r; owed = b.owed ++ sound; tick = None }) acts'
 Accounts-owed b r sound acts acts' is tick speaker can told fits =
     Accounts-on b (record b { running = Some r; owed = b.owed ++ sound; tick = None }) acts acts' (emitted sound ∷ []) fits told
-    (Account-untaken b r r sound (b.owed ++ sound) is refl tick (λ run. handed-piece b.shape.kind speaker b.shape run b.owed sound can)) (λ runs same. same ∙ ap is_some is)
+    (Account-untaken b r r sound (b.owed ++ sound) b.lost is refl tick (λ run. handed-piece b.shape.kind speaker b.shape run b.owed sound can) (counts-none b sound (inl speaker)))
+    (λ runs same. same ∙ ap is_some is)
 
 pub Accounts-lost : (b : BetweenState) (r r' : Running) (sound : List ℕ) (acts acts' : Option (List ToldAct)) → b.running ≡ Some r → r'.began ≡ r.began → b.tick ≡ Some (length sound) →
-    b.shape.kind ≡ kind.Card → Appended acts (emitted sound ∷ []) acts' → Accounts b acts → Accounts (record b { running = Some r'; tick = None }) acts'
+    b.shape.kind ≡ kind.Card → Appended acts (emitted sound ∷ []) acts' → Accounts b acts →
+    Accounts (record b { running = Some r'; tick = None; lost = lost_after b.lost (length sound) b.shape.frame_bytes }) acts'
 Accounts-lost b r r' sound acts acts' is began tick card told fits =
-    Accounts-on b (record b { running = Some r'; tick = None }) acts acts' (emitted sound ∷ []) fits told
-    (Account-untaken b r r' sound b.owed is began tick (λ run. handed-lost b.shape.kind card b.shape run b.owed sound)) (λ runs same. same ∙ ap is_some is)
+    Accounts-on b (record b { running = Some r'; tick = None; lost = lost_after b.lost (length sound) b.shape.frame_bytes }) acts acts' (emitted sound ∷ []) fits told
+    (Account-untaken b r r' sound b.owed (lost_after b.lost (length sound) b.shape.frame_bytes) is began tick
+    (λ run. handed-lost b.shape.kind card b.shape run b.owed sound) (counts-all b sound card)) (λ runs same. same ∙ ap is_some is)
 
 pub Accounts-unheard : (b : BetweenState) (r : Running) (sound : List ℕ) (acts acts' : Option (List ToldAct)) → b.running ≡ Some r → b.tick ≡ Some (length sound) →
     b.shape.kind ≡ kind.Microphone → Appended acts (emitted sound ∷ []) acts' → Accounts b acts → Accounts (record b { running = Some r; tick = None }) acts'
 Accounts-unheard b r sound acts acts' is tick microphone told fits =
     Accounts-on b (record b { running = Some r; tick = None }) acts acts' (emitted sound ∷ []) fits told
-    (Account-untaken b r r sound b.owed is refl tick (λ run. handed-nothing b.shape.kind microphone b.shape run b.owed sound)) (λ runs same. same ∙ ap is_some is)
+    (Account-untaken b r r sound b.owed b.lost is refl tick (λ run. handed-nothing b.shape.kind microphone b.shape run b.owed sound) (counts-none b sound (inr microphone)))
+    (λ runs same. same ∙ ap is_some is)
 
 pub Accounts-idles : (b : BetweenState) (sound : List ℕ) (acts acts' : Option (List ToldAct)) → b.running ≡ None → Appended acts (emitted sound ∷ []) acts' → Accounts b acts →
     Accounts (record b { tick = None }) acts'
@@ -96,19 +103,22 @@ Accounts-idles b sound acts acts' none told fits =
 -- nothing is taken of a sound
 unpassed : (b : BetweenState) (r r' : Running) (sound owed : List ℕ) (acts mid acts' : Option (List ToldAct)) → b.running ≡ Some r → r'.began ≡ r.began →
     b.tick ≡ Some (length sound) → b.shape.kind ≡ kind.Card → b.owed ≡ [] → Appended acts (emitted sound ∷ []) mid → (owed ≡ []) × Unchanged mid acts' → Accounts b acts →
-    Accounts (record b { running = Some r'; owed = owed; tick = None }) acts'
+    Accounts (record b { running = Some r'; owed = owed; tick = None; lost = lost_after b.lost (length sound) b.shape.frame_bytes }) acts'
 unpassed b r r' sound owed acts mid acts' is began tick card none told same fits =
     let lost = Accounts-lost b r r' sound acts mid is began tick card told fits in
-    let after : BetweenState = record b { running = Some r'; tick = None } in
-    subst (λ x. Accounts (record b { running = Some r'; owed = x; tick = None }) acts') (none ∙ sym same.0)
+    let lost_now = lost_after b.lost (length sound) b.shape.frame_bytes in
+    let after : BetweenState = record b { running = Some r'; tick = None; lost = lost_now } in
+    subst (λ x. Accounts (record b { running = Some r'; owed = x; tick = None; lost = lost_now }) acts') (none ∙ sym same.0)
     (Accounts-same after after mid acts' lost same.1 (λ ledger account. account) refl)
 
 pub Accounts-passed : (b : BetweenState) (r r' : Running) (sound : List ℕ) (result : Took) (owed : List ℕ) (acts mid acts' : Option (List ToldAct)) → b.running ≡ Some r →
     r'.began ≡ r.began → b.tick ≡ Some (length sound) → b.shape.kind ≡ kind.Card → b.owed ≡ [] → Appended acts (emitted sound ∷ []) mid →
-    PassesOn result sound b.shape.frame_bytes owed mid acts' → Accounts b acts → Accounts (record b { running = Some r'; owed = owed; tick = None }) acts'
+    PassesOn result sound b.shape.frame_bytes owed mid acts' → Accounts b acts →
+    Accounts (record b { running = Some r'; owed = owed; tick = None; lost = lost_after b.lost (without_room result (length sound) (length owed)) b.shape.frame_bytes }) acts'
 Accounts-passed b r r' sound (takes.Bytes n) owed acts mid acts' is began tick card none told passes fits =
-    subst (λ x. Accounts (record b { running = Some r'; owed = x; tick = None }) acts') (sym passes.owes)
-    (Accounts-on b (record b { running = Some r'; owed = take (min passes.rest (length sound - n)) (drop n sound); tick = None }) acts acts'
+    let rest = take (min passes.rest (length sound - n)) (drop n sound) in
+    subst (λ x. Accounts (record b { running = Some r'; owed = x; tick = None; lost = lost_after b.lost (length sound - n - length x) b.shape.frame_bytes }) acts') (sym passes.owes)
+    (Accounts-on b (record b { running = Some r'; owed = rest; tick = None; lost = lost_after b.lost (length sound - n - length rest) b.shape.frame_bytes }) acts acts'
     (emitted sound ∷ (took (take n sound) ∷ [])) fits (appended_on acts mid acts' (emitted sound ∷ []) (took (take n sound) ∷ []) told passes.told)
     (Account-passed b r r' sound n passes.rest passes.whole.0 is began tick card none passes.most passes.less passes.whole.1) (λ runs same. same ∙ ap is_some is))
 Accounts-passed b r r' sound takes.NoRoom owed acts mid acts' is began tick card none told passes fits = unpassed b r r' sound owed acts mid acts' is began tick card none told passes fits
@@ -130,11 +140,12 @@ Accounts-nobody b (Some r) sound acts acts' is tick (inl none) told fits = grind
 Accounts-nobody b (Some r) sound acts acts' is tick (inr microphone) told fits =
     subst (λ x. Accounts (record b { running = x; tick = None }) acts') (sym is) (Accounts-unheard b r sound acts acts' is tick microphone told fits)
 
-pub Accounts-no-room : (b : BetweenState) (now : Option Running) (sound : List ℕ) (acts acts' : Option (List ToldAct)) → b.running ≡ now → b.tick ≡ Some (length sound) →
-    b.shape.kind ≡ kind.Card → Appended acts (emitted sound ∷ []) acts' → Accounts b acts → Accounts (record b { tick = None }) acts'
-Accounts-no-room b None sound acts acts' is tick card told fits = Accounts-idles b sound acts acts' is told fits
-Accounts-no-room b (Some r) sound acts acts' is tick card told fits =
-    subst (λ x. Accounts (record b { running = x; tick = None }) acts') (sym is) (Accounts-lost b r r sound acts acts' is refl tick card told fits)
+pub Accounts-no-room : (b : BetweenState) (r : Running) (sound : List ℕ) (acts acts' : Option (List ToldAct)) → b.running ≡ Some r → b.tick ≡ Some (length sound) →
+    b.shape.kind ≡ kind.Card → Appended acts (emitted sound ∷ []) acts' → Accounts b acts →
+    Accounts (record b { tick = None; lost = lost_after b.lost (length sound) b.shape.frame_bytes }) acts'
+Accounts-no-room b r sound acts acts' is tick card told fits =
+    subst (λ x. Accounts (record b { running = x; tick = None; lost = lost_after b.lost (length sound) b.shape.frame_bytes }) acts') (sym is)
+    (Accounts-lost b r r sound acts acts' is refl tick card told fits)
 
 -- nothing stands in a list of no bytes
 pub empty-where : (owed seen : List ℕ) → seen ≡ owed → (length seen == 0) ≡ true → owed ≡ []

@@ -1,3 +1,4 @@
+pub mod LostLemmas
+pub mod FedLemmas
 pub mod AccountLemmas
-pub mod StartLemmas
 pub mod BetweenLemmas

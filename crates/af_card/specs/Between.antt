@@ -1,5 +1,5 @@
 -- What lies between a device and its program, and how it fits what the acts tell.
-use Rattle.std.specs.Prelude.{◌≡◌, ⊤, ℕ, ◌+◌, ◌*◌, ◌/◌, ◌%◌, ◌≤◌, ◌<◌, ◌-◌, Bool, true, false, not, ◌&&◌, ◌||◌, ◌==◌, nat_le, if◌then◌else◌, List, [], ◌∷◌, ◌++◌, length, min, take, drop, replicate, is_some, is_none}
+use Rattle.std.specs.Prelude.{◌≡◌, ⊤, ℕ, ◌+◌, ◌*◌, ◌/◌, ◌%◌, ◌≤◌, ◌<◌, ◌-◌, Bool, true, false, not, ◌&&◌, ◌||◌, ◌==◌, nat_le, if◌then◌else◌, List, [], ◌∷◌, length, min, take, drop, replicate, is_some, is_none}
 use Rattle.std.specs.declared.option.Option.{Option}
 use Rattle.std.specs.declared.option.Option.TheVariants.{None, Some}
 use Rattle.af_limits.specs.Limits.{longest_capture, longest_tick}
@@ -8,15 +8,16 @@ use Rattle.af_program.specs.declared.program.Gave.{Gave}
 use Rattle.af_program.specs.declared.program.Gave.TheVariants as gives
 use Rattle.af_program.specs.declared.program.Took.{Took}
 use Rattle.af_program.specs.declared.program.Took.TheVariants as takes
-use Rattle.af_program.specs.Acts.{ToldAct, gave, took, runs_in}
+use Rattle.af_program.specs.declared.starts.Starts.{Starts}
+use Rattle.af_program.specs.Acts.{ToldAct, took, runs_in}
+use Rattle.af_program.specs.Waits.{StartsFit, NextFits, no_starts, may_come, is_left}
 use Rattle.af_world.specs.declared.card_kind.CardKind.{CardKind}
 use Rattle.af_world.specs.declared.card_kind.CardKind.TheVariants as kind
 use Rattle.af_card.specs.declared.shape.Shape.{Shape}
-use Rattle.af_card.specs.declared.starts.Starts.{Starts}
 use Rattle.af_card.specs.declared.running.Running.{Running}
-use Rattle.af_card.specs.Ledger.{Ledger, Run, Start, ledger_of}
+use Rattle.af_card.specs.Ledger.{Ledger, Run, ledger_of}
 use Rattle.af_card.specs.Fed.{RunFits, PastFits, piece_frames, piece_of}
-use Rattle.af_card.specs.Waits.{StartsFit, IsLateEnough, wait_after, no_starts, may_come, is_left}
+use Rattle.af_card.specs.Lost.{lost_of}
 
 pub record BetweenState : Type 0 where
   pub shape : Shape
@@ -25,10 +26,11 @@ pub record BetweenState : Type 0 where
   pub left : List ℕ
   pub owed : List ℕ
   pub tick : Option ℕ
+  pub lost : ℕ
 
 abbrev pub new_between : Shape → ℕ → BetweenState
 new_between shape restarts =
-    record { shape = shape; starts = no_starts restarts; running = None; left = []; owed = []; tick = None }
+    record { shape = shape; starts = no_starts restarts; running = None; left = []; owed = []; tick = None; lost = 0 }
 
 -- a program that was started at this moment
 abbrev pub running_begun : ℕ → Running
@@ -67,37 +69,23 @@ RunningFits b None (Some run) = ⊥
 RunningFits b (Some running) None = ⊥
 RunningFits b (Some running) (Some run) = RunFits b.shape run b.left b.owed b.tick
 
--- when the next start may come it is late enough, and the wait is the one after the latest end
-abbrev pub NextFits : Starts → Option Running → List Start → Type 0
-NextFits s None starts = (s.wait ≡ wait_after starts) × ((at : ℕ) → may_come s at ≡ true → IsLateEnough at starts)
-NextFits s (Some running) [] = ⊥
-NextFits s (Some running) (start ∷ earlier) =
-    (start.began ≡ running.began) × (start.ended ≡ None) × (s.wait ≡ wait_after earlier)
+-- when the program that runs was started
+abbrev pub began_of : Option Running → Option ℕ
+began_of None = None
+began_of (Some running) = Some running.began
 
 pub record Account (b : BetweenState) (ledger : Ledger) : Type 0 where
   pub past : PastFits b.shape ledger
   pub running : RunningFits b b.running ledger.running
   pub starts : StartsFit b.starts.restarts ledger.starts
   pub tried : b.starts.tried ≡ length ledger.starts
-  pub next : NextFits b.starts b.running ledger.starts
+  pub next : NextFits b.starts (began_of b.running) ledger.starts
+  pub lost : b.lost ≡ lost_of b.shape ledger
 
 -- if the acts are observed, all of this holds of them
 abbrev pub Accounts : BetweenState → Option (List ToldAct) → Type 0
 Accounts b None = ⊤
 Accounts b (Some acts) = Account b (ledger_of acts) × (runs_in acts ≡ is_some b.running)
-
--- what was taken stands at the end of a queue
-abbrev pub TakesInto : Gave → List ℕ → List ℕ → Option (List ToldAct) → Option (List ToldAct) → Type 0
-TakesInto (gives.Bytes n) before after acts acts' = (bytes : List ℕ) × (after ≡ before ++ bytes) × Appended acts (gave bytes ∷ []) acts'
-TakesInto gives.NotYet before after acts acts' = (after ≡ before) × Unchanged acts acts'
-TakesInto gives.Ended before after acts acts' = (after ≡ before) × Unchanged acts acts'
-
--- what was taken has left the front of a queue
-abbrev pub GivesFrom : Took → List ℕ → List ℕ → Option (List ToldAct) → Option (List ToldAct) → Type 0
-GivesFrom (takes.Bytes n) before after acts acts' =
-    (1 ≤ n) × (n ≤ length before) × (after ≡ drop n before) × Appended acts (took (take n before) ∷ []) acts'
-GivesFrom takes.NoRoom before after acts acts' = (after ≡ before) × Unchanged acts acts'
-GivesFrom takes.Ended before after acts acts' = (after ≡ before) × Unchanged acts acts'
 
 -- whole frames
 abbrev pub IsWhole : ℕ → ℕ → Type 0
@@ -192,6 +180,11 @@ may_capture b bytes = is_none b.tick && captures_of b.running b.shape b.left byt
 
 abbrev pub may_emit : BetweenState → ℕ → Bool
 may_emit b bytes = is_tick_of b.tick bytes && nat_le bytes longest_capture && emits_to b.running b.shape b.owed bytes
+
+-- whether a program runs and takes sound
+abbrev pub takes_now : Option Running → Bool
+takes_now None = false
+takes_now (Some running) = not running.is_closed
 
 -- The frames that are due by a program: whole frames that it gave, at most as many as a tick has; or a piece, once it is owed nothing
 

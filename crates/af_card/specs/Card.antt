@@ -8,11 +8,11 @@ use Rattle.af_pace.specs.Pacing.{PaceState, begun, due_at, after_due}
 use Rattle.af_io.specs.Observed.{Appended, Unchanged}
 use Rattle.af_program.specs.declared.program.Launched.{Launched}
 use Rattle.af_program.specs.Acts.{ToldAct, launched, emitted}
+use Rattle.af_program.specs.Waits.{StartsFit, may_come}
 use Rattle.af_card.specs.declared.shape.Shape.{Shape}
 use Rattle.af_card.specs.declared.running.Running.{Running}
 use Rattle.af_card.specs.Ledger.{Run, ledger_of}
 use Rattle.af_card.specs.Fed.{PastFits, RunFits}
-use Rattle.af_card.specs.Waits.{StartsFit, may_come}
 use Rattle.af_card.specs.Between.{BetweenState, new_between, frames_of, is_dead, may_capture, may_emit}
 
 -- a device: its program, what lies between the two, the words of each start, its pace while no program runs, and the latest moment

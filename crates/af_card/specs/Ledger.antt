@@ -5,6 +5,7 @@ use Rattle.std.specs.declared.option.Option.{Option}
 use Rattle.std.specs.declared.option.Option.TheVariants.{None, Some}
 use Rattle.af_program.specs.declared.program.Launched.TheVariants as launch
 use Rattle.af_program.specs.Acts.{ToldAct, launched, gave, took, ended, captured, emitted}
+use Rattle.af_program.specs.Waits.{Start, starts_ended}
 
 -- while one program ran: the bytes that it gave and those that it took, and what the device captured and emitted in each tick
 pub record Run : Type 0 where
@@ -12,11 +13,6 @@ pub record Run : Type 0 where
   pub taken : List ℕ
   pub captured : List (List ℕ)
   pub emitted : List (List ℕ)
-
--- a start that was tried: its moment, and that at which its program was ended. One that failed ends as it begins.
-pub record Start : Type 0 where
-  pub began : ℕ
-  pub ended : Option ℕ
 
 -- the program that runs, those that ran, what was captured in each tick while none ran, and all starts that were tried
 pub record Ledger : Type 0 where
@@ -38,11 +34,6 @@ ledger_begun l at = record l { running = Some new_run; starts = record { began =
 -- a start that fails
 abbrev pub ledger_failed : Ledger → ℕ → Ledger
 ledger_failed l at = record l { starts = record { began = at; ended = Some at } ∷ l.starts }
-
--- the latest start has ended
-abbrev pub starts_ended : List Start → ℕ → List Start
-starts_ended [] at = []
-starts_ended (start ∷ starts) at = record start { ended = Some at } ∷ starts
 
 -- what a run comes to where one is there
 abbrev pub ledger_gave : Option Run → Ledger → List ℕ → Ledger

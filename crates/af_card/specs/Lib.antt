@@ -1,5 +1,5 @@
 pub mod Ledger
 pub mod Fed
-pub mod Waits
+pub mod Lost
 pub mod Between
 pub mod Card

@@ -8,17 +8,16 @@ ghost use Rattle.af_program.specs.Acts.{captured, emitted, launched, RunsWhereTo
 ghost use Rattle.af_child.specs.Acts.{words_of};
 ghost use Rattle.af_card.specs.Fed.{IsSilent};
 ghost use Rattle.af_world.specs.Kinds.{most_card_restarts};
-ghost use Rattle.af_card.specs.Waits.{longest_wait, may_come, next_start};
-ghost use Rattle.af_card.specs.Between.{IsWhole, TakesInto, GivesFrom, PassesOn, Accounts, new_between, CanBegin, CanCapture, CanEmit, CanEnd, LeavesLess, gives_sound, is_dead, may_capture, may_emit, frames_of, is_stalled, is_over_of, looked_at, captured_of};
+ghost use Rattle.af_program.specs.Waits.{longest_wait, may_come};
+ghost use Rattle.af_card.specs.Between.{IsWhole, PassesOn, Accounts, new_between, CanBegin, CanCapture, CanEmit, CanEnd, LeavesLess, gives_sound, is_dead, may_capture, may_emit, frames_of, is_stalled, is_over_of, looked_at, captured_of, takes_now};
+ghost use Rattle.af_card.specs.Lost.{lost_after};
 
-use crate::handing::{give_from, pass_on, take_into};
-use crate::queue::Queue;
+use crate::handing::{pass_on, without_room};
 use crate::running::Running;
 use crate::shape::Shape;
-use crate::starts::Starts;
 use af_child::Words;
 use af_limits::{LONGEST_CAPTURE, LONGEST_TICK};
-use af_program::{Gave, Launched, Program, Took};
+use af_program::{Gave, Launched, Program, Queue, Starts, Took, give_from, take_into};
 use af_time::OutOfMemory;
 use af_world::CardKind;
 use std::alloc::Global;
@@ -34,10 +33,12 @@ pub(crate) struct Between {
     shape: Shape,
     starts: Starts,
     running: Option<Running>,
-    input: Queue,
-    owed: Queue,
+    input: Queue<LONGEST_CAPTURE>,
+    owed: Queue<LONGEST_CAPTURE>,
     // the bytes of a tick that was captured, and is to be emitted
     tick: Option<usize>,
+    // frames for which a card had no room
+    lost: u64,
     room: Vec<u8>,
 }
 
@@ -46,7 +47,7 @@ impl Model for Between {
     ghost use Rattle.af_limits.specs.Limits.{longest_capture};
     ghost use Rattle.af_card.specs.Between.{BetweenState};
     ghost use Rattle.af_world.specs.Kinds.{most_card_restarts};
-    ghost use Rattle.af_card.specs.Waits.{longest_wait};
+    ghost use Rattle.af_program.specs.Waits.{longest_wait};
 
     ghost Value = { BetweenState };
 
@@ -57,6 +58,7 @@ impl Model for Between {
       left = b.input;
       owed = b.owed;
       tick = b.tick;
+      lost = b.lost;
     } };
 
     ghost invariant = { λ b. (vec_len b.room ≡ longest_capture) × (1 ≤ b.shape.frame_bytes) × (b.shape.frame_bytes ≤ 8) × (b.starts.restarts ≤ most_card_restarts) × (b.starts.wait ≤ longest_wait) };
@@ -76,6 +78,7 @@ impl Between {
             input: Queue::new(alloc)?,
             owed: Queue::new(alloc)?,
             tick: None,
+            lost: 0,
             room: vec![in alloc; 0u8; LONGEST_CAPTURE]?,
         })
     }
@@ -114,25 +117,12 @@ impl Between {
         self.running.is_some()
     }
 
-    /// How many starts were tried.
-    pub(crate) fn tried(&self) -> u32
-        ensures { result ≡ self.now.starts.tried }
+    /// Its starts.
+    pub(crate) fn starts(&self) -> Starts
+        ensures same { result ≡ self.now.starts }
+        ensures bound { result.restarts ≤ most_card_restarts }
     {
-        self.starts.tried
-    }
-
-    /// How many starts are left.
-    pub(crate) fn starts_left(&self) -> u32
-        ensures { result ≡ self.now.starts.restarts + 1 - self.now.starts.tried }
-    {
-        (self.starts.restarts + 1).saturating_sub(self.starts.tried)
-    }
-
-    /// From which moment on the next start may come, if there is one.
-    pub(crate) fn next_start(&self) -> Option<u64>
-        ensures { result ≡ next_start self.now.starts }
-    {
-        self.starts.next_start()
+        self.starts
     }
 
     /// Whether no program runs, and no start is left.
@@ -142,18 +132,28 @@ impl Between {
         self.running.is_none() && !self.starts.is_left()
     }
 
+    /// How many frames a card had no room for, since the first start.
+    pub(crate) fn lost(&self) -> u64
+        ensures { result ≡ self.now.lost }
+    {
+        self.lost
+    }
+
+    /// Whether a program runs and takes sound.
+    pub(crate) fn takes(&self) -> bool
+        ensures { result ≡ takes_now self.now.running }
+    {
+        match self.running {
+            None => false,
+            Some(running) => !running.is_closed,
+        }
+    }
+
     /// Whether a tick was captured, and is to be emitted.
     pub(crate) fn is_captured(&self) -> bool
         ensures { result ≡ is_some self.now.tick }
     {
         self.tick.is_some()
-    }
-
-    /// Whether a start may come at a moment.
-    pub(crate) fn may_come(&self, at: u64) -> bool
-        ensures { result ≡ may_come self.now.starts at }
-    {
-        self.starts.may_come(at)
     }
 
     /// Whether no program runs, and a start may come at a moment.
@@ -381,7 +381,7 @@ impl Between {
     }
 
     /// Emits the sound of a tick that a card is given as far as it has room, by whole frames. It is owed the rest of a frame of which it
-    /// took a part. What it has no room for is lost, and so is all as long as it is owed something.
+    /// took a part. What it has no room for is lost and counted, and so is all as long as it is owed something.
     fn pass<P: Program>(&mut self, program: &mut P, sound: &[u8], at: u64)
         requires some { 0 < length sound.now }
         requires can { CanEmit self.old (length sound.now) }
@@ -398,10 +398,14 @@ impl Between {
         let Some(running) = self.running else {
             return;
         };
+        let frame_bytes = self.shape.frame_bytes;
         if running.is_closed || !self.owed.as_slice().is_empty() {
+            self.lost = lost_after(self.lost, sound.len(), frame_bytes);
             return;
         }
-        let took = pass_on(program, sound, self.shape.frame_bytes, &mut self.owed);
+        let took = pass_on(program, sound, frame_bytes, &mut self.owed);
+        let bytes = without_room(took, sound.len(), self.owed.as_slice().len());
+        self.lost = lost_after(self.lost, bytes, frame_bytes);
         self.running = Some(running.after_give(took, at));
     }
 
@@ -439,6 +443,14 @@ impl Between {
         self.input.clear();
         self.owed.clear();
     }
+}
+
+/// How many frames are lost once so many bytes more have found no room. A count that is full stays so.
+fn lost_after(lost: u64, bytes: usize, frame_bytes: usize) -> u64
+    requires { 1 ≤ frame_bytes }
+    ensures { result ≡ lost_after lost bytes frame_bytes }
+{
+    lost.saturating_add((bytes / frame_bytes) as u64)
 }
 
 /// Whether so much time has gone by that it is a stall.

@@ -7,8 +7,9 @@ ghost use Rattle.af_io.specs.Observed.{Appended, Unchanged};
 ghost use Rattle.af_child.specs.Acts.{words_of};
 ghost use Rattle.af_program.specs.Acts.{captured, launched, TellsNothing};
 ghost use Rattle.af_world.specs.Kinds.{most_card_restarts};
-ghost use Rattle.af_card.specs.Waits.{may_come, next_start};
-ghost use Rattle.af_card.specs.Between.{Accounts, new_between, captured_of};
+ghost use Rattle.af_program.specs.Waits.{may_come, next_start};
+ghost use Rattle.af_card.specs.Between.{Accounts, new_between, captured_of, takes_now};
+ghost use Rattle.af_card.specs.Lost.{CountsLost};
 ghost use Rattle.af_card.specs.Card.{new_card, begins_now, EmitsAndStarts, SameOrders, StartsOnly, captures, emits, DueByClock, DueByProgram, DueOf, IsFedWhereTold};
 
 use crate::between::Between;
@@ -170,14 +171,14 @@ impl<P: Program + Drop> Card<P> {
     pub fn tried(&self) -> u32
         ensures { result ≡ self.now.between.starts.tried }
     {
-        self.between.tried()
+        self.between.starts().tried
     }
 
     /// How many starts of its program are left.
     pub fn starts_left(&self) -> u32
         ensures { result ≡ self.now.between.starts.restarts + 1 - self.now.between.starts.tried }
     {
-        self.between.starts_left()
+        self.between.starts().left()
     }
 
     /// Whether its program runs.
@@ -187,11 +188,27 @@ impl<P: Program + Drop> Card<P> {
         self.between.runs()
     }
 
+    /// How many frames of sound its program had no room for, since the first start, 2^64 - 1 at most. Only a card loses any so. One that
+    /// has closed its input loses all.
+    pub fn lost(&self) -> u64
+        ensures counted { CountsLost self.now.between.shape (P.acts self.now.program) result }
+        ensures state { result ≡ self.now.between.lost }
+    {
+        self.between.lost()
+    }
+
+    /// Whether its program runs and takes sound.
+    pub fn takes(&self) -> bool
+        ensures { result ≡ takes_now self.now.between.running }
+    {
+        self.between.takes()
+    }
+
     /// From which moment on the next start may come, if a program has ended and a start is left.
     pub fn next_start(&self) -> Option<u64>
         ensures { result ≡ next_start self.now.between.starts }
     {
-        self.between.next_start()
+        self.between.starts().next_start()
     }
 
     /// Its program.
@@ -251,7 +268,7 @@ fn due_by_clock<P: Program>(
     ensures tick { between.new.tick ≡ None }
 {
     let frames = pace.due(at);
-    if frames == 0 && between.may_come(at) {
+    if frames == 0 && between.starts().may_come(at) {
         between.begin(program, alloc, at, words);
     }
     frames

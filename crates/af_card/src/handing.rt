@@ -1,49 +1,19 @@
-// What goes between a program and the queues before and behind it.
+// The sound of a tick, as it goes on to a program by whole frames.
 ghost use Rattle.std.specs.Prelude.{◌≡◌, ◌≤◌, ◌<◌, ◌+◌, [], length};
 ghost use Rattle.af_limits.specs.Limits.{longest_capture};
 ghost use Rattle.af_program.specs.Acts.{RunsWhereTold};
-ghost use Rattle.af_card.specs.Between.{IsWhole, TakesInto, GivesFrom, PassesOn};
+ghost use Rattle.af_card.specs.Between.{IsWhole, PassesOn};
+ghost use Rattle.af_card.specs.Lost.{without_room};
 
-use crate::queue::Queue;
-use af_program::{Gave, Program, Took};
-
-/// Takes what a program gives to the end of a queue, as far as there is room.
-pub(crate) fn take_into<P: Program>(program: &mut P, room: &mut [u8], queue: &mut Queue) -> Gave
-    requires room { length room.old ≡ longest_capture }
-    requires runs { RunsWhereTold (P.acts program.old) }
-    ensures takes { TakesInto result queue.old queue.new (P.acts program.old) (P.acts program.new) }
-    ensures room { length room.new ≡ longest_capture }
-{
-    let free = room.len() - queue.as_slice().len();
-    if free == 0 {
-        return Gave::NotYet;
-    }
-    let gave = program.take(&mut room[..free]);
-    if let Gave::Bytes(count) = gave {
-        queue.append(&room[..count]);
-    }
-    gave
-}
-
-/// Gives a program what stands in a queue, as far as it takes it.
-pub(crate) fn give_from<P: Program>(program: &mut P, queue: &mut Queue) -> Took
-    requires some { 0 < length queue.old }
-    requires runs { RunsWhereTold (P.acts program.old) }
-    ensures { GivesFrom result queue.old queue.new (P.acts program.old) (P.acts program.new) }
-{
-    let took = program.give(queue.as_slice());
-    if let Took::Bytes(count) = took {
-        queue.drop_front(count);
-    }
-    took
-}
+use af_limits::LONGEST_CAPTURE;
+use af_program::{Program, Queue, Took};
 
 /// Gives a program a sound, as far as it takes it. The rest of a frame of which it took a part is owed.
 pub(crate) fn pass_on<P: Program>(
     program: &mut P,
     sound: &[u8],
     frame_bytes: usize,
-    owed: &mut Queue,
+    owed: &mut Queue<LONGEST_CAPTURE>,
 ) -> Took
     requires some { 0 < length sound.now }
     requires bound { length sound.now ≤ longest_capture }
@@ -58,6 +28,16 @@ pub(crate) fn pass_on<P: Program>(
         owed.append(&sound[count..count + rest]);
     }
     took
+}
+
+/// How many bytes of a sound found no room: all but those that were taken and those that are owed.
+pub(crate) fn without_room(took: Took, sound: usize, owed: usize) -> usize
+    ensures { result ≡ without_room took sound owed }
+{
+    match took {
+        Took::Bytes(count) => sound.saturating_sub(count).saturating_sub(owed),
+        Took::NoRoom | Took::Ended => sound,
+    }
 }
 
 /// How many bytes are missing to whole frames.

@@ -4,11 +4,8 @@
 mod between;
 mod card;
 mod handing;
-mod queue;
 mod running;
 mod shape;
-mod starts;
 
 pub use card::Card;
 pub use shape::Shape;
-pub use starts::Starts;

@@ -1,25 +1,23 @@
 -- How what lies between a line and its program keeps to the acts, act by act.
-use Rattle.std.proofs.Common.{◌≡◌, ℕ, ◌+◌, ◌≤◌, Bool, true, false, not, List, [], ◌∷◌, ◌++◌, length, take, drop, refl, sym, ap, ◌∙◌, subst, arith, is_some, nat_le, ◌&&◌}
+use Rattle.std.proofs.Common.{◌≡◌, ℕ, ◌+◌, ◌≤◌, Bool, true, false, not, List, [], ◌∷◌, ◌++◌, length, take, drop, refl, sym, ap, ◌∙◌, subst, arith, is_some}
 use Rattle.std.specs.Prelude.{⊤, MatchOption}
 use Rattle.std.specs.List.{fold}
 use Rattle.std.proofs.lemmas.List.Sums.{fold-append}
 use Rattle.std.proofs.lemmas.List.Elements.{All-cons}
-use Rattle.std.proofs.lemmas.Bool.{leb-true}
 use Rattle.std.specs.declared.option.Option.{Option}
 use Rattle.std.specs.declared.option.Option.TheVariants.{None, Some}
 use Rattle.af_io.specs.Observed.{Appended, Unchanged}
+use Rattle.af_program.specs.declared.starts.Starts.{Starts}
 use Rattle.af_program.specs.Acts.{ToldAct, gave, took, ended, captured, emitted, runs_in, runs_after}
+use Rattle.af_program.specs.Waits.{NextFits, may_come, begun_once_more, after_end, starts_ended}
+use Rattle.af_program.proofs.StartLemmas.{begun-fits, next-failed, as-many, ended-fits, next-ended}
 use Rattle.af_phone.specs.declared.line.LineChange.{LineChange}
-use Rattle.af_card.specs.declared.starts.Starts.{Starts}
-use Rattle.af_card.specs.Ledger.{Start, starts_ended}
-use Rattle.af_card.specs.Waits.{StartsFit, may_come, comes_by, begun_once_more, after_end}
-use Rattle.af_card.proofs.StartLemmas.{wait-ended, late-enough}
 use Rattle.af_exchange.specs.declared.running.Running.{Running}
 use Rattle.af_exchange.specs.Lines.{text_of, hook_text}
 use Rattle.af_exchange.specs.Fronts.{SaysMore, SaysNoMore}
 use Rattle.af_exchange.specs.Ledger.{Ledger, Run, ledger_after, ledger_of, new_ledger, ledger_gave, ledger_took, ledger_changed, ledger_called, ledger_ended, ledger_begun, ledger_failed}
 use Rattle.af_exchange.specs.Told.{RunTold, PastRunTold, RunIsTold, IsTold, IsDrained}
-use Rattle.af_exchange.specs.Dialogue.{DialogueState, Account, Accounts, RunningFits, NextFits, running_begun, PassesOver, CanEnd, LeavesNone, is_open}
+use Rattle.af_exchange.specs.Dialogue.{DialogueState, Account, Accounts, RunningFits, began_of, running_begun, PassesOver, CanEnd, LeavesNone, is_open}
 use Rattle.af_exchange.proofs.RunLemmas.{told-gave, told-took, told-passed, told-changed, told-begun, told-ended, told-drained}
 
 -- some more acts
@@ -48,10 +46,6 @@ run_of : (d : DialogueState) (r : Running) (now : Option Run) → RunningFits d 
 run_of d r None fits = grind arith
 run_of d r (Some run) fits = (run, refl, fits)
 
-NextFits-began : (s : Starts) (r r' : Running) (starts : List Start) → r'.began ≡ r.began → NextFits s (Some r) starts → NextFits s (Some r') starts
-NextFits-began s r r' [] same next = grind arith
-NextFits-began s r r' (start ∷ earlier) same next = (next.0 ∙ sym same, next.1, next.2)
-
 -- something of the run has changed, and of what lies between
 Account-run : (d : DialogueState) (r r' : Running) (ledger : Ledger) (left owed : List ℕ) (run : Run) → d.running ≡ Some r → r'.began ≡ r.began → Account d ledger →
     RunTold run left owed (not r'.is_closed) → Account (record d { running = Some r'; left = left; owed = owed }) (record ledger { running = Some run })
@@ -62,7 +56,7 @@ Account-run d r r' ledger left owed run is began account told = record {
   hook = account.hook;
   starts = account.starts;
   tried = account.tried;
-  next = NextFits-began d.starts r r' ledger.starts began (subst (λ x. NextFits d.starts x ledger.starts) is account.next);
+  next = subst (λ x. NextFits d.starts x ledger.starts) (ap began_of is ∙ ap (λ n. Some n) (sym began)) account.next;
 }
 
 -- it gave bytes
@@ -97,7 +91,7 @@ Account-knows d r r' is began on ledger account = record {
   hook = account.hook;
   starts = account.starts;
   tried = account.tried;
-  next = NextFits-began d.starts r r' ledger.starts began (subst (λ x. NextFits d.starts x ledger.starts) is account.next);
+  next = subst (λ x. NextFits d.starts x ledger.starts) (ap began_of is ∙ ap (λ n. Some n) (sym began)) account.next;
 } where
   knows : (now : Option Run) → RunningFits d (Some r) now → RunningFits (record d { running = Some r' }) (Some r') now
   knows None fits = grind arith
@@ -168,32 +162,17 @@ Account-called d r r' owed off is began on ledger account =
       hook = refl;
       starts = account.starts;
       tried = account.tried;
-      next = NextFits-began d.starts r r' ledger.starts began (subst (λ x. NextFits d.starts x ledger.starts) is account.next);
+      next = subst (λ x. NextFits d.starts x ledger.starts) (ap began_of is ∙ ap (λ n. Some n) (sym began)) account.next;
     })
 
 -- Starts
-
-left-true : (a b : Bool) → (a && b) ≡ true → a ≡ true
-left-true true b both = refl
-left-true false b both = both
-
--- a start may be tried only if one is left, and its moment is late enough
-pub may-begin : (s : Starts) (at : ℕ) → may_come s at ≡ true → s.tried ≤ s.restarts
-may-begin s at may = leb-true s.tried s.restarts (left-true (nat_le s.tried s.restarts) (comes_by s.next at) may)
-
--- one more start keeps to what starts keep to
-begun-fits : (s : Starts) (starts : List Start) (at : ℕ) (end : Option ℕ) → s.tried ≡ length starts → may_come s at ≡ true → NextFits s None starts → StartsFit s.restarts starts →
-    StartsFit s.restarts (record { began = at; ended = end } ∷ starts)
-begun-fits s starts at end tried may next fits =
-    let left = may-begin s at may in
-    record { most = grind arith; spaced = (next.1 at may, fits.spaced) }
 
 -- a program begins to run
 pub Account-begun : (d : DialogueState) (at : ℕ) (starts : Starts) → d.running ≡ None → may_come d.starts at ≡ true → starts ≡ begun_once_more d.starts →
     (ledger : Ledger) → Account d ledger →
     Account (record d { running = Some (running_begun at); starts = starts; left = []; owed = hook_text d.off }) (ledger_begun ledger at)
 Account-begun d at starts none may begun ledger account =
-    let next : NextFits d.starts None ledger.starts = subst (λ x. NextFits d.starts x ledger.starts) none account.next in
+    let next : NextFits d.starts None ledger.starts = subst (λ x. NextFits d.starts (began_of x) ledger.starts) none account.next in
     subst (λ s. Account (record d { running = Some (running_begun at); starts = s; left = []; owed = hook_text d.off }) (ledger_begun ledger at)) (sym begun) (record {
       past = account.past;
       running = told-begun ledger.hook d.off account.hook;
@@ -208,8 +187,7 @@ Account-begun d at starts none may begun ledger account =
 pub Account-failed : (d : DialogueState) (at : ℕ) (starts : Starts) → d.running ≡ None → may_come d.starts at ≡ true → starts ≡ after_end (begun_once_more d.starts) at at →
     (ledger : Ledger) → Account d ledger → Account (record d { starts = starts; left = []; owed = [] }) (ledger_failed ledger at)
 Account-failed d at starts none may failed ledger account =
-    let next : NextFits d.starts None ledger.starts = subst (λ x. NextFits d.starts x ledger.starts) none account.next in
-    let tried : (begun_once_more d.starts).tried ≡ length ledger.starts + 1 = ap (λ n. n + 1) account.tried in
+    let next : NextFits d.starts None ledger.starts = subst (λ x. NextFits d.starts (began_of x) ledger.starts) none account.next in
     subst (λ s. Account (record d { starts = s; left = []; owed = [] }) (ledger_failed ledger at)) (sym failed) (record {
       past = account.past;
       running = subst (λ x. RunningFits (record d { starts = after_end (begun_once_more d.starts) at at; left = []; owed = [] }) x ledger.running) (sym none)
@@ -218,8 +196,8 @@ Account-failed d at starts none may failed ledger account =
       hook = account.hook;
       starts = begun-fits d.starts ledger.starts at (Some at) account.tried may next account.starts;
       tried = let is = account.tried in grind arith;
-      next = subst (λ x. NextFits (after_end (begun_once_more d.starts) at at) x (record { began = at; ended = Some at } ∷ ledger.starts)) (sym none)
-          (wait-ended (d.starts.tried + 1) d.starts.wait at at ledger.starts tried next.0, late-enough (begun_once_more d.starts) at at ledger.starts tried next.0);
+      next = subst (λ x. NextFits (after_end (begun_once_more d.starts) at at) (began_of x) (record { began = at; ended = Some at } ∷ ledger.starts)) (sym none)
+          (next-failed d.starts at ledger.starts account.tried next);
     })
   where
     unchanged : (now : Option Run) → RunningFits d None now → RunningFits (record d { starts = after_end (begun_once_more d.starts) at at; left = []; owed = [] }) None now
@@ -239,25 +217,10 @@ Account-ended d r at starts is can after ledger account =
       running = tt;
       none = account.none;
       hook = account.hook;
-      starts = ended-fits ledger.starts account.starts;
-      tried = account.tried ∙ as-many ledger.starts;
-      next = next-ended ledger.starts account.tried (subst (λ x. NextFits d.starts x ledger.starts) is account.next);
+      starts = ended-fits d.starts.restarts ledger.starts at account.starts;
+      tried = account.tried ∙ as-many ledger.starts at;
+      next = next-ended d.starts r.began at ledger.starts account.tried (subst (λ x. NextFits d.starts (began_of x) ledger.starts) is account.next);
     }))
-  where
-    as-many : (list : List Start) → length list ≡ length (starts_ended list at)
-    as-many [] = refl
-    as-many (start ∷ earlier) = refl
-
-    ended-fits : (list : List Start) → StartsFit d.starts.restarts list → StartsFit d.starts.restarts (starts_ended list at)
-    ended-fits [] fits = fits
-    ended-fits (start ∷ earlier) fits = record { most = fits.most; spaced = fits.spaced }
-
-    next-ended : (list : List Start) → d.starts.tried ≡ length list → NextFits d.starts (Some r) list → NextFits (after_end d.starts r.began at) None (starts_ended list at)
-    next-ended [] tried next = grind arith
-    next-ended (start ∷ earlier) tried next =
-        let more : d.starts.tried ≡ length earlier + 1 = grind arith in
-        subst (λ n. NextFits (after_end d.starts n at) None (record start { ended = Some at } ∷ earlier)) next.0
-        (wait-ended d.starts.tried d.starts.wait start.began at earlier more next.2, late-enough d.starts start.began at earlier more next.2)
 
 -- all changes of the program that runs were given
 pub Account-drained : (d : DialogueState) → LeavesNone d → (ledger : Ledger) → Account d ledger → IsDrained ledger.running

@@ -1,5 +1,5 @@
 -- What lies between a line and its program, and how it fits what the acts tell.
-use Rattle.std.specs.Prelude.{◌≡◌, ⊤, ℕ, Bool, true, false, not, ◌||◌, List, [], ◌∷◌, ◌++◌, length, is_some, All}
+use Rattle.std.specs.Prelude.{◌≡◌, ⊤, ℕ, Bool, true, false, not, ◌||◌, List, [], ◌++◌, length, is_some, All}
 use Rattle.std.specs.List.{fold}
 use Rattle.std.specs.declared.option.Option.{Option}
 use Rattle.std.specs.declared.option.Option.TheVariants.{None, Some}
@@ -7,10 +7,9 @@ use Rattle.af_program.specs.declared.program.Gave.{Gave}
 use Rattle.af_program.specs.declared.program.Gave.TheVariants as gives
 use Rattle.af_program.specs.declared.program.Took.{Took}
 use Rattle.af_program.specs.declared.program.Took.TheVariants as takes
+use Rattle.af_program.specs.declared.starts.Starts.{Starts}
 use Rattle.af_program.specs.Acts.{ToldAct, runs_in}
-use Rattle.af_card.specs.declared.starts.Starts.{Starts}
-use Rattle.af_card.specs.Ledger.{Start}
-use Rattle.af_card.specs.Waits.{StartsFit, IsLateEnough, wait_after, no_starts, may_come}
+use Rattle.af_program.specs.Waits.{StartsFit, NextFits, no_starts, may_come}
 use Rattle.af_phone.specs.declared.line.LineChange.{LineChange}
 use Rattle.af_exchange.specs.declared.running.Running.{Running}
 use Rattle.af_exchange.specs.Lines.{hook_text, at_line, after_byte}
@@ -68,12 +67,10 @@ RunningFits d None (Some run) = ⊥
 RunningFits d (Some running) None = ⊥
 RunningFits d (Some running) (Some run) = RunTold run d.left d.owed (not running.is_closed)
 
--- when the next start may come it is late enough, and the wait is the one after the latest end
-abbrev pub NextFits : Starts → Option Running → List Start → Type 0
-NextFits s None starts = (s.wait ≡ wait_after starts) × ((at : ℕ) → may_come s at ≡ true → IsLateEnough at starts)
-NextFits s (Some running) [] = ⊥
-NextFits s (Some running) (start ∷ earlier) =
-    (start.began ≡ running.began) × (start.ended ≡ None) × (s.wait ≡ wait_after earlier)
+-- when the program that runs was started
+abbrev pub began_of : Option Running → Option ℕ
+began_of None = None
+began_of (Some running) = Some running.began
 
 pub record Account (d : DialogueState) (ledger : Ledger) : Type 0 where
   pub past : All PastRunTold ledger.past
@@ -82,7 +79,7 @@ pub record Account (d : DialogueState) (ledger : Ledger) : Type 0 where
   pub hook : ledger.hook ≡ hook_text d.off
   pub starts : StartsFit d.starts.restarts ledger.starts
   pub tried : d.starts.tried ≡ length ledger.starts
-  pub next : NextFits d.starts d.running ledger.starts
+  pub next : NextFits d.starts (began_of d.running) ledger.starts
 
 -- if the acts are observed, all of this holds of them
 abbrev pub Accounts : DialogueState → Option (List ToldAct) → Type 0

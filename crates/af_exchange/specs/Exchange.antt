@@ -6,7 +6,7 @@ use Rattle.af_io.specs.declared.flow.Put.{Put}
 use Rattle.af_io.specs.declared.flow.Put.TheVariants as put
 use Rattle.af_phone.specs.declared.line.LineChange.{LineChange}
 use Rattle.af_program.specs.Acts.{ToldAct}
-use Rattle.af_card.specs.Waits.{is_left, may_come}
+use Rattle.af_program.specs.Waits.{is_left, may_come}
 use Rattle.af_exchange.specs.Lines.{text_of}
 use Rattle.af_exchange.specs.Ledger.{ledger_of, Order}
 use Rattle.af_exchange.specs.Told.{IsTold, IsDrained}

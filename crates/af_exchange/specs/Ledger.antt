@@ -7,7 +7,7 @@ use Rattle.std.specs.declared.option.Option.TheVariants.{None, Some}
 use Rattle.af_io.specs.Observed.{Appended}
 use Rattle.af_program.specs.declared.program.Launched.TheVariants as launch
 use Rattle.af_program.specs.Acts.{ToldAct, launched, gave, took, ended, captured, emitted}
-use Rattle.af_card.specs.Ledger.{Start, starts_ended}
+use Rattle.af_program.specs.Waits.{Start, starts_ended}
 
 -- While one program ran: the bytes that it gave and those that it took; the lines of the changes that were given meanwhile; and the lines
 -- that it is to be handed, in order: the hook as it was at its start, and each call.

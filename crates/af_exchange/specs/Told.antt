@@ -4,7 +4,7 @@ use Rattle.std.specs.declared.option.Option.{Option}
 use Rattle.std.specs.declared.option.Option.TheVariants.{None, Some}
 use Rattle.af_phone.specs.declared.line.LineChange.{LineChange}
 use Rattle.af_program.specs.Acts.{ToldAct}
-use Rattle.af_card.specs.Waits.{StartsFit}
+use Rattle.af_program.specs.Waits.{StartsFit}
 use Rattle.af_exchange.specs.Lines.{at_line, changes_of, text_of, hook_text}
 use Rattle.af_exchange.specs.Ledger.{Run, ledger_of}
 

@@ -1,29 +1,28 @@
 // What lies between a line and its program.
-ghost use Rattle.std.specs.Prelude.{◌≡◌, ◌≢◌, ◌↔◌, ◌≤◌, ◌<◌, ◌+◌, ◌-◌, [], ◌∷◌, length, drop, true, false, not, ◌&&◌, ◌||◌, is_some, List, IfOk};
+ghost use Rattle.std.specs.Prelude.{◌≡◌, ◌↔◌, ◌≤◌, ◌+◌, [], ◌∷◌, true, is_some, List, IfOk};
 ghost use Rattle.std.specs.declared.option.Option.{Option};
 ghost use Rattle.std.specs.declared.option.Option.TheVariants.{None, Some};
 ghost use Rattle.arrayvec.specs.ArrayVec.{array_vec_len};
 ghost use Rattle.af_io.specs.Observed.{Appended};
-ghost use Rattle.af_program.specs.Acts.{ToldAct, launched, RunsWhereTold};
+ghost use Rattle.af_program.specs.Acts.{ToldAct, launched};
 ghost use Rattle.af_child.specs.Acts.{words_of};
 ghost use Rattle.af_world.specs.Kinds.{most_card_restarts};
-ghost use Rattle.af_card.specs.Waits.{may_come, is_left, next_start};
-ghost use Rattle.af_card.specs.Between.{TakesInto, GivesFrom};
 ghost use Rattle.af_exchange.specs.Lines.{text_of, hook_text};
 ghost use Rattle.af_exchange.specs.Fronts.{FrontOf, NoComment};
 ghost use Rattle.af_exchange.specs.Ledger.{Notes};
-ghost use Rattle.af_exchange.specs.Dialogue.{most_bytes, new_dialogue, is_open, is_over, Accounts, CanBegin, CanEnd, PassesOver};
+ghost use Rattle.af_exchange.specs.Dialogue.{new_dialogue, is_open, is_over, Accounts, CanBegin, CanEnd, PassesOver};
 
 use crate::line::{Front, front_of, hook_text, note_change};
-use crate::queue::{MOST_BYTES, Queue};
 use crate::running::Running;
-use af_card::Starts;
 use af_child::Words;
 use af_phone::LineChange;
-use af_program::{Gave, Launched, Program, Took};
+use af_program::{Launched, Program, Queue, Starts, give_from, take_into};
 use af_time::OutOfMemory;
 use std::alloc::Global;
 use std::marker::Model;
+
+/// So many bytes of a program, or for one, are kept at most.
+const MOST_BYTES: usize = 4096;
 
 /// What lies between a line and its program: what the program gave and was not read, what it is owed, and how the hook is. Beside these
 /// it has the program that runs, and how often one was started.
@@ -31,8 +30,8 @@ use std::marker::Model;
 pub(crate) struct Dialogue {
     starts: Starts,
     running: Option<Running>,
-    input: Queue,
-    owed: Queue,
+    input: Queue<MOST_BYTES>,
+    owed: Queue<MOST_BYTES>,
     off: bool,
     room: Vec<u8>,
 }
@@ -40,7 +39,7 @@ pub(crate) struct Dialogue {
 impl Model for Dialogue {
     ghost use Rattle.std.specs.Prelude.{◌≡◌, ◌≤◌, vec_len};
     ghost use Rattle.af_world.specs.Kinds.{most_card_restarts};
-    ghost use Rattle.af_card.specs.Waits.{longest_wait};
+    ghost use Rattle.af_program.specs.Waits.{longest_wait};
     ghost use Rattle.af_exchange.specs.Dialogue.{DialogueState, most_bytes};
 
     ghost Value = { DialogueState };
@@ -132,39 +131,12 @@ impl Dialogue {
         }
     }
 
-    /// How many starts were tried.
-    pub(crate) fn tried(&self) -> u32
-        ensures { result ≡ self.now.starts.tried }
+    /// Its starts.
+    pub(crate) fn starts(&self) -> Starts
+        ensures same { result ≡ self.now.starts }
+        ensures bound { result.restarts ≤ most_card_restarts }
     {
-        self.starts.tried
-    }
-
-    /// How many starts are left.
-    pub(crate) fn starts_left(&self) -> u32
-        ensures { result ≡ self.now.starts.restarts + 1 - self.now.starts.tried }
-    {
-        (self.starts.restarts + 1).saturating_sub(self.starts.tried)
-    }
-
-    /// From which moment on the next start may come, if there is one.
-    pub(crate) fn next_start(&self) -> Option<u64>
-        ensures { result ≡ next_start self.now.starts }
-    {
-        self.starts.next_start()
-    }
-
-    /// Whether a start is left.
-    pub(crate) fn is_left(&self) -> bool
-        ensures { result ≡ is_left self.now.starts }
-    {
-        self.starts.is_left()
-    }
-
-    /// Whether a start may come at a moment.
-    pub(crate) fn may_come(&self, at: u64) -> bool
-        ensures { result ≡ may_come self.now.starts at }
-    {
-        self.starts.may_come(at)
+        self.starts
     }
 
     /// The hook is off now, or on. A program that runs and takes lines is owed its line. Where there is no room for it the program took
@@ -275,39 +247,8 @@ impl Dialogue {
     }
 }
 
-/// Takes what a program gives to the end of a queue, as far as there is room.
-fn take_into<P: Program>(program: &mut P, room: &mut [u8], queue: &mut Queue) -> Gave
-    requires room { length room.old ≡ most_bytes }
-    requires runs { RunsWhereTold (P.acts program.old) }
-    ensures takes { TakesInto result queue.old queue.new (P.acts program.old) (P.acts program.new) }
-    ensures room { length room.new ≡ most_bytes }
-{
-    let free = room.len() - queue.as_slice().len();
-    if free == 0 {
-        return Gave::NotYet;
-    }
-    let gave = program.take(&mut room[..free]);
-    if let Gave::Bytes(count) = gave {
-        queue.append(&room[..count]);
-    }
-    gave
-}
-
-/// Gives a program what stands in a queue, as far as it takes it.
-fn give_from<P: Program>(program: &mut P, queue: &mut Queue) -> Took
-    requires some { 0 < length queue.old }
-    requires runs { RunsWhereTold (P.acts program.old) }
-    ensures { GivesFrom result queue.old queue.new (P.acts program.old) (P.acts program.new) }
-{
-    let took = program.give(queue.as_slice());
-    if let Took::Bytes(count) = took {
-        queue.drop_front(count);
-    }
-    took
-}
-
 /// Passes over comments. What stands first then.
-fn pass_comments(queue: &mut Queue) -> Front
+fn pass_comments(queue: &mut Queue<MOST_BYTES>) -> Front
     ensures passed { PassesOver queue.old queue.new }
     ensures front { FrontOf result queue.new }
     ensures none { NoComment result }

@@ -6,8 +6,8 @@ ghost use Rattle.af_io.specs.Observed.{Appended};
 ghost use Rattle.af_child.specs.Acts.{words_of};
 ghost use Rattle.af_phone.specs.Lines.{is_change};
 ghost use Rattle.af_program.specs.Acts.{TellsNothing};
+ghost use Rattle.af_program.specs.Waits.{next_start};
 ghost use Rattle.af_world.specs.Kinds.{most_card_restarts};
-ghost use Rattle.af_card.specs.Waits.{next_start};
 ghost use Rattle.af_exchange.specs.Lines.{hook_text};
 ghost use Rattle.af_exchange.specs.Ledger.{Notes};
 ghost use Rattle.af_exchange.specs.Fronts.{FrontOf, NoComment};
@@ -109,7 +109,7 @@ impl<P: Program + Drop> Exchange<P> {
         if self.dialogue.runs() {
             return next_of(&mut self.dialogue, &mut self.program, at);
         }
-        if self.dialogue.may_come(at) {
+        if self.dialogue.starts().may_come(at) {
             start(
                 &mut self.dialogue,
                 &mut self.program,
@@ -133,7 +133,7 @@ impl<P: Program + Drop> Exchange<P> {
         self.program.tend(at);
         self.dialogue.call(&mut self.program, off);
         self.dialogue.give_owed(&mut self.program);
-        if self.dialogue.is_open() || self.dialogue.is_left() {
+        if self.dialogue.is_open() || self.dialogue.starts().is_left() {
             Put::Done
         } else {
             Put::Failed
@@ -144,14 +144,14 @@ impl<P: Program + Drop> Exchange<P> {
     pub fn tried(&self) -> u32
         ensures { result ≡ self.now.dialogue.starts.tried }
     {
-        self.dialogue.tried()
+        self.dialogue.starts().tried
     }
 
     /// How many starts of its program are left.
     pub fn starts_left(&self) -> u32
         ensures { result ≡ self.now.dialogue.starts.restarts + 1 - self.now.dialogue.starts.tried }
     {
-        self.dialogue.starts_left()
+        self.dialogue.starts().left()
     }
 
     /// Whether its program runs.
@@ -165,7 +165,7 @@ impl<P: Program + Drop> Exchange<P> {
     pub fn next_start(&self) -> Option<u64>
         ensures { result ≡ next_start self.now.dialogue.starts }
     {
-        self.dialogue.next_start()
+        self.dialogue.starts().next_start()
     }
 
     /// Its program.

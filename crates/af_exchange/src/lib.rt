@@ -5,7 +5,6 @@ mod dialogue;
 mod exchange;
 pub mod laws;
 mod line;
-mod queue;
 mod running;
 
 pub use exchange::Exchange;

@@ -1,4 +1,6 @@
 pub mod Acts
+pub mod Handing
 pub mod Memory
 pub mod Notes
 pub mod Sockets
+pub mod Waits

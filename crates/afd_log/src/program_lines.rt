@@ -39,6 +39,7 @@ struct Standing {
 pub(crate) struct ProgramLines {
     cards: [ToldProgram; MOST_DEVICES],
     lines: [ToldProgram; MOST_DEVICES],
+    losses: [ToldLoss; MOST_DEVICES],
 }
 
 /// How many starts of a program were told, and whether its end is to be told still.
@@ -58,10 +59,11 @@ impl ProgramLines {
         ProgramLines {
             cards: [nothing; MOST_DEVICES],
             lines: [nothing; MOST_DEVICES],
+            losses: [ToldLoss::NONE; MOST_DEVICES],
         }
     }
 
-    /// Tells what the program of a device has done since the last time.
+    /// Tells what the program of a device has done since the last time, and what sound it had no room for.
     pub fn tell_card(&mut self, log: &Log<'_>, device: u8, card: &Card<WatchedProgram<'_>>) {
         let standing = Standing {
             starts: card.tried(),
@@ -71,6 +73,9 @@ impl ProgramLines {
         };
         if let Some(told) = self.cards.get_mut(device as usize) {
             tell(log, Owner::Device(device), standing, card.program(), told);
+        }
+        if let Some(told) = self.losses.get_mut(device as usize) {
+            told.tell(log, device, card);
         }
     }
 
@@ -89,6 +94,72 @@ impl ProgramLines {
         };
         if let Some(told) = self.lines.get_mut(device as usize) {
             tell(log, Owner::Line(device), standing, exchange.program(), told);
+        }
+    }
+}
+
+/// What was told of the sound that a card did not take.
+#[derive(Clone, Copy)]
+struct ToldLoss {
+    /// How many lost frames were told, and from which moment on more may be told.
+    frames: u64,
+    next: u64,
+    /// When its input was seen closed while it goes on, and whether that was told.
+    closed_at: Option<u64>,
+    is_closed_told: bool,
+}
+
+impl ToldLoss {
+    /// Nothing was told.
+    const NONE: ToldLoss = ToldLoss {
+        frames: 0,
+        next: 0,
+        closed_at: None,
+        is_closed_told: false,
+    };
+
+    /// Tells how many frames a card had no room for since the last time, or that it takes no sound any more.
+    fn tell(&mut self, log: &Log<'_>, device: u8, card: &Card<WatchedProgram<'_>>) {
+        let frames = card.lost();
+        if card.runs() && !card.takes() {
+            self.frames = frames;
+            self.tell_closed(log, device);
+            return;
+        }
+        self.closed_at = None;
+        self.is_closed_told = false;
+        if frames != self.frames {
+            self.tell_frames(log, device, frames);
+        }
+    }
+
+    /// Tells how many frames were lost since the last time, unless that was less than a second ago.
+    fn tell_frames(&mut self, log: &Log<'_>, device: u8, frames: u64) {
+        let now = log.nanos();
+        if now < self.next {
+            return;
+        }
+        let lost = frames.saturating_sub(self.frames);
+        self.frames = frames;
+        self.next = now.saturating_add(NANOS_A_SECOND);
+        log.line(format_args!(
+            "device {device}: its program had no room, and {lost} frames were lost"
+        ));
+    }
+
+    /// Tells that a program takes no sound any more, a second after that was seen: one that ends meanwhile is told of by its end.
+    fn tell_closed(&mut self, log: &Log<'_>, device: u8) {
+        if self.is_closed_told {
+            return;
+        }
+        let now = log.nanos();
+        match self.closed_at {
+            None => self.closed_at = Some(now),
+            Some(at) if now.saturating_sub(at) >= NANOS_A_SECOND => {
+                self.is_closed_told = true;
+                log.line(format_args!("device {device}: its program takes no more sound"));
+            }
+            Some(_) => {}
         }
     }
 }

@@ -27,8 +27,9 @@ struct Run<'a> {
     restarts: u32,
     plan: Plan<'a>,
     calls: &'a [Call],
-    // what the program took in all
+    // what the program took in all, and the frames for which it had no room
     taken: &'a [u8],
+    lost: u64,
 }
 
 const SECOND: u64 = 1000;
@@ -94,6 +95,7 @@ fn assert_run(rt: &impl Abort, alloc: Global, name: &str, run: &Run<'_>) -> Resu
         assert!(rt; is_wanted, "{name} at {at}");
     }
     assert!(rt; takes_so(card.program().acts(), run.taken), "{name}");
+    assert!(rt; card.lost() == run.lost, "{name}");
     Ok(())
 }
 
@@ -124,6 +126,16 @@ const NO_ROOM: [Call; 6] = [
     Call::Due(20, 1),
     Call::Capture(b"gh", Put::Done),
     Call::Emit(b"GH", Put::Done),
+];
+
+// It closes its input and goes on as a microphone: all is lost.
+const CLOSED: [Call; 6] = [
+    Call::Due(10, 2),
+    Call::Capture(b"abcd", Put::Done),
+    Call::Emit(b"ABCD", Put::Done),
+    Call::Due(20, 1),
+    Call::Capture(b"ef", Put::Done),
+    Call::Emit(b"EF", Put::Done),
 ];
 
 // A microphone ends after half a frame, and comes back a second later: the half is in no frame, and meanwhile the clock ticks.
@@ -199,6 +211,7 @@ fn a_device_goes_by_its_program(rt: HostRuntime) -> Result<(), Fail> {
                 },
                 calls: &IN_STEP,
                 taken: b"ABCDEF",
+                lost: 0,
             },
         ),
         (
@@ -213,6 +226,7 @@ fn a_device_goes_by_its_program(rt: HostRuntime) -> Result<(), Fail> {
                 },
                 calls: &FAST,
                 taken: b"ABCDEFGH",
+                lost: 0,
             },
         ),
         (
@@ -228,6 +242,23 @@ fn a_device_goes_by_its_program(rt: HostRuntime) -> Result<(), Fail> {
                 },
                 calls: &NO_ROOM,
                 taken: b"ABCDGH",
+                lost: 1,
+            },
+        ),
+        (
+            "closed",
+            Run {
+                kind: CardKind::Card,
+                restarts: 0,
+                plan: Plan {
+                    output: b"abcdef",
+                    gives: &[Some(4), Some(2)],
+                    takes: &[None],
+                    ..NOTHING
+                },
+                calls: &CLOSED,
+                taken: b"",
+                lost: 3,
             },
         ),
         (
@@ -242,6 +273,7 @@ fn a_device_goes_by_its_program(rt: HostRuntime) -> Result<(), Fail> {
                 },
                 calls: &DIES,
                 taken: b"",
+                lost: 0,
             },
         ),
         (
@@ -256,6 +288,7 @@ fn a_device_goes_by_its_program(rt: HostRuntime) -> Result<(), Fail> {
                 },
                 calls: &BUSY,
                 taken: b"",
+                lost: 0,
             },
         ),
         (
@@ -269,6 +302,7 @@ fn a_device_goes_by_its_program(rt: HostRuntime) -> Result<(), Fail> {
                 },
                 calls: &SPENT,
                 taken: b"",
+                lost: 0,
             },
         ),
         (
@@ -282,6 +316,7 @@ fn a_device_goes_by_its_program(rt: HostRuntime) -> Result<(), Fail> {
                 },
                 calls: &FULL,
                 taken: b"ABCD",
+                lost: 0,
             },
         ),
     ];

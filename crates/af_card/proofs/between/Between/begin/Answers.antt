@@ -1,8 +1,8 @@
 use Rattle.std.proofs.Common.{◌+◌, sym, ap, subst, ◌∙◌}
 use Rattle.std.specs.declared.option.Option.TheVariants.{Some}
 use Rattle.af_card.specs.contracts.between.Between.{the_view}
-use Rattle.af_card.specs.declared.starts.Starts.{Starts}
-use Rattle.af_card.specs.Waits.{after_end}
+use Rattle.af_program.specs.declared.starts.Starts.{Starts}
+use Rattle.af_program.specs.Waits.{after_end}
 use Rattle.af_card.specs.Between.{BetweenState, Accounts, CanBegin}
 use Rattle.af_card.proofs.BetweenLemmas.{Accounts-begun, Accounts-not-begun}
 use Rattle.af_card.proofs.between.Between.begin.Goals as goal

@@ -1,8 +1,8 @@
 use Rattle.std.proofs.Common.{◌∙◌, sym, ap, subst, ◌++◌, ◌+◌, ◌∷◌, [], arith}
 use Rattle.std.specs.declared.option.Option.TheVariants.{Some}
 use Rattle.af_exchange.specs.contracts.dialogue.Dialogue.{the_view}
-use Rattle.af_card.specs.declared.starts.Starts.{Starts}
-use Rattle.af_card.specs.Waits.{after_end}
+use Rattle.af_program.specs.declared.starts.Starts.{Starts}
+use Rattle.af_program.specs.Waits.{after_end}
 use Rattle.af_exchange.specs.Dialogue.{DialogueState, Accounts, CanBegin}
 use Rattle.af_program.specs.Acts.{launched}
 use Rattle.af_child.specs.Acts.{words_of}

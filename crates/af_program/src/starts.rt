@@ -1,7 +1,6 @@
 // How often programs were started, and when the next start may come.
-ghost use Rattle.std.specs.Prelude.{◌≡◌, ◌≤◌};
-ghost use Rattle.af_world.specs.Kinds.{most_card_restarts};
-ghost use Rattle.af_card.specs.Waits.{longest_wait, no_starts, is_left, may_come, next_start, begun_once_more, after_end};
+ghost use Rattle.std.specs.Prelude.{◌≡◌, ◌≤◌, ◌<◌, ◌+◌, ◌-◌, ◌^◌};
+ghost use Rattle.af_program.specs.Waits.{longest_wait, no_starts, is_left, may_come, next_start, begun_once_more, after_end};
 
 /// The shortest wait for a start, and the longest, in nanoseconds.
 const SHORTEST_WAIT: u64 = 1_000_000_000;
@@ -41,6 +40,14 @@ impl Starts {
         self.tried <= self.restarts && self.next.is_some()
     }
 
+    /// How many starts are left. There are fewer than 2^32 - 1 restarts.
+    pub fn left(&self) -> u32
+        requires bound { self.now.restarts + 1 < 2 ^ 32 }
+        ensures { result ≡ self.now.restarts + 1 - self.now.tried }
+    {
+        (self.restarts + 1).saturating_sub(self.tried)
+    }
+
     /// From which moment on the next start may come, if one is left.
     pub fn next_start(&self) -> Option<u64>
         ensures { result ≡ next_start self.now }
@@ -58,17 +65,17 @@ impl Starts {
         }
     }
 
-    /// A start is tried.
+    /// A start is tried. One is left, and there are fewer than 2^32 - 1 restarts.
     pub fn begin(&mut self)
         requires left { self.old.tried ≤ self.old.restarts }
-        requires bound { self.old.restarts ≤ most_card_restarts }
+        requires bound { self.old.restarts + 1 < 2 ^ 32 }
         ensures begun { self.new ≡ begun_once_more self.old }
         ensures same { (self.new.restarts ≡ self.old.restarts) × (self.new.wait ≡ self.old.wait) }
     {
         self.tried += 1;
     }
 
-    /// The program that was started at a moment has ended at another.
+    /// The program that was started at a moment has ended at another. Where the wait after that goes past 2^64 - 1, no start is left.
     pub fn end(&mut self, began: u64, ended: u64)
         requires { self.old.wait ≤ longest_wait }
         ensures ended { self.new ≡ after_end self.old began ended }

@@ -1,9 +1,18 @@
--- When programs are started, in nanoseconds.
-use Rattle.std.specs.Prelude.{◌≡◌, ⊤, ℕ, ◌+◌, ◌-◌, ◌*◌, ◌^◌, ◌≤◌, ◌&&◌, min, nat_lt, nat_le, is_some, Bool, false, if◌then◌else◌, List, [], ◌∷◌, length}
+-- When programs are started, in nanoseconds. In a list of starts the latest stands first.
+use Rattle.std.specs.Prelude.{◌≡◌, ⊤, ℕ, ◌+◌, ◌-◌, ◌*◌, ◌^◌, ◌≤◌, ◌&&◌, min, nat_lt, nat_le, is_some, Bool, true, false, if◌then◌else◌, List, [], ◌∷◌, length}
 use Rattle.std.specs.declared.option.Option.{Option}
 use Rattle.std.specs.declared.option.Option.TheVariants.{None, Some}
-use Rattle.af_card.specs.declared.starts.Starts.{Starts}
-use Rattle.af_card.specs.Ledger.{Start}
+use Rattle.af_program.specs.declared.starts.Starts.{Starts}
+
+-- a start that was tried: its moment, and that at which its program was ended. One that failed ends as it begins.
+pub record Start : Type 0 where
+  pub began : ℕ
+  pub ended : Option ℕ
+
+-- the latest start has ended
+abbrev pub starts_ended : List Start → ℕ → List Start
+starts_ended [] at = []
+starts_ended (start ∷ starts) at = record start { ended = Some at } ∷ starts
 
 -- a second, and a minute: the shortest wait for a start, and the longest
 abbrev pub shortest_wait : ℕ
@@ -83,3 +92,10 @@ abbrev pub after_end : Starts → ℕ → ℕ → Starts
 after_end s began ended =
     let wait = next_wait s.tried s.wait (ended - began) in
     record s { wait = wait; next = moment_after ended wait }
+
+-- The program that runs was started at this moment, or none runs. When the next start may come it is late enough, and the wait is the one
+-- after the latest end.
+abbrev pub NextFits : Starts → Option ℕ → List Start → Type 0
+NextFits s None starts = (s.wait ≡ wait_after starts) × ((at : ℕ) → may_come s at ≡ true → IsLateEnough at starts)
+NextFits s (Some began) [] = ⊥
+NextFits s (Some began) (start ∷ earlier) = (start.began ≡ began) × (start.ended ≡ None) × (s.wait ≡ wait_after earlier)

@@ -18,6 +18,8 @@ FILES = {
     "text"}
 # where the reply to a setup states the channels of the first device
 CHANNELS_AT = 17
+# tools that write while they still ask; the others write when they are done
+ASKING_ON = {"arecord", "list"}
 # a standard output that is a pipe without a reader
 NOBODY = "nobody"
 
@@ -127,8 +129,11 @@ def recorded(replies):
 
 
 def written(run, replies):
-    """How many bytes a record has written behind these replies. A sound file has a head, which is written when the time is told, and
-    may have a byte behind the last block."""
+    """How many bytes are written behind these replies. A list has a line for each device whose time is told. A sound file has a head,
+    which is written when the time is told, and may have a byte behind the last block."""
+    if run.words[0] == "list":
+        told = sum(reply.name == "GetTime" for reply in replies)
+        return sum(len(line) for line in run.output.splitlines(keepends=True)[:told])
     if not any(reply.name == "GetTime" for reply in replies):
         return 0
     whole = [reply for reply in replies_of(run.peers["SERVER"]) if reply.name == "Record"]
@@ -159,7 +164,7 @@ def failing_link(run, word, turns, resets, how):
     peers = {**run.peers, word: Peer(given, sent, resets, turns)}
     if word == "SERVER" and not whole:
         peers["OTHER"] = Peer()
-    output = run.output[: written(run, whole)] if run.words[0] == "arecord" else b""
+    output = run.output[: written(run, whole)] if run.words[0] in ASKING_ON else b""
     status, text = (13, "link failed") if resets else (14, "link ended")
     return replace(run, name="%s, %s" % (run.name, how), peers=peers, output=output, status=status, text=text, cut=True)
 
@@ -180,10 +185,11 @@ def failing_source(run):
 
 
 def failing_sink(run):
-    """The runs whose sink has room for fewer bytes than are written. A record asks for no more behind the block that finds none."""
+    """The runs whose sink has room for fewer bytes than are written. A record asks for no more behind the block that finds none, and a
+    list for none behind the line."""
     for room in range(len(run.output)):
         peers = run.peers
-        if run.words[0] == "arecord":
+        if run.words[0] in ASKING_ON:
             replies, requests = replies_of(peers["SERVER"]), requests_of(peers["SERVER"])
             asked = next(at for at in range(len(replies)) if written(run, replies[: at + 1]) > room)
             peers = {**peers, "SERVER": replace(peers["SERVER"], sent=joined(requests[: asked + 1]))}

@@ -12,7 +12,7 @@ _audiofile() {
 
     if ((COMP_CWORD == 1)); then
         case $program in
-        af) words='aplay arecord aset apass answer' ;;
+        af) words='aplay arecord aset apass answer list' ;;
         afd) words='serve script exercise' ;;
         esac
         mapfile -t COMPREPLY < <(compgen -W "$words" -- "$word")
@@ -35,6 +35,9 @@ _audiofile() {
         ;;
     "af answer")
         words='--calls=1..1000 --greeting=COMMAND --message=COMMAND --device=0..7 --rings=1..20'
+        ;;
+    "af list")
+        words='--order=big|little'
         ;;
     esac
 

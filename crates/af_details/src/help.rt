@@ -7,12 +7,13 @@ use std::fmt::Write;
 pub const VERSION: &str = "unreleased";
 
 // All tools.
-static COMMANDS: [Command; 5] = [
+static COMMANDS: [Command; 6] = [
     Command::Play,
     Command::Record,
     Command::Set,
     Command::Pass,
     Command::Answer,
+    Command::List,
 ];
 
 /// Where the rest is to be read.

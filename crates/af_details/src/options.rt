@@ -309,6 +309,14 @@ static ANSWER: [OptionRow<'static>; 5] = [
     },
 ];
 
+static LIST: [OptionRow<'static>; 1] = [OptionRow {
+    name: "order",
+    values: Values::OneOf("big|little"),
+    needed: false,
+    default: "big",
+    what: "which byte of a number comes first on the connection",
+}];
+
 static ONE: [&str; 1] = ["SERVER"];
 
 static BOTH: [&str; 2] = ["FROM", "TO"];
@@ -321,6 +329,7 @@ pub enum Command {
     Set,
     Pass,
     Answer,
+    List,
 }
 
 impl Command {
@@ -332,6 +341,7 @@ impl Command {
             "aset" => Some(Command::Set),
             "apass" => Some(Command::Pass),
             "answer" => Some(Command::Answer),
+            "list" => Some(Command::List),
             _ => None,
         }
     }
@@ -344,6 +354,7 @@ impl Command {
             Command::Set => "aset",
             Command::Pass => "apass",
             Command::Answer => "answer",
+            Command::List => "list",
         }
     }
 
@@ -355,6 +366,7 @@ impl Command {
             Command::Set => "sets the controls of a device, and tells how they stand",
             Command::Pass => "passes sound from one server to another",
             Command::Answer => "takes calls of a telephone line, greets and records messages",
+            Command::List => "tells what devices a server has, and how they stand",
         }
     }
 
@@ -374,6 +386,7 @@ impl Command {
             Command::Set => ASET.as_slice(),
             Command::Pass => APASS.as_slice(),
             Command::Answer => ANSWER.as_slice(),
+            Command::List => LIST.as_slice(),
         }
     }
 }

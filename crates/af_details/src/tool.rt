@@ -79,8 +79,8 @@ fn tell_task<S: Read + Drop>(
     talk: &Talk,
     source: &mut WatchedSource<S>,
 ) {
-    if let ToolEnd::NoDevice { devices: _ } = end {
-        return tell_no_device(rt, talk, device_of(task));
+    if let (ToolEnd::NoDevice { devices: _ }, Some(device)) = (end, device_of(task)) {
+        return tell_no_device(rt, talk, device);
     }
     match task {
         Task::Play(job) => {
@@ -88,15 +88,17 @@ fn tell_task<S: Read + Drop>(
             tell_played(rt, job, end, talk, source);
         }
         Task::Record(job) => tell_recorded(rt, job, talk),
-        Task::Set(_) => {}
+        Task::Set(_) | Task::List => {}
     }
 }
 
-fn device_of(task: &Task) -> u8 {
+// The device that a task is about, if it is about one.
+fn device_of(task: &Task) -> Option<u8> {
     match task {
-        Task::Play(job) => job.device,
-        Task::Record(job) => job.device,
-        Task::Set(job) => job.device,
+        Task::Play(job) => Some(job.device),
+        Task::Record(job) => Some(job.device),
+        Task::Set(job) => Some(job.device),
+        Task::List => None,
     }
 }
 

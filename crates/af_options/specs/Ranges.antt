@@ -11,6 +11,7 @@ abbrev pub IsRanged : Task → Type 0
 IsRanged (task.Play job) = (1 ≤ job.block) × (job.block ≤ 4000)
 IsRanged (task.Record job) = (1 ≤ job.block) × (job.block ≤ 4000) × (1 ≤ job.stop_blocks) × (job.stop_blocks ≤ 1000000)
 IsRanged (task.Set job) = ⊤
+IsRanged task.List = ⊤
 
 -- the values of a relay's job that its buffer and the arithmetic rest on are in their ranges
 abbrev pub IsPaced : PassJob → Type 0

@@ -103,6 +103,12 @@ apass_app = with_rules (new_app (codes "apass")) (
     rule_at (codes "delay") FreeOption ∷
     rule_at (codes "slack") FreeOption ∷ [])
 
+-- the command of list
+unfoldable pub list_app : App
+list_app = with_rules (new_app (codes "list")) (
+    rule_at (codes "SERVER") Place ∷
+    rule_at (codes "order") FreeOption ∷ [])
+
 -- a number between these two, or its default
 abbrev pub number_at : Text → (default low high : ℕ) → List Row → Option ℕ
 number_at id default low high rows = or_default default (number_in low high) (first_of id rows)
@@ -234,6 +240,7 @@ job_in tool.Play rows = job_with (option_map (λ job. task.Play job) (play_job r
 job_in tool.Record rows = job_with (option_map (λ job. task.Record job) (record_job rows)) rows
 job_in tool.Set rows = job_with (option_map (λ job. task.Set job) (set_job rows)) rows
 job_in tool.Pass rows = relay_with (pass_job rows) rows
+job_in tool.List rows = job_with (Some task.List) rows
 
 -- the tool with a name
 abbrev pub tool_named : Text → Option Tool
@@ -242,6 +249,7 @@ tool_named name =
     else if bytes_eq name (codes "arecord") then Some tool.Record
     else if bytes_eq name (codes "aset") then Some tool.Set
     else if bytes_eq name (codes "apass") then Some tool.Pass
+    else if bytes_eq name (codes "list") then Some tool.List
     else None
 
 -- the command of a tool
@@ -250,6 +258,7 @@ tool_app tool.Play = aplay_app
 tool_app tool.Record = arecord_app
 tool_app tool.Set = aset_app
 tool_app tool.Pass = apass_app
+tool_app tool.List = list_app
 
 -- The job of some words, the first of which names a tool: that of the matches that clap defines for them, where each value is in
 -- its range.

@@ -89,6 +89,7 @@ fn call_in<'a>(tool: Tool, matches: &ArgMatches<'a>) -> Option<Call<'a>>
         Tool::Record => one_call(matches, Task::Record(record_job(matches)?)),
         Tool::Set => one_call(matches, Task::Set(set_job(matches)?)),
         Tool::Pass => relay_call(matches, pass_job(matches)?),
+        Tool::List => one_call(matches, Task::List),
     }
 }
 

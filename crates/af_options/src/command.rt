@@ -73,6 +73,11 @@ static APASS: [Word<'static>; 11] = [
     Word("slack", ArgumentKind::FreeOption),
 ];
 
+static LIST: [Word<'static>; 2] = [
+    Word("SERVER", ArgumentKind::Place),
+    Word("order", ArgumentKind::FreeOption),
+];
+
 fn argument<'a>(alloc: Global, name: &'a str, kind: ArgumentKind) -> Arg<'a>
     ensures rule { rule_of result ≡ rule_at name.entry.now kind }
     ensures not_global { result.global ≡ false }
@@ -135,6 +140,7 @@ fn command_words<'a>(tool: Tool) -> (&'a str, &'a [Word<'a>])
         Tool::Record => ("arecord", ARECORD.as_slice()),
         Tool::Set => ("aset", ASET.as_slice()),
         Tool::Pass => ("apass", APASS.as_slice()),
+        Tool::List => ("list", LIST.as_slice()),
     }
 }
 

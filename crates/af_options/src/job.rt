@@ -84,4 +84,6 @@ pub enum Task {
     Play(PlayJob),
     Record(RecordJob),
     Set(SetJob),
+    /// To tell of each device what it is and how it stands.
+    List,
 }

@@ -9,6 +9,7 @@ pub enum Tool {
     Record,
     Set,
     Pass,
+    List,
 }
 
 /// The tool with a name.
@@ -23,6 +24,8 @@ pub fn tool_named(name: &str) -> Option<Tool>
         Some(Tool::Set)
     } else if name == "apass" {
         Some(Tool::Pass)
+    } else if name == "list" {
+        Some(Tool::List)
     } else {
         None
     }

@@ -1,2 +1,5 @@
 pub mod TracePartLemmas
+pub mod FollowedLemmas
+pub mod PartProgressLemmas
+pub mod WritingLemmas
 pub mod ToolEndLemmas

@@ -1,11 +1,14 @@
 -- How a tool ends, by its trace.
 use Rattle.std.proofs.Common.{◌≡◌, ℕ, true, false, List, sym, ap, ◌∙◌, refl, inl, inr, ◌⊎◌}
+use Rattle.std.specs.Prelude.{Result, Ok, Err}
 use Rattle.std.specs.declared.option.Option.{Option}
+use Rattle.af_request.specs.Asked.{Asked}
+use Rattle.af_request.specs.Answer.{Answer}
 use Rattle.af_lib.specs.declared.fault.ConnFault.{ConnFault}
 use Rattle.af_lib.specs.declared.fault.ConnFault.TheVariants as fault
 use Rattle.af_tool.specs.declared.end.ToolEnd.{ToolEnd}
 use Rattle.af_tool.specs.declared.end.ToolEnd.TheVariants as end
-use Rattle.af_tool.specs.Trace.{Trace, Finish, bad_sound, channel_mismatch, done, tool_end, fault_end, mismatch, no_device, not_dialled, refused, sound_cut, too_long}
+use Rattle.af_tool.specs.Trace.{Trace, ClientState, Finish, after_reply, answer_on, answered_by, asks, bad_sound, channel_mismatch, done, tool_end, fault_end, mismatch, no_device, not_dialled, refused, sound_cut, too_long}
 use Rattle.af_tool.specs.Ends.{MatchesTrace, EndsByReply, ObservedTrace, IsAnswered, is_of_reply, is_outer}
 
 -- the finish that an end of a reply tells of
@@ -108,3 +111,12 @@ finish_done (bad_sound fault) is = absurd (cc)
 finish_done sound_cut is = absurd (cc)
 finish_done too_long is = absurd (cc)
 finish_done (refused f) is = absurd (fault_undone f is)
+
+-- a trace that goes on by the answer to a request
+answer_finish : {X : Type 0} (r : Result X ConnFault) (w : ClientState) (next : X → ClientState → Trace) → ((x : X) (v : ClientState) → IsDoneOrRefused (next x v).finish) → IsDoneOrRefused (answered_by r w next).finish
+answer_finish (Ok x) w next more = more x w
+answer_finish (Err f) w next more = inr (f, refl)
+
+pub asked_finish : {X : Type 0} (asked : Asked) (value_of : Answer → Option X) (w : ClientState) (next : X → ClientState → Trace) → ((x : X) (v : ClientState) → IsDoneOrRefused (next x v).finish) → IsDoneOrRefused (asks asked value_of w next).finish
+unfolding asks
+asked_finish asked value_of w next more = answer_finish (answer_on asked value_of w) (after_reply w) next more

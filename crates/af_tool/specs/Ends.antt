@@ -3,6 +3,7 @@ use Rattle.std.specs.Prelude.{◌≡◌, ◌≢◌, ◌≤◌, ◌⊎◌, ℕ, B
 use Rattle.std.specs.declared.option.Option.{Option}
 use Rattle.std.specs.declared.option.Option.TheVariants.{None, Some}
 use Rattle.af_io.specs.Observed.{Appended, FaultCounted}
+use Rattle.af_io.specs.Flow.{AppendedPrefix}
 use Rattle.af_lib.specs.declared.fault.ConnFault.{ConnFault}
 use Rattle.af_lib.specs.Calls.{ConnState}
 use Rattle.af_tool.specs.declared.end.ToolEnd.{ToolEnd}
@@ -102,6 +103,17 @@ pub record ObservedPart {X : Type 0} (part : TracePart X) (result : Result X Too
 abbrev pub ObservedPartOver : {L X : Type 0} → (left sent : L → Option (List ℕ)) → (old new : ConnState L) → (ClientState → TracePart X) → Result X ToolEnd → Type 0
 ObservedPartOver left sent old new part result = (input : List ℕ) (held : Option (List ℕ)) → left old.link ≡ Some input →
     ObservedPart (part (client_of old input)) result (left new.link) (client_of new) (sent old.link) (sent new.link) held held
+
+-- The same of a part that also writes, to a sink.
+abbrev pub ObservedPartWriting : {L K X : Type 0} → (left sent : L → Option (List ℕ)) → (held : K → Option (List ℕ)) →
+    (conn conn' : ConnState L) → (sink sink' : K) → (ClientState → TracePart X) → Result X ToolEnd → Type 0
+ObservedPartWriting left sent held conn conn' sink sink' part result = (input : List ℕ) → left conn.link ≡ Some input →
+    ObservedPart (part (client_of conn input)) result (left conn'.link) (client_of conn') (sent conn.link) (sent conn'.link) (held sink) (held sink')
+
+-- some bytes were written to a sink, or the first of them before it failed
+abbrev pub Writes : {K : Type 0} → (held : K → Option (List ℕ)) → List ℕ → Result (Unit {0}) ToolEnd → (sink sink' : K) → Type 0
+Writes held bytes (Ok _) sink sink' = Appended (held sink) bytes (held sink')
+Writes held bytes (Err how) sink sink' = (how ≡ end.SinkFault) × AppendedPrefix (held sink) bytes (held sink')
 
 -- What a part does to its connection, whatever the link tells.
 pub record KeepsConnection {L X : Type 0} (left : L → Option (List ℕ)) (faults : L → ℕ) (old new : ConnState L) (result : Result X ToolEnd) : Type 0 where

@@ -1,8 +1,8 @@
 // The text that a tool writes when it is done.
-ghost use Rattle.std.specs.Prelude.{◌≡◌, ◌<◌, ◌≤◌, ◌+◌, ◌++◌, decimal, length, take, true};
+ghost use Rattle.std.specs.Prelude.{◌≡◌, ◌<◌, ◌≤◌, ◌+◌, ◌++◌, decimal, length, take, true, Err};
 ghost use Rattle.std.specs.Fmt.{signed_decimal};
 ghost use Rattle.af_io.specs.Observed.{CountsFault};
-ghost use Rattle.af_tool.specs.Ends.{is_of_report, Reports};
+ghost use Rattle.af_tool.specs.Ends.{is_of_report, Reports, Writes};
 
 use crate::end::ToolEnd;
 use af_io::{Put, Sink};
@@ -41,6 +41,18 @@ pub fn put_gain(out: &mut [u8], at: usize, gain: Gain) -> usize
 {
     let mut buffer = Buffer::new();
     put(out, at, buffer.format(gain.db()).as_bytes())
+}
+
+/// Writes a piece to the sink.
+pub fn write_piece<K: Sink>(sink: &mut K, piece: &[u8]) -> Result<(), ToolEnd>
+    requires { 0 < length piece.now }
+    ensures written { Writes K.held piece.now result sink.old sink.new }
+    ensures fault { CountsFault (result ≡ Err ToolEnd.SinkFault) (K.faults sink.old) (K.faults sink.new) }
+{
+    match sink.write(piece) {
+        Put::Done => Ok(()),
+        Put::Failed => Err(ToolEnd::SinkFault),
+    }
 }
 
 /// Writes a text to the sink: the last that a tool does.

@@ -89,9 +89,6 @@ followed_missing trace n how s h is way = followed_same (ends (no_device n)) tra
   sink = appended_none h;
 })
 
-pub followed_done : (how : ToolEnd) (s h : Option (List ℕ)) → how ≡ end.Done → ObservedTrace (ends done) how s s h h
-followed_done how s h way = record { sends = []; output = []; ended = ended_at_once (ends done) how [] [] refl refl way; link = appended_none s; sink = appended_none h }
-
 number_of : (a b : ℕ) → end.NoDevice a ≡ end.NoDevice b → a ≡ b
 number_of a b e = cc
 

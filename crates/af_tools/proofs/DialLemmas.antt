@@ -28,7 +28,8 @@ use Rattle.af_options.specs.Words.{Job, one, relay}
 use Rattle.af_io.proofs.AppendedLemmas.{appended_none, appended_on}
 use Rattle.af_tool.proofs.TracePartLemmas.{ended_behind, ended_early}
 use Rattle.af_tool.proofs.ToolEndLemmas.{done_unless_outer}
-use Rattle.af_tools.proofs.SetupTraceLemmas.{ended_same, setup_known}
+use Rattle.af_tool.proofs.FollowedLemmas.{ended_same}
+use Rattle.af_tools.proofs.SetupTraceLemmas.{setup_known}
 use Rattle.af_relay.proofs.RelayPartLemmas.{is_from, is_to, one_goes}
 use Rattle.af_relay.proofs.RelayEndLemmas.{between_finish, reports}
 use Rattle.af_tools.proofs.OneServerLemmas.{IsShort, consumed_entry, one_short, served_done, short_of, undialled_outer}

@@ -24,7 +24,8 @@ use Rattle.af_tools.specs.Sounds.{at_one_shape, file_sound, raw_sound, reads_fro
 use Rattle.af_tools.specs.Play.{aplay_trace, played, played_on}
 use Rattle.af_tools.proofs.SoundEndLemmas.{ends_by_sound}
 use Rattle.af_tools.specs.Record.{arecord_trace, recorded_on}
-use Rattle.af_tools.specs.Set.{aset_trace, set_on, standing_text}
+use Rattle.af_standing.specs.Standing.{standing_text}
+use Rattle.af_tools.specs.Set.{aset_trace, set_on}
 use Rattle.af_tools.specs.Ran.{AplayRan, ToolRan}
 use Rattle.af_tools.proofs.TraceEndLemmas.{played_finish, recorded_finish, set_finish}
 use Rattle.af_tools.proofs.PlayedBlockLemmas.{is_played}

@@ -1,10 +1,8 @@
 pub mod SetupTraceLemmas
-pub mod PartProgressLemmas
 pub mod PlayBlockLemmas
 pub mod PlayStepLemmas
 pub mod PlayTailLemmas
 pub mod FirstBlockLemmas
-pub mod WritingLemmas
 pub mod RecordBlockLemmas
 pub mod TraceEndLemmas
 pub mod DeviceChoiceLemmas

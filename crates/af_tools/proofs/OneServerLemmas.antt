@@ -28,7 +28,9 @@ use Rattle.af_tools.specs.Most.{most_bytes}
 use Rattle.af_tools.specs.Sounds.{at_one_shape, behind_front, file_sound, raw_sound, reads_sound}
 use Rattle.af_tools.specs.Play.{aplay_trace, played}
 use Rattle.af_tools.specs.Record.{arecord_trace}
-use Rattle.af_tools.specs.Set.{aset_trace, standing_text}
+use Rattle.af_standing.specs.Standing.{standing_text}
+use Rattle.af_standing.proofs.ListLemmas.{list_finish}
+use Rattle.af_tools.specs.Set.{aset_trace}
 use Rattle.af_tools.specs.Run.{EndsByDevice, EndsByRates, RanOne, one_trace, task_trace}
 use Rattle.af_tool.specs.Ends.{MatchesTrace, ObservedTrace, is_outer}
 use Rattle.af_io.proofs.AppendedLemmas.{appended_none}
@@ -138,6 +140,7 @@ task_short (task.Record job) devices bytes w few =
     device_short (slice_get devices job.device) (length devices) _ (λ d. short_of _ (recorded_finish job d w (λ _. ends done) (λ v. inl refl)))
 task_short (task.Set job) devices bytes w few =
     device_short (slice_get devices job.device) (length devices) _ (λ d. short_of _ (set_finish job d w (λ standing _. writing (standing_text standing) (ends done)) (λ s v. inl refl)))
+task_short task.List devices bytes w few = short_of _ (list_finish devices w)
 
 setup_short : (r : Result (List DeviceInfo) ConnFault) (w : ClientState) (next : List DeviceInfo → ClientState → Trace) → ((devices : List DeviceInfo) (v : ClientState) → IsShort (next devices v).finish) → IsShort (answered_by r w next).finish
 setup_short (Ok devices) w next more = more devices w

@@ -14,7 +14,7 @@ use Rattle.af_sound.specs.declared.head.Coding.{Coding}
 use Rattle.af_tools.specs.Most.{most_bytes}
 use Rattle.af_tools.specs.Sounds.{as_served, stated_part}
 use Rattle.af_tools.specs.Play.{block_time, blocks, cut, frames_in, plays, whole_frames}
-use Rattle.af_tools.proofs.PartProgressLemmas.{Reaches}
+use Rattle.af_tool.proofs.PartProgressLemmas.{Reaches}
 
 -- a source gave exactly n bytes
 pub record ConsumedAll (count : ℕ) (before after : Option (List ℕ)) : Type 0 where

@@ -22,7 +22,7 @@ use Rattle.af_tools.specs.Fill.{ConsumedAbove}
 use Rattle.af_tool.specs.Ends.{ObservedPart, is_outer}
 use Rattle.af_io.proofs.ConsumedLemmas.{consumed_known}
 use Rattle.af_tool.proofs.TracePartLemmas.{goes_stop}
-use Rattle.af_tools.proofs.PartProgressLemmas.{goes_at_once, goes_early, goes_same, goes_value, Reaches, reaches_goes, reaches_none, reaches_on}
+use Rattle.af_tool.proofs.PartProgressLemmas.{goes_at_once, goes_early, goes_same, goes_value, Reaches, reaches_goes, reaches_none, reaches_on}
 use Rattle.af_tools.proofs.PlayBlockLemmas.{IsPlaying, plays_beyond, plays_next, plays_over}
 
 -- what is left of a sound of known bytes, behind a block that was read

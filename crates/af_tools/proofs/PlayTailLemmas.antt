@@ -13,7 +13,7 @@ use Rattle.af_tool.proofs.TracePartLemmas.{goes_on, goes_stop}
 use Rattle.af_tools.specs.declared.player.Played.{Played}
 use Rattle.af_tools.specs.declared.sound.SourceSound.{SourceSound}
 use Rattle.af_tools.specs.Play.{plays_sound}
-use Rattle.af_tools.proofs.PartProgressLemmas.{goes_value}
+use Rattle.af_tool.proofs.PartProgressLemmas.{goes_value}
 
 -- the blocks are played, and the context is freed
 abbrev pub tail : (sound : SourceSound) (block start : ℕ) (bytes : List ℕ) (w : ClientState) → TracePart Played

@@ -27,7 +27,7 @@ use Rattle.af_tools.specs.declared.record.RecordedSound.{RecordedSound}
 use Rattle.af_tools.specs.Files.{IsFiledAs}
 use Rattle.af_tools.specs.Sounds.{AreWhole}
 use Rattle.af_tools.specs.Record.{block_lengths, ends_row, greatest_of, peak, recorded_frame, records, row_below, takes_block}
-use Rattle.af_tools.proofs.PartProgressLemmas.{Reaches, goes_same, goes_value, reaches_goes, reaches_none, reaches_on}
+use Rattle.af_tool.proofs.PartProgressLemmas.{Reaches, goes_same, goes_value, reaches_goes, reaches_none, reaches_on}
 
 -- what is left of recording
 abbrev pub left_to_record : RecordJob → RecordedSound → (block at before : ℕ) (peaks : List ℕ) → (frames : ℕ) → ClientState → TracePart ℕ

@@ -13,7 +13,7 @@ use Rattle.af_tool.specs.Ends.{ObservedPart, TracePart}
 use Rattle.af_tool.proofs.TracePartLemmas.{goes_on, goes_stop}
 use Rattle.af_tools.specs.Files.{front_of_recording, pad_behind, recorded_sound}
 use Rattle.af_tools.specs.Record.{recorded_frame, records_all, writes_recording}
-use Rattle.af_tools.proofs.PartProgressLemmas.{goes_same}
+use Rattle.af_tool.proofs.PartProgressLemmas.{goes_same}
 
 -- all is recorded and written
 abbrev pub recording : RecordJob → DeviceInfo → (start : ℕ) → ClientState → TracePart (Unit {0})

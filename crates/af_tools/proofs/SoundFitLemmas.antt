@@ -17,7 +17,7 @@ use Rattle.af_tool.specs.Ends.{ObservedTrace}
 use Rattle.af_io.proofs.AppendedLemmas.{appended_none}
 use Rattle.af_tool.proofs.TracePartLemmas.{ended_at_once}
 use Rattle.af_tools.specs.declared.sound.SourceSound.{SourceSound}
-use Rattle.af_tools.proofs.SetupTraceLemmas.{followed_early}
+use Rattle.af_tool.proofs.FollowedLemmas.{followed_early}
 use Rattle.af_tools.proofs.DeviceChoiceLemmas.{followed_same}
 use Rattle.af_tools.specs.Most.{most_bytes}
 use Rattle.af_tools.specs.Sounds.{at_one_shape, file_sound, reads_front, reads_sound}

@@ -1,21 +1,18 @@
 -- The trace of each tool ends in being done or refused, if its device is there and its source gives not too much.
-use Rattle.std.proofs.Common.{◌≡◌, ℕ, zero, suc, ◌+◌, ◌*◌, ◌/◌, ◌%◌, ◌^◌, ◌≤◌, nat_lt, Bool, true, false, List, [], ◌∷◌, length, take, drop, refl, arith, inr, if◌then◌else◌, length-take, length-drop}
-use Rattle.std.specs.Prelude.{Result, Ok, Err}
+use Rattle.std.proofs.Common.{◌≡◌, ℕ, zero, suc, ◌+◌, ◌*◌, ◌/◌, ◌%◌, ◌^◌, ◌≤◌, nat_lt, Bool, true, false, List, [], ◌∷◌, length, take, drop, refl, arith, if◌then◌else◌, length-take, length-drop}
 use Rattle.std.proofs.lemmas.Bool.Decides.{nat_tests}
 use Rattle.std.specs.declared.option.Option.{Option}
 use Rattle.std.specs.declared.option.Option.TheVariants.{None, Some}
 use Rattle.af_request.specs.declared.reply.DeviceInfo.{DeviceInfo}
-use Rattle.af_request.specs.declared.reply.Phone.{Phone}
-use Rattle.af_request.specs.Asked.{Asked, free_ac, get_time, play_run, query_controls}
-use Rattle.af_request.specs.Answer.{Answer}
-use Rattle.af_lib.specs.declared.fault.ConnFault.{ConnFault}
-use Rattle.af_lib.specs.Calls.{as_controls, as_done, as_phone, as_time}
+use Rattle.af_request.specs.Asked.{Asked, free_ac, get_time, play_run}
+use Rattle.af_lib.specs.Calls.{as_done, as_time}
 use Rattle.af_options.specs.declared.job.PlayJob.{PlayJob}
 use Rattle.af_options.specs.declared.job.RecordJob.{RecordJob}
 use Rattle.af_options.specs.declared.job.SetJob.{SetJob}
-use Rattle.af_tool.specs.Trace.{Trace, ClientState, answer_on, answered_by, asks, after_reply}
-use Rattle.af_tool.proofs.ToolEndLemmas.{IsDoneOrRefused}
-use Rattle.af_tools.specs.declared.standing.Standing.{Standing}
+use Rattle.af_tool.specs.Trace.{Trace, ClientState}
+use Rattle.af_tool.proofs.ToolEndLemmas.{IsDoneOrRefused, asked_finish}
+use Rattle.af_standing.specs.declared.standing.Standing.{Standing}
+use Rattle.af_standing.proofs.StandingLemmas.{standing_finish}
 use Rattle.af_sound.specs.declared.head.Coding.{Coding}
 use Rattle.af_tools.specs.declared.sound.SourceSound.{SourceSound}
 use Rattle.af_tools.specs.Most.{most_bytes}
@@ -24,15 +21,7 @@ use Rattle.af_tools.specs.Play.{block_time, blocks, cut, play_context, played_on
 use Rattle.af_tools.specs.declared.record.RecordedSound.{RecordedSound}
 use Rattle.af_tools.specs.Files.{recorded_sound}
 use Rattle.af_tools.specs.Record.{ends_row, peak, record_context, recorded_on, records, writes_recording}
-use Rattle.af_tools.specs.Set.{asks_line, asks_where, control_request, hooks, set_on, states_controls}
-
-answer_finish : {X : Type 0} (r : Result X ConnFault) (w : ClientState) (next : X → ClientState → Trace) → ((x : X) (v : ClientState) → IsDoneOrRefused (next x v).finish) → IsDoneOrRefused (answered_by r w next).finish
-answer_finish (Ok x) w next more = more x w
-answer_finish (Err f) w next more = inr (f, refl)
-
-asked_finish : {X : Type 0} (asked : Asked) (value_of : Answer → Option X) (w : ClientState) (next : X → ClientState → Trace) → ((x : X) (v : ClientState) → IsDoneOrRefused (next x v).finish) → IsDoneOrRefused (asks asked value_of w next).finish
-unfolding asks
-asked_finish asked value_of w next more = answer_finish (answer_on asked value_of w) (after_reply w) next more
+use Rattle.af_tools.specs.Set.{asks_where, control_request, hooks, set_on, states_controls}
 
 if_finish : (b : Bool) (c d : Trace) → IsDoneOrRefused c.finish → IsDoneOrRefused d.finish → IsDoneOrRefused (if b then c else d).finish
 if_finish true c d p q = p
@@ -90,14 +79,9 @@ hook_finish : (device : ℕ) (off : Option Bool) (w : ClientState) (next : Unit 
 hook_finish device (Some off) w next more = asked_finish _ as_done w next more
 hook_finish device None w next more = more tt w
 
-line_finish : (b : Bool) (device : ℕ) (w : ClientState) (next : Option Phone → ClientState → Trace) → ((x : Option Phone) (v : ClientState) → IsDoneOrRefused (next x v).finish) → IsDoneOrRefused (asks_line b device w next).finish
-line_finish true device w next more = asked_finish _ as_phone w _ (λ phone v. more (Some phone) v)
-line_finish false device w next more = more None w
-
 pub set_finish : (job : SetJob) (device : DeviceInfo) (w : ClientState) (next : Standing → ClientState → Trace) → ((s : Standing) (v : ClientState) → IsDoneOrRefused (next s v).finish) → IsDoneOrRefused (set_on job device w next).finish
 unfolding set_on
 set_finish job device w next more =
     where_finish (states_controls job) (control_request job) w _ (λ _ v.
     hook_finish job.device job.hook_off v _ (λ _ v.
-    asked_finish (query_controls job.device) as_controls v _ (λ controls v.
-    line_finish device.line job.device v _ (λ phone v. more _ v))))
+    standing_finish device.line job.device v next more))

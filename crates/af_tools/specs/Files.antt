@@ -1,5 +1,5 @@
 -- What arecord writes of what it records: samples as they are, or a sound file of them.
-use Rattle.std.specs.Prelude.{◌≡◌, ◌≢◌, ℕ, ◌*◌, ◌%◌, ◌==◌, ◌&&◌, nat_lt, if◌then◌else◌, ⊤, List, [], ◌∷◌, ◌++◌, length, option_map, unwrap_or, Result, Ok, Err}
+use Rattle.std.specs.Prelude.{◌≡◌, ◌≢◌, ℕ, ◌*◌, ◌%◌, ◌==◌, ◌&&◌, nat_lt, if◌then◌else◌, ⊤, List, [], ◌∷◌, ◌++◌, length, option_map, unwrap_or}
 use Rattle.std.specs.declared.option.Option.{Option}
 use Rattle.std.specs.declared.option.Option.TheVariants.{None, Some}
 use Rattle.af_sample.specs.declared.sample_type.SampleType.{SampleType}
@@ -13,12 +13,8 @@ use Rattle.af_sound.specs.declared.head.SoundHead.{SoundHead}
 use Rattle.af_sound.specs.Fields.{unknown_length}
 use Rattle.af_sound.specs.Served.{filed}
 use Rattle.af_sound.specs.Written.{written}
-use Rattle.af_io.specs.Observed.{Appended}
-use Rattle.af_io.specs.Flow.{AppendedPrefix}
 use Rattle.af_request.specs.declared.reply.DeviceInfo.{DeviceInfo}
 use Rattle.af_options.specs.declared.job.RecordJob.{RecordJob}
-use Rattle.af_tool.specs.declared.end.ToolEnd.{ToolEnd}
-use Rattle.af_tool.specs.declared.end.ToolEnd.TheVariants as end
 use Rattle.af_tools.specs.declared.record.RecordedSound.{RecordedSound}
 use Rattle.af_tools.specs.Sounds.{served_type}
 
@@ -84,8 +80,3 @@ recording_of job device samples =
 -- a job of the same samples that writes them as they are
 abbrev pub as_raw : RecordJob → DeviceInfo → RecordJob
 as_raw job device = record (job) { form = None; ty = Some (recorded_sound job device).ty }
-
--- some bytes were written to a sink, or the first of them before it failed
-abbrev pub Writes : {K : Type 0} → (held : K → Option (List ℕ)) → List ℕ → Result (Unit {0}) ToolEnd → (sink sink' : K) → Type 0
-Writes held bytes (Ok _) sink sink' = Appended (held sink) bytes (held sink')
-Writes held bytes (Err how) sink sink' = (how ≡ end.SinkFault) × AppendedPrefix (held sink) bytes (held sink')

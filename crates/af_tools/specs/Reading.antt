@@ -38,12 +38,6 @@ ObservedPartReading left sent gives conn conn' source source' part result =
     (input bytes : List ℕ) (held : Option (List ℕ)) → left conn.link ≡ Some input → gives source ≡ Some bytes → IsSome (gives source') →
     ObservedPart (part bytes (client_of conn input)) result (left conn'.link) (client_of conn') (sent conn.link) (sent conn'.link) held held
 
--- how a part went that also writes, over a link that tells what it gives
-abbrev pub ObservedPartWriting : {L K X : Type 0} → (left sent : L → Option (List ℕ)) → (held : K → Option (List ℕ)) →
-    (conn conn' : ConnState L) → (sink sink' : K) → (ClientState → TracePart X) → Result X ToolEnd → Type 0
-ObservedPartWriting left sent held conn conn' sink sink' part result = (input : List ℕ) → left conn.link ≡ Some input →
-    ObservedPart (part (client_of conn input)) result (left conn'.link) (client_of conn') (sent conn.link) (sent conn'.link) (held sink) (held sink')
-
 -- how a tool followed its trace, over a link that tells what it gives, and a source that does if the tool reads it
 abbrev pub FollowsTrace : {L S K : Type 0} → (left sent : L → Option (List ℕ)) → (gives : S → Option (List ℕ)) → (held : K → Option (List ℕ)) →
     (reads : Bool) → ToolEnd → (link link' : L) → (source source' : S) → (sink sink' : K) → (List ℕ → List ℕ → Trace) → Type 0

@@ -15,6 +15,7 @@ use Rattle.af_tools.specs.Most.{most_bytes}
 use Rattle.af_tools.specs.Play.{aplay_trace}
 use Rattle.af_tools.specs.Record.{arecord_trace}
 use Rattle.af_tools.specs.Set.{aset_trace}
+use Rattle.af_standing.specs.List.{list_trace}
 use Rattle.af_options.specs.declared.job.PassJob.{PassJob}
 use Rattle.af_options.specs.declared.job.PlayJob.{PlayJob}
 use Rattle.af_wire.specs.declared.order.Order.{Order}
@@ -40,6 +41,7 @@ abbrev pub task_trace : Task → List DeviceInfo → List ℕ → ClientState �
 task_trace (task.Play job) devices bytes w = aplay_trace job devices bytes w
 task_trace (task.Record job) devices bytes w = arecord_trace job devices w
 task_trace (task.Set job) devices bytes w = aset_trace job devices w
+task_trace task.List devices bytes w = list_trace devices w
 
 -- the trace of a tool with one server: it dials it, sets the link up in an order, and does its task
 abbrev pub one_trace : Order → Task → List ToldLink → List ℕ → Trace
@@ -55,6 +57,7 @@ abbrev pub reads_source : Task → Bool
 reads_source (task.Play job) = true
 reads_source (task.Record job) = false
 reads_source (task.Set job) = false
+reads_source task.List = false
 
 abbrev pub job_reads : Job → Bool
 job_reads (one server order task) = reads_source task
@@ -65,6 +68,7 @@ abbrev pub source_form : Task → Option SoundForm
 source_form (task.Play job) = job.form
 source_form (task.Record job) = None
 source_form (task.Set job) = None
+source_form task.List = None
 
 abbrev pub job_form : Job → Option SoundForm
 job_form (one server order task) = source_form task

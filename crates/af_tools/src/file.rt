@@ -4,16 +4,17 @@ ghost use Rattle.std.specs.declared.option.Option.TheVariants.{Some};
 ghost use Rattle.af_io.specs.Observed.{CountsFault};
 ghost use Rattle.af_sound.specs.Written.{IsWritableHead};
 ghost use Rattle.af_request.specs.Replies.{IsDeviceInfo};
-ghost use Rattle.af_tools.specs.Files.{as_filed, coding_in, file_head, front_of_recording, pad_behind, recorded_sound, recorded_type, stated_length, IsFiledAs, Writes};
+ghost use Rattle.af_tools.specs.Files.{as_filed, coding_in, file_head, front_of_recording, pad_behind, recorded_sound, recorded_type, stated_length, IsFiledAs};
+ghost use Rattle.af_tool.specs.Ends.{Writes};
 ghost use Rattle.af_tools.specs.Sounds.{AreWhole};
 
 use crate::record::RecordedSound;
-use af_io::{Put, Sink};
+use af_io::Sink;
 use af_options::RecordJob;
 use af_request::DeviceInfo;
 use af_sample::SampleType;
 use af_sound::{Coding, SoundForm, SoundHead, to_file, write_sound_head};
-use af_tool::ToolEnd;
+use af_tool::{ToolEnd, write_piece};
 
 // How a file codes the samples of a type.
 fn coding_in(form: SoundForm, ty: SampleType) -> Coding
@@ -79,18 +80,6 @@ fn file_head(form: SoundForm, job: &RecordJob, device: DeviceInfo) -> SoundHead
         rate: device.rate,
         channels: device.channels,
         length: stated_length(job, sound.frame_bytes()),
-    }
-}
-
-// Writes a piece of a file.
-fn write_piece<K: Sink>(sink: &mut K, piece: &[u8]) -> Result<(), ToolEnd>
-    requires { 0 < length piece.now }
-    ensures written { Writes K.held piece.now result sink.old sink.new }
-    ensures fault { CountsFault (result ≡ Err ToolEnd.SinkFault) (K.faults sink.old) (K.faults sink.new) }
-{
-    match sink.write(piece) {
-        Put::Done => Ok(()),
-        Put::Failed => Err(ToolEnd::SinkFault),
     }
 }
 

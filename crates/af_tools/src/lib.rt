@@ -15,10 +15,10 @@ mod run;
 mod set;
 mod setter;
 mod sound;
-mod standing;
 
 pub use af_options::{PassJob, PlayJob, RecordJob, SetJob};
 pub use af_relay::apass;
+pub use af_standing::list;
 pub use af_tool::ToolEnd;
 pub use player::aplay;
 pub use recorder::arecord;

@@ -4,11 +4,10 @@ ghost use Rattle.std.specs.declared.option.Option.{Option};
 ghost use Rattle.std.specs.declared.option.Option.TheVariants.{None};
 ghost use Rattle.af_io.specs.Observed.{CountsFault};
 ghost use Rattle.af_sample.specs.Channels.{IsChannelCount};
-ghost use Rattle.af_tool.specs.Ends.{KeepsConnection};
+ghost use Rattle.af_tool.specs.Ends.{KeepsConnection, ObservedPartWriting};
 ghost use Rattle.af_tools.specs.Files.{IsFiledAs};
 ghost use Rattle.af_tools.specs.Record.{peak, recorded_frame, records_all, takes_block};
 ghost use Rattle.af_tools.specs.Ways.{is_of_records};
-ghost use Rattle.af_tools.specs.Reading.{ObservedPartWriting};
 ghost use Rattle.af_tools.specs.Sounds.{AreWhole};
 ghost use Rattle.af_options.specs.Sizes.{greatest_block};
 

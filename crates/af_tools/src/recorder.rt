@@ -5,11 +5,10 @@ ghost use Rattle.af_io.specs.Observed.{CountsFault};
 ghost use Rattle.af_request.specs.Replies.{IsDeviceInfo};
 ghost use Rattle.af_lib.specs.Calls.{device_channels};
 ghost use Rattle.af_tool.specs.Talk.{creates};
-ghost use Rattle.af_tool.specs.Ends.{KeepsConnection};
+ghost use Rattle.af_tool.specs.Ends.{KeepsConnection, ObservedPartWriting};
 ghost use Rattle.af_tools.specs.Record.{arecord_trace, record_context, recorded_on, writes_recording};
 ghost use Rattle.af_tools.specs.Recorded.{LeavesRecording};
 ghost use Rattle.af_tools.specs.Ways.{is_of_writer, is_of_records};
-ghost use Rattle.af_tools.specs.Reading.{ObservedPartWriting};
 ghost use Rattle.af_tools.specs.Ran.{LacksDevice, RunsTool};
 ghost use Rattle.af_options.specs.Sizes.{greatest_block};
 

@@ -21,6 +21,7 @@ use crate::setter::aset;
 use af_io::{Args, Dial, Dialed, Link, Sink, Source};
 use af_lib::Conn;
 use af_options::{Call, OptionsFault, Task, TaskCall, call_of};
+use af_standing::list;
 use af_tool::ToolEnd;
 use af_wire::Order;
 use std::alloc::Global;
@@ -48,6 +49,7 @@ fn perform<L: Link + Drop, S: Source, K: Sink>(
         Task::Play(job) => aplay(job, conn, source, sink, room),
         Task::Record(job) => arecord(job, conn, sink, room),
         Task::Set(job) => aset(job, conn, sink),
+        Task::List => list(conn, sink),
     }
 }
 

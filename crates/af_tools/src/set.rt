@@ -2,13 +2,13 @@
 ghost use Rattle.std.specs.Prelude.{◌≡◌, true, IfErr};
 ghost use Rattle.std.specs.declared.option.Option.TheVariants.{None};
 ghost use Rattle.af_tool.specs.Ends.{is_of_link, ObservedPartOver, KeepsConnection};
-ghost use Rattle.af_tools.specs.Set.{asks_line, asks_where, control_request, hooks, set_on, states_controls};
+ghost use Rattle.af_tools.specs.Set.{asks_where, control_request, hooks, set_on, states_controls};
 
-use crate::standing::Standing;
 use af_io::Link;
 use af_lib::Conn;
 use af_options::SetJob;
-use af_request::{DeviceInfo, Phone};
+use af_request::DeviceInfo;
+use af_standing::{Standing, standing_of};
 use af_tool::ToolEnd;
 
 // Whether a job states a control.
@@ -54,24 +54,6 @@ fn set_hook<L: Link + Drop>(job: &SetJob, conn: &mut Conn<L>) -> Result<(), Tool
     Ok(())
 }
 
-// The state of a device's line, if it has one.
-fn phone_of<L: Link + Drop>(
-    number: u8,
-    line: bool,
-    conn: &mut Conn<L>,
-) -> Result<Option<Phone>, ToolEnd>
-    requires { conn.old.cause ≡ None }
-    ensures goes { ObservedPartOver L.left L.sent conn.old conn.new (λ w. asks_line line number w) result }
-    ensures holds { KeepsConnection L.left L.faults conn.old conn.new result }
-    ensures end { IfErr result (λ how. is_of_link how ≡ true) }
-{
-    if line {
-        Ok(Some(conn.query_phone(number)?))
-    } else {
-        Ok(None)
-    }
-}
-
 /// Sets what a job states on a device, and asks how the controls stand then, and the line.
 pub fn set_on<L: Link + Drop>(
     job: &SetJob,
@@ -85,7 +67,5 @@ pub fn set_on<L: Link + Drop>(
 {
     set_controls(job, conn)?;
     set_hook(job, conn)?;
-    let controls = conn.query_controls(job.device)?;
-    let phone = phone_of(job.device, device.line, conn)?;
-    Ok(Standing { controls, phone })
+    standing_of(job.device, device.line, conn)
 }

@@ -162,7 +162,9 @@ fn an_order_is_named(rt: HostRuntime) -> Result<(), Fail> {
         hook_off: None,
     };
     let words = ["aset", "h:1", "--order=little"];
-    ask_in_order(&rt, rt.alloc(), &words, Order::Little, Task::Set(job))
+    ask_in_order(&rt, rt.alloc(), &words, Order::Little, Task::Set(job))?;
+    let words = ["list", "h:1", "--order=little"];
+    ask_in_order(&rt, rt.alloc(), &words, Order::Little, Task::List)
 }
 
 #[test]
@@ -191,5 +193,6 @@ fn a_relay_names_two_servers(rt: HostRuntime) -> Result<(), Fail> {
 #[test]
 fn a_value_out_of_its_range_is_no_call(rt: HostRuntime) -> Result<(), Fail> {
     ask_nothing(&rt, rt.alloc(), &["aplay", "h:1", "--block=4001"])?;
-    ask_nothing(&rt, rt.alloc(), &["aset", "h:1", "--order=middle"])
+    ask_nothing(&rt, rt.alloc(), &["aset", "h:1", "--order=middle"])?;
+    ask_nothing(&rt, rt.alloc(), &["list", "h:1", "--device=0"])
 }

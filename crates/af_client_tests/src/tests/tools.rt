@@ -212,6 +212,36 @@ fn controls_are_told_over_a_little_endian_link(rt: HostRuntime) -> Result<(), Fa
 }
 
 #[test]
+fn a_list_ends_at_the_line_that_is_not_written(rt: HostRuntime) -> Result<(), Fail> {
+    comes_to(
+        &rt,
+        rt.alloc(),
+        "a list of three devices",
+        Given {
+            words: &["list", "h:1"],
+            source: &[],
+            replies: [
+                "01000000 0000000b 00010000 00000003 02010100 00001f40 00007d00 \
+                 02010000 00001f40 00007d00 02010000 00001f40 00007d00 \
+                 010a0001 00000002 01010000 0000fffa 010c0002 00000002 01010000 00000000 \
+                 01020003 00000001 00000320 010a0004 00000002 01010000 00000000 \
+                 01020005 00000001 00000321",
+                SETUP_REPLY,
+            ],
+            failing: Failing {
+                sink: &[1],
+                ..NOTHING
+            },
+        },
+        Outcome {
+            end: ToolEnd::SinkFault,
+            sent: "41464200 00010000 0a000001 0c000001 02000001 0a010001 02010001",
+            held: b"0 lin16 8000 1 800 input on 0 output on -6 line 1 1 0 0 0\n",
+        },
+    )
+}
+
+#[test]
 fn a_block_is_passed_over_little_endian_links(rt: HostRuntime) -> Result<(), Fail> {
     comes_to(
         &rt,

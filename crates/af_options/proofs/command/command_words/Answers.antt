@@ -1,6 +1,6 @@
 use Rattle.std.proofs.Common.{rules, ◌≡◌}
 use Rattle.af_options.specs.declared.tool.Tool.TheVariants as tool
-use Rattle.af_options.specs.Words.{apass_app, aplay_app, arecord_app, aset_app}
+use Rattle.af_options.specs.Words.{apass_app, aplay_app, arecord_app, aset_app, list_app}
 use Rattle.af_options.proofs.command.command_words.Goals as goal
 
 pub returns-in-Play : goal.returns-in-Play
@@ -18,3 +18,7 @@ returns-in-Set c = let is : c.args.tool ≡ tool.Set = search rules in rw is (se
 pub returns-in-Pass : goal.returns-in-Pass
 unfolding apass_app
 returns-in-Pass c = let is : c.args.tool ≡ tool.Pass = search rules in rw is (search rules)
+
+pub returns-in-List : goal.returns-in-List
+unfolding list_app
+returns-in-List c = let is : c.args.tool ≡ tool.List = search rules in rw is (search rules)

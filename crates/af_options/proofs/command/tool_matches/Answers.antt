@@ -4,16 +4,17 @@ use Rattle.clap.specs.declared.error.kind.ErrorKind.TheVariants.{OutOfMemory}
 use Rattle.clap.proofs.OnLiterals.{clap_on_literals}
 use Rattle.af_options.specs.declared.tool.Tool.{Tool}
 use Rattle.af_options.specs.declared.tool.Tool.TheVariants as tool
-use Rattle.af_options.specs.Words.{apass_app, aplay_app, arecord_app, aset_app, tool_app}
+use Rattle.af_options.specs.Words.{apass_app, aplay_app, arecord_app, aset_app, list_app, tool_app}
 use Rattle.af_options.proofs.ParsedWordLemmas.{matches_along, passes_along}
 use Rattle.af_options.proofs.command.tool_matches.Goals as goal
 
 simple : (t : Tool) → is_simple (tool_app t) ≡ true
-unfolding clap_on_literals aplay_app arecord_app aset_app apass_app
+unfolding clap_on_literals aplay_app arecord_app aset_app apass_app list_app
 simple tool.Play = refl
 simple tool.Record = refl
 simple tool.Set = refl
 simple tool.Pass = refl
+simple tool.List = refl
 
 pub returns-clause-ok : goal.returns-clause-ok
 returns-clause-ok c =

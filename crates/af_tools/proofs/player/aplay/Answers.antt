@@ -9,7 +9,7 @@ use Rattle.af_tools.specs.declared.player.Played.{Played}
 use Rattle.af_tools.specs.declared.sound.SourceSound.{SourceSound}
 use Rattle.af_tools.specs.Most.{most_bytes}
 use Rattle.af_tools.specs.Play.{played, played_on}
-use Rattle.af_tools.proofs.SetupTraceLemmas.{followed_on, followed_stop}
+use Rattle.af_tool.proofs.FollowedLemmas.{followed_on, followed_stop}
 use Rattle.af_tools.proofs.HavingRun.{aplay_ran}
 use Rattle.af_tools.proofs.DeviceChoiceLemmas.{aplay_missing, aplay_there, followed_missing, followed_same, is_missing, is_there, missing_at, missing_iff, never_blocks, never_report, never_sound, stated_at, there_iff}
 use Rattle.af_tools.proofs.SoundFitLemmas.{followed_unsound}

@@ -15,7 +15,7 @@ use Rattle.af_tools.specs.declared.player.Played.{Played}
 use Rattle.af_tools.specs.Fill.{fill_end, left_before, ConsumedBeyond, ConsumedUpTo}
 use Rattle.af_tools.specs.Most.{most_bytes}
 use Rattle.af_tools.specs.Play.{play_context, played_frames, plays_sound, IsBlock}
-use Rattle.af_tools.proofs.PartProgressLemmas.{goes_early}
+use Rattle.af_tool.proofs.PartProgressLemmas.{goes_early}
 use Rattle.af_tools.proofs.PlayTailLemmas.{tail, tail_freed, tail_named, tail_stop, tail_unfreed}
 use Rattle.af_tools.proofs.FirstBlockLemmas.{context_on, context_stop, early_within, first_too_long, later_beyond, later_up_to, playing, time_on, time_stop, told_since}
 use Rattle.af_tools.proofs.SourceCountLemmas.{fault_cases, fault_known, first_beyond, first_stated, first_up_to, told_before}

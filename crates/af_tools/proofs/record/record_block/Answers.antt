@@ -13,7 +13,7 @@ use Rattle.af_tools.specs.Record.{peak, takes_block}
 use Rattle.af_tool.specs.Ends.{ObservedPart, TracePart, client_of}
 use Rattle.af_tool.proofs.TracePartLemmas.{asked_goes, goes_on, goes_stop}
 use Rattle.af_tools.proofs.RecordBlockLemmas.{written_coding}
-use Rattle.af_tools.proofs.WritingLemmas.{goes_unwritten, goes_written}
+use Rattle.af_tool.proofs.WritingLemmas.{goes_unwritten, goes_written}
 use Rattle.af_tools.proofs.record.record_block.Goals as goal
 
 -- a block is written

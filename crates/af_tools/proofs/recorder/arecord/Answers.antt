@@ -6,9 +6,9 @@ use Rattle.af_tool.specs.Ends.{client_of}
 use Rattle.af_tools.specs.Record.{recorded_on}
 use Rattle.af_tools.specs.Ways.{is_of_records}
 use Rattle.af_tools.proofs.FiledLemmas.{is_recorded}
-use Rattle.af_tools.proofs.SetupTraceLemmas.{followed_on, followed_stop}
+use Rattle.af_tool.proofs.FollowedLemmas.{followed_done, followed_on, followed_stop}
 use Rattle.af_tools.proofs.HavingRun.{arecord_on, missing_ran, there_ran}
-use Rattle.af_tools.proofs.DeviceChoiceLemmas.{followed_done, is_missing, is_there, missing_iff, never_records, there_iff}
+use Rattle.af_tools.proofs.DeviceChoiceLemmas.{is_missing, is_there, missing_iff, never_records, there_iff}
 use Rattle.af_tools.proofs.recorder.arecord.Goals as goal
 
 pub returns-in-Err-clause-ran : goal.returns-in-Err-clause-ran

@@ -6,7 +6,7 @@ use Rattle.af_tools.specs.declared.record.RecordedSound.{RecordedSound}
 use Rattle.af_tools.specs.Files.{pad_behind, recorded_sound, front_of_recording}
 use Rattle.af_tools.specs.Record.{recorded_frame, records_all}
 use Rattle.af_tools.proofs.RecordTailLemmas.{front_on, front_stop, sound_on, sound_stop}
-use Rattle.af_tools.proofs.WritingLemmas.{goes_writing}
+use Rattle.af_tool.proofs.WritingLemmas.{goes_writing}
 use Rattle.af_tools.proofs.recorder.write_recording.Goals as goal
 
 pub returns-in_err-write_front-clause-goes : goal.returns-in_err-write_front-clause-goes

@@ -5,7 +5,8 @@ use Rattle.af_tool.specs.Trace.{ClientState, begun, connects, fault_end}
 use Rattle.af_tool.specs.Ends.{ObservedTrace}
 use Rattle.af_tools.specs.Run.{task_trace}
 use Rattle.af_tool.proofs.TracePartLemmas.{client_begun}
-use Rattle.af_tools.proofs.SetupTraceLemmas.{followed_early, followed_on, followed_stop, setup_goes}
+use Rattle.af_tool.proofs.FollowedLemmas.{followed_early, followed_on, followed_stop}
+use Rattle.af_tools.proofs.SetupTraceLemmas.{setup_goes}
 use Rattle.af_tools.proofs.UnreadLemmas.{link_gives}
 use Rattle.af_tools.proofs.run.perform_over.Goals as goal
 

@@ -8,7 +8,7 @@ use Rattle.af_tool.specs.Trace.{fault_end}
 use Rattle.af_tool.specs.Ends.{client_of}
 use Rattle.af_tool.proofs.TracePartLemmas.{asked_goes}
 use Rattle.af_tools.specs.Set.{hooks}
-use Rattle.af_tools.proofs.PartProgressLemmas.{goes_value}
+use Rattle.af_tool.proofs.PartProgressLemmas.{goes_value}
 use Rattle.af_tools.proofs.set.set_hook.Goals as goal
 
 pub returns-in_err-hook-clause-goes : goal.returns-in_err-hook-clause-goes

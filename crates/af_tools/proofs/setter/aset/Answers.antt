@@ -1,7 +1,8 @@
 use Rattle.af_tool.specs.Trace.{done, ends, writing}
 use Rattle.af_tool.specs.Ends.{client_of}
-use Rattle.af_tools.specs.Set.{set_on, standing_text}
-use Rattle.af_tools.proofs.SetupTraceLemmas.{followed_on, followed_stop}
+use Rattle.af_standing.specs.Standing.{standing_text}
+use Rattle.af_tools.specs.Set.{set_on}
+use Rattle.af_tool.proofs.FollowedLemmas.{followed_on, followed_stop}
 use Rattle.af_tools.proofs.HavingRun.{aset_on, missing_ran, there_ran}
 use Rattle.af_tools.proofs.DeviceChoiceLemmas.{is_missing, is_there, missing_iff, never_link, never_report, there_iff}
 use Rattle.af_tools.proofs.setter.aset.Goals as goal

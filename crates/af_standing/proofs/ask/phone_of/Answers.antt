@@ -6,10 +6,10 @@ use Rattle.af_lib.specs.Calls.{as_phone}
 use Rattle.af_tool.specs.Trace.{fault_end}
 use Rattle.af_tool.specs.Ends.{client_of}
 use Rattle.af_tool.proofs.TracePartLemmas.{asked_goes}
-use Rattle.af_tools.specs.Set.{asks_line}
-use Rattle.af_tools.proofs.PartProgressLemmas.{goes_value}
-use Rattle.af_tools.proofs.SetRequestLemmas.{line_refused, line_told}
-use Rattle.af_tools.proofs.set.phone_of.Goals as goal
+use Rattle.af_standing.specs.Standing.{asks_line}
+use Rattle.af_tool.proofs.PartProgressLemmas.{goes_value}
+use Rattle.af_standing.proofs.StandingLemmas.{line_refused, line_told}
+use Rattle.af_standing.proofs.ask.phone_of.Goals as goal
 
 pub returns-in_err-query_phone-clause-goes : goal.returns-in_err-query_phone-clause-goes
 returns-in_err-query_phone-clause-goes g c input held told =

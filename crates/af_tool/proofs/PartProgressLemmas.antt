@@ -9,7 +9,7 @@ use Rattle.af_tool.specs.Trace.{Trace, Finish, ClientState, tool_end, ends}
 use Rattle.af_tool.specs.Ends.{PartMatches, ObservedPart, TracePart, is_outer}
 use Rattle.af_io.proofs.AppendedLemmas.{appended_none, appended_on}
 use Rattle.af_tool.proofs.TracePartLemmas.{doing, ended_at_once, ended_behind, ended_early}
-use Rattle.af_tools.proofs.SetupTraceLemmas.{ended_same}
+use Rattle.af_tool.proofs.FollowedLemmas.{ended_same}
 
 -- a part has come to another, which is what is left of it
 pub record Reaches {X : Type 0} (part now : TracePart X) (sent sent' held held' : Option (List ℕ)) : Type 0 where

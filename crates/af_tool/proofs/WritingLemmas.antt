@@ -8,10 +8,9 @@ use Rattle.af_io.specs.Flow.{AppendedPrefix}
 use Rattle.af_tool.specs.declared.end.ToolEnd.{ToolEnd}
 use Rattle.af_tool.specs.declared.end.ToolEnd.TheVariants as end
 use Rattle.af_tool.specs.Trace.{ClientState, writing}
-use Rattle.af_tool.specs.Ends.{ObservedPart}
+use Rattle.af_tool.specs.Ends.{ObservedPart, Writes}
 use Rattle.af_io.proofs.AppendedLemmas.{appended_none}
 use Rattle.af_tool.proofs.TracePartLemmas.{ended_early}
-use Rattle.af_tools.specs.Files.{Writes}
 
 -- they are written, and a value comes of that
 pub goes_written : {X : Type 0} (bytes : List ℕ) (x : X) (input : List ℕ) (left : Option (List ℕ)) (wire : List ℕ → ClientState) (s held held' : Option (List ℕ)) → left ≡ Some input → Appended held bytes held' →

@@ -1,0 +1,7 @@
+use Rattle.std.proofs.Common.{List, ℕ, subst}
+use Rattle.af_tool.specs.Ends.{Writes}
+use Rattle.af_standing.proofs.lister.report.Goals as goal
+
+pub returns-clause-written : goal.returns-clause-written
+returns-clause-written g c =
+    subst (λ (l : List ℕ). Writes g.K.Sink.held l c.write_piece.result c.args.sink.now c.write_piece.new.sink) c.write_device_line-length.ensures.bytes c.write_piece.ensures.written

@@ -1,0 +1,85 @@
+// list: a line for each device of the server is written to the sink.
+ghost use Rattle.std.specs.Prelude.{◌≡◌, true, Err, IfErr};
+ghost use Rattle.std.specs.declared.option.Option.TheVariants.{None};
+ghost use Rattle.af_io.specs.Observed.{CountsFault};
+ghost use Rattle.af_tool.specs.Ends.{KeepsConnection, ObservedPartWriting, Writes};
+ghost use Rattle.af_standing.specs.List.{device_line, is_of_lines, is_of_list, tells_all, tells_device, RunsList};
+
+use crate::ask::standing_of;
+use crate::line::write_device_line;
+use crate::standing::Standing;
+use af_io::{Link, Sink};
+use af_lib::Conn;
+use af_request::DeviceInfo;
+use af_time::DevTime;
+use af_tool::{ToolEnd, device_time, write_piece};
+
+// Writes the line of a device.
+fn report<K: Sink>(
+    sink: &mut K,
+    number: u8,
+    device: DeviceInfo,
+    standing: Standing,
+    now: DevTime,
+) -> Result<(), ToolEnd>
+    ensures written { Writes K.held (device_line number device standing now.0) result sink.old sink.new }
+    ensures fault { CountsFault (result ≡ Err ToolEnd.SinkFault) (K.faults sink.old) (K.faults sink.new) }
+{
+    let mut line = [0; 297];
+    let length = write_device_line(&mut line, number, device, standing, now);
+    write_piece(sink, &line[..length])
+}
+
+// Asks how a device stands and for its time, and writes its line.
+fn tell_device<L: Link + Drop, K: Sink>(
+    number: u8,
+    device: DeviceInfo,
+    conn: &mut Conn<L>,
+    sink: &mut K,
+) -> Result<(), ToolEnd>
+    requires { conn.old.cause ≡ None }
+    ensures goes { ObservedPartWriting L.left L.sent K.held conn.old conn.new sink.old sink.new
+        (λ w. tells_device number device w) result }
+    ensures holds { KeepsConnection L.left L.faults conn.old conn.new result }
+    ensures end { IfErr result (λ how. is_of_lines how ≡ true) }
+    ensures fault { CountsFault (result ≡ Err ToolEnd.SinkFault) (K.faults sink.old) (K.faults sink.new) }
+{
+    let standing = standing_of(number, device.line, conn)?;
+    let now = device_time(conn, number)?;
+    report(sink, number, device, standing, now)
+}
+
+// Writes a line for each device, by rising number.
+fn tell_devices<L: Link + Drop, K: Sink>(conn: &mut Conn<L>, sink: &mut K) -> Result<(), ToolEnd>
+    requires { conn.old.cause ≡ None }
+    ensures goes { ObservedPartWriting L.left L.sent K.held conn.old conn.new sink.old sink.new
+        (λ w. tells_all conn.old.devices w) result }
+    ensures holds { KeepsConnection L.left L.faults conn.old conn.new result }
+    ensures end { IfErr result (λ how. is_of_lines how ≡ true) }
+    ensures fault { CountsFault (result ≡ Err ToolEnd.SinkFault) (K.faults sink.old) (K.faults sink.new) }
+{
+    for number in 0..conn.devices().len() {
+        let device = conn.devices()[number];
+        tell_device(number as u8, device, conn, sink)?;
+    }
+    Ok(())
+}
+
+/// Asks of each device of the server how its controls stand, and its line where it has one, and for its time, and writes a line
+/// for it. The connection is one that was just made.
+pub fn list<L: Link + Drop, K: Sink>(conn: &mut Conn<L>, sink: &mut K) -> ToolEnd
+    requires { conn.old.cause ≡ None }
+
+    // what was sent and written, and when it is done
+    ensures ran { RunsList L.left L.sent K.held result conn.old conn.new sink.old sink.new }
+
+    // each end has its cause
+    ensures end { is_of_list result ≡ true }
+    ensures link { CountsFault (result ≡ ToolEnd.LinkFault) (L.faults conn.old.link) (L.faults conn.new.link) }
+    ensures sink { CountsFault (result ≡ ToolEnd.SinkFault) (K.faults sink.old) (K.faults sink.new) }
+{
+    match tell_devices(conn, sink) {
+        Ok(()) => ToolEnd::Done,
+        Err(end) => end,
+    }
+}

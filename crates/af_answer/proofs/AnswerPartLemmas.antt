@@ -72,9 +72,9 @@ matches_early d rest t how outside h s a = record {
 }
 
 -- an end within the first of two parts
-pub seen_stop : {X Y : Type 0} (first : List ChildRun → AnswerPart X) (second : X → ToCome → AnswerPart Y) (how : AnswerEnd) (left left' : Option (List ℕ)) (wire wire' : List ℕ → ClientState) (s s' : Option (List ℕ)) (a a' : Option (List Told)) →
+pub seen_stop : {X Y : Type 0} (first : List ChildRun → AnswerPart X) (second : X → ToCome → AnswerPart Y) {how : AnswerEnd} {left left' : Option (List ℕ)} {wire wire' : List ℕ → ClientState} {s s' : Option (List ℕ)} {a a' : Option (List Told)} →
     PartSeen {X = X} first (Err how) left wire s s' a a' → PartSeen {X = Y} (λ runs next. first runs (λ x b. second x b next)) (Err how) left' wire' s s' a a'
-seen_stop first second how left left' wire wire' s s' a a' g = record {
+seen_stop first second g = record {
   done = g.done;
   runs = g.runs;
   came = λ more next. g.came more (λ x b. second x b next);
@@ -101,11 +101,11 @@ came_on {X} {Y} first second x w (Err how) left wire d e runs runs' passed came 
     let is = ap (λ (l : List ChildRun). first l (λ x b. second x b next)) (append_assoc runs runs' more) ∙ passed (runs' ++ more) (λ x b. second x b next) in
     matches_behind d e (second x (record { wire = w; runs = runs' ++ more }) next) _ how [] is (came more next)
 
-pub seen_on : {X Y : Type 0} (first : List ChildRun → AnswerPart X) (second : X → ToCome → AnswerPart Y) (x : X) (r : Result Y AnswerEnd) (left left' : Option (List ℕ)) (wire wire' : List ℕ → ClientState) (s s' s'' : Option (List ℕ)) (a a' a'' : Option (List Told)) →
+pub seen_on : {X Y : Type 0} (first : List ChildRun → AnswerPart X) (second : X → ToCome → AnswerPart Y) (x : X) {r : Result Y AnswerEnd} {left left' : Option (List ℕ)} {wire wire' : List ℕ → ClientState} {s s' s'' : Option (List ℕ)} (a a' : Option (List Told)) {a'' : Option (List Told)} →
     PartSeen first (Ok x) left wire s s' a a' →
     ((input : List ℕ) → left ≡ Some input → PartSeen (λ runs. second x (record { wire = wire input; runs = runs })) r left' wire' s' s'' a' a'') →
     PartSeen (λ runs next. first runs (λ x b. second x b next)) r left' wire' s s'' a a''
-seen_on first second x r left left' wire wire' s s' s'' a a' a'' g rest =
+seen_on first second x {r} {left'} {wire} {wire'} {s} {s'} {s''} a a' {a''} g rest =
     let more = rest g.came.0 g.came.1 in
     record {
       done = both_deeds g.done more.done;
@@ -127,16 +127,16 @@ seen_value x input left wire s a told = record {
 }
 
 -- the same part in other words
-pub seen_same : {X : Type 0} (part part' : List ChildRun → AnswerPart X) (r : Result X AnswerEnd) (left : Option (List ℕ)) (wire : List ℕ → ClientState) (s s' : Option (List ℕ)) (a a' : Option (List Told)) →
+pub seen_same : {X : Type 0} {part part' : List ChildRun → AnswerPart X} {r : Result X AnswerEnd} {left : Option (List ℕ)} {wire : List ℕ → ClientState} {s s' : Option (List ℕ)} {a a' : Option (List Told)} →
     ((runs : List ChildRun) (next : X → ToCome → AnswerTrace) → part' runs next ≡ part runs next) → PartSeen part r left wire s s' a a' → PartSeen part' r left wire s s' a a'
-seen_same {X} part part' (Ok x) left wire s s' a a' same g = record {
+seen_same {X} {r = Ok x} same g = record {
   done = g.done;
   runs = g.runs;
   came = (g.came.0, g.came.1, λ more next. same (g.runs ++ more) next ∙ g.came.2 more next);
   link = g.link;
   children = g.children;
 }
-seen_same {X} part part' (Err how) left wire s s' a a' same g = record {
+seen_same {X} {r = Err how} same g = record {
   done = g.done;
   runs = g.runs;
   came = λ more next. subst (λ (t : AnswerTrace). MatchesAnswer t how g.done []) (sym (same (g.runs ++ more) next)) (g.came more next);

@@ -126,7 +126,7 @@ requested_goes left sent faults asked old new input acts result called usable to
     request_goes asked (client_of old input) (left new.link) (client_of new) (sent old.link) (sent new.link) acts result (called.fresh usable) (called.sends usable)
     (asked_known left sent faults asked as_done old new input result called usable told)
 
-awaits_is : (b : ToCome) (next : Event → ToCome → AnswerTrace) → awaits_event b next ≡ by_event (next_event b.wire) (record { wire = behind_event b.wire; runs = b.runs }) next
+pub awaits_is : (b : ToCome) (next : Event → ToCome → AnswerTrace) → awaits_event b next ≡ by_event (next_event b.wire) (record { wire = behind_event b.wire; runs = b.runs }) next
 unfolding awaits_event
 awaits_is b next = refl
 

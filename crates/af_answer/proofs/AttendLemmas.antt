@@ -47,7 +47,7 @@ starves job n t ended.Good is b next = absurd (let bad : false ≡ true = is in 
 starves job n t ended.Bad is b next = absurd (let bad : false ≡ true = is in cc bad)
 starves job n t ended.NoMemory is b next = refl
 
-module _ (job : AnswerJob) (part : List ChildRun → AnswerPart Tally) (n : ℕ) (t : Tally) (left left₁ : Option (List ℕ)) (wire wire₁ : List ℕ → ClientState) (s s₁ s₂ : Option (List ℕ)) (a a₁ : Option (List Told))
+module _ (job : AnswerJob) {part : List ChildRun → AnswerPart Tally} (n : ℕ) (t : Tally) {left : Option (List ℕ)} (left₁ : Option (List ℕ)) {wire : List ℕ → ClientState} (wire₁ : List ℕ → ClientState) {s s₁ : Option (List ℕ)} (s₂ : Option (List ℕ)) {a : Option (List Told)} (a₁ : Option (List Told))
     (f : SoFar part (λ b next. attends n job t b next) left wire s s₁ a a₁) (some : 0 < n) where
   abbrev IsRung : Result (Unit {0}) AnswerEnd → Type 0
   IsRung r = PartSeen {X = Unit {0}} (λ runs next. awaits_call most_for_a_call job 0 (record { wire = wire f.input; runs = runs }) (next tt)) r left₁ wire₁ s₁ s₂ a₁ a₁
@@ -66,7 +66,7 @@ module _ (job : AnswerJob) (part : List ChildRun → AnswerPart Tally) (n : ℕ)
     IsTaken r = (input : List ℕ) → left₁ ≡ Some input → PartSeen (λ runs. takes_call job (record { wire = wire₁ input; runs = runs })) r left₂ wire₂ s₂ s₃ a₁ a₂
 
     call_seen : (r : Result ChildEnd AnswerEnd) → IsTaken r → PartSeen (λ runs. one_call (record { wire = wire f.input; runs = runs })) r left₂ wire₂ s₁ s₃ a₁ a₂
-    call_seen r taken = seen_on (λ runs next. awaits_call most_for_a_call job 0 (record { wire = wire f.input; runs = runs }) (next tt)) (λ u b next. takes_call job b next) tt r left₁ left₂ wire₁ wire₂ s₁ s₂ s₃ a₁ a₁ a₂ rung taken
+    call_seen r taken = seen_on (λ runs next. awaits_call most_for_a_call job 0 (record { wire = wire f.input; runs = runs }) (next tt)) (λ u b next. takes_call job b next) tt a₁ a₁ rung taken
 
     pub call_stopped : (how : AnswerEnd) → IsTaken (Err how) → PartSeen {X = Tally} part (Err how) left₂ wire₂ s s₃ a a₂
     call_stopped how taken =
@@ -86,9 +86,9 @@ module _ (job : AnswerJob) (part : List ChildRun → AnswerPart Tally) (n : ℕ)
     attend_on how n' t' other is less taken = call_far how (λ b next. attends n' job t' b next) taken (calls_on job n n' t t' how other is less)
 
 -- all calls were taken
-pub attend_done : (job : AnswerJob) (part : List ChildRun → AnswerPart Tally) (n : ℕ) (t : Tally) (left : Option (List ℕ)) (wire : List ℕ → ClientState) (s s' : Option (List ℕ)) (a a' : Option (List Told)) →
+pub attend_done : (job : AnswerJob) {part : List ChildRun → AnswerPart Tally} {n : ℕ} {t : Tally} {left : Option (List ℕ)} {wire : List ℕ → ClientState} {s s' : Option (List ℕ)} {a a' : Option (List Told)} →
     SoFar part (λ b next. attends n job t b next) left wire s s' a a' → n ≡ 0 → PartSeen part (Ok t) left wire s s' a a'
-attend_done job part n t left wire s s' a a' f none = far_done part (λ b next. attends n job t b next) t left wire s s' a a' f (attends_none job n t none)
+attend_done job {part} {n} {t} {left} {wire} {s} {s'} {a} {a'} f none = far_done part (λ b next. attends n job t b next) t left wire s s' a a' f (attends_none job n t none)
 
 -- no call was taken yet
 pub attend_begin : (job : AnswerJob) (n : ℕ) (t t' : Tally) (left : Option (List ℕ)) (input : List ℕ) (wire : List ℕ → ClientState) (s : Option (List ℕ)) (a : Option (List Told)) → t' ≡ t → left ≡ Some input →

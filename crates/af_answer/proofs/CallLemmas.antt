@@ -71,8 +71,8 @@ module _ (job : AnswerJob) (w : ClientState) (left : Option (List ℕ)) (wire : 
   -- the hook was not taken off
   pub call_stops : (how : AnswerEnd) → IsOff (Err how) → PartSeen {X = ChildEnd} (λ runs. takes_call job (record { wire = w; runs = runs })) (Err how) left wire s s' a a
   call_stops how off =
-      seen_same _ _ _ _ _ _ _ _ _ (λ runs next. takes_call_is job (record { wire = w; runs = runs }) next)
-      (seen_stop (λ runs next. requests (hook_switch job.device 1) (record { wire = w; runs = runs }) (next tt)) (behind_off job) how left left wire wire s s' a a off)
+      seen_same (λ runs next. takes_call_is job (record { wire = w; runs = runs }) next)
+      (seen_stop (λ runs next. requests (hook_switch job.device 1) (record { wire = w; runs = runs }) (next tt)) (behind_off job) off)
 
   -- it was, and is to be put on
   pub call_goes : (greeting how : ChildEnd) (r : Result (Unit {0}) AnswerEnd) (left' : Option (List ℕ)) (wire' : List ℕ → ClientState) (s'' : Option (List ℕ)) (a' a'' : Option (List Told)) → IsOff (Ok tt) →
@@ -80,10 +80,10 @@ module _ (job : AnswerJob) (w : ClientState) (left : Option (List ℕ)) (wire : 
       ((input : List ℕ) → left ≡ Some input → PartSeen {X = Unit {0}} (λ runs next. requests (hook_switch job.device 0) (record { wire = wire input; runs = runs }) (next tt)) r left' wire' s' s'' a'' a'') →
       PartSeen (λ runs. takes_call job (record { wire = w; runs = runs })) (valued how r) left' wire' s s'' a a''
   call_goes greeting how r left' wire' s'' a' a'' off greeted message on =
-      seen_same _ _ _ _ _ _ _ _ _ (λ runs next. takes_call_is job (record { wire = w; runs = runs }) next)
-      (seen_on (λ runs next. requests (hook_switch job.device 1) (record { wire = w; runs = runs }) (next tt)) (behind_off job) tt (valued how r) left left' wire wire' s s' s'' a a a'' off (λ input told.
-      seen_on (λ runs. runs_child job.greeting.bytes (record { wire = wire input; runs = runs })) (behind_greeting job) greeting (valued how r) left left' wire wire' s' s' s'' a a' a''
+      seen_same (λ runs next. takes_call_is job (record { wire = w; runs = runs }) next)
+      (seen_on (λ runs next. requests (hook_switch job.device 1) (record { wire = w; runs = runs }) (next tt)) (behind_off job) tt a a off (λ input told.
+      seen_on (λ runs. runs_child job.greeting.bytes (record { wire = wire input; runs = runs })) (behind_greeting job) greeting a a'
       (child_goes job.greeting.bytes greeting input left wire s' a a' told greeted) (λ input told.
-      seen_on (λ runs. leaves_message job greeting (record { wire = wire input; runs = runs })) (behind_message job) how (valued how r) left left' wire wire' s' s' s'' a' a'' a''
+      seen_on (λ runs. leaves_message job greeting (record { wire = wire input; runs = runs })) (behind_message job) how a' a''
       (message_goes job greeting how input left wire s' a' a'' told message) (λ input told.
       valued_goes how (λ runs next. requests (hook_switch job.device 0) (record { wire = wire input; runs = runs }) next) r left' wire' s' s'' a'' a'' (on input told)))))

@@ -18,9 +18,10 @@ use Rattle.af_answer.specs.declared.child.ChildEnd.TheVariants as ended
 use Rattle.af_answer.specs.declared.job.AnswerJob.{AnswerJob}
 use Rattle.af_answer.specs.declared.tally.Tally.{Tally}
 use Rattle.af_answer.specs.Acts.{MachineAct, acts_behind, acts_from, call_acts, call_end, greet, later_ends, leaves_off, off_after, off_hook, on_hook, record_message, rings_after, tally_after, write_tally}
-use Rattle.af_answer.specs.AnswerTrace.{ToCome, AnswerTrace, AnswerFinish, attends, awaits_call, most_for_a_call, awaits_event, having, behind_event, behind_from, child_starved, first_run, by_event, hearing, leaves_message, met_fault, off_hook_fault, next_event, rang_too_little, by_reply, writes_tally, requesting, requests, running, runs_child, stops, takes_call, unless_starved}
+use Rattle.af_answer.specs.AnswerTrace.{ToCome, AnswerTrace, AnswerFinish, attends, awaits_call, most_for_a_call, having, behind_event, behind_from, child_starved, first_run, by_event, hearing, leaves_message, met_fault, off_hook_fault, on_hook_fault, next_event, rang_too_little, by_reply, writes_tally, requesting, requests, running, runs_child, stops, takes_call, unless_starved}
 use Rattle.af_answer.specs.Answered.{SwitchesHook, bytes_of_act, children_of, requests_of, text_of_acts}
 use Rattle.af_answer.specs.Children.{ChildRun, run_end, run_told, shell_words}
+use Rattle.af_answer.proofs.AnswerStepLemmas.{awaits_is}
 
 child_is : (text : List ℕ) (w : ClientState) (runs : List ChildRun) (next : ChildEnd → ToCome → AnswerTrace) →
     runs_child text (record { wire = w; runs = runs }) next ≡ having (running (run_told (shell_words text) (first_run runs))) (next (run_end (first_run runs)) (record { wire = w; runs = drop 1 runs }))
@@ -35,10 +36,6 @@ later_acts job t how ends events = acts_behind how job.calls (tally_after how t)
 order_behind : (first : Option Event) (w : ClientState) → (behind_from first w).order ≡ w.order
 order_behind (Some e) w = refl
 order_behind None w = refl
-
-awaits_is : (b : ToCome) (next : Event → ToCome → AnswerTrace) → awaits_event b next ≡ by_event (next_event b.wire) (record { wire = behind_event b.wire; runs = b.runs }) next
-unfolding awaits_event
-awaits_is b next = refl
 
 -- the acts behind so many calls, of which n are left
 abbrev pub acts_at : AnswerJob → Tally → List Event → List ChildEnd → List MachineAct
@@ -93,79 +90,57 @@ module _ (order : Order) where
   keeps_same : (off : Bool) (job : AnswerJob) (acts : List Event → List MachineAct) (runs : List ChildRun) (t t' : AnswerTrace) → t' ≡ t → KeepsTo off job (acts t.heard) runs t → KeepsTo off job (acts t'.heard) runs t'
   keeps_same off job acts runs t t' is k = subst (λ (x : AnswerTrace). KeepsTo off job (acts x.heard) runs x) (sym is) k
 
+  -- an act was done: what it sends and what is told of its child come first
+  keeps_after : (off : Bool) (job : AnswerJob) (act : MachineAct) (acts : List MachineAct) (runs runs' : List ChildRun) (told : List Told) (t : AnswerTrace) →
+      children_of job (act ∷ acts) runs ≡ told ++ children_of job acts runs' → text_of_acts (act ∷ acts) ≡ text_of_acts acts → KeepsTo (off_after off act) job acts runs' t →
+      KeepsTo off job (act ∷ acts) runs (having (record { heard = []; sends = bytes_of_act order job.device act; told = told }) t)
+  keeps_after off job act acts runs runs' told t children text k = record {
+    unsent = k.unsent;
+    untold = k.untold;
+    unwritten = k.unwritten;
+    sent = ap (λ l. bytes_of_act order job.device act ++ l) k.sent ∙ sym (append_assoc (bytes_of_act order job.device act) t.sends k.unsent);
+    children = children ∙ ap (λ l. told ++ l) k.children ∙ sym (append_assoc told t.told k.untold);
+    text = text ∙ k.text;
+    whole = k.whole;
+    stops = λ f met. stops_after off job act acts t.sends (k.stops f met);
+  }
+
+  -- a HookSwitch was answered with a fault: none of the acts behind it was done
+  keeps_until : (off : Bool) (job : AnswerJob) (act : MachineAct) (acts : List MachineAct) (runs : List ChildRun) (finish : AnswerFinish) →
+      children_of job (act ∷ acts) runs ≡ children_of job acts runs → text_of_acts (act ∷ acts) ≡ text_of_acts acts → (SwitchesHook (stops finish) → ⊥) →
+      ((f : ConnFault) → finish ≡ off_hook_fault f → StopsOff off job (act ∷ acts) (bytes_of_act order job.device act ++ [])) →
+      KeepsTo off job (act ∷ acts) runs (having (requesting (bytes_of_act order job.device act)) (stops finish))
+  keeps_until off job act acts runs finish children text never stopped = record {
+    unsent = requests_of order job.device acts;
+    untold = children_of job acts runs;
+    unwritten = text_of_acts acts;
+    sent = ap (λ l. l ++ requests_of order job.device acts) (sym (append-nil (bytes_of_act order job.device act)));
+    children = children;
+    text = text;
+    whole = λ switched. absurd (never switched);
+    stops = stopped;
+  }
+
   -- the hook is taken off, or put on
   keeps_off : (job : AnswerJob) (acts : List Event → List MachineAct) (runs : List ChildRun) (r : Result (Unit {0}) ConnFault) (b : ToCome) (next : ToCome → AnswerTrace) →
       KeepsTo true job (acts (next b).heard) runs (next b) → (let t : AnswerTrace = having (requesting (request_bytes order (hook_switch job.device 1))) (by_reply (hook_switch job.device 1) r b next) in KeepsTo false job (off_hook ∷ acts t.heard) runs t)
-  keeps_off job acts runs (Ok u) b next k = record {
-    unsent = k.unsent;
-    untold = k.untold;
-    unwritten = k.unwritten;
-    sent = ap (λ l. request_bytes order (hook_switch job.device 1) ++ l) k.sent ∙ sym (append_assoc (request_bytes order (hook_switch job.device 1)) (next b).sends k.unsent);
-    children = k.children;
-    text = k.text;
-    whole = k.whole;
-    stops = λ f met. stops_after false job off_hook (acts (next b).heard) (next b).sends (k.stops f met);
-  }
-  keeps_off job acts runs (Err f) b next k = record {
-    unsent = requests_of order job.device (acts []);
-    untold = children_of job (acts []) runs;
-    unwritten = text_of_acts (acts []);
-    sent = ap (λ l. l ++ requests_of order job.device (acts [])) (sym (append-nil (request_bytes order (hook_switch job.device 1))));
-    children = refl;
-    text = refl;
-    whole = λ switched. absurd (switched.1 f refl);
-    stops = λ f met. record { before = []; later = acts []; are = refl; sent = refl; on = refl };
-  }
+  keeps_off job acts runs (Ok u) b next k = keeps_after false job off_hook (acts (next b).heard) runs runs [] (next b) refl refl k
+  keeps_off job acts runs (Err f) b next k =
+      keeps_until false job off_hook (acts []) runs (off_hook_fault f) refl refl (λ switched. switched.1 f refl) (λ f met. record { before = []; later = acts []; are = refl; sent = refl; on = refl })
 
   keeps_on : (job : AnswerJob) (acts : List Event → List MachineAct) (runs : List ChildRun) (r : Result (Unit {0}) ConnFault) (b : ToCome) (next : ToCome → AnswerTrace) →
       KeepsTo false job (acts (next b).heard) runs (next b) → (let t : AnswerTrace = having (requesting (request_bytes order (hook_switch job.device 0))) (by_reply (hook_switch job.device 0) r b next) in KeepsTo true job (on_hook ∷ acts t.heard) runs t)
-  keeps_on job acts runs (Ok u) b next k = record {
-    unsent = k.unsent;
-    untold = k.untold;
-    unwritten = k.unwritten;
-    sent = ap (λ l. request_bytes order (hook_switch job.device 0) ++ l) k.sent ∙ sym (append_assoc (request_bytes order (hook_switch job.device 0)) (next b).sends k.unsent);
-    children = k.children;
-    text = k.text;
-    whole = k.whole;
-    stops = λ f met. stops_after true job on_hook (acts (next b).heard) (next b).sends (k.stops f met);
-  }
-  keeps_on job acts runs (Err f) b next k = record {
-    unsent = requests_of order job.device (acts []);
-    untold = children_of job (acts []) runs;
-    unwritten = text_of_acts (acts []);
-    sent = ap (λ l. l ++ requests_of order job.device (acts [])) (sym (append-nil (request_bytes order (hook_switch job.device 0))));
-    children = refl;
-    text = refl;
-    whole = λ switched. absurd (switched.0 f refl);
-    stops = λ f met. cc met;
-  }
+  keeps_on job acts runs (Ok u) b next k = keeps_after true job on_hook (acts (next b).heard) runs runs [] (next b) refl refl k
+  keeps_on job acts runs (Err f) b next k = keeps_until true job on_hook (acts []) runs (on_hook_fault f) refl refl (λ switched. switched.0 f refl) (λ f met. cc met)
 
   -- the greeting is run, or the message
   keeps_greeting : (job : AnswerJob) (acts : List MachineAct) (runs : List ChildRun) (t : AnswerTrace) → KeepsTo true job acts (drop 1 runs) t →
       KeepsTo true job (greet ∷ acts) runs (having (running (run_told (shell_words job.greeting.bytes) (first_run runs))) t)
-  keeps_greeting job acts runs t k = record {
-    unsent = k.unsent;
-    untold = k.untold;
-    unwritten = k.unwritten;
-    sent = k.sent;
-    children = ap (λ l. run_told (shell_words job.greeting.bytes) (first_run runs) ++ l) k.children ∙ sym (append_assoc (run_told (shell_words job.greeting.bytes) (first_run runs)) t.told k.untold);
-    text = k.text;
-    whole = k.whole;
-    stops = λ f met. stops_after true job greet acts t.sends (k.stops f met);
-  }
+  keeps_greeting job acts runs t k = keeps_after true job greet acts runs (drop 1 runs) (run_told (shell_words job.greeting.bytes) (first_run runs)) t refl refl k
 
   keeps_message : (job : AnswerJob) (acts : List MachineAct) (runs : List ChildRun) (t : AnswerTrace) → KeepsTo true job acts (drop 1 runs) t →
       KeepsTo true job (record_message ∷ acts) runs (having (running (run_told (shell_words job.message.bytes) (first_run runs))) t)
-  keeps_message job acts runs t k = record {
-    unsent = k.unsent;
-    untold = k.untold;
-    unwritten = k.unwritten;
-    sent = k.sent;
-    children = ap (λ l. run_told (shell_words job.message.bytes) (first_run runs) ++ l) k.children ∙ sym (append_assoc (run_told (shell_words job.message.bytes) (first_run runs)) t.told k.untold);
-    text = k.text;
-    whole = k.whole;
-    stops = λ f met. stops_after true job record_message acts t.sends (k.stops f met);
-  }
+  keeps_message job acts runs t k = keeps_after true job record_message acts runs (drop 1 runs) (run_told (shell_words job.message.bytes) (first_run runs)) t refl refl k
 
   requests_is : (device off : ℕ) (w : ClientState) (runs : List ChildRun) (next : ToCome → AnswerTrace) → w.order ≡ order →
       requests (hook_switch device off) (record { wire = w; runs = runs }) next ≡ having (requesting (request_bytes order (hook_switch device off))) (by_reply (hook_switch device off) (answer_on (hook_switch device off) as_done w) (record { wire = after_reply w; runs = runs }) next)

@@ -318,10 +318,10 @@ stopped_hook order job acts runs t end.SinkFault done output way m hangs stops =
 stopped_hook order job acts runs t end.OutOfMemory done output way m hangs stops =
     hangs (all_deeds t end.OutOfMemory done output refl m) (switched_at t child_starved (λ f e. cc e) (λ f e. cc e) (sym (m.starved refl)))
 
-pub stopped_ran : (job : AnswerJob) (devices : List DeviceInfo) (w : ClientState) (how : AnswerEnd) (left : Option (List ℕ)) (wire : List ℕ → ClientState) (s s' : Option (List ℕ)) (a a' : Option (List Told)) (h : Option (List ℕ)) →
+pub stopped_ran : (job : AnswerJob) (devices : List DeviceInfo) (w : ClientState) (how : AnswerEnd) {left : Option (List ℕ)} {wire : List ℕ → ClientState} {s s' : Option (List ℕ)} {a a' : Option (List Told)} {h : Option (List ℕ)} →
     1 ≤ job.calls → line_or_end job (slice_get devices job.device) (length devices) ≡ Ok tt → is_of_calls how ≡ true →
     (g : PartSeen {X = Tally} (attending_part job w) (Err how) left wire s s' a a') → RanAs w.order job devices (answer_trace job devices (record { wire = w; runs = g.runs ++ [] })) (g.runs ++ []) how s s' a a' h h
-stopped_ran job devices w how left wire s s' a a' h some line way g =
+stopped_ran job devices w how {wire} {s} {s'} {a} {a'} {h} some line way g =
     let runs = g.runs ++ [] in
     let t = answer_trace job devices (record { wire = w; runs = runs }) in
     let is : t ≡ attending_part job w runs (λ t b. writes_tally t) = on_line job devices (record { wire = w; runs = runs }) line ∙ line_is job w runs in
@@ -394,10 +394,10 @@ reported_hook order job acts runs t (end.BadReply header first) done way all swi
 reported_hook order job acts runs t end.EventFlood done way all switched hangs stops = cc way
 reported_hook order job acts runs t end.OutOfMemory done way all switched hangs stops = cc way
 
-pub reported_ran : (job : AnswerJob) (devices : List DeviceInfo) (w : ClientState) (tally : Tally) (how : AnswerEnd) (left : Option (List ℕ)) (wire : List ℕ → ClientState) (s s' : Option (List ℕ)) (a a' : Option (List Told)) (h h' : Option (List ℕ)) →
+pub reported_ran : (job : AnswerJob) (devices : List DeviceInfo) (w : ClientState) (tally : Tally) {how : AnswerEnd} {left : Option (List ℕ)} {wire : List ℕ → ClientState} {s s' : Option (List ℕ)} {a a' : Option (List Told)} {h h' : Option (List ℕ)} →
     1 ≤ job.calls → line_or_end job (slice_get devices job.device) (length devices) ≡ Ok tt → is_of_line how ≡ true → WritesTo (tally_text tally) how h h' →
     (g : PartSeen (attending_part job w) (Ok tally) left wire s s' a a') → RanAs w.order job devices (answer_trace job devices (record { wire = w; runs = g.runs ++ [] })) (g.runs ++ []) how s s' a a' h h'
-reported_ran job devices w tally how left wire s s' a a' h h' some line way wrote g =
+reported_ran job devices w tally {how} {wire} {s} {s'} {a} {a'} {h} {h'} some line way wrote g =
     let runs = g.runs ++ [] in
     let t = answer_trace job devices (record { wire = w; runs = runs }) in
     let is : t ≡ having g.done (writes_tally tally) = on_line job devices (record { wire = w; runs = runs }) line ∙ line_is job w runs ∙ g.came.2 [] (λ t b. writes_tally t) in

@@ -41,7 +41,7 @@ awaited_on job n n' rings rings' e is other less b next =
     ap (λ (t : Bool). if t then next tt b else awaits_call (n - 1) job (rings_after job rings e) b (next tt)) (ne_eqb (rings_after job rings e) job.rings (λ same. other (is ∙ same)))
     ∙ ap₂ (λ (k r : ℕ). awaits_call k job r b (next tt)) (sym less) (sym is)
 
-module _ (job : AnswerJob) (part : List ChildRun → AnswerPart (Unit {0})) (n rings : ℕ) (left left' : Option (List ℕ)) (wire wire' : List ℕ → ClientState) (s s' s'' : Option (List ℕ)) (a : Option (List Told))
+module _ (job : AnswerJob) {part : List ChildRun → AnswerPart (Unit {0})} (n rings : ℕ) {left : Option (List ℕ)} (left' : Option (List ℕ)) {wire : List ℕ → ClientState} (wire' : List ℕ → ClientState) {s s' : Option (List ℕ)} (s'' : Option (List ℕ)) (a : Option (List Told))
     (f : SoFar part (λ b next. awaits_call n job rings b (next tt)) left wire s s' a a) where
   -- no event was handed out
   pub wait_stops : (how : AnswerEnd) → 0 < n → PartSeen {X = Event} (λ runs. awaits_event (record { wire = wire f.input; runs = runs })) (Err how) left' wire' s' s'' a a →
@@ -67,6 +67,6 @@ module _ (job : AnswerJob) (part : List ChildRun → AnswerPart (Unit {0})) (n r
       (awaited_on job n n' rings rings' e is other less)
 
 -- too many events were handed out
-pub wait_floods : (job : AnswerJob) (part : List ChildRun → AnswerPart (Unit {0})) (n rings : ℕ) (left : Option (List ℕ)) (wire : List ℕ → ClientState) (s s' : Option (List ℕ)) (a : Option (List Told)) →
+pub wait_floods : (job : AnswerJob) {part : List ChildRun → AnswerPart (Unit {0})} {n : ℕ} (rings : ℕ) {left : Option (List ℕ)} {wire : List ℕ → ClientState} {s s' : Option (List ℕ)} (a : Option (List Told)) →
     SoFar part (λ b next. awaits_call n job rings b (next tt)) left wire s s' a a → n ≡ 0 → PartSeen {X = Unit {0}} part (Err end.EventFlood) left wire s s' a a
-wait_floods job part n rings left wire s s' a f none = far_ended part (λ b next. awaits_call n job rings b (next tt)) rang_too_little end.EventFlood left left wire wire s s' a a f (awaits_none job n rings none) refl (λ e. cc e)
+wait_floods job {part} {n} rings {left} {wire} {s} {s'} a f none = far_ended part (λ b next. awaits_call n job rings b (next tt)) rang_too_little end.EventFlood left left wire wire s s' a a f (awaits_none job n rings none) refl (λ e. cc e)

@@ -1,5 +1,5 @@
 -- A machine on a link that is set up first.
-use Rattle.std.proofs.Common.{◌≡◌, ◌≢◌, ◌⊎◌, inl, inr, ℕ, true, false, List, [], ◌∷◌, ◌++◌, refl, sym, ap, ap₂, ◌∙◌, subst, append_assoc}
+use Rattle.std.proofs.Common.{◌≡◌, ◌≢◌, ◌⊎◌, inl, inr, ℕ, true, false, List, [], ◌∷◌, ◌++◌, refl, sym, ap, ◌∙◌, subst, append_assoc}
 use Rattle.std.specs.Prelude.{Result, Ok, Err}
 use Rattle.std.specs.declared.option.Option.{Option}
 use Rattle.std.specs.declared.option.Option.TheVariants.{Some}
@@ -15,10 +15,9 @@ use Rattle.af_lib.specs.declared.fault.ConnFault.{ConnFault}
 use Rattle.af_lib.specs.declared.fault.ConnFault.TheVariants as fault
 use Rattle.af_lib.specs.Calls.{ConnState, IsFresh, IsSetUp, Sends}
 use Rattle.af_lib.specs.Ring.{RingState}
-use Rattle.af_lib.proofs.LinkByteLemmas.{told_both}
-use Rattle.af_tool.specs.Trace.{ClientState, begun, set_up, setup_answer}
+use Rattle.af_tool.specs.Trace.{ClientState, set_up, setup_answer}
 use Rattle.af_tool.specs.Ends.{client_of}
-use Rattle.af_tool.proofs.TracePartLemmas.{client_begun}
+use Rattle.af_tool.proofs.TracePartLemmas.{client_begun, setup_known}
 use Rattle.af_answer.specs.declared.end.AnswerEnd.{AnswerEnd}
 use Rattle.af_answer.specs.declared.end.AnswerEnd.TheVariants as end
 use Rattle.af_answer.specs.declared.job.AnswerJob.{AnswerJob}
@@ -33,15 +32,6 @@ use Rattle.af_answer.proofs.AnswerPartLemmas.{both_deeds, matches_at_once, match
 whole_is : (job : AnswerJob) (input : List ℕ) (runs : List ChildRun) → whole_trace job input runs ≡ having (requesting (setup_bytes Big)) (by_setup (setup_answer Big input) job (record { wire = set_up Big input; runs = runs }))
 unfolding whole_trace
 whole_is job input runs = refl
-
--- what is known of a setup, if the link did not fail
-setup_told : {L : Type 0} (left sent : L → Option (List ℕ)) (faults : L → ℕ) (old new : L) (ring : RingState) (input : List ℕ) (result : Result (List DeviceInfo) ConnFault) →
-    IsSetUp Big left sent faults old new ring result → left old ≡ Some input → result ≢ Err fault.LinkFault →
-    (a : List ℕ) × (left new ≡ Some a) × (result ≡ setup_answer Big input) × (begun Big ring a ≡ set_up Big input)
-setup_told left sent faults old new ring input result is told sound =
-    let both = told_both (left old) (left new) input _ told is.tells (is.answers sound) in
-    let facts = both.2 in
-    (both.0, both.1, facts.0, ap₂ (begun Big) facts.1 facts.2)
 
 module _ (job : AnswerJob) (input : List ℕ) (sent sent' : Option (List ℕ)) (acts : Option (List Told)) (held : Option (List ℕ)) where
   -- the link failed within the setup
@@ -95,14 +85,14 @@ module _ (job : AnswerJob) (input : List ℕ) (sent sent' : Option (List ℕ)) (
 pub not_set_up_ran : {L : Type 0} (left sent : L → Option (List ℕ)) (faults : L → ℕ) (job : AnswerJob) (input : List ℕ) (old new : L) (ring : RingState) (f : ConnFault) (acts : Option (List Told)) (held : Option (List ℕ)) →
     IsSetUp Big left sent faults old new ring (Err f) → left old ≡ Some input → LinkRan job input (connection_end f) (sent old) (sent new) acts acts held held
 not_set_up_ran left sent faults job input old new ring f acts held is told =
-    setup_ends job input (sent old) (sent new) acts held f is.sends is.fresh (λ sound. (setup_told left sent faults old new ring input (Err f) is told sound).2)
+    setup_ends job input (sent old) (sent new) acts held f is.sends is.fresh (λ sound. (setup_known Big left sent faults old new ring input (Err f) is told sound).2)
 
 -- one that was
 pub set_up_ran : {L : Type 0} (left sent : L → Option (List ℕ)) (faults : L → ℕ) (job : AnswerJob) (input : List ℕ) (far : L) (conn : ConnState L) (how : AnswerEnd) (s' : Option (List ℕ)) (a a' : Option (List Told)) (h h' : Option (List ℕ)) →
     conn.order ≡ Big → conn.sequence ≡ 0 → IsSetUp Big left sent faults far conn.link conn.ring (Ok conn.devices) → left far ≡ Some input →
     ((i : List ℕ) → left conn.link ≡ Some i → AnswerRan job conn.devices (client_of conn i) how (sent conn.link) s' a a' h h') → LinkRan job input how (sent far) s' a a' h h'
 set_up_ran left sent faults job input far conn how s' a a' h h' same_order first is told answered =
-    let k = setup_told left sent faults far conn.link conn.ring input (Ok conn.devices) is told (λ e. cc e) in
+    let k = setup_known Big left sent faults far conn.link conn.ring input (Ok conn.devices) is told (λ e. cc e) in
     let r = answered k.0 k.1 in
     let place : client_of conn k.0 ≡ set_up Big input = client_begun Big conn k.0 same_order first ∙ k.3 in
     let ran = subst (λ (v : ClientState). RanAs v.order job conn.devices (answer_trace job conn.devices (record { wire = v; runs = r.runs })) r.runs how (sent conn.link) s' a a' h h') place r.ran in
@@ -124,11 +114,11 @@ set_up_ran left sent faults job input far conn how s' a a' h h' same_order first
     }
 
 -- the first link of a dial
-pub first_ran : {F : Type 0} (left sent : F → Option (List ℕ)) (job : AnswerJob) (how : AnswerEnd) (far : F) (after : Option (List ℕ)) (links : List ToldLink) (between links' : Option (List ToldLink)) (back back₁ back' : Option (List (List ℕ)))
+pub first_ran : {F : Type 0} (left sent : F → Option (List ℕ)) (job : AnswerJob) (how : AnswerEnd) (far : F) (after : Option (List ℕ)) (links : List ToldLink) {between links' : Option (List ToldLink)} {back back₁ : Option (List (List ℕ))} (back' : Option (List (List ℕ)))
     (a a' : Option (List Told)) (h h' : Option (List ℕ)) → IsFirstOf left sent far (Some links) between → links' ≡ between → back₁ ≡ back → AppendedBack back₁ after back' →
     ((input : List ℕ) → left far ≡ Some input → RanOver job input how (sent far) after a a' h h') → RanServer job how links links' back back' a a' h h'
-first_ran left sent job how far after [] between links' back back₁ back' a a' h h' first stay same added ran = absurd first
-first_ran left sent job how far after (link ∷ links) between links' back back₁ back' a a' h h' first stay same added ran = inr (record {
+first_ran left sent job how far after [] back' a a' h h' first stay same added ran = absurd first
+first_ran left sent job how far after (link ∷ links) back' a a' h h' first stay same added ran = inr (record {
   first = link;
   rest = links;
   links_are = refl;
@@ -139,11 +129,11 @@ first_ran left sent job how far after (link ∷ links) between links' back back�
 })
 
 -- a job of the words that were asked
-pub asked_ran : (a : AnswerWords) (server : Text) (job : AnswerJob) (how : AnswerEnd) (links : List ToldLink) (links' : Option (List ToldLink)) (back back' : Option (List (List ℕ))) (acts acts' : Option (List Told)) (h h' : Option (List ℕ)) →
+pub asked_ran : (a : AnswerWords) (server : Text) (job : AnswerJob) {how : AnswerEnd} {links : List ToldLink} {links' : Option (List ToldLink)} {back back' : Option (List (List ℕ))} {acts acts' : Option (List Told)} {h h' : Option (List ℕ)} →
     words_of_job server job ≡ a → RanServer job how links links' back back' acts acts' h h' →
     NotDialled how links links' back back' acts acts' h h' ⊎ RanAsked a how links links' back back' acts acts' h h'
-asked_ran a server job how links links' back back' acts acts' h h' same (inl none) = inl none
-asked_ran a server job how links links' back back' acts acts' h h' same (inr ran) =
+asked_ran a server job same (inl none) = inl none
+asked_ran a server job same (inr ran) =
     inr (record { job = job; is = ap (λ (s : Text). words_of_job s job) (sym (ap (λ (w : AnswerWords). w.server) same)) ∙ same; ran = ran })
 
 pub asked_server : (a : AnswerWords) (server : Text) (job : AnswerJob) (how : AnswerEnd) (asked asked' : Option (List Text)) → words_of_job server job ≡ a → Appended asked (server ∷ []) asked' → AskedForServer a.server how asked asked'

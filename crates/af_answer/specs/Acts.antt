@@ -74,7 +74,9 @@ unfoldable pub acts_from : AnswerJob → (rings : ℕ) → Tally → List Event 
 acts_from job rings t [] ends = []
 acts_from job rings t (e ∷ events) ends =
     if rings_after job rings e == job.rings
-    then call_acts ends ++ acts_behind (call_end ends) job.calls (tally_after (call_end ends) t) (acts_from job 0 (tally_after (call_end ends) t) events (later_ends ends))
+    then call_acts ends
+    ++ acts_behind (call_end ends) job.calls (tally_after (call_end ends) t)
+    (acts_from job 0 (tally_after (call_end ends) t) events (later_ends ends))
     else acts_from job (rings_after job rings e) t events ends
 
 -- all that the machine does, by the events that it is handed and the ends of its children, each in order

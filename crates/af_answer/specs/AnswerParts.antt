@@ -40,13 +40,17 @@ AnswerPart X = (X → ToCome → AnswerTrace) → AnswerTrace
 
 -- how a part went, by the runs of its children, whatever follows it: it came to a value, and what follows goes on from there; or
 -- the machine ended
-abbrev pub PartCame : {X : Type 0} → (List ChildRun → AnswerPart X) → Result X AnswerEnd → Option (List ℕ) → (List ℕ → ClientState) → Deeds → List ChildRun → Type 0
+abbrev pub PartCame : {X : Type 0} → (List ChildRun → AnswerPart X) → Result X AnswerEnd → Option (List ℕ) →
+    (List ℕ → ClientState) → Deeds → List ChildRun → Type 0
 PartCame {X} part (Ok x) left wire done runs = (input : List ℕ) × (left ≡ Some input)
-    × ((more : List ChildRun) (next : X → ToCome → AnswerTrace) → part (runs ++ more) next ≡ having done (next x (record { wire = wire input; runs = more })))
-PartCame {X} part (Err how) left wire done runs = (more : List ChildRun) (next : X → ToCome → AnswerTrace) → MatchesAnswer (part (runs ++ more) next) how done []
+    × ((more : List ChildRun) (next : X → ToCome → AnswerTrace) →
+    part (runs ++ more) next ≡ having done (next x (record { wire = wire input; runs = more })))
+PartCame {X} part (Err how) left wire done runs =
+    (more : List ChildRun) (next : X → ToCome → AnswerTrace) → MatchesAnswer (part (runs ++ more) next) how done []
 
 -- the same by what the link was sent and what is told of the children, before and after
-pub record PartSeen {X : Type 0} (part : List ChildRun → AnswerPart X) (result : Result X AnswerEnd) (left : Option (List ℕ)) (wire : List ℕ → ClientState)
+pub record PartSeen {X : Type 0} (part : List ChildRun → AnswerPart X) (result : Result X AnswerEnd) (left : Option (List ℕ))
+    (wire : List ℕ → ClientState)
     (sent sent' : Option (List ℕ)) (acts acts' : Option (List Told)) : Type 0 where
   pub done : Deeds
   pub runs : List ChildRun
@@ -55,16 +59,20 @@ pub record PartSeen {X : Type 0} (part : List ChildRun → AnswerPart X) (result
   pub children : Appended acts done.told acts'
 
 -- The same over a connection whose link tells what it gives: the part begins where the connection stands.
-abbrev pub GoesBy : {L X : Type 0} → (left sent : L → Option (List ℕ)) → (old new : ConnState L) → (acts acts' : Option (List Told)) → (ToCome → AnswerPart X) → Result X AnswerEnd → Type 0
+abbrev pub GoesBy : {L X : Type 0} → (left sent : L → Option (List ℕ)) → (old new : ConnState L) →
+    (acts acts' : Option (List Told)) → (ToCome → AnswerPart X) → Result X AnswerEnd → Type 0
 GoesBy left sent old new acts acts' part result = (input : List ℕ) → left old.link ≡ Some input →
-    PartSeen (λ runs. part (record { wire = client_of old input; runs = runs })) result (left new.link) (client_of new) (sent old.link) (sent new.link) acts acts'
+    PartSeen (λ runs. part (record { wire = client_of old input; runs = runs })) result (left new.link) (client_of new)
+    (sent old.link) (sent new.link) acts acts'
 
 -- the same of a part that runs no child
-abbrev pub GoesAlone : {L X : Type 0} → (left sent : L → Option (List ℕ)) → (old new : ConnState L) → (ToCome → AnswerPart X) → Result X AnswerEnd → Type 0
+abbrev pub GoesAlone : {L X : Type 0} → (left sent : L → Option (List ℕ)) → (old new : ConnState L) → (ToCome → AnswerPart X) →
+    Result X AnswerEnd → Type 0
 GoesAlone left sent old new part result = (acts : Option (List Told)) → GoesBy left sent old new acts acts part result
 
 -- What a part does to its connection, whatever the link tells.
-pub record HoldsConnection {L X : Type 0} (left : L → Option (List ℕ)) (faults : L → ℕ) (old new : ConnState L) (result : Result X AnswerEnd) : Type 0 where
+pub record HoldsConnection {L X : Type 0} (left : L → Option (List ℕ)) (faults : L → ℕ) (old new : ConnState L)
+    (result : Result X AnswerEnd) : Type 0 where
   pub devices : new.devices ≡ old.devices
   pub usable : IsOk result → new.cause ≡ None
   pub tells : IsSome (left old.link) → IsSome (left new.link)

@@ -16,7 +16,8 @@ use Rattle.af_answer.specs.declared.end.AnswerEnd.{AnswerEnd}
 use Rattle.af_answer.specs.declared.end.AnswerEnd.TheVariants as end
 use Rattle.af_answer.specs.declared.job.AnswerJob.{AnswerJob}
 use Rattle.af_answer.specs.Children.{ChildRun}
-use Rattle.af_answer.specs.AnswerTrace.{ToCome, AnswerTrace, Deeds, answer_trace, having, machine_end, met_fault, requesting, stops}
+use Rattle.af_answer.specs.AnswerTrace.{ToCome, AnswerTrace, Deeds, answer_trace, having}
+use Rattle.af_answer.specs.AnswerTrace.{machine_end, met_fault, requesting, stops}
 use Rattle.af_answer.specs.AnswerParts.{MatchesAnswer}
 use Rattle.af_answer.specs.Answered.{RanAs}
 use Rattle.af_answer.specs.AnswerWords.{AnswerWords, words_of_job}
@@ -29,17 +30,21 @@ by_setup (Err fault) job a = stops (met_fault fault)
 
 -- the trace of a machine on a link that is set up first, by all bytes that the link gives and how the children run
 unfoldable pub whole_trace : AnswerJob → List ℕ → List ChildRun → AnswerTrace
-whole_trace job input runs = having (requesting (setup_bytes Big)) (by_setup (setup_answer Big input) job (record { wire = set_up Big input; runs = runs }))
+whole_trace job input runs =
+    having (requesting (setup_bytes Big))
+    (by_setup (setup_answer Big input) job (record { wire = set_up Big input; runs = runs }))
 
 -- how a machine ends, by these
 abbrev pub answer_end : AnswerJob → List ℕ → List ChildRun → AnswerEnd
 answer_end job input runs = machine_end (whole_trace job input runs).finish
 
 -- a link was set up, and then the machine ran on it
-pub record Attended (job : AnswerJob) (devices : List DeviceInfo) (input : List ℕ) (runs : List ChildRun) (how : AnswerEnd) (sent sent' : Option (List ℕ)) (acts acts' : Option (List Told)) (held held' : Option (List ℕ)) : Type 0 where
+pub record Attended (job : AnswerJob) (devices : List DeviceInfo) (input : List ℕ) (runs : List ChildRun) (how : AnswerEnd)
+    (sent sent' : Option (List ℕ)) (acts acts' : Option (List Told)) (held held' : Option (List ℕ)) : Type 0 where
   pub between : Option (List ℕ)
   pub set : Appended sent (setup_bytes Big) between
-  pub ran : RanAs Big job devices (answer_trace job devices (record { wire = set_up Big input; runs = runs })) runs how between sent' acts acts' held held'
+  pub ran : RanAs Big job devices (answer_trace job devices (record { wire = set_up Big input; runs = runs })) runs how between
+      sent' acts acts' held held'
 
 -- the link failed before it was set up
 pub record FailedSetup (how : AnswerEnd) (sent sent' : Option (List ℕ)) : Type 0 where
@@ -48,7 +53,8 @@ pub record FailedSetup (how : AnswerEnd) (sent sent' : Option (List ℕ)) : Type
 
 -- What came of a link that gives these bytes: what was done and written is that of the trace, and how the machine ended, unless
 -- something from outside ended it; and where the link was set up, all of what is said of a machine on a connection.
-pub record LinkRan (job : AnswerJob) (input : List ℕ) (how : AnswerEnd) (sent sent' : Option (List ℕ)) (acts acts' : Option (List Told)) (held held' : Option (List ℕ)) : Type 0 where
+pub record LinkRan (job : AnswerJob) (input : List ℕ) (how : AnswerEnd) (sent sent' : Option (List ℕ))
+    (acts acts' : Option (List Told)) (held held' : Option (List ℕ)) : Type 0 where
   pub runs : List ChildRun
   pub done : Deeds
   pub output : List ℕ
@@ -56,21 +62,26 @@ pub record LinkRan (job : AnswerJob) (input : List ℕ) (how : AnswerEnd) (sent 
   pub children : Appended acts done.told acts'
   pub sink : Appended held output held'
   pub followed : MatchesAnswer (whole_trace job input runs) how done output
-  pub attended : (devices : List DeviceInfo) → setup_answer Big input ≡ Ok devices → FailedSetup how sent sent' ⊎ Attended job devices input runs how sent sent' acts acts' held held'
+  pub attended : (devices : List DeviceInfo) → setup_answer Big input ≡ Ok devices →
+      FailedSetup how sent sent' ⊎ Attended job devices input runs how sent sent' acts acts' held held'
 
 -- memory ran out before anything was done
-pub record IsIdle (how : AnswerEnd) (sent sent' : Option (List ℕ)) (acts acts' : Option (List Told)) (held held' : Option (List ℕ)) : Type 0 where
+pub record IsIdle (how : AnswerEnd) (sent sent' : Option (List ℕ)) (acts acts' : Option (List Told))
+    (held held' : Option (List ℕ)) : Type 0 where
   pub memory : how ≡ end.OutOfMemory
   pub sends : sent' ≡ sent
   pub children : acts' ≡ acts
   pub sink : held' ≡ held
 
 -- what came of a link
-abbrev pub RanOver : AnswerJob → List ℕ → AnswerEnd → (sent sent' : Option (List ℕ)) → (acts acts' : Option (List Told)) → (held held' : Option (List ℕ)) → Type 0
-RanOver job input how sent sent' acts acts' held held' = IsIdle how sent sent' acts acts' held held' ⊎ LinkRan job input how sent sent' acts acts' held held'
+abbrev pub RanOver : AnswerJob → List ℕ → AnswerEnd → (sent sent' : Option (List ℕ)) → (acts acts' : Option (List Told)) →
+    (held held' : Option (List ℕ)) → Type 0
+RanOver job input how sent sent' acts acts' held held' =
+    IsIdle how sent sent' acts acts' held held' ⊎ LinkRan job input how sent sent' acts acts' held held'
 
 -- the server could not be dialled, or memory ran out for that
-pub record NotDialled (how : AnswerEnd) (links : List ToldLink) (links' : Option (List ToldLink)) (back back' : Option (List (List ℕ))) (acts acts' : Option (List Told)) (held held' : Option (List ℕ)) : Type 0 where
+pub record NotDialled (how : AnswerEnd) (links : List ToldLink) (links' : Option (List ToldLink))
+    (back back' : Option (List (List ℕ))) (acts acts' : Option (List Told)) (held held' : Option (List ℕ)) : Type 0 where
   pub way : (how ≡ end.DialFault) ⊎ (how ≡ end.OutOfMemory)
   pub links_stay : links' ≡ Some links
   pub back_stays : back' ≡ back
@@ -78,7 +89,8 @@ pub record NotDialled (how : AnswerEnd) (links : List ToldLink) (links' : Option
   pub sink : held' ≡ held
 
 -- the first link was had, the machine ran over it, and it was given back, with all that it had been sent
-pub record RanFirst (job : AnswerJob) (how : AnswerEnd) (links : List ToldLink) (links' : Option (List ToldLink)) (back back' : Option (List (List ℕ))) (acts acts' : Option (List Told)) (held held' : Option (List ℕ)) : Type 0 where
+pub record RanFirst (job : AnswerJob) (how : AnswerEnd) (links : List ToldLink) (links' : Option (List ToldLink))
+    (back back' : Option (List (List ℕ))) (acts acts' : Option (List Told)) (held held' : Option (List ℕ)) : Type 0 where
   pub first : ToldLink
   pub rest : List ToldLink
   pub links_are : links ≡ first ∷ rest
@@ -87,25 +99,31 @@ pub record RanFirst (job : AnswerJob) (how : AnswerEnd) (links : List ToldLink) 
   pub given_back : AppendedBack back after back'
   pub ran : RanOver job first.gives how (Some first.sent) after acts acts' held held'
 
-abbrev pub RanServer : AnswerJob → AnswerEnd → List ToldLink → Option (List ToldLink) → (back back' : Option (List (List ℕ))) → (acts acts' : Option (List Told)) → (held held' : Option (List ℕ)) → Type 0
-RanServer job how links links' back back' acts acts' held held' = NotDialled how links links' back back' acts acts' held held' ⊎ RanFirst job how links links' back back' acts acts' held held'
+abbrev pub RanServer : AnswerJob → AnswerEnd → List ToldLink → Option (List ToldLink) → (back back' : Option (List (List ℕ))) →
+    (acts acts' : Option (List Told)) → (held held' : Option (List ℕ)) → Type 0
+RanServer job how links links' back back' acts acts' held held' =
+    NotDialled how links links' back back' acts acts' held held' ⊎ RanFirst job how links links' back back' acts acts' held held'
 
 -- the same of a job, by what a dial, a spawner and a sink tell
-abbrev pub RunsJobOn : {D S K : Type 0} → (links : D → Option (List ToldLink)) → (back : D → Option (List (List ℕ))) → (acts : S → Option (List Told)) → (held : K → Option (List ℕ)) →
+abbrev pub RunsJobOn : {D S K : Type 0} → (links : D → Option (List ToldLink)) → (back : D → Option (List (List ℕ))) →
+    (acts : S → Option (List Told)) → (held : K → Option (List ℕ)) →
     AnswerJob → AnswerEnd → (dial dial' : D) → (spawner spawner' : S) → (sink sink' : K) → Type 0
 RunsJobOn links back acts held job how dial dial' spawner spawner' sink sink' = (told : List ToldLink) → links dial ≡ Some told →
     RanServer job how told (links dial') (back dial) (back dial') (acts spawner) (acts spawner') (held sink) (held sink')
 
 -- a job of these words was done so
-pub record RanAsked (asked : AnswerWords) (how : AnswerEnd) (links : List ToldLink) (links' : Option (List ToldLink)) (back back' : Option (List (List ℕ))) (acts acts' : Option (List Told)) (held held' : Option (List ℕ)) : Type 0 where
+pub record RanAsked (asked : AnswerWords) (how : AnswerEnd) (links : List ToldLink) (links' : Option (List ToldLink))
+    (back back' : Option (List (List ℕ))) (acts acts' : Option (List Told)) (held held' : Option (List ℕ)) : Type 0 where
   pub job : AnswerJob
   pub is : words_of_job asked.server job ≡ asked
   pub ran : RanFirst job how links links' back back' acts acts' held held'
 
 -- the same by what a dial, a spawner and a sink tell, if the server was dialled
-abbrev pub RunsAsked : {D S K : Type 0} → (links : D → Option (List ToldLink)) → (back : D → Option (List (List ℕ))) → (acts : S → Option (List Told)) → (held : K → Option (List ℕ)) →
+abbrev pub RunsAsked : {D S K : Type 0} → (links : D → Option (List ToldLink)) → (back : D → Option (List (List ℕ))) →
+    (acts : S → Option (List Told)) → (held : K → Option (List ℕ)) →
     AnswerWords → AnswerEnd → (dial dial' : D) → (spawner spawner' : S) → (sink sink' : K) → Type 0
-RunsAsked links back acts held asked how dial dial' spawner spawner' sink sink' = (told : List ToldLink) → links dial ≡ Some told →
+RunsAsked links back acts held asked how dial dial' spawner spawner' sink sink' =
+    (told : List ToldLink) → links dial ≡ Some told →
     NotDialled how told (links dial') (back dial) (back dial') (acts spawner) (acts spawner') (held sink) (held sink')
     ⊎ RanAsked asked how told (links dial') (back dial) (back dial') (acts spawner) (acts spawner') (held sink) (held sink')
 

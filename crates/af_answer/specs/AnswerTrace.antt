@@ -1,7 +1,8 @@
--- The trace of an answering machine: the events that it is handed, what it sends, what is told of its children, what it writes, and
--- why it ends, by what the link gives and how the children run. It sends each request when the reply to the one before it was read,
--- so a trace goes on from reply to reply.
-use Rattle.std.specs.Prelude.{ℕ, zero, suc, ◌==◌, if◌then◌else◌, Bool, true, false, List, [], ◌∷◌, ◌++◌, codes, decimal, drop, length, slice_get, Result, Ok, Err}
+-- The trace of an answering machine: the events that it is handed, what it sends, what is told of its children, what it writes,
+-- and why it ends, by what the link gives and how the children run. It sends each request when the reply to the one before it was
+-- read, so a trace goes on from reply to reply.
+use Rattle.std.specs.Prelude.{ℕ, zero, suc, ◌==◌, if◌then◌else◌, Bool, true, false, List, [], ◌∷◌}
+use Rattle.std.specs.Prelude.{◌++◌, codes, decimal, drop, length, slice_get, Result, Ok, Err}
 use Rattle.std.specs.declared.option.Option.{Option}
 use Rattle.std.specs.declared.option.Option.TheVariants.{None, Some}
 use Rattle.af_wire.specs.declared.event.Event.{Event}
@@ -62,7 +63,14 @@ pub record Deeds : Type 0 where
 
 -- these were done first
 abbrev pub having : Deeds → AnswerTrace → AnswerTrace
-having d t = record { heard = d.heard ++ t.heard; sends = d.sends ++ t.sends; told = d.told ++ t.told; output = t.output; finish = t.finish }
+having d t =
+    record {
+      heard = d.heard ++ t.heard;
+      sends = d.sends ++ t.sends;
+      told = d.told ++ t.told;
+      output = t.output;
+      finish = t.finish;
+    }
 
 abbrev pub hearing : Event → Deeds
 hearing e = record { heard = e ∷ []; sends = []; told = [] }
@@ -87,7 +95,8 @@ by_reply asked (Err fault) a next = stops (refusal asked fault)
 -- a request is sent, and what follows goes by its answer
 unfoldable pub requests : Asked → ToCome → (ToCome → AnswerTrace) → AnswerTrace
 requests asked a next =
-    having (requesting (request_bytes a.wire.order asked)) (by_reply asked (answer_on asked as_done a.wire) (record { wire = after_reply a.wire; runs = a.runs }) next)
+    having (requesting (request_bytes a.wire.order asked))
+    (by_reply asked (answer_on asked as_done a.wire) (record { wire = after_reply a.wire; runs = a.runs }) next)
 
 -- the event that a client is handed next: the oldest of its ring, or else the next message
 abbrev pub event_at_hand : Option Event → ClientState → Result Event ConnFault
@@ -99,7 +108,8 @@ next_event w = event_at_hand (slice_get w.ring.events 0) w
 
 -- a client behind that event
 abbrev pub behind_from : Option Event → ClientState → ClientState
-behind_from (Some e) w = record { order = w.order; sequence = w.sequence; ring = record w.ring { events = drop 1 w.ring.events }; input = w.input }
+behind_from (Some e) w =
+    record { order = w.order; sequence = w.sequence; ring = record w.ring { events = drop 1 w.ring.events }; input = w.input }
 behind_from None w = record { order = w.order; sequence = w.sequence; ring = w.ring; input = behind_message w.order w.input }
 
 abbrev pub behind_event : ClientState → ClientState
@@ -122,7 +132,8 @@ first_run (run ∷ runs) = run
 -- a text is run as a child, and what follows goes by its end
 unfoldable pub runs_child : List ℕ → ToCome → (ChildEnd → ToCome → AnswerTrace) → AnswerTrace
 runs_child text a next =
-    having (running (run_told (shell_words text) (first_run a.runs))) (next (run_end (first_run a.runs)) (record { wire = a.wire; runs = drop 1 a.runs }))
+    having (running (run_told (shell_words text) (first_run a.runs)))
+    (next (run_end (first_run a.runs)) (record { wire = a.wire; runs = drop 1 a.runs }))
 
 -- the message is recorded behind a good greeting, and else the call ends as the greeting did
 abbrev pub leaves_message : AnswerJob → ChildEnd → ToCome → (ChildEnd → ToCome → AnswerTrace) → AnswerTrace
@@ -164,7 +175,9 @@ attends (suc n) job t a next =
 
 -- the line that a machine writes at its end
 unfoldable pub tally_text : Tally → List ℕ
-tally_text t = codes "answered " ++ decimal t.answered ++ codes " recorded " ++ decimal t.recorded ++ codes " failed " ++ decimal t.failed ++ codes "\n"
+tally_text t =
+    codes "answered " ++ decimal t.answered ++ codes " recorded " ++ decimal t.recorded ++ codes " failed " ++ decimal t.failed
+    ++ codes "\n"
 
 -- this is written, and then nothing more is done
 abbrev pub writes_tally : Tally → AnswerTrace

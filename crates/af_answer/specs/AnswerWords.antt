@@ -1,6 +1,7 @@
 -- The words of an answering machine: they are one simple command of clap, and what they ask is that of the matches that clap
 -- defines.
-use Rattle.std.specs.Prelude.{ℕ, ◌-◌, ◌&&◌, Bool, false, nat_le, List, [], ◌∷◌, length, Option, Some, None, codes, is_some, option_and_then, option_map, if◌then◌else◌}
+use Rattle.std.specs.Prelude.{ℕ, ◌-◌, ◌&&◌, Bool, false, nat_le, List, [], ◌∷◌, length, Option, Some}
+use Rattle.std.specs.Prelude.{None, codes, is_some, option_and_then, option_map, if◌then◌else◌}
 use Rattle.std.specs.Str.{bytes_eq}
 use Rattle.af_limits.specs.Limits.{most_devices}
 use Rattle.clap.specs.Words.{App, Row, Text, first_of, matches_of, new_app, takes}
@@ -21,7 +22,15 @@ pub record AnswerWords : Type 0 where
 
 -- what a job with its server was asked by
 abbrev pub words_of_job : Text → AnswerJob → AnswerWords
-words_of_job server job = record { server = server; device = job.device; rings = job.rings; calls = job.calls; greeting = job.greeting.bytes; message = job.message.bytes }
+words_of_job server job =
+    record {
+      server = server;
+      device = job.device;
+      rings = job.rings;
+      calls = job.calls;
+      greeting = job.greeting.bytes;
+      message = job.message.bytes;
+    }
 
 abbrev pub words_of_call : AnswerCall → AnswerWords
 words_of_call call = words_of_job call.server.now call.job
@@ -51,7 +60,14 @@ words_in rows =
     option_and_then (λ rings.
     option_and_then (λ calls.
     option_and_then (λ greeting.
-    option_map (λ message. record { server = server; device = device; rings = rings; calls = calls; greeting = greeting; message = message })
+    option_map (λ message. record {
+      server = server;
+      device = device;
+      rings = rings;
+      calls = calls;
+      greeting = greeting;
+      message = message;
+    })
     (shell_text_at (codes "message") rows))
     (shell_text_at (codes "greeting") rows))
     (option_and_then (number_in 1 1000) (first_of (codes "calls") rows)))

@@ -1,5 +1,6 @@
 -- What an answering machine has done at its end.
-use Rattle.std.specs.Prelude.{◌≡◌, ◌≢◌, ◌<◌, ◌≤◌, ◌↔◌, ◌⊎◌, ⊤, ℕ, Bool, true, false, List, [], ◌∷◌, ◌++◌, map, drop, length, slice_get, Result, Ok, Err}
+use Rattle.std.specs.Prelude.{◌≡◌, ◌≢◌, ◌<◌, ◌≤◌, ◌↔◌, ◌⊎◌, ⊤, ℕ, Bool, true, false, List, []}
+use Rattle.std.specs.Prelude.{◌∷◌, ◌++◌, map, drop, length, slice_get, Result, Ok, Err}
 use Rattle.std.specs.declared.option.Option.{Option}
 use Rattle.std.specs.declared.option.Option.TheVariants.{None, Some}
 use Rattle.af_limits.specs.Limits.{most_devices}
@@ -17,7 +18,8 @@ use Rattle.af_answer.specs.declared.end.AnswerEnd.{AnswerEnd}
 use Rattle.af_answer.specs.declared.end.AnswerEnd.TheVariants as end
 use Rattle.af_answer.specs.declared.job.AnswerJob.{AnswerJob}
 use Rattle.af_answer.specs.Acts.{MachineAct, answer_acts, greet, leaves_off, off_hook, on_hook, record_message, write_tally}
-use Rattle.af_answer.specs.AnswerTrace.{AnswerTrace, Deeds, answer_trace, child_starved, first_run, met_fault, off_hook_fault, on_hook_fault, rang_too_little, tally_text}
+use Rattle.af_answer.specs.AnswerTrace.{AnswerTrace, Deeds, answer_trace, child_starved, first_run, met_fault}
+use Rattle.af_answer.specs.AnswerTrace.{off_hook_fault, on_hook_fault, rang_too_little, tally_text}
 use Rattle.af_answer.specs.AnswerParts.{MatchesAnswer, is_from_outside}
 use Rattle.af_answer.specs.Children.{ChildRun, run_end, run_told, shell_words}
 
@@ -50,8 +52,10 @@ sends_of_job order job acts = request_bytes order (select_events job.device 3) +
 abbrev pub children_of : AnswerJob → List MachineAct → List ChildRun → List Told
 children_of job [] runs = []
 children_of job (off_hook ∷ acts) runs = children_of job acts runs
-children_of job (greet ∷ acts) runs = run_told (shell_words job.greeting.bytes) (first_run runs) ++ children_of job acts (drop 1 runs)
-children_of job (record_message ∷ acts) runs = run_told (shell_words job.message.bytes) (first_run runs) ++ children_of job acts (drop 1 runs)
+children_of job (greet ∷ acts) runs =
+    run_told (shell_words job.greeting.bytes) (first_run runs) ++ children_of job acts (drop 1 runs)
+children_of job (record_message ∷ acts) runs =
+    run_told (shell_words job.message.bytes) (first_run runs) ++ children_of job acts (drop 1 runs)
 children_of job (on_hook ∷ acts) runs = children_of job acts runs
 children_of job (write_tally t ∷ acts) runs = children_of job acts runs
 
@@ -68,7 +72,8 @@ text_of_acts [] = []
 text_of_acts (act ∷ acts) = text_of_act act ++ text_of_acts acts
 
 -- What was sent, told of children and written are prefixes of what these acts have, in order, and all three are whole at Done.
-pub record KeepsToActs (order : Order) (job : AnswerJob) (acts : List MachineAct) (runs : List ChildRun) (how : AnswerEnd) (sends : List ℕ) (told : List Told) (output : List ℕ) : Type 0 where
+pub record KeepsToActs (order : Order) (job : AnswerJob) (acts : List MachineAct) (runs : List ChildRun) (how : AnswerEnd)
+    (sends : List ℕ) (told : List Told) (output : List ℕ) : Type 0 where
   pub unsent : List ℕ
   pub untold : List Told
   pub unwritten : List ℕ
@@ -78,7 +83,8 @@ pub record KeepsToActs (order : Order) (job : AnswerJob) (acts : List MachineAct
   pub whole : how ≡ end.Done → (unsent ≡ []) × (untold ≡ []) × (unwritten ≡ [])
 
 -- all was sent and done that these acts have, and they leave the hook on
-pub record HangsUp (order : Order) (job : AnswerJob) (acts : List MachineAct) (runs : List ChildRun) (sends : List ℕ) (told : List Told) : Type 0 where
+pub record HangsUp (order : Order) (job : AnswerJob) (acts : List MachineAct) (runs : List ChildRun) (sends : List ℕ)
+    (told : List Told) : Type 0 where
   pub sent : sends ≡ sends_of_job order job acts
   pub children : told ≡ children_of job acts runs
   pub on : leaves_off acts ≡ false
@@ -144,7 +150,9 @@ LeavesHook on_if_switched trace hung_up refused_off sends = SwitchesHook trace �
 LeavesHook maybe_off trace hung_up refused_off sends = ⊤
 
 -- A machine did as in this trace, in an order of bytes, with its children running so.
-pub record RanAs (order : Order) (job : AnswerJob) (devices : List DeviceInfo) (trace : AnswerTrace) (runs : List ChildRun) (how : AnswerEnd) (sent sent' : Option (List ℕ)) (acts acts' : Option (List Told)) (held held' : Option (List ℕ)) : Type 0 where
+pub record RanAs (order : Order) (job : AnswerJob) (devices : List DeviceInfo) (trace : AnswerTrace) (runs : List ChildRun)
+    (how : AnswerEnd) (sent sent' : Option (List ℕ)) (acts acts' : Option (List Told))
+    (held held' : Option (List ℕ)) : Type 0 where
   -- what was done and written
   pub done : Deeds
   pub output : List ℕ
@@ -154,27 +162,34 @@ pub record RanAs (order : Order) (job : AnswerJob) (devices : List DeviceInfo) (
   -- it is what the trace has, and the machine ended as the trace does, unless something from outside ended it
   pub followed : MatchesAnswer trace how done output
   -- it is what the events that were handed out and the ends of the children ask for
-  pub answered : HasLine job devices → KeepsToActs order job (answer_acts job trace.heard (map run_end runs)) runs how done.sends done.told output
+  pub answered : HasLine job devices →
+      KeepsToActs order job (answer_acts job trace.heard (map run_end runs)) runs how done.sends done.told output
   -- the hook is left as this end has it
-  pub hung_up : LeavesHook (hook_at how) trace (HangsUp order job (answer_acts job trace.heard (map run_end runs)) runs done.sends done.told)
+  pub hung_up : LeavesHook (hook_at how) trace
+      (HangsUp order job (answer_acts job trace.heard (map run_end runs)) runs done.sends done.told)
       (StopsAtOffHook order job (answer_acts job trace.heard (map run_end runs)) done.sends) done.sends
   -- memory ran out exactly where it did for a child, and the hook was put on behind it
   pub starved : how ≡ end.OutOfMemory → trace.finish ≡ child_starved
   pub starves : trace.finish ≡ child_starved → (how ≡ end.OutOfMemory) ⊎ (is_from_outside how ≡ true)
-  -- with a line, an awaited reply for each request, and enough rings for each call it is done, unless memory ran out for a child or
-  -- something from outside ended it
-  pub complete : HasLine job devices → IsReplied trace → trace.finish ≢ rang_too_little → (how ≡ end.Done) ⊎ (trace.finish ≡ child_starved) ⊎ (is_from_outside how ≡ true)
+  -- with a line, an awaited reply for each request, and enough rings for each call it is done, unless memory ran out for a child
+  -- or something from outside ended it
+  pub complete : HasLine job devices → IsReplied trace → trace.finish ≢ rang_too_little →
+      (how ≡ end.Done) ⊎ (trace.finish ≡ child_starved) ⊎ (is_from_outside how ≡ true)
 
 -- An answering machine ran, by what its link gives: its children ran somehow, and it did as its trace does then.
-pub record AnswerRan (job : AnswerJob) (devices : List DeviceInfo) (w : ClientState) (how : AnswerEnd) (sent sent' : Option (List ℕ)) (acts acts' : Option (List Told)) (held held' : Option (List ℕ)) : Type 0 where
+pub record AnswerRan (job : AnswerJob) (devices : List DeviceInfo) (w : ClientState) (how : AnswerEnd)
+    (sent sent' : Option (List ℕ)) (acts acts' : Option (List Told)) (held held' : Option (List ℕ)) : Type 0 where
   pub runs : List ChildRun
-  pub ran : RanAs w.order job devices (answer_trace job devices (record { wire = w; runs = runs })) runs how sent sent' acts acts' held held'
+  pub ran : RanAs w.order job devices (answer_trace job devices (record { wire = w; runs = runs })) runs how sent sent' acts acts'
+      held held'
 
 -- the same over a connection whose link tells what it gives
-abbrev pub RunsAnswer : {L S K : Type 0} → (left sent : L → Option (List ℕ)) → (acts : S → Option (List Told)) → (held : K → Option (List ℕ)) →
+abbrev pub RunsAnswer : {L S K : Type 0} → (left sent : L → Option (List ℕ)) → (acts : S → Option (List Told)) →
+    (held : K → Option (List ℕ)) →
     AnswerJob → AnswerEnd → (conn conn' : ConnState L) → (spawner spawner' : S) → (sink sink' : K) → Type 0
 RunsAnswer left sent acts held job how conn conn' spawner spawner' sink sink' = (input : List ℕ) → left conn.link ≡ Some input →
-    AnswerRan job conn.devices (client_of conn input) how (sent conn.link) (sent conn'.link) (acts spawner) (acts spawner') (held sink) (held sink')
+    AnswerRan job conn.devices (client_of conn input) how (sent conn.link) (sent conn'.link) (acts spawner) (acts spawner')
+    (held sink) (held sink')
 
 -- the device is there and has a line, or the end for want of that
 abbrev pub line_if : AnswerJob → Bool → Result (Unit {0}) AnswerEnd
@@ -191,4 +206,6 @@ LacksItsDevice job devices how = (n : ℕ) → (how ≡ end.NoDevice n) ↔ ((n 
 
 -- and for want of a line exactly where its device is there without one, whose number the end carries
 abbrev pub LacksItsLine : AnswerJob → List DeviceInfo → AnswerEnd → Type 0
-LacksItsLine job devices how = (n : ℕ) → (how ≡ end.NoLine n) ↔ ((n ≡ job.device) × (device : DeviceInfo) × (slice_get devices job.device ≡ Some device) × (device.line ≡ false))
+LacksItsLine job devices how =
+    (n : ℕ) → (how ≡ end.NoLine n)
+    ↔ ((n ≡ job.device) × (device : DeviceInfo) × (slice_get devices job.device ≡ Some device) × (device.line ≡ false))

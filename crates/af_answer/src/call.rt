@@ -38,7 +38,8 @@ pub fn take_call<L: Link + Drop, S: Spawner>(
     spawner: &mut S,
 ) -> Result<ChildEnd, AnswerEnd>
     requires { conn.old.cause ≡ None }
-    ensures goes { GoesBy L.left L.sent conn.old conn.new (S.acts spawner.old) (S.acts spawner.new) (λ a. takes_call job.now a) result }
+    ensures goes { GoesBy L.left L.sent conn.old conn.new (S.acts spawner.old) (S.acts spawner.new)
+        (λ a. takes_call job.now a) result }
     ensures holds { HoldsConnection L.left L.faults conn.old conn.new result }
     ensures end { IfErr result (λ how. is_of_machine how ≡ true) }
     ensures count { S.faults spawner.old ≤ S.faults spawner.new }

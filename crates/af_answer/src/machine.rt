@@ -46,7 +46,8 @@ pub fn answer<L: Link + Drop, S: Spawner, K: Sink>(
     requires range { IsAnswerJob job.now }
 
     // what was sent, which children ran, what was written, what the hook is at the end, and when it is done
-    ensures ran { RunsAnswer L.left L.sent S.acts K.held job.now result conn.old conn.new spawner.old spawner.new sink.old sink.new }
+    ensures ran { RunsAnswer L.left L.sent S.acts K.held job.now result conn.old conn.new spawner.old spawner.new
+        sink.old sink.new }
 
     // each end has its cause
     ensures end { is_of_answer result ≡ true }

@@ -44,7 +44,8 @@ fn command_words<'a>() -> (&'a str, &'a [Word<'a>])
 // The matches of the command. The first of the words is its name.
 fn answer_matches<'a>(alloc: Global, given: &'a [String]) -> Result<ArgMatches<'a>, Error>
     ensures ok { IfOk result (λ m. rows_of (found_of m) ≡ matches_of answer_app (map string_bytes given.entry.now)) }
-    ensures err { IfErr result (λ e. takes answer_app (map string_bytes given.entry.now) ≡ true → kind_of e ≡ ErrorKind.OutOfMemory) }
+    ensures err { IfErr result (λ e.
+        takes answer_app (map string_bytes given.entry.now) ≡ true → kind_of e ≡ ErrorKind.OutOfMemory) }
 {
     let (name, words) = command_words();
     matches_for(alloc, name, words, given)

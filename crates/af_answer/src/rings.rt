@@ -35,7 +35,8 @@ fn rings_after(job: &AnswerJob, rings: u32, event: Event) -> u32
 pub fn await_call<L: Link + Drop>(job: &AnswerJob, conn: &mut Conn<L>) -> Result<(), AnswerEnd>
     requires usable { conn.old.cause ≡ None }
     requires rings { (1 ≤ job.now.rings) × (job.now.rings ≤ 20) }
-    ensures goes { GoesAlone L.left L.sent conn.old conn.new (λ a next. awaits_call most_for_a_call job.now 0 a (next tt)) result }
+    ensures goes { GoesAlone L.left L.sent conn.old conn.new
+        (λ a next. awaits_call most_for_a_call job.now 0 a (next tt)) result }
     ensures holds { HoldsConnection L.left L.faults conn.old conn.new result }
     ensures end { IfErr result (λ how. is_of_machine how ≡ true) }
 {

@@ -54,7 +54,8 @@ fn answer_on<K: Sink, D: Dial, S: Spawner>(
 ) -> AnswerEnd
     requires range { IsAnswerJob call.now.job }
     requires server { IsAddress call.now.server.now }
-    ensures ran { RunsJobOn D.links D.back S.acts K.held call.now.job result dial.old dial.new spawner.old spawner.new sink.old sink.new }
+    ensures ran { RunsJobOn D.links D.back S.acts K.held call.now.job result dial.old dial.new spawner.old spawner.new
+        sink.old sink.new }
     ensures asked { Appended (D.asked dial.old) (call.now.server.now ∷ []) (D.asked dial.new) }
     ensures end { is_of_dial result ≡ true }
     ensures dialled { CountsFault (result ≡ AnswerEnd.DialFault) (D.faults dial.old) (D.faults dial.new) }
@@ -88,7 +89,8 @@ pub fn answer_run<K: Sink, D: Dial, S: Spawner>(
     ensures untouched { result ≡ AnswerEnd.Usage → (sink.new ≡ sink.old) × (dial.new ≡ dial.old) × (spawner.new ≡ spawner.old) }
     ensures no_job { answer_words words.now ≡ None → (sink.new ≡ sink.old) × (dial.new ≡ dial.old) × (spawner.new ≡ spawner.old) }
 
-    // which server was dialled; what was sent, which children ran, what was written, what the hook is at the end, and when it is done
+    // which server was dialled; what was sent, which children ran, what was written, what the hook is at the end, and when it is
+    // done
     ensures asked { (a : AnswerWords) → answer_words words.now ≡ Some a → result ≢ AnswerEnd.Usage →
         AskedForServer a.server result (D.asked dial.old) (D.asked dial.new) }
     ensures ran { (a : AnswerWords) → answer_words words.now ≡ Some a → result ≢ AnswerEnd.Usage →

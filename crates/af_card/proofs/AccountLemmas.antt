@@ -1,5 +1,5 @@
 -- How what lies between a device and its program keeps to the acts, act by act.
-use Rattle.std.proofs.Common.{◌≡◌, ℕ, ◌+◌, ◌-◌, ◌*◌, ◌/◌, ◌≤◌, ◌<◌, ◌⊎◌, inl, inr, Bool, true, false, List, [], ◌∷◌, ◌++◌, length, min, take, drop, refl, sym, ap, ◌∙◌, subst, arith, is_some, append_assoc, append-nil}
+use Rattle.std.proofs.Common.{◌≡◌, ℕ, ◌+◌, ◌-◌, ◌*◌, ◌/◌, ◌≤◌, ◌<◌, ◌⊎◌, inl, inr, Bool, true, false, List, [], ◌∷◌, ◌++◌, length, min, take, drop, refl, sym, ap, ◌∙◌, subst, arith, is_some, append_assoc, append-nil, add-zero}
 use Rattle.std.specs.List.{fold}
 use Rattle.std.proofs.lemmas.List.Sums.{fold-append}
 use Rattle.std.proofs.lemmas.List.Elements.{All-cons, All-nil}
@@ -350,5 +350,6 @@ Account-ended b r at starts is tick some less after ledger account =
       starts = ended-fits b.starts.restarts ledger.starts at account.starts;
       tried = account.tried ∙ as-many ledger.starts at;
       next = next-ended b.starts r.began at ledger.starts account.tried (subst (λ x. NextFits b.starts (began_of x) ledger.starts) is account.next);
-      lost = account.lost ∙ ap (λ now. min (lost_before b.shape ledger.past + lost_now b.shape now) most_lost) told.1;
+      lost = account.lost ∙ ap (λ now. min (lost_before b.shape ledger.past + lost_now b.shape now) most_lost) told.1 ∙
+          ap (λ n. min n most_lost) (sym (add-zero (lost_before b.shape ledger.past + lost_in b.shape run)));
     }))

@@ -9,8 +9,8 @@ use Rattle.af_lib.specs.Calls.{Called, ConnState, Succeeds}
 use Rattle.af_lib.proofs.LinkByteLemmas.{BothTold-map}
 
 -- where the count of faults did not rise, the link did not fail, and the answer is that of the messages
-pub called_succeeds : {L X : Type 0} (left sent : L → Option (List ℕ)) (faults : L → ℕ) (asked : Asked) (value_of : Answer → Option X) (old new : ConnState L) (result : Result X ConnFault) →
+pub called_succeeds : {L X : Type 0} {left sent : L → Option (List ℕ)} {faults : L → ℕ} {asked : Asked} {value_of : Answer → Option X} {old new : ConnState L} {result : Result X ConnFault} →
     Called left sent faults asked value_of old new result → Succeeds left faults asked value_of old new result
-called_succeeds left sent faults asked value_of old new result called usable still =
+called_succeeds {left} {old} {new} called usable still =
     BothTold-map (left old.link) (left new.link) _ _ (called.answers usable (λ e. still (called.failed e)))
     (λ b a t good. subst IsOk (sym t.0) good)

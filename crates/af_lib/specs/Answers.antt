@@ -24,7 +24,8 @@ refusal_fault bytes code None = bad_reply bytes
 abbrev pub answer_to : Order → ℕ → ℕ → List ℕ → Result (List ℕ) ConnFault
 answer_to order opcode sequence bytes =
     if u16_at order 2 bytes == sequence && u8_at 0 bytes == 1 && u8_at 1 bytes == opcode then Ok bytes
-    else if u16_at order 2 bytes == sequence && u8_at 0 bytes == 0 then Err (refusal_fault bytes (u8_at 1 bytes) (refused_in order opcode (drop 8 bytes)))
+    else if u16_at order 2 bytes == sequence && u8_at 0 bytes == 0
+    then Err (refusal_fault bytes (u8_at 1 bytes) (refused_in order opcode (drop 8 bytes)))
     else Err (bad_reply bytes)
 
 -- the value that the body of a reply states, or a bad reply

@@ -1,5 +1,6 @@
 -- What a call of a connection sends, takes and answers.
-use Rattle.std.specs.Prelude.{◌≡◌, ◌≢◌, ◌≤◌, ◌+◌, ◌%◌, ◌^◌, ◌↔◌, ◌==◌, nat_le, if◌then◌else◌, ⊤, ◌⊎◌, ℕ, ℤ, pos, Bool, List, [], length, take, drop, slice_get, is_some, option_and_then, Result, Ok, Err, IsOk, IsSome}
+use Rattle.std.specs.Prelude.{◌≡◌, ◌≢◌, ◌≤◌, ◌+◌, ◌%◌, ◌^◌, ◌↔◌, ◌==◌, nat_le, if◌then◌else◌, ⊤, ◌⊎◌, ℕ, ℤ, pos, Bool, List}
+use Rattle.std.specs.Prelude.{[], length, take, drop, slice_get, is_some, option_and_then, Result, Ok, Err, IsOk, IsSome}
 use Rattle.std.specs.declared.option.Option.{Option}
 use Rattle.std.specs.declared.option.Option.TheVariants.{None, Some}
 use Rattle.af_limits.specs.Limits.{most_events}
@@ -9,7 +10,8 @@ use Rattle.af_io.specs.Flow.{AppendedPrefix}
 use Rattle.af_request.specs.declared.reply.Controls.{Controls}
 use Rattle.af_request.specs.declared.reply.DeviceInfo.{DeviceInfo}
 use Rattle.af_request.specs.declared.reply.Phone.{Phone}
-use Rattle.af_request.specs.Asked.{Asked, no_op, get_time, create_ac, change_ac, free_ac, play_run, record_run, select_events, set_controls, query_controls, hook_switch, query_phone}
+use Rattle.af_request.specs.Asked.{Asked, no_op, get_time, create_ac, change_ac, free_ac, play_run, record_run}
+use Rattle.af_request.specs.Asked.{select_events, set_controls, query_controls, hook_switch, query_phone}
 use Rattle.af_request.specs.Answer.{Answer, setup, plain, time, played, recorded, controls, phone}
 use Rattle.af_request.specs.Fields.{flag_byte}
 use Rattle.af_request.specs.Requests.{request_bytes}
@@ -28,8 +30,8 @@ use Rattle.af_lib.specs.Incoming.{Incoming, event, other, awaited, bad_reply, in
 use Rattle.af_lib.specs.Answers.{and_then, answer_to, value_or_bad}
 use Rattle.af_lib.specs.Observed.{BothTold}
 
--- a connection: its link, the order of the bytes of its numbers, the devices of the reply to its setup, the number of the last request that it sent, its ring of
--- events, and the first fault behind which it can be used no more
+-- a connection: its link, the order of the bytes of its numbers, the devices of the reply to its setup, the number of the last
+-- request that it sent, its ring of events, and the first fault behind which it can be used no more
 pub record ConnState (L : Type 0) : Type 0 where
   pub link : L
   pub order : Order
@@ -106,7 +108,8 @@ value_in order value_of opcode bytes = value_or_bad bytes (stated order value_of
 
 -- what the message that was found answers to a request of an opcode with a number
 abbrev pub answered : {X : Type 0} → Order → (Answer → Option X) → ℕ → ℕ → Result (List ℕ) ConnFault → Result X ConnFault
-answered order value_of opcode sequence found = and_then (value_in order value_of opcode) (and_then (answer_to order opcode sequence) found)
+answered order value_of opcode sequence found =
+    and_then (value_in order value_of opcode) (and_then (answer_to order opcode sequence) found)
 
 -- the fault, if the connection can be used no more behind it
 abbrev pub cause_of : {X : Type 0} → Result X ConnFault → Option Cause
@@ -131,13 +134,15 @@ IsOfMessage (Err (fault.BadReply header first)) = ⊤
 IsOfMessage _ = ⊥
 
 -- all bytes were sent, or a part of them where the link failed
-pub record Sends {X : Type 0} (result : Result X ConnFault) (before : Option (List ℕ)) (bytes : List ℕ) (after : Option (List ℕ)) : Type 0 where
+pub record Sends {X : Type 0} (result : Result X ConnFault) (before : Option (List ℕ)) (bytes : List ℕ)
+    (after : Option (List ℕ)) : Type 0 where
   pub whole : result ≢ Err fault.LinkFault → Appended before bytes after
   pub part : AppendedPrefix before bytes after
 
 -- if the link did not fail and tells its bytes, exactly the messages up to the first that is no event were taken, the
 -- events went into the ring, and the answer is what that message says
-abbrev pub Answers : {X : Type 0} → Order → (Answer → Option X) → ℕ → ℕ → Result X ConnFault → RingState → RingState → Option (List ℕ) → Option (List ℕ) → Type 0
+abbrev pub Answers : {X : Type 0} → Order → (Answer → Option X) → ℕ → ℕ → Result X ConnFault → RingState → RingState →
+    Option (List ℕ) → Option (List ℕ) → Type 0
 Answers order value_of opcode sequence result ring ring' before after = result ≢ Err fault.LinkFault →
     BothTold before after (λ b a. (result ≡ answered order value_of opcode sequence (awaited order most_events ring b).found)
     × (ring' ≡ (awaited order most_events ring b).ring) × (a ≡ (awaited order most_events ring b).rest))
@@ -201,7 +206,9 @@ settings_changed ac play record_by preempt =
 -- the request that changes the stated controls of a device
 abbrev pub controls_changed : ℕ → Option ℤ → Option ℤ → Option Bool → Option Bool → Asked
 controls_changed device input_gain output_gain input_on output_on =
-    set_controls device (bit_if 1 (is_some input_gain) + bit_if 2 (is_some output_gain) + bit_if 4 (is_some input_on) + bit_if 8 (is_some output_on))
+    set_controls device
+    (bit_if 1 (is_some input_gain) + bit_if 2 (is_some output_gain)
+    + bit_if 4 (is_some input_on) + bit_if 8 (is_some output_on))
     (flag_or_zero input_on) (flag_or_zero output_on) (gain_or_zero input_gain) (gain_or_zero output_gain)
 
 -- what the first message of an input is to a client that waits for an event
@@ -223,7 +230,9 @@ pub record Called {L X : Type 0} (left sent : L → Option (List ℕ)) (faults :
   -- exactly the request was sent
   pub sends : old.cause ≡ None → Sends result (sent old.link) (request_bytes old.order asked) (sent new.link)
   -- exactly its answer was taken
-  pub answers : old.cause ≡ None → Answers old.order value_of (opcode_of asked) (following old.sequence) result old.ring new.ring (left old.link) (left new.link)
+  pub answers : old.cause ≡ None →
+      Answers old.order value_of (opcode_of asked) (following old.sequence) result old.ring new.ring
+      (left old.link) (left new.link)
   -- the ring gained events and nothing else, also where the link failed
   pub gained : old.cause ≡ None → Gained old.ring new.ring
   -- the answer is one of a connection that can still be used
@@ -231,13 +240,22 @@ pub record Called {L X : Type 0} (left sent : L → Option (List ℕ)) (faults :
   -- bytes that are observed stay observed
   pub tells : IsSome (left old.link) → IsSome (left new.link)
   -- the order and the devices stay, and a fault is kept
-  pub keeps : old.cause ≡ None → new ≡ record { link = new.link; order = old.order; devices = old.devices; sequence = following old.sequence; ring = new.ring; cause = cause_of result }
+  pub keeps : old.cause ≡ None →
+      new ≡ record {
+        link = new.link;
+        order = old.order;
+        devices = old.devices;
+        sequence = following old.sequence;
+        ring = new.ring;
+        cause = cause_of result;
+      }
   -- LinkFault only where the link's count of faults rose
   pub failed : result ≡ Err fault.LinkFault → FaultCounted (faults old.link) (faults new.link)
   pub count : faults old.link ≤ faults new.link
 
 -- A call that waits for an event: the oldest of the ring, or where that is empty the next message.
-pub record EventAwaited {L : Type 0} (left sent : L → Option (List ℕ)) (faults : L → ℕ) (old new : ConnState L) (result : Result Event ConnFault) : Type 0 where
+pub record EventAwaited {L : Type 0} (left sent : L → Option (List ℕ)) (faults : L → ℕ) (old new : ConnState L)
+    (result : Result Event ConnFault) : Type 0 where
   -- Spent exactly where an earlier call answered a fault behind which the connection can be used no more: the first one
   pub spent : (first : Cause) → (result ≡ Err (fault.Spent first)) ↔ (old.cause ≡ Some first)
   -- and then nothing is read
@@ -254,7 +272,14 @@ pub record EventAwaited {L : Type 0} (left sent : L → Option (List ℕ)) (faul
   pub tells : IsSome (left old.link) → IsSome (left new.link)
   -- the ring stays empty, and a fault is kept
   pub keeps : old.cause ≡ None → slice_get old.ring.events 0 ≡ None →
-      new ≡ record { link = new.link; order = old.order; devices = old.devices; sequence = old.sequence; ring = old.ring; cause = cause_of result }
+      new ≡ record {
+        link = new.link;
+        order = old.order;
+        devices = old.devices;
+        sequence = old.sequence;
+        ring = old.ring;
+        cause = cause_of result;
+      }
   -- nothing is sent
   pub sends : sent new.link ≡ sent old.link
   -- LinkFault only where the link's count of faults rose
@@ -262,7 +287,8 @@ pub record EventAwaited {L : Type 0} (left sent : L → Option (List ℕ)) (faul
   pub count : faults old.link ≤ faults new.link
 
 -- A setup of an order that was sent, and its answer.
-pub record IsSetUp {L : Type 0} (order : Order) (left sent : L → Option (List ℕ)) (faults : L → ℕ) (old new : L) (ring : RingState) (result : Result (List DeviceInfo) ConnFault) : Type 0 where
+pub record IsSetUp {L : Type 0} (order : Order) (left sent : L → Option (List ℕ)) (faults : L → ℕ) (old new : L)
+    (ring : RingState) (result : Result (List DeviceInfo) ConnFault) : Type 0 where
   -- exactly the setup was sent
   pub sends : Sends result (sent old) (setup_bytes order) (sent new)
   -- exactly its answer was taken
@@ -276,17 +302,21 @@ pub record IsSetUp {L : Type 0} (order : Order) (left sent : L → Option (List 
   pub count : faults old ≤ faults new
 
 -- a connection that was set up; or a fault, with the link, which is as it was where memory ran out
-abbrev pub Connects : {L : Type 0} → Order → (L → Option (List ℕ)) → (L → Option (List ℕ)) → (L → ℕ) → L → Result (ConnState L) (ConnFault × L) → Type 0
+abbrev pub Connects : {L : Type 0} → Order → (L → Option (List ℕ)) → (L → Option (List ℕ)) → (L → ℕ) → L →
+    Result (ConnState L) (ConnFault × L) → Type 0
 Connects order left sent faults link (Ok conn) =
-    (conn.order ≡ order) × (conn.sequence ≡ 0) × (conn.cause ≡ None) × IsSetUp order left sent faults link conn.link conn.ring (Ok conn.devices)
+    (conn.order ≡ order) × (conn.sequence ≡ 0) × (conn.cause ≡ None)
+    × IsSetUp order left sent faults link conn.link conn.ring (Ok conn.devices)
 Connects order left sent faults link (Err e) =
     ((e.0 ≡ fault.OutOfMemory) × (e.1 ≡ link)) ⊎ ((ring : RingState) × IsSetUp order left sent faults link e.1 ring (Err e.0))
 
 -- a call whose link tells its bytes is Ok where these hold the awaited reply and the link's count of faults did not rise
-abbrev pub Succeeds : {L X : Type 0} → (L → Option (List ℕ)) → (L → ℕ) → Asked → (Answer → Option X) → ConnState L → ConnState L → Result X ConnFault → Type 0
+abbrev pub Succeeds : {L X : Type 0} → (L → Option (List ℕ)) → (L → ℕ) → Asked → (Answer → Option X) → ConnState L → ConnState L →
+    Result X ConnFault → Type 0
 Succeeds left faults asked value_of old new result =
     old.cause ≡ None → ¬ (FaultCounted (faults old.link) (faults new.link)) → BothTold (left old.link) (left new.link) (λ b a.
-    IsOk (answered old.order value_of (opcode_of asked) (following old.sequence) (awaited old.order most_events old.ring b).found) → IsOk result)
+    IsOk (answered old.order value_of (opcode_of asked) (following old.sequence)
+    (awaited old.order most_events old.ring b).found) → IsOk result)
 
 -- each call of a connection whose reply states such a value is one of these
 abbrev pub IsOkWhereAwaited : {L X : Type 0} → (left sent : L → Option (List ℕ)) → (faults : L → ℕ) → (Answer → Option X) → Type 0

@@ -15,7 +15,8 @@ abbrev pub HasBuffers : (input output : List ℕ) → Type 0
 HasBuffers input output = (longest_message ≤ length input) × (longest_frame ≤ length output)
 
 -- a reply to the request was found, which stands in a buffer, or what is there in its place
-abbrev pub Finds : Order → ℕ → ℕ → Result ℕ ConnFault → List ℕ → RingState → RingState → Option (List ℕ) → Option (List ℕ) → Type 0
+abbrev pub Finds : Order → ℕ → ℕ → Result ℕ ConnFault → List ℕ → RingState → RingState →
+    Option (List ℕ) → Option (List ℕ) → Type 0
 Finds order opcode sequence result into ring ring' before after = BothTold before after (λ b a.
     (found_as result into ≡ and_then (answer_to order opcode sequence) (awaited order most_events ring b).found)
     × (ring' ≡ (awaited order most_events ring b).ring) × (a ≡ (awaited order most_events ring b).rest))

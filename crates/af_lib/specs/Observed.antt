@@ -11,7 +11,8 @@ BothTold None (Some after) P = ⊥
 BothTold (Some before) (Some after) P = P before after
 
 -- A link was only read: nothing was sent, bytes that are observed stay observed, and its count of faults rose where this failed.
-pub record OnlyRead {L : Type 0} (left sent : L → Option (List ℕ)) (faults : L → ℕ) (failed : Type 0) (link link' : L) : Type 0 where
+pub record OnlyRead {L : Type 0} (left sent : L → Option (List ℕ)) (faults : L → ℕ) (failed : Type 0)
+    (link link' : L) : Type 0 where
   pub sends : sent link' ≡ sent link
   pub tells : IsSome (left link) → IsSome (left link')
   pub counts : CountsFault failed (faults link) (faults link')

@@ -38,7 +38,8 @@ pub record IsCut (order : Order) (input : List ℕ) : Type 0 where
 -- one message was read, or a head that is none, or all of an input that is too short
 abbrev pub Frames : Order → Framed → List ℕ → Option (List ℕ) → Option (List ℕ) → Type 0
 Frames order (framed.Message n) into before after = BothTold before after (λ b a. IsWhole order b n × (b ≡ take n into ++ a))
-Frames order framed.BadHead into before after = BothTold before after (λ b a. (message_front order b ≡ BadMessage) × (b ≡ take 8 into ++ a))
+Frames order framed.BadHead into before after =
+    BothTold before after (λ b a. (message_front order b ≡ BadMessage) × (b ≡ take 8 into ++ a))
 Frames order framed.Ended into before after = BothTold before after (λ b a. IsCut order b × (a ≡ []))
 Frames order framed.Failed into before after = ⊤
 
@@ -65,7 +66,8 @@ IsTakenWithin _ most = ⊤
 
 -- the first message was taken, and nothing behind it
 abbrev pub Takes : Order → Result Taken ConnFault → List ℕ → Option (List ℕ) → Option (List ℕ) → Type 0
-Takes order result into before after = BothTold before after (λ b a. (taken_as result into ≡ incoming order b) × (a ≡ behind_message order b))
+Takes order result into before after =
+    BothTold before after (λ b a. (taken_as result into ≡ incoming order b) × (a ≡ behind_message order b))
 
 -- the message that was found, which stands in a buffer
 abbrev pub found_as : Result ℕ ConnFault → List ℕ → Result (List ℕ) ConnFault
@@ -75,4 +77,5 @@ found_as (Err fault) into = Err fault
 -- the messages up to the first that is no event were taken, at most 4096 of them, and nothing behind them
 abbrev pub Awaits : Order → Result ℕ ConnFault → List ℕ → RingState → RingState → Option (List ℕ) → Option (List ℕ) → Type 0
 Awaits order result into ring ring' before after =
-    BothTold before after (λ b a. awaited order most_events ring b ≡ record { found = found_as result into; ring = ring'; rest = a })
+    BothTold before after
+    (λ b a. awaited order most_events ring b ≡ record { found = found_as result into; ring = ring'; rest = a })

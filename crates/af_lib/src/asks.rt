@@ -117,7 +117,8 @@ pub fn ask_value<T: Stated, L: Link + Drop>(
         exchange.old.ring exchange.new.ring (L.left exchange.old.link) (L.left exchange.new.link) }
     ensures gained { Gained exchange.old.ring exchange.new.ring }
     ensures fresh { IsFresh result }
-    ensures sends { Sends result (L.sent exchange.old.link) (request_bytes order (request_meaning request.now)) (L.sent exchange.new.link) }
+    ensures sends { Sends result (L.sent exchange.old.link) (request_bytes order (request_meaning request.now))
+        (L.sent exchange.new.link) }
     ensures tells { IsSome (L.left exchange.old.link) → IsSome (L.left exchange.new.link) }
     ensures faults { CountsFault (result ≡ Err ConnFault.LinkFault) (L.faults exchange.old.link) (L.faults exchange.new.link) }
     ensures room { HasBuffers exchange.new.input.items exchange.new.output.items }

@@ -43,7 +43,14 @@ impl<L: Link + Drop> Model for Conn<L> {
 
     ghost Value = { ConnState L };
 
-    ghost view = { λ a. record { link = a.exchange.link; order = a.order; devices = a.devices.items; sequence = a.sequence; ring = a.exchange.ring; cause = a.cause } };
+    ghost view = { λ a. record {
+      link = a.exchange.link;
+      order = a.order;
+      devices = a.devices.items;
+      sequence = a.sequence;
+      ring = a.exchange.ring;
+      cause = a.cause;
+    } };
 
     ghost invariant = { λ a. HasBuffers a.exchange.input.items a.exchange.output.items
         × IsReplyTo opcodes.setup (setup a.devices.items) };

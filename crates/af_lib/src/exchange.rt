@@ -153,7 +153,8 @@ pub fn ask<L: Link + Drop>(
     ensures gained { Gained exchange.old.ring exchange.new.ring }
     ensures within { IfOk result (λ n. (8 ≤ n) × (n ≤ longest_message)) }
     ensures fresh { IsFresh result }
-    ensures sends { Sends result (L.sent exchange.old.link) (request_bytes order (request_meaning request.now)) (L.sent exchange.new.link) }
+    ensures sends { Sends result (L.sent exchange.old.link) (request_bytes order (request_meaning request.now))
+        (L.sent exchange.new.link) }
     ensures tells { IsSome (L.left exchange.old.link) → IsSome (L.left exchange.new.link) }
     ensures faults { CountsFault (result ≡ Err ConnFault.LinkFault) (L.faults exchange.old.link) (L.faults exchange.new.link) }
     ensures room { HasBuffers exchange.new.input.items exchange.new.output.items }

@@ -1,5 +1,6 @@
 -- The values of words: numbers, gains, switches, forms of files and orders of bytes.
-use Rattle.std.specs.Prelude.{Bool, true, false, ℕ, ℤ, pos, neg_ℤ, nat_le, ◌==◌, ◌&&◌, List, [], ◌∷◌, length, Option, Some, None, codes, option_map, if◌then◌else◌}
+use Rattle.std.specs.Prelude.{Bool, true, false, ℕ, ℤ, pos, neg_ℤ, nat_le, ◌==◌, ◌&&◌, List, []}
+use Rattle.std.specs.Prelude.{◌∷◌, length, Option, Some, None, codes, option_map, if◌then◌else◌}
 use Rattle.std.specs.Str.{all_ascii_digits, bytes_eq}
 use Rattle.std.specs.Str.Parse.{digits_value}
 use Rattle.af_sound.specs.declared.head.SoundForm.{SoundForm}
@@ -10,12 +11,14 @@ use Rattle.af_wire.specs.declared.order.Order.TheVariants.{Big, Little}
 -- the number of some decimal digits, where it lies between these two
 abbrev pub number_in : ℕ → ℕ → List ℕ → Option ℕ
 number_in low high text =
-    if nat_le 1 (length text) && all_ascii_digits text && nat_le low (digits_value 10 text) && nat_le (digits_value 10 text) high then Some (digits_value 10 text) else None
+    if nat_le 1 (length text) && all_ascii_digits text && nat_le low (digits_value 10 text) && nat_le (digits_value 10 text) high
+    then Some (digits_value 10 text) else None
 
 -- a gain of -30 to 30 decibels, of which a minus sign may stand before the digits
 abbrev pub gain_in : List ℕ → Option ℤ
 gain_in [] = None
-gain_in (c ∷ text) = if c == 45 then option_map (λ n. neg_ℤ (pos n)) (number_in 0 30 text) else option_map (λ n. pos n) (number_in 0 30 (c ∷ text))
+gain_in (c ∷ text) =
+    if c == 45 then option_map (λ n. neg_ℤ (pos n)) (number_in 0 30 text) else option_map (λ n. pos n) (number_in 0 30 (c ∷ text))
 
 -- a switch, by the word for it and the word against it
 abbrev pub switch_in : (when otherwise : List ℕ) → List ℕ → Option Bool

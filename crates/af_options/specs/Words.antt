@@ -1,5 +1,6 @@
 -- The words of the tools: each tool is one simple command of clap, and its job is that of the matches that clap defines.
-use Rattle.std.specs.Prelude.{ℕ, ◌-◌, pos, ◌&&◌, Bool, true, false, nat_le, List, [], ◌∷◌, length, Option, Some, None, codes, is_some, map, option_and_then, option_map, if◌then◌else◌}
+use Rattle.std.specs.Prelude.{ℕ, ◌-◌, pos, ◌&&◌, Bool, true, false, nat_le, List, [], ◌∷◌, length, Option}
+use Rattle.std.specs.Prelude.{Some, None, codes, is_some, map, option_and_then, option_map, if◌then◌else◌}
 use Rattle.std.specs.Str.{bytes_eq}
 use Rattle.std.specs.Option.{option_map_or}
 use Rattle.af_limits.specs.Limits.{most_devices, longest_address}
@@ -151,7 +152,16 @@ abbrev pub play_job : List Row → Option PlayJob
 play_job rows =
     option_and_then (λ (basics : Basics).
     option_and_then (λ form.
-    option_map (λ lead. record { device = basics.device; form = form; ty = basics.ty; gain = basics.gain; block = basics.block; lead = lead; time = basics.time; preempt = is_set (codes "preempt") rows })
+    option_map (λ lead. record {
+      device = basics.device;
+      form = form;
+      ty = basics.ty;
+      gain = basics.gain;
+      block = basics.block;
+      lead = lead;
+      time = basics.time;
+      preempt = is_set (codes "preempt") rows;
+    })
     (number_at (codes "lead") 100 0 60000 rows))
     (option_and_then (form_beside basics.ty) (or_default None form_in (first_of (codes "file") rows))))
     (basics_of rows)
@@ -163,7 +173,17 @@ record_job rows =
     option_and_then (λ form.
     option_and_then (λ frames.
     option_and_then (λ stop_peak.
-    option_map (λ stop_blocks. record { device = basics.device; form = form; ty = basics.ty; gain = basics.gain; block = basics.block; time = basics.time; frames = frames; stop_peak = stop_peak; stop_blocks = stop_blocks })
+    option_map (λ stop_blocks. record {
+      device = basics.device;
+      form = form;
+      ty = basics.ty;
+      gain = basics.gain;
+      block = basics.block;
+      time = basics.time;
+      frames = frames;
+      stop_peak = stop_peak;
+      stop_blocks = stop_blocks;
+    })
     (number_at (codes "stop-blocks") 1 1 1000000 rows))
     (number_at (codes "stop-peak") 0 0 32768 rows))
     (option_and_then (number_in 1 2147483647) (first_of (codes "frames") rows)))
@@ -178,7 +198,14 @@ set_job rows =
     option_and_then (λ output_gain.
     option_and_then (λ input_on.
     option_and_then (λ output_on.
-    option_map (λ hook_off. record { device = device; input_gain = input_gain; output_gain = output_gain; input_on = input_on; output_on = output_on; hook_off = hook_off })
+    option_map (λ hook_off. record {
+      device = device;
+      input_gain = input_gain;
+      output_gain = output_gain;
+      input_on = input_on;
+      output_on = output_on;
+      hook_off = hook_off;
+    })
     (if_there (switch_in (codes "off") (codes "on")) (first_of (codes "hook") rows)))
     (if_there (switch_in (codes "on") (codes "off")) (first_of (codes "output") rows)))
     (if_there (switch_in (codes "on") (codes "off")) (first_of (codes "input") rows)))
@@ -196,7 +223,16 @@ pass_job rows =
     option_and_then (λ blocks.
     option_and_then (λ block.
     option_and_then (λ delay.
-    option_map (λ slack. record { from_device = from_device; to_device = to_device; ty = ty; gain = gain; blocks = blocks; block = block; delay = delay; slack = slack })
+    option_map (λ slack. record {
+      from_device = from_device;
+      to_device = to_device;
+      ty = ty;
+      gain = gain;
+      blocks = blocks;
+      block = block;
+      delay = delay;
+      slack = slack;
+    })
     (number_at (codes "slack") 100 0 3000 rows))
     (number_at (codes "delay") 200 0 3000 rows))
     (number_at (codes "block") 1000 1 4000 rows))

@@ -1,5 +1,5 @@
-//! Tests of the parts that stand alone, from device time to telephone lines and child programs: what their contracts do not
-//! say, on examples worked by hand and of other implementations.
+//! Tests of the parts that stand alone, from device time to telephone lines: what their contracts do not say, on examples worked
+//! by hand and of other implementations.
 #![tactic(auto)]
 
 #[cfg(test)]

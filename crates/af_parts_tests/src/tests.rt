@@ -1,13 +1,9 @@
 // One file for each subject.
 mod asserts;
 mod bytes_of_a_link;
-mod card;
-mod codec;
 mod contexts;
-mod exchange;
 mod lines;
 mod messages;
-mod programs;
 mod reference;
 mod requests;
 mod rings;

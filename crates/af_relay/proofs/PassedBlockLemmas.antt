@@ -5,6 +5,7 @@ use Rattle.std.specs.declared.option.Option.{Option}
 use Rattle.std.specs.declared.option.Option.TheVariants.{None, Some}
 use Rattle.af_time.specs.declared.DevTime.{DevTime}
 use Rattle.af_sample.specs.declared.sample_type.SampleType.{SampleType}
+use Rattle.af_sample.specs.SampleTypes.{frame_bytes}
 use Rattle.af_io.specs.Observed.{Appended}
 use Rattle.af_request.specs.Asked.{free_ac, get_time, play_run}
 use Rattle.af_lib.specs.Calls.{as_done, as_time, Recorded}
@@ -14,7 +15,7 @@ use Rattle.af_relay.specs.declared.pass.RelayPace.{RelayPace}
 use Rattle.af_relay.specs.declared.pass.RelayProgress.{RelayProgress}
 use Rattle.af_tool.specs.Trace.{ClientState}
 use Rattle.af_relay.specs.RelayParts.{RelayPart, ObservedRelayPart}
-use Rattle.af_relay.specs.Pass.{RelayTrace, as_word, asks_from, asks_to, begins_both, ends_contexts, after_block, passes, passes_block, moment_of, to_context}
+use Rattle.af_relay.specs.Pass.{RelayTrace, as_word, asks_from, asks_to, begins_both, ends_contexts, after_block, passes, passes_block, moment_of, pace_of, to_context}
 use Rattle.af_io.proofs.AppendedLemmas.{appended_on}
 use Rattle.af_relay.proofs.RelayPartLemmas.{both_behind_came, doing_both, doing_both_twice}
 
@@ -32,11 +33,11 @@ pub record ReachesBoth {X : Type 0} (part : RelayPart X) (now : ClientState → 
   pub link_from : Appended from sends_from from'
   pub link_to : Appended to sends_to to'
 
-module _ {X : Type 0} (part : RelayPart X) (now : ClientState → ClientState → RelayPart X) (lf : Option (List ℕ)) (wf : List ℕ → ClientState) (s s' : Option (List ℕ)) (lt : Option (List ℕ)) (wt : List ℕ → ClientState) (t t' : Option (List ℕ)) (r : ReachesBoth part now lf wf s s' lt wt t t') where
+module _ {X : Type 0} {part : RelayPart X} {now : ClientState → ClientState → RelayPart X} {lf : Option (List ℕ)} {wf : List ℕ → ClientState} {s s' : Option (List ℕ)} {lt : Option (List ℕ)} {wt : List ℕ → ClientState} {t t' : Option (List ℕ)} (r : ReachesBoth part now lf wf s s' lt wt t t') where
   -- what is left comes to an end
-  pub reached_both : (result : Result X ToolEnd) (lf' : Option (List ℕ)) (wf' : List ℕ → ClientState) (s'' : Option (List ℕ)) (lt' : Option (List ℕ)) (wt' : List ℕ → ClientState) (t'' : Option (List ℕ)) →
+  pub reached_both : (result : Result X ToolEnd) {lf' : Option (List ℕ)} {wf' : List ℕ → ClientState} {s'' : Option (List ℕ)} {lt' : Option (List ℕ)} {wt' : List ℕ → ClientState} {t'' : Option (List ℕ)} →
       ObservedRelayPart (now (wf r.v) (wt r.w)) result lf' wf' s' s'' lt' wt' t' t'' → ObservedRelayPart part result lf' wf' s s'' lt' wt' t t''
-  reached_both result lf' wf' s'' lt' wt' t'' g = record {
+  reached_both result {lf'} {wf'} {s''} {lt'} {wt'} {t''} g = record {
     sends_from = r.sends_from ++ g.sends_from;
     sends_to = r.sends_to ++ g.sends_to;
     came = both_behind_came part (now (wf r.v) (wt r.w)) result lf' wf' lt' wt' r.sends_from r.sends_to g.sends_from g.sends_to r.goes g.came;
@@ -45,10 +46,10 @@ module _ {X : Type 0} (part : RelayPart X) (now : ClientState → ClientState �
   }
 
   -- a step more: what is left begins with a part that came to a value
-  pub reaches_both_on : {Y : Type 0} (first : RelayPart Y) (second : Y → ClientState → ClientState → RelayPart X) (y : Y) (lf' : Option (List ℕ)) (wf' : List ℕ → ClientState) (s'' : Option (List ℕ)) (lt' : Option (List ℕ)) (wt' : List ℕ → ClientState) (t'' : Option (List ℕ)) →
+  pub reaches_both_on : {Y : Type 0} (first : RelayPart Y) (second : Y → ClientState → ClientState → RelayPart X) (y : Y) {lf' : Option (List ℕ)} {wf' : List ℕ → ClientState} {s'' : Option (List ℕ)} {lt' : Option (List ℕ)} {wt' : List ℕ → ClientState} {t'' : Option (List ℕ)} →
       ((next : X → ClientState → ClientState → RelayTrace) → now (wf r.v) (wt r.w) next ≡ first (λ y v w. second y v w next)) → ObservedRelayPart first (Ok y) lf' wf' s' s'' lt' wt' t' t'' →
       ReachesBoth part (second y) lf' wf' s s'' lt' wt' t t''
-  reaches_both_on first second y lf' wf' s'' lt' wt' t'' is g = record {
+  reaches_both_on first second y {wf'} {s''} {wt'} {t''} is g = record {
     v = g.came.0;
     w = g.came.1;
     told_from = g.came.2;
@@ -96,13 +97,17 @@ abbrev pub behind_second : PassJob → ClientState → ClientState → RelayPart
 behind_second job v w = λ next. asks_from (get_time job.from_device) as_time v (λ now v. next now v w)
 
 -- the beginning of a relay, by other names of its type and of its channels
-pub begins_named : (job : PassJob) (ty ty' : SampleType) (from to channels : ℕ) (v w : ClientState) (r : Result DevTime ToolEnd)
-    (lf : Option (List ℕ)) (wf : List ℕ → ClientState) (s s' : Option (List ℕ)) (lt : Option (List ℕ)) (wt : List ℕ → ClientState) (t t' : Option (List ℕ)) →
+pub begins_named : (job : PassJob) {ty ty' : SampleType} {from to : ℕ} (channels : ℕ) (v w : ClientState) {r : Result DevTime ToolEnd}
+    {lf : Option (List ℕ)} {wf : List ℕ → ClientState} {s s' : Option (List ℕ)} {lt : Option (List ℕ)} {wt : List ℕ → ClientState} {t t' : Option (List ℕ)} →
     ty ≡ ty' → from ≡ channels → to ≡ channels → ObservedRelayPart (begins_both job ty from to v w) r lf wf s s' lt wt t t' → ObservedRelayPart (begins_both job ty' channels channels v w) r lf wf s s' lt wt t t'
-begins_named job ty ty' from to channels v w r lf wf s s' lt wt t t' same one other g =
+begins_named job {ty} {to} channels v w {r} {lf} {wf} {s} {s'} {lt} {wt} {t} {t'} same one other g =
     subst (λ (x : SampleType). ObservedRelayPart (begins_both job x channels channels v w) r lf wf s s' lt wt t t') same
     (subst (λ (n : ℕ). ObservedRelayPart (begins_both job ty channels n v w) r lf wf s s' lt wt t t') other
     (subst (λ (n : ℕ). ObservedRelayPart (begins_both job ty n to v w) r lf wf s s' lt wt t t') one g))
+
+-- the pace of a relay, by other names of its type and of the bytes of a frame
+pub pace_named : (job : PassJob) (rate channels : ℕ) {n : ℕ} {ty ty' : SampleType} {pace : RelayPace} → pace ≡ pace_of job n rate → n ≡ frame_bytes ty channels → ty ≡ ty' → pace ≡ pace_of job (frame_bytes ty' channels) rate
+pace_named job rate channels is bytes same = is ∙ ap (λ n. pace_of job n rate) (bytes ∙ ap (λ t. frame_bytes t channels) same)
 
 -- the second context is freed
 abbrev pub behind_freed : ClientState → ClientState → RelayPart (Unit {0})

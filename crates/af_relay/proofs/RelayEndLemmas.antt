@@ -146,9 +146,9 @@ pair_undone from k to l how is way =
     undone_between (slice_get from k) (length from) (slice_get to l) (length to) (ap (λ (x : ToolEnd). (let r : Result DeviceInfo ToolEnd = Err x in r)) (sym way) ∙ is)
 
 -- a part within which the relay ended, whatever was to follow
-pub both_followed_stop : {X : Type 0} (relay : RelayTrace) (part : RelayPart X) (next : X → ClientState → ClientState → RelayTrace) (how : ToolEnd) (lf : Option (List ℕ)) (wf : List ℕ → ClientState) (s s' : Option (List ℕ)) (lt : Option (List ℕ)) (wt : List ℕ → ClientState) (t t' h : Option (List ℕ)) →
+pub both_followed_stop : {X : Type 0} {relay : RelayTrace} (part : RelayPart X) (next : X → ClientState → ClientState → RelayTrace) {how : ToolEnd} {lf : Option (List ℕ)} {wf : List ℕ → ClientState} {s s' : Option (List ℕ)} {lt : Option (List ℕ)} {wt : List ℕ → ClientState} {t t' h : Option (List ℕ)} →
     relay ≡ part next → ObservedRelayPart {X = X} part (Err how) lf wf s s' lt wt t t' → ObservedRelayTrace relay how s s' t t' h h
-both_followed_stop relay part next how lf wf s s' lt wt t t' h is g =
+both_followed_stop part next {h} is g =
     let e = g.came next in
     rw is (record {
       sends_from = g.sends_from;
@@ -166,9 +166,9 @@ no_sends [] b is = refl
 no_sends (x ∷ a) b is = cc
 
 -- a part, and the text behind it
-pub both_followed_on : {X : Type 0} (relay : RelayTrace) (part : RelayPart X) (next : X → ClientState → ClientState → RelayTrace) (x : X) (text : List ℕ) (how : ToolEnd) (lf : Option (List ℕ)) (wf : List ℕ → ClientState) (s s' : Option (List ℕ)) (lt : Option (List ℕ)) (wt : List ℕ → ClientState) (t t' h h' : Option (List ℕ)) →
+pub both_followed_on : {X : Type 0} {relay : RelayTrace} (part : RelayPart X) (next : X → ClientState → ClientState → RelayTrace) (x : X) (text : List ℕ) {how : ToolEnd} {lf : Option (List ℕ)} {wf : List ℕ → ClientState} {s s' : Option (List ℕ)} {lt : Option (List ℕ)} {wt : List ℕ → ClientState} {t t' h h' : Option (List ℕ)} →
     relay ≡ part next → ((v w : ClientState) → next x v w ≡ relay_writing text (ends_both done)) → ObservedRelayPart part (Ok x) lf wf s s' lt wt t t' → ObservedTrace (writing text (ends done)) how s' s' h h' → ObservedRelayTrace relay how s s' t t' h h'
-both_followed_on relay part next x text how lf wf s s' lt wt t t' h h' is last g f =
+both_followed_on {relay} part next x text {how} {wf} {s} {s'} {wt} {t} {t'} is last g f =
     let whole : relay ≡ doing_both g.sends_from g.sends_to (relay_writing text (ends_both done)) = is ∙ g.came.4 next ∙ ap (doing_both g.sends_from g.sends_to) (last (wf g.came.0) (wt g.came.1)) in
     let none : f.sends ≡ [] = no_sends f.sends f.ended.unsent f.ended.sent in
     record {
@@ -224,9 +224,9 @@ paired_finish job from to v w (Ok device) is ok = rw (apass_there job from to v 
 paired_finish job from to v w (Err how) is ok = absurd (cc)
 
 -- what a relay has done that followed its trace
-pub pass_ran : (job : PassJob) (from to : List DeviceInfo) (v w : ClientState) (how : ToolEnd) (s s' t t' h h' : Option (List ℕ)) → ObservedRelayTrace (apass_trace job from to v w) how s s' t t' h h' →
+pub pass_ran : (job : PassJob) (from to : List DeviceInfo) (v w : ClientState) {how : ToolEnd} {s s' t t' h h' : Option (List ℕ)} → ObservedRelayTrace (apass_trace job from to v w) how s s' t t' h h' →
     (how ≡ end.Done → IsRelayed job from v w s s' t t' h h') → ApassRan job from to v w how s s' t t' h h'
-pass_ran job from to v w how s s' t t' h h' f relayed = record {
+pass_ran job from to v w {how} f relayed = record {
   followed = f;
   relayed = relayed;
   reply = reply_of (on_from (apass_trace job from to v w)) how f.sends_from f.output f.recorded;

@@ -36,9 +36,9 @@ both_behind r d how s t s' t' is e = record {
 }
 
 -- an end within the first of two parts
-pub both_stop : {X Y : Type 0} (first : RelayPart X) (second : X → ClientState → ClientState → RelayPart Y) (how : ToolEnd) (lf lf' : Option (List ℕ)) (wf wf' : List ℕ → ClientState) (s s' : Option (List ℕ)) (lt lt' : Option (List ℕ)) (wt wt' : List ℕ → ClientState) (t t' : Option (List ℕ)) →
+pub both_stop : {X Y : Type 0} (first : RelayPart X) (second : X → ClientState → ClientState → RelayPart Y) {how : ToolEnd} {lf lf' : Option (List ℕ)} {wf wf' : List ℕ → ClientState} {s s' : Option (List ℕ)} {lt lt' : Option (List ℕ)} {wt wt' : List ℕ → ClientState} {t t' : Option (List ℕ)} →
     ObservedRelayPart {X = X} first (Err how) lf wf s s' lt wt t t' → ObservedRelayPart {X = Y} (λ next. first (λ x v w. second x v w next)) (Err how) lf' wf' s s' lt' wt' t t'
-both_stop first second how lf lf' wf wf' s s' lt lt' wt wt' t t' g =
+both_stop first second g =
     record { sends_from = g.sends_from; sends_to = g.sends_to; came = λ next. g.came (λ x v w. second x v w next); link_from = g.link_from; link_to = g.link_to }
 
 came_both : {X Y : Type 0} (first : RelayPart X) (second : X → ClientState → ClientState → RelayPart Y) (x : X) (v w : ClientState) (r : Result Y ToolEnd) (lf : Option (List ℕ)) (wf : List ℕ → ClientState) (lt : Option (List ℕ)) (wt : List ℕ → ClientState) (s t s' t' : List ℕ) →
@@ -53,10 +53,10 @@ came_both first second x v w (Ok y) lf wf lt wt s t s' t' passed came = (
 came_both first second x v w (Err how) lf wf lt wt s t s' t' passed came = λ next. both_behind (second x v w next) _ how s t s' t' (passed (λ x v w. second x v w next)) (came next)
 
 -- a part, and what follows it
-pub both_on : {X Y : Type 0} (first : RelayPart X) (second : X → ClientState → ClientState → RelayPart Y) (x : X) (r : Result Y ToolEnd) (lf lf' : Option (List ℕ)) (wf wf' : List ℕ → ClientState) (s s' s'' : Option (List ℕ)) (lt lt' : Option (List ℕ)) (wt wt' : List ℕ → ClientState) (t t' t'' : Option (List ℕ)) →
+pub both_on : {X Y : Type 0} (first : RelayPart X) (second : X → ClientState → ClientState → RelayPart Y) {x : X} {r : Result Y ToolEnd} {lf lf' : Option (List ℕ)} {wf wf' : List ℕ → ClientState} {s s' s'' : Option (List ℕ)} {lt lt' : Option (List ℕ)} {wt wt' : List ℕ → ClientState} {t t' t'' : Option (List ℕ)} →
     ObservedRelayPart first (Ok x) lf wf s s' lt wt t t' → ((v w : List ℕ) → lf ≡ Some v → lt ≡ Some w → ObservedRelayPart (second x (wf v) (wt w)) r lf' wf' s' s'' lt' wt' t' t'') →
     ObservedRelayPart (λ next. first (λ x v w. second x v w next)) r lf' wf' s s'' lt' wt' t t''
-both_on first second x r lf lf' wf wf' s s' s'' lt lt' wt wt' t t' t'' g rest =
+both_on first second {x} {r} {lf'} {wf} {wf'} {s} {s'} {s''} {lt'} {wt} {wt'} {t} {t'} {t''} g rest =
     let more = rest g.came.0 g.came.1 g.came.2 g.came.3 in
     record {
       sends_from = g.sends_from ++ more.sends_from;
@@ -73,9 +73,9 @@ both_behind_came part now (Ok x) lf wf lt wt s t s' t' goes came = (came.0, came
 both_behind_came part now (Err how) lf wf lt wt s t s' t' goes came = λ next. both_behind (now next) (part next) how s t s' t' (goes next) (came next)
 
 -- a part that has nothing to do
-pub both_value : {X : Type 0} (part : RelayPart X) (x : X) (v w : List ℕ) (lf : Option (List ℕ)) (wf : List ℕ → ClientState) (s : Option (List ℕ)) (lt : Option (List ℕ)) (wt : List ℕ → ClientState) (t : Option (List ℕ)) →
+pub both_value : {X : Type 0} {part : RelayPart X} {x : X} (v w : List ℕ) {lf : Option (List ℕ)} {wf : List ℕ → ClientState} {s : Option (List ℕ)} {lt : Option (List ℕ)} {wt : List ℕ → ClientState} {t : Option (List ℕ)} →
     lf ≡ Some v → lt ≡ Some w → ((next : X → ClientState → ClientState → RelayTrace) → part next ≡ next x (wf v) (wt w)) → ObservedRelayPart part (Ok x) lf wf s s lt wt t t
-both_value part x v w lf wf s lt wt t told_from told_to is = record { sends_from = []; sends_to = []; came = (v, w, told_from, told_to, is); link_from = appended_none s; link_to = appended_none t }
+both_value v w {s} {t} told_from told_to is = record { sends_from = []; sends_to = []; came = (v, w, told_from, told_to, is); link_from = appended_none s; link_to = appended_none t }
 
 came_both_same : {X : Type 0} (part other : RelayPart X) (r : Result X ToolEnd) (lf : Option (List ℕ)) (wf : List ℕ → ClientState) (lt : Option (List ℕ)) (wt : List ℕ → ClientState) (s t : List ℕ) →
     ((next : X → ClientState → ClientState → RelayTrace) → part next ≡ other next) → RelayPartMatches other r lf wf lt wt s t → RelayPartMatches part r lf wf lt wt s t
@@ -83,15 +83,15 @@ came_both_same part other (Ok x) lf wf lt wt s t is came = (came.0, came.1, came
 came_both_same part other (Err how) lf wf lt wt s t is came = λ next. subst (λ (r : RelayTrace). MatchesRelayTrace r how s t) (sym (is next)) (came next)
 
 -- a part under another name
-pub goes_both_same : {X : Type 0} (part other : RelayPart X) (r : Result X ToolEnd) (lf : Option (List ℕ)) (wf : List ℕ → ClientState) (s s' : Option (List ℕ)) (lt : Option (List ℕ)) (wt : List ℕ → ClientState) (t t' : Option (List ℕ)) →
+pub goes_both_same : {X : Type 0} (part other : RelayPart X) {r : Result X ToolEnd} {lf : Option (List ℕ)} {wf : List ℕ → ClientState} {s s' : Option (List ℕ)} {lt : Option (List ℕ)} {wt : List ℕ → ClientState} {t t' : Option (List ℕ)} →
     ((next : X → ClientState → ClientState → RelayTrace) → part next ≡ other next) → ObservedRelayPart other r lf wf s s' lt wt t t' → ObservedRelayPart part r lf wf s s' lt wt t t'
-goes_both_same part other r lf wf s s' lt wt t t' is g =
+goes_both_same part other {r} {lf} {wf} {lt} {wt} is g =
     record { sends_from = g.sends_from; sends_to = g.sends_to; came = came_both_same part other r lf wf lt wt g.sends_from g.sends_to is g.came; link_from = g.link_from; link_to = g.link_to }
 
 -- a part by another name of what it is about
-pub both_named : {X A : Type 0} (part : A → RelayPart X) (a a' : A) (r : Result X ToolEnd) (lf : Option (List ℕ)) (wf : List ℕ → ClientState) (s s' : Option (List ℕ)) (lt : Option (List ℕ)) (wt : List ℕ → ClientState) (t t' : Option (List ℕ)) → a ≡ a' →
+pub both_named : {X A : Type 0} (part : A → RelayPart X) {a a' : A} {r : Result X ToolEnd} {lf : Option (List ℕ)} {wf : List ℕ → ClientState} {s s' : Option (List ℕ)} {lt : Option (List ℕ)} {wt : List ℕ → ClientState} {t t' : Option (List ℕ)} → a ≡ a' →
     ObservedRelayPart (part a) r lf wf s s' lt wt t t' → ObservedRelayPart (part a') r lf wf s s' lt wt t t'
-both_named {X} {A} part a a' r lf wf s s' lt wt t t' same g = subst (λ (x : A). ObservedRelayPart (part x) r lf wf s s' lt wt t t') same g
+both_named {X} {A} part {r} {lf} {wf} {s} {s'} {lt} {wt} {t} {t'} same g = subst (λ (x : A). ObservedRelayPart (part x) r lf wf s s' lt wt t t') same g
 
 by_is : {X : Type 0} (sending : List ℕ → RelayTrace → RelayTrace) (asked : Asked) (value_of : Answer → Option X) (w : ClientState) (next : X → ClientState → RelayTrace) →
     asks_by sending asked value_of w next ≡ sending (request_bytes w.order asked) (relayed_by (answer_on asked value_of w) (after_reply w) next)

@@ -32,7 +32,9 @@ use Rattle.af_tool.specs.Trace.{ClientState, answer_on, after_reply, channel_mis
 use Rattle.af_options.specs.Ranges.{IsPaced}
 use Rattle.af_relay.specs.Pass.{RelayTrace, after, apass_trace, as_word, asks_by, asks_from, asks_to, of_one_shape, begins_both, ends_both, ends_contexts, from_context, has_drifted, in_step, none_passed, on_one, passed_between, after_block, passed_text, passes, passes_block, moment_of, relayed_by, sending_from, sending_to, to_context}
 use Rattle.af_relay.specs.Relayed.{AreTold, IsRelayed, PassedBlock, Relayed, is_moved, is_same_time, moves, pace_from, play_requests, record_replies, record_requests, reply_then, samples_of, type_from}
-use Rattle.af_relay.proofs.RelayEndLemmas.{reports}
+use Rattle.af_relay.specs.Pair.{pair_of}
+use Rattle.af_relay.specs.Ran.{ApassRan}
+use Rattle.af_relay.proofs.RelayEndLemmas.{pair_stated, pass_ran, reports}
 use Rattle.af_relay.proofs.TimeWordLemmas.{told_low}
 
 -- a request in a relay that is done was answered
@@ -250,9 +252,9 @@ all_sent : (whole part rest : List ℕ) (s s' : Option (List ℕ)) → whole ≡
 all_sent whole part rest s s' is none appended = subst (λ (l : List ℕ). Appended s l s') (sym (is ∙ ap (λ (l : List ℕ). part ++ l) none ∙ append-nil part)) appended
 
 -- a relay that ended at Done has sent and written what it passed
-pub is_relayed : (job : PassJob) (from to : List DeviceInfo) (v w : ClientState) (how : ToolEnd) (s s' t t' h h' : Option (List ℕ)) → ObservedRelayTrace (apass_trace job from to v w) how s s' t t' h h' →
+is_relayed : (job : PassJob) (from to : List DeviceInfo) (v w : ClientState) {how : ToolEnd} {s s' t t' h h' : Option (List ℕ)} → ObservedRelayTrace (apass_trace job from to v w) how s s' t t' h h' →
     ((d : DeviceInfo) → slice_get from job.from_device ≡ Some d → IsDeviceInfo d) → IsPaced job → how ≡ end.Done → IsRelayed job from v w s s' t t' h h'
-is_relayed job from to v w how s s' t t' h h' f stated paced way =
+is_relayed job from to v w {s} {s'} {t} {t'} {h} {h'} f stated paced way =
     let relay = apass_trace job from to v w in
     let r = f.recorded.whole (ap is_outer way) in
     let p = f.played.whole (ap is_outer way) in
@@ -268,3 +270,9 @@ is_relayed job from to v w how s s' t t' h h' f stated paced way =
       link_to = all_sent relay.to f.sends_to f.played.unsent t t' f.played.sent p.1 f.link_to;
       sink = all_sent relay.output f.output f.recorded.unwritten h h' f.recorded.wrote r.2 f.sink;
     }
+
+-- what a relay has done between its devices that followed its trace
+pub between_ran : (job : PassJob) (from to : List DeviceInfo) (v w : ClientState) (device : DeviceInfo) {how : ToolEnd} {s s' t t' h h' : Option (List ℕ)} → ObservedRelayTrace (apass_trace job from to v w) how s s' t t' h h' →
+    (let r : Result DeviceInfo ToolEnd = Ok device in r ≡ pair_of from job.from_device to job.to_device) → IsDeviceInfo device → IsPaced job → ApassRan job from to v w how s s' t t' h h'
+between_ran job from to v w device f there stated paced =
+    pass_ran job from to v w f (is_relayed job from to v w f (pair_stated from job.from_device to job.to_device device there stated) paced)

@@ -16,8 +16,8 @@ shape_or_end one other =
     then (if one.channels == other.channels then Ok one else Err (end.ChannelMismatch one.channels other.channels))
     else Err (end.RateMismatch one.rate other.rate)
 
--- the first of two devices that are there and have one rate and as many channels, or the end for want of the first, of the second,
--- of one rate, or then of as many channels
+-- the first of two devices that are there and have one rate and as many channels, or the end for want of the first, of the
+-- second, of one rate, or then of as many channels
 abbrev pub pair_or_end : Option DeviceInfo → ℕ → Option DeviceInfo → ℕ → Result DeviceInfo ToolEnd
 pair_or_end (Some one) n (Some other) m = shape_or_end one other
 pair_or_end (Some one) n None m = Err (end.NoDevice m)
@@ -29,7 +29,8 @@ pair_of from a to b = pair_or_end (slice_get from a) (length from) (slice_get to
 
 -- the two devices of a job have so many channels each
 abbrev pub HaveChannels : PassJob → (from to : List DeviceInfo) → ℕ → Type 0
-HaveChannels job from to channels = (device_channels from job.from_device ≡ channels) × (device_channels to job.to_device ≡ channels)
+HaveChannels job from to channels =
+    (device_channels from job.from_device ≡ channels) × (device_channels to job.to_device ≡ channels)
 
 -- the ends of a relay
 abbrev pub is_of_pass : ToolEnd → Bool

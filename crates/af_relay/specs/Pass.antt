@@ -1,5 +1,7 @@
 -- What apass does: block behind block is recorded on one server and played on another.
-use Rattle.std.specs.Prelude.{ℕ, zero, suc, ◌+◌, ◌*◌, ◌%◌, ◌^◌, ◌-ℤ◌, ◌==◌, nat_lt, unsigned_abs, if◌then◌else◌, pos, Bool, true, false, List, [], ◌++◌, codes, decimal, length, slice_get, option_and_then, unwrap_or, Result, Ok, Err}
+use Rattle.std.specs.Prelude.{ℕ, zero, suc, ◌+◌, ◌*◌, ◌%◌, ◌^◌, ◌-ℤ◌, ◌==◌, nat_lt, unsigned_abs}
+use Rattle.std.specs.Prelude.{if◌then◌else◌, pos, Bool, true, false, List, [], ◌++◌, codes, decimal}
+use Rattle.std.specs.Prelude.{length, slice_get, option_and_then, unwrap_or, Result, Ok, Err}
 use Rattle.std.specs.declared.option.Option.{Option}
 use Rattle.std.specs.declared.option.Option.TheVariants.{None, Some}
 use Rattle.af_time.specs.declared.DevTime.{DevTime}
@@ -14,7 +16,8 @@ use Rattle.af_lib.specs.declared.fault.ConnFault.{ConnFault}
 use Rattle.af_lib.specs.Calls.{as_done, as_recorded, as_time}
 use Rattle.af_options.specs.declared.job.PassJob.{PassJob}
 use Rattle.af_options.specs.Sizes.{block_frames}
-use Rattle.af_tool.specs.Trace.{Trace, Finish, ClientState, answer_on, after_reply, channel_mismatch, done, mismatch, no_device, refused}
+use Rattle.af_tool.specs.Trace.{Trace, Finish, ClientState, answer_on, after_reply}
+use Rattle.af_tool.specs.Trace.{channel_mismatch, done, mismatch, no_device, refused}
 use Rattle.af_relay.specs.declared.pass.RelayPace.{RelayPace}
 use Rattle.af_relay.specs.declared.pass.RelayProgress.{RelayProgress}
 use Rattle.af_relay.specs.declared.pass.PlayMoment.{PlayMoment}
@@ -54,8 +57,10 @@ relayed_by (Ok x) w next = next x w
 relayed_by (Err fault) w next = ends_both (refused fault)
 
 -- a request is sent on one of the links, and what follows goes by its answer
-unfoldable pub asks_by : {X : Type 0} → (List ℕ → RelayTrace → RelayTrace) → Asked → (Answer → Option X) → ClientState → (X → ClientState → RelayTrace) → RelayTrace
-asks_by sending asked value_of w next = sending (request_bytes w.order asked) (relayed_by (answer_on asked value_of w) (after_reply w) next)
+unfoldable pub asks_by : {X : Type 0} → (List ℕ → RelayTrace → RelayTrace) → Asked → (Answer → Option X) → ClientState →
+    (X → ClientState → RelayTrace) → RelayTrace
+asks_by sending asked value_of w next =
+    sending (request_bytes w.order asked) (relayed_by (answer_on asked value_of w) (after_reply w) next)
 
 abbrev pub asks_from : {X : Type 0} → Asked → (Answer → Option X) → ClientState → (X → ClientState → RelayTrace) → RelayTrace
 asks_from asked value_of v next = asks_by sending_from asked value_of v next
@@ -86,7 +91,8 @@ in_step now delay resynced = record { time = after now delay; resynced = resynce
 -- when a block is played: the first in step, and each other when it is due, or in step again where the relay has drifted
 abbrev pub moment_of : Option DevTime → (now : DevTime) (delay slack : ℕ) → PlayMoment
 moment_of None now delay slack = in_step now delay false
-moment_of (Some due) now delay slack = if has_drifted due now delay slack then in_step now delay true else record { time = due; resynced = false }
+moment_of (Some due) now delay slack =
+    if has_drifted due now delay slack then in_step now delay true else record { time = due; resynced = false }
 
 -- how far a relay has come, when one more block was played at its place
 abbrev pub after_block : RelayProgress → PlayMoment → ℕ → RelayProgress
@@ -97,7 +103,8 @@ after_block passed place frames = record {
 }
 
 -- a block is recorded on the one server, and played on the other
-unfoldable pub passes_block : PassJob → RelayPace → RelayProgress → (v w : ClientState) → (RelayProgress → ClientState → ClientState → RelayTrace) → RelayTrace
+unfoldable pub passes_block : PassJob → RelayPace → RelayProgress → (v w : ClientState) →
+    (RelayProgress → ClientState → ClientState → RelayTrace) → RelayTrace
 passes_block job pace passed v w next =
     asks_from (record_run true 1 passed.at.0 pace.size) (as_recorded true pace.size) v (λ r v.
     asks_to (get_time job.to_device) as_word w (λ now w.
@@ -106,7 +113,8 @@ passes_block job pace passed v w next =
     next (after_block passed place pace.frames) v w)))
 
 -- n blocks
-unfoldable pub passes : ℕ → PassJob → RelayPace → RelayProgress → (v w : ClientState) → (RelayProgress → ClientState → ClientState → RelayTrace) → RelayTrace
+unfoldable pub passes : ℕ → PassJob → RelayPace → RelayProgress → (v w : ClientState) →
+    (RelayProgress → ClientState → ClientState → RelayTrace) → RelayTrace
 passes zero job pace passed v w next = next passed v w
 passes (suc n) job pace passed v w next = passes_block job pace passed v w (λ passed v w. passes n job pace passed v w next)
 
@@ -118,7 +126,8 @@ abbrev pub to_context : PassJob → SampleType → (channels : ℕ) → Asked
 to_context job ty channels = create_ac job.to_device 1 (code_of ty) channels 0 (pos 0) (pos 0)
 
 -- both contexts are made, and the time of the device that is recorded is asked
-unfoldable pub begins_both : PassJob → SampleType → (channels_from channels_to : ℕ) → (v w : ClientState) → (DevTime → ClientState → ClientState → RelayTrace) → RelayTrace
+unfoldable pub begins_both : PassJob → SampleType → (channels_from channels_to : ℕ) → (v w : ClientState) →
+    (DevTime → ClientState → ClientState → RelayTrace) → RelayTrace
 begins_both job ty channels_from channels_to v w next =
     asks_from (from_context job ty channels_from) as_done v (λ _ v.
     asks_to (to_context job ty channels_to) as_done w (λ _ w.
@@ -128,8 +137,8 @@ begins_both job ty channels_from channels_to v w next =
 unfoldable pub ends_contexts : (v w : ClientState) → (Unit {0} → ClientState → ClientState → RelayTrace) → RelayTrace
 ends_contexts v w next = asks_from (free_ac 1) as_done v (λ _ v. asks_to (free_ac 1) as_done w (λ _ w. next tt v w))
 
--- the pace of a job whose frames have so many bytes, at a rate: the frames and the bytes of a block, and the delay and the slack in
--- frames
+-- the pace of a job whose frames have so many bytes, at a rate: the frames and the bytes of a block, and the delay and the slack
+-- in frames
 abbrev pub pace_of : PassJob → (frame rate : ℕ) → RelayPace
 pace_of job frame rate = record {
   frames = block_frames job.block frame;
@@ -142,8 +151,10 @@ pace_of job frame rate = record {
 abbrev pub none_passed : DevTime → RelayProgress
 none_passed now = record { at = now; due = None; resynced = 0 }
 
--- all blocks of a job are passed between two devices of one rate and as many channels; what follows is told how often the relay fell in step again
-unfoldable pub passed_between : PassJob → (from : DeviceInfo) → (v w : ClientState) → (ℕ → ClientState → ClientState → RelayTrace) → RelayTrace
+-- all blocks of a job are passed between two devices of one rate and as many channels; what follows is told how often the relay
+-- fell in step again
+unfoldable pub passed_between : PassJob → (from : DeviceInfo) → (v w : ClientState) →
+    (ℕ → ClientState → ClientState → RelayTrace) → RelayTrace
 passed_between job device v w next =
     let ty = unwrap_or job.ty device.ty in
     begins_both job ty device.channels device.channels v w (λ now v w.
@@ -172,4 +183,5 @@ unfoldable pub apass_trace : PassJob → (from to : List DeviceInfo) → (v w : 
 apass_trace job from to v w =
     on_one (slice_get from job.from_device) (length from) (λ a.
     on_one (slice_get to job.to_device) (length to) (λ b.
-    of_one_shape a b (passed_between job a v w (λ resynced _ _. relay_writing (passed_text job.blocks resynced) (ends_both done)))))
+    of_one_shape a b
+    (passed_between job a v w (λ resynced _ _. relay_writing (passed_text job.blocks resynced) (ends_both done)))))

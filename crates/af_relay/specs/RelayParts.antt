@@ -20,11 +20,14 @@ pub record MatchesRelayTrace (relay : RelayTrace) (how : ToolEnd) (sends_from se
   pub to : MatchesTrace (on_to relay) how sends_to []
 
 -- how a part went, whatever follows it: it came to a value, and what follows goes on from there, or the relay ended
-abbrev pub RelayPartMatches : {X : Type 0} → RelayPart X → Result X ToolEnd → Option (List ℕ) → (List ℕ → ClientState) → Option (List ℕ) → (List ℕ → ClientState) → List ℕ → List ℕ → Type 0
+abbrev pub RelayPartMatches : {X : Type 0} → RelayPart X → Result X ToolEnd → Option (List ℕ) → (List ℕ → ClientState) →
+    Option (List ℕ) → (List ℕ → ClientState) → List ℕ → List ℕ → Type 0
 RelayPartMatches {X} part (Ok x) left_from wire_from left_to wire_to sends_from sends_to =
     (v w : List ℕ) × (left_from ≡ Some v) × (left_to ≡ Some w)
-    × ((next : X → ClientState → ClientState → RelayTrace) → part next ≡ sending_from sends_from (sending_to sends_to (next x (wire_from v) (wire_to w))))
-RelayPartMatches {X} part (Err how) left_from wire_from left_to wire_to sends_from sends_to = (next : X → ClientState → ClientState → RelayTrace) → MatchesRelayTrace (part next) how sends_from sends_to
+    × ((next : X → ClientState → ClientState → RelayTrace) →
+    part next ≡ sending_from sends_from (sending_to sends_to (next x (wire_from v) (wire_to w))))
+RelayPartMatches {X} part (Err how) left_from wire_from left_to wire_to sends_from sends_to =
+    (next : X → ClientState → ClientState → RelayTrace) → MatchesRelayTrace (part next) how sends_from sends_to
 
 -- the same by what the links were sent, before and after
 pub record ObservedRelayPart {X : Type 0} (part : RelayPart X) (result : Result X ToolEnd)
@@ -37,18 +40,23 @@ pub record ObservedRelayPart {X : Type 0} (part : RelayPart X) (result : Result 
   pub link_to : Appended to sends_to to'
 
 -- The same over two connections whose links tell what they give: the part begins where the connections stand.
-abbrev pub ObservedRelayPartOver : {L M X : Type 0} → (left_from sent_from : L → Option (List ℕ)) → (left_to sent_to : M → Option (List ℕ)) →
+abbrev pub ObservedRelayPartOver : {L M X : Type 0} → (left_from sent_from : L → Option (List ℕ)) →
+    (left_to sent_to : M → Option (List ℕ)) →
     (from from' : ConnState L) → (to to' : ConnState M) → (ClientState → ClientState → RelayPart X) → Result X ToolEnd → Type 0
-ObservedRelayPartOver left_from sent_from left_to sent_to from from' to to' part result = (v w : List ℕ) → left_from from.link ≡ Some v → left_to to.link ≡ Some w →
-    ObservedRelayPart (part (client_of from v) (client_of to w)) result (left_from from'.link) (client_of from') (sent_from from.link) (sent_from from'.link)
+ObservedRelayPartOver left_from sent_from left_to sent_to from from' to to' part result =
+    (v w : List ℕ) → left_from from.link ≡ Some v → left_to to.link ≡ Some w →
+    ObservedRelayPart (part (client_of from v) (client_of to w)) result (left_from from'.link) (client_of from')
+    (sent_from from.link) (sent_from from'.link)
     (left_to to'.link) (client_of to') (sent_to to.link) (sent_to to'.link)
 
 -- two counts of faults never fall, and one of them has risen where this failed
 abbrev pub CountsEither : Type 0 → (before now other other' : ℕ) → Type 0
-CountsEither failed before now other other' = (before ≤ now) × (other ≤ other') × (failed → FaultCounted before now ⊎ FaultCounted other other')
+CountsEither failed before now other other' =
+    (before ≤ now) × (other ≤ other') × (failed → FaultCounted before now ⊎ FaultCounted other other')
 
 -- What a part does to its connections, whatever the links tell.
-pub record KeepsConnections {L M X : Type 0} (left_from : L → Option (List ℕ)) (faults_from : L → ℕ) (left_to : M → Option (List ℕ)) (faults_to : M → ℕ)
+pub record KeepsConnections {L M X : Type 0} (left_from : L → Option (List ℕ)) (faults_from : L → ℕ)
+    (left_to : M → Option (List ℕ)) (faults_to : M → ℕ)
     (from from' : ConnState L) (to to' : ConnState M) (result : Result X ToolEnd) : Type 0 where
   pub usable_from : IsOk result → from'.cause ≡ None
   pub usable_to : IsOk result → to'.cause ≡ None
@@ -56,7 +64,8 @@ pub record KeepsConnections {L M X : Type 0} (left_from : L → Option (List ℕ
   pub tells_to : IsSome (left_to to.link) → IsSome (left_to to'.link)
   pub count_from : faults_from from.link ≤ faults_from from'.link
   pub count_to : faults_to to.link ≤ faults_to to'.link
-  pub failed : result ≡ Err end.LinkFault → FaultCounted (faults_from from.link) (faults_from from'.link) ⊎ FaultCounted (faults_to to.link) (faults_to to'.link)
+  pub failed : result ≡ Err end.LinkFault →
+      FaultCounted (faults_from from.link) (faults_from from'.link) ⊎ FaultCounted (faults_to to.link) (faults_to to'.link)
 
 -- A relay ended: what each link was sent and what the sink gained are those of its trace, as that link sees it, or prefixes.
 pub record ObservedRelayTrace (relay : RelayTrace) (how : ToolEnd) (from from' to to' held held' : Option (List ℕ)) : Type 0 where

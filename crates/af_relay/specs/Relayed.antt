@@ -1,5 +1,6 @@
 -- What a relay that is done has passed: which bytes it recorded and played, and when.
-use Rattle.std.specs.Prelude.{◌≡◌, ◌+◌, ◌%◌, ◌^◌, ◌==◌, if◌then◌else◌, ⊤, ℕ, zero, suc, Bool, true, false, List, [], ◌∷◌, ◌++◌, length, slice_get, unwrap_or, Result, Ok, Err}
+use Rattle.std.specs.Prelude.{◌≡◌, ◌+◌, ◌%◌, ◌^◌, ◌==◌, if◌then◌else◌, ⊤, ℕ, zero, suc, Bool, true, false}
+use Rattle.std.specs.Prelude.{List, [], ◌∷◌, ◌++◌, length, slice_get, unwrap_or, Result, Ok, Err}
 use Rattle.std.specs.declared.option.Option.{Option}
 use Rattle.std.specs.declared.option.Option.TheVariants.{None, Some}
 use Rattle.af_time.specs.declared.DevTime.{DevTime}
@@ -32,12 +33,14 @@ samples_of (b ∷ blocks) = b.samples ∷ samples_of blocks
 unfoldable pub play_requests : Order → PassJob → List PassedBlock → List ℕ
 play_requests order job [] = []
 play_requests order job (b ∷ blocks) =
-    request_bytes order (get_time job.to_device) ++ request_bytes order (play_run false 1 b.time.0 b.samples) ++ play_requests order job blocks
+    request_bytes order (get_time job.to_device) ++ request_bytes order (play_run false 1 b.time.0 b.samples)
+    ++ play_requests order job blocks
 
 -- n record requests, each of a block: the first records from a time on, and each other from a block later
 unfoldable pub record_requests : Order → ℕ → RelayPace → DevTime → List ℕ
 record_requests order zero pace at = []
-record_requests order (suc n) pace at = request_bytes order (record_run true 1 at.0 pace.size) ++ record_requests order n pace (after at pace.frames)
+record_requests order (suc n) pace at =
+    request_bytes order (record_run true 1 at.0 pace.size) ++ record_requests order n pace (after at pace.frames)
 
 -- what one more record request was answered with
 abbrev pub reply_then : Result Recorded ConnFault → List (List ℕ) → List (List ℕ)
@@ -48,7 +51,8 @@ reply_then (Err fault) replies = []
 unfoldable pub record_replies : ℕ → RelayPace → DevTime → ClientState → List (List ℕ)
 record_replies zero pace at v = []
 record_replies (suc n) pace at v =
-    reply_then (answer_on (record_run true 1 at.0 pace.size) (as_recorded true pace.size) v) (record_replies n pace (after at pace.frames) (after_reply v))
+    reply_then (answer_on (record_run true 1 at.0 pace.size) (as_recorded true pace.size) v)
+    (record_replies n pace (after at pace.frames) (after_reply v))
 
 -- two times are one, as a request states them: in 32 bits
 abbrev pub is_same_time : DevTime → DevTime → Bool
@@ -67,7 +71,8 @@ moves frames due (b ∷ blocks) = is_moved due b.time + moves frames (Some (afte
 -- the other server told these times, each in the reply before that to its play
 unfoldable pub AreTold : PassJob → ClientState → List PassedBlock → Type 0
 AreTold job w [] = ⊤
-AreTold job w (b ∷ blocks) = (answer_on (get_time job.to_device) as_word w ≡ Ok b.told) × AreTold job (after_reply (after_reply w)) blocks
+AreTold job w (b ∷ blocks) =
+    (answer_on (get_time job.to_device) as_word w ≡ Ok b.told) × AreTold job (after_reply (after_reply w)) blocks
 
 -- the type of a job's samples, where this device is recorded
 abbrev pub type_from : PassJob → DeviceInfo → SampleType
@@ -87,15 +92,18 @@ pub record Relayed (job : PassJob) (device : DeviceInfo) (v w : ClientState) (se
   pub number : length blocks ≡ job.blocks
   pub bytes : samples_of blocks ≡ record_replies job.blocks (pace_from job device) start (after_reply (after_reply v))
   pub told : AreTold job (after_reply w) blocks
-  pub recorded : sends_from ≡ request_bytes v.order (from_context job (type_from job device) device.channels) ++ request_bytes v.order (get_time job.from_device)
+  pub recorded : sends_from ≡ request_bytes v.order (from_context job (type_from job device) device.channels)
+      ++ request_bytes v.order (get_time job.from_device)
       ++ record_requests v.order job.blocks (pace_from job device) start ++ request_bytes v.order (free_ac 1)
-  pub played : sends_to ≡ request_bytes w.order (to_context job (type_from job device) device.channels) ++ play_requests w.order job blocks ++ request_bytes w.order (free_ac 1)
+  pub played : sends_to ≡ request_bytes w.order (to_context job (type_from job device) device.channels)
+      ++ play_requests w.order job blocks ++ request_bytes w.order (free_ac 1)
   pub resynced : ℕ
   pub wrote : output ≡ passed_text job.blocks resynced
   pub moved : resynced ≡ moves (pace_from job device).frames None blocks
 
 -- the same by what the links were sent and the sink holds, before and after, and by the devices of the server that is recorded
-pub record IsRelayed (job : PassJob) (from : List DeviceInfo) (v w : ClientState) (sent sent' sent_to sent_to' held held' : Option (List ℕ)) : Type 0 where
+pub record IsRelayed (job : PassJob) (from : List DeviceInfo) (v w : ClientState)
+    (sent sent' sent_to sent_to' held held' : Option (List ℕ)) : Type 0 where
   pub device : DeviceInfo
   pub is_there : slice_get from job.from_device ≡ Some device
   pub sends_from : List ℕ

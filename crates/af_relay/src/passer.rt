@@ -66,7 +66,8 @@ fn finish_both<L: Link + Drop, M: Link + Drop>(
     to: &mut Conn<M>,
 ) -> Result<(), ToolEnd>
     requires usable { (from.old.cause ≡ None) × (to.old.cause ≡ None) }
-    ensures goes { ObservedRelayPartOver L.left L.sent M.left M.sent from.old from.new to.old to.new (λ v w. ends_contexts v w) result }
+    ensures goes { ObservedRelayPartOver L.left L.sent M.left M.sent from.old from.new to.old to.new
+        (λ v w. ends_contexts v w) result }
     ensures holds { KeepsConnections L.left L.faults M.left M.faults from.old from.new to.old to.new result }
     ensures end { IfErr result (λ how. is_of_link how ≡ true) }
 {

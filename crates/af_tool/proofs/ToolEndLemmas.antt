@@ -11,23 +11,29 @@ use Rattle.af_tool.specs.declared.end.ToolEnd.TheVariants as end
 use Rattle.af_tool.specs.Trace.{Trace, ClientState, Finish, after_reply, answer_on, answered_by, asks, bad_sound, channel_mismatch, done, tool_end, fault_end, mismatch, no_device, not_dialled, refused, sound_cut, too_long}
 use Rattle.af_tool.specs.Ends.{MatchesTrace, EndsByReply, ObservedTrace, IsAnswered, is_of_reply, is_outer}
 
--- the finish that an end of a reply tells of
+-- the finish that an end tells of which is not from outside
 abbrev told_by : ToolEnd → Finish
 told_by end.LinkEnded = refused fault.LinkEnded
+told_by (end.NoDevice devices) = no_device devices
+told_by (end.RateMismatch from to) = mismatch from to
+told_by (end.ChannelMismatch from to) = channel_mismatch from to
+told_by (end.BadSound f) = bad_sound f
+told_by end.SoundCut = sound_cut
 told_by (end.Refused code value) = refused (fault.ServerError code value)
 told_by (end.BadReply header first) = refused (fault.BadReply header first)
 told_by end.EventFlood = refused fault.EventFlood
+told_by end.TooLong = too_long
 told_by _ = done
 
-finish_told : (finish : Finish) → is_of_reply (tool_end finish) ≡ true → finish ≡ told_by (tool_end finish)
-finish_told done is = cc
+finish_told : (finish : Finish) → is_outer (tool_end finish) ≡ false → finish ≡ told_by (tool_end finish)
+finish_told done is = refl
 finish_told not_dialled is = cc
-finish_told (no_device devices) is = cc
-finish_told (mismatch from to) is = cc
-finish_told (channel_mismatch from to) is = cc
-finish_told (bad_sound fault) is = cc
-finish_told sound_cut is = cc
-finish_told too_long is = cc
+finish_told (no_device devices) is = refl
+finish_told (mismatch from to) is = refl
+finish_told (channel_mismatch from to) is = refl
+finish_told (bad_sound f) is = refl
+finish_told sound_cut is = refl
+finish_told too_long is = refl
 finish_told (refused fault.LinkFault) is = cc
 finish_told (refused fault.LinkEnded) is = refl
 finish_told (refused (fault.ServerError code value)) is = refl
@@ -36,37 +42,40 @@ finish_told (refused fault.OutOfMemory) is = cc
 finish_told (refused fault.EventFlood) is = refl
 finish_told (refused (fault.Spent first)) is = cc
 
-inner_reply : (how : ToolEnd) → is_of_reply how ≡ true → is_outer how ≡ false
-inner_reply end.Done is = cc
-inner_reply end.Usage is = cc
-inner_reply end.DialFault is = cc
-inner_reply end.LinkFault is = cc
-inner_reply end.LinkEnded is = refl
-inner_reply (end.NoDevice devices) is = cc
-inner_reply (end.RateMismatch from to) is = cc
-inner_reply (end.ChannelMismatch from to) is = cc
-inner_reply (end.BadSound fault) is = cc
-inner_reply end.SoundCut is = cc
-inner_reply (end.Refused code value) is = refl
-inner_reply (end.BadReply header first) is = refl
-inner_reply end.EventFlood is = refl
-inner_reply end.ReadFault is = cc
-inner_reply end.TooLong is = cc
-inner_reply end.SinkFault is = cc
-inner_reply end.OutOfMemory is = cc
+-- an end that is not from outside comes of one finish
+one_finish : (f g : Finish) → is_outer (tool_end g) ≡ false → tool_end f ≡ tool_end g → f ≡ g
+one_finish f g inner same = finish_told f (ap is_outer same ∙ inner) ∙ ap told_by same ∙ sym (finish_told g inner)
+
+-- it is that of the trace
+pub finish_is : (trace : Trace) (how : ToolEnd) (sends output : List ℕ) → MatchesTrace trace how sends output →
+    (finish : Finish) → is_outer (tool_end finish) ≡ false → how ≡ tool_end finish → trace.finish ≡ finish
+finish_is trace how sends output e finish inner same =
+    let way : how ≡ tool_end trace.finish = (e.whole (ap is_outer same ∙ inner)).0 in
+    one_finish trace.finish finish inner (sym way ∙ same)
+
+-- a tool ends as its trace does, unless something from outside ends it
+pub ends_as : (trace : Trace) (how : ToolEnd) (sends output : List ℕ) → MatchesTrace trace how sends output →
+    (finish : Finish) → trace.finish ≡ finish → (how ≡ tool_end finish) ⊎ (is_outer how ≡ true)
+ends_as trace how sends output e finish is = elim (is_outer how) as (λ b. is_outer how ≡ b → (how ≡ tool_end finish) ⊎ (is_outer how ≡ true)) [
+  | true ↦ λ outer. inr outer
+  | false ↦ λ inner. inl ((e.whole inner).0 ∙ ap tool_end is)
+] refl
+
+-- an end of a reply is not from outside
+reply_inner : (f : ConnFault) → is_of_reply (fault_end f) ≡ true → is_outer (fault_end f) ≡ false
+reply_inner fault.LinkFault is = cc
+reply_inner fault.LinkEnded is = refl
+reply_inner (fault.Spent first) is = cc
+reply_inner (fault.ServerError code value) is = refl
+reply_inner (fault.BadReply header first) is = refl
+reply_inner fault.OutOfMemory is = cc
+reply_inner fault.EventFlood is = refl
 
 -- an end of a reply is that of the trace, and of no other
 pub reply_of : (trace : Trace) (how : ToolEnd) (sends output : List ℕ) → MatchesTrace trace how sends output → EndsByReply trace how
 reply_of trace how sends output e = record {
-  only = λ fault is same.
-      let reply : is_of_reply how ≡ true = ap is_of_reply same ∙ is in
-      let way : how ≡ tool_end trace.finish = (e.whole (inner_reply how reply)).0 in
-      let mine : is_of_reply (tool_end trace.finish) ≡ true = ap is_of_reply (sym way) ∙ reply in
-      finish_told trace.finish mine ∙ ap told_by (sym way ∙ same) ∙ sym (finish_told (refused fault) is);
-  always = λ fault is. elim (is_outer how) as (λ b. is_outer how ≡ b → (how ≡ fault_end fault) ⊎ (is_outer how ≡ true)) [
-    | true ↦ λ outer. inr outer
-    | false ↦ λ inner. inl ((e.whole inner).0 ∙ ap tool_end is)
-  ] refl;
+  only = λ f is same. finish_is trace how sends output e (refused f) (reply_inner f is) same;
+  always = λ f is. ends_as trace how sends output e (refused f) is;
 }
 
 pub ends_by_reply : (trace : Trace) (how : ToolEnd) (s s' h h' : Option (List ℕ)) → ObservedTrace trace how s s' h h' → EndsByReply trace how
@@ -78,10 +87,7 @@ IsDoneOrRefused finish = (finish ≡ done) ⊎ ((f : ConnFault) × (finish ≡ r
 
 -- a tool whose trace is done ends so, unless something from outside ends it
 pub done_unless_outer : (trace : Trace) (how : ToolEnd) (sends output : List ℕ) → MatchesTrace trace how sends output → trace.finish ≡ done → (how ≡ end.Done) ⊎ (is_outer how ≡ true)
-done_unless_outer trace how sends output e is = elim (is_outer how) as (λ b. is_outer how ≡ b → (how ≡ end.Done) ⊎ (is_outer how ≡ true)) [
-  | true ↦ λ outer. inr outer
-  | false ↦ λ inner. inl ((e.whole inner).0 ∙ ap tool_end is)
-] refl
+done_unless_outer trace how sends output e is = ends_as trace how sends output e done is
 
 -- the same where each request gets the reply that it awaits
 pub done_where_answered : (trace : Trace) (how : ToolEnd) (sends output : List ℕ) → MatchesTrace trace how sends output → IsDoneOrRefused trace.finish → IsAnswered trace → (how ≡ end.Done) ⊎ (is_outer how ≡ true)
@@ -92,13 +98,7 @@ done_where_answered trace how sends output e finish answered = elim finish [
 
 -- no fault is done
 pub fault_undone : (f : ConnFault) → fault_end f ≡ end.Done → ⊥
-fault_undone fault.LinkFault is = cc
-fault_undone fault.LinkEnded is = cc
-fault_undone (fault.Spent first) is = cc
-fault_undone (fault.ServerError code value) is = cc
-fault_undone (fault.BadReply header first) is = cc
-fault_undone fault.OutOfMemory is = cc
-fault_undone fault.EventFlood is = cc
+fault_undone f is = let bad : refused f ≡ done = one_finish (refused f) done refl is in cc
 
 -- only a trace that is done to its end is told as done
 pub finish_done : (f : Finish) → tool_end f ≡ end.Done → f ≡ done

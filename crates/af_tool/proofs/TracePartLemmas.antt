@@ -6,16 +6,17 @@ use Rattle.std.specs.declared.option.Option.TheVariants.{None, Some}
 use Rattle.af_io.specs.Observed.{Appended}
 use Rattle.af_io.specs.Flow.{AppendedPrefix}
 use Rattle.af_wire.specs.declared.order.Order.{Order}
+use Rattle.af_request.specs.declared.reply.DeviceInfo.{DeviceInfo}
 use Rattle.af_request.specs.Asked.{Asked}
 use Rattle.af_request.specs.Answer.{Answer}
 use Rattle.af_request.specs.Requests.{request_bytes}
 use Rattle.af_lib.specs.declared.fault.ConnFault.{ConnFault}
 use Rattle.af_lib.specs.declared.fault.ConnFault.TheVariants as fault
 use Rattle.af_lib.specs.Ring.{RingState}
-use Rattle.af_lib.specs.Calls.{Called, ConnState, Sends, following}
+use Rattle.af_lib.specs.Calls.{Called, ConnState, IsSetUp, Sends, following}
 use Rattle.af_tool.specs.declared.end.ToolEnd.{ToolEnd}
 use Rattle.af_tool.specs.declared.end.ToolEnd.TheVariants as end
-use Rattle.af_tool.specs.Trace.{Trace, ClientState, answer_on, answered_by, asks, after_reply, begun, tool_end, ends, fault_end, next_message, refused, sending}
+use Rattle.af_tool.specs.Trace.{Trace, ClientState, answer_on, answered_by, asks, after_reply, begun, tool_end, ends, fault_end, next_message, refused, sending, set_up, setup_answer}
 use Rattle.af_tool.specs.Ends.{PartMatches, MatchesTrace, ObservedPart, TracePart, PartCompletes, is_outer, client_of}
 use Rattle.af_io.proofs.AppendedLemmas.{appended_none, appended_on}
 use Rattle.af_lib.proofs.LinkByteLemmas.{told_both}
@@ -188,3 +189,11 @@ asked_goes left sent faults asked value_of old new input held result called usab
 pub client_begun : {L : Type 0} (order : Order) (conn : ConnState L) (input : List ℕ) → conn.order ≡ order → conn.sequence ≡ 0 → client_of conn input ≡ begun order conn.ring input
 client_begun order conn input same first =
     ap₂ (λ (o : Order) (n : ℕ). (let w : ClientState = record { order = o; sequence = n; ring = conn.ring; input = input } in w)) same first
+
+-- what is known of the answer to a setup, if the link did not fail
+pub setup_known : {L : Type 0} (order : Order) (left sent : L → Option (List ℕ)) (faults : L → ℕ) (old new : L) (ring : RingState) (input : List ℕ) (result : Result (List DeviceInfo) ConnFault) →
+    IsSetUp order left sent faults old new ring result → left old ≡ Some input → Known (setup_answer order input) (set_up order input) (left new) (begun order ring) result
+setup_known order left sent faults old new ring input result is told = λ sound.
+    let both = told_both (left old) (left new) input _ told is.tells (is.answers sound) in
+    let facts = both.2 in
+    (both.0, both.1, facts.0, ap₂ (begun order) facts.1 facts.2)

@@ -38,7 +38,8 @@ pub record ObservedTrace (trace : Trace) (how : ToolEnd) (sent sent' held held' 
 
 -- a tool wrote a text, the last that it does
 abbrev pub Reports : {K : Type 0} → (held : K → Option (List ℕ)) → List ℕ → ToolEnd → (sink sink' : K) → Type 0
-Reports held text how sink sink' = (sent : Option (List ℕ)) → ObservedTrace (writing text (ends done)) how sent sent (held sink) (held sink')
+Reports held text how sink sink' =
+    (sent : Option (List ℕ)) → ObservedTrace (writing text (ends done)) how sent sent (held sink) (held sink')
 
 -- a connection whose link gives these bytes
 abbrev pub client_of : {L : Type 0} → ConnState L → List ℕ → ClientState
@@ -87,12 +88,16 @@ PartCompletes {X} part x w sends output = (next : X → ClientState → Trace) �
     part next ≡ record { sends = sends ++ (next x w).sends; output = output ++ (next x w).output; finish = (next x w).finish }
 
 -- how a part went, whatever follows it
-abbrev pub PartMatches : {X : Type 0} → TracePart X → Result X ToolEnd → Option (List ℕ) → (List ℕ → ClientState) → List ℕ → List ℕ → Type 0
-PartMatches part (Ok x) left wire sends output = (input : List ℕ) × (left ≡ Some input) × PartCompletes part x (wire input) sends output
-PartMatches {X} part (Err how) left wire sends output = (next : X → ClientState → Trace) → MatchesTrace (part next) how sends output
+abbrev pub PartMatches : {X : Type 0} → TracePart X → Result X ToolEnd → Option (List ℕ) → (List ℕ → ClientState) → List ℕ →
+    List ℕ → Type 0
+PartMatches part (Ok x) left wire sends output =
+    (input : List ℕ) × (left ≡ Some input) × PartCompletes part x (wire input) sends output
+PartMatches {X} part (Err how) left wire sends output =
+    (next : X → ClientState → Trace) → MatchesTrace (part next) how sends output
 
 -- the same by what the link was sent and the sink holds, before and after
-pub record ObservedPart {X : Type 0} (part : TracePart X) (result : Result X ToolEnd) (left : Option (List ℕ)) (wire : List ℕ → ClientState) (sent sent' held held' : Option (List ℕ)) : Type 0 where
+pub record ObservedPart {X : Type 0} (part : TracePart X) (result : Result X ToolEnd) (left : Option (List ℕ))
+    (wire : List ℕ → ClientState) (sent sent' held held' : Option (List ℕ)) : Type 0 where
   pub sends : List ℕ
   pub output : List ℕ
   pub came : PartMatches part result left wire sends output
@@ -100,7 +105,8 @@ pub record ObservedPart {X : Type 0} (part : TracePart X) (result : Result X Too
   pub sink : Appended held output held'
 
 -- The same over a connection whose link tells what it gives: the part begins where the connection stands, and writes nothing.
-abbrev pub ObservedPartOver : {L X : Type 0} → (left sent : L → Option (List ℕ)) → (old new : ConnState L) → (ClientState → TracePart X) → Result X ToolEnd → Type 0
+abbrev pub ObservedPartOver : {L X : Type 0} → (left sent : L → Option (List ℕ)) → (old new : ConnState L) →
+    (ClientState → TracePart X) → Result X ToolEnd → Type 0
 ObservedPartOver left sent old new part result = (input : List ℕ) (held : Option (List ℕ)) → left old.link ≡ Some input →
     ObservedPart (part (client_of old input)) result (left new.link) (client_of new) (sent old.link) (sent new.link) held held
 
@@ -116,7 +122,8 @@ Writes held bytes (Ok _) sink sink' = Appended (held sink) bytes (held sink')
 Writes held bytes (Err how) sink sink' = (how ≡ end.SinkFault) × AppendedPrefix (held sink) bytes (held sink')
 
 -- What a part does to its connection, whatever the link tells.
-pub record KeepsConnection {L X : Type 0} (left : L → Option (List ℕ)) (faults : L → ℕ) (old new : ConnState L) (result : Result X ToolEnd) : Type 0 where
+pub record KeepsConnection {L X : Type 0} (left : L → Option (List ℕ)) (faults : L → ℕ) (old new : ConnState L)
+    (result : Result X ToolEnd) : Type 0 where
   pub devices : new.devices ≡ old.devices
   pub usable : IsOk result → new.cause ≡ None
   pub tells : IsSome (left old.link) → IsSome (left new.link)

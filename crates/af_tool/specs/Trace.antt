@@ -22,8 +22,8 @@ use Rattle.af_sound.specs.declared.head.SoundFault.{SoundFault}
 use Rattle.af_tool.specs.declared.end.ToolEnd.{ToolEnd}
 use Rattle.af_tool.specs.declared.end.ToolEnd.TheVariants as end
 
--- the order of a client's bytes, and how far it has come with what its link gives: the number of its last request, its ring of events, and the bytes that
--- it has not taken
+-- the order of a client's bytes, and how far it has come with what its link gives: the number of its last request, its ring of
+-- events, and the bytes that it has not taken
 pub record ClientState : Type 0 where
   pub order : Order
   pub sequence : ℕ
@@ -74,7 +74,8 @@ next_message w = awaited w.order most_events w.ring w.input
 
 -- a client that has sent a request and taken its answer
 abbrev pub after_reply : ClientState → ClientState
-after_reply w = record { order = w.order; sequence = following w.sequence; ring = (next_message w).ring; input = (next_message w).rest }
+after_reply w =
+    record { order = w.order; sequence = following w.sequence; ring = (next_message w).ring; input = (next_message w).rest }
 
 -- what the link answers to a request
 abbrev pub answer_on : {X : Type 0} → Asked → (Answer → Option X) → ClientState → Result X ConnFault

@@ -292,11 +292,11 @@ module _ (order : Order) where
       (λ from v. to_short links (λ to w. apass_trace job from to v w) (λ to w. apass_short job from to v w))
 
   -- the same of the links that are told
-  pub to_over_links : {F : Type 0} (left_of sent_of : F → Option (List ℕ)) (far : F) (job : PassJob) (from : List DeviceInfo) (v : ClientState) (how : ToolEnd) (links : List ToldLink) (links' links'' : Option (List ToldLink)) (sent sent' after held held' : Option (List ℕ)) (back back' between back'' : Option (List (List ℕ))) →
+  pub to_over_links : {F : Type 0} (left_of sent_of : F → Option (List ℕ)) (far : F) (job : PassJob) (from : List DeviceInfo) (v : ClientState) (how : ToolEnd) (links : List ToldLink) {links' links'' : Option (List ToldLink)} {sent sent' after held held' : Option (List ℕ)} {back back' : Option (List (List ℕ))} (between : Option (List (List ℕ))) {back'' : Option (List (List ℕ))} →
       IsFirstOf left_of sent_of far (Some links) links' → ((input : List ℕ) → left_of far ≡ Some input → RelayedOver (connects_by order sending_to input (λ to w. apass_trace job from to v w)) how sent sent' (sent_of far) after held held') → back' ≡ back → AppendedBack back' sent' between → AppendedBack between after back'' → links'' ≡ links' →
       RelayRanTo order job from v how links links'' sent held held' back back''
-  to_over_links left_of sent_of far job from v how [] links' links'' sent sent' after held held' back back' between back'' gives goes is_back first second is_links = absurd gives
-  to_over_links left_of sent_of far job from v how (link ∷ rest) links' links'' sent sent' after held held' back back' between back'' gives goes is_back first second is_links =
+  to_over_links left_of sent_of far job from v how [] between gives goes is_back first second is_links = absurd gives
+  to_over_links left_of sent_of far job from v how (link ∷ rest) {links'} {links''} {sent} {sent'} {after} {held} {held'} {back} {back'} between {back''} gives goes is_back first second is_links =
       to_over job from v how link rest links' links'' sent sent' (sent_of far) after held held' back back' between back'' gives.1 gives.2 (goes link.gives gives.0) is_back first second is_links
 
   pub ran_over_links : {F : Type 0} (left_of sent_of : F → Option (List ℕ)) (faults : F → ℕ) (old new : F) (ring : RingState) (devices : List DeviceInfo) (from to : Text) (job : PassJob) (bytes : List ℕ) (how : ToolEnd) (links : List ToldLink) (links1 links' : Option (List ToldLink)) (held held' : Option (List ℕ)) (back back1 back' : Option (List (List ℕ))) →

@@ -1,5 +1,5 @@
 -- A context was made, the first block was read, and the device's time was told: what is left of playing.
-use Rattle.std.proofs.Common.{◌≡◌, ◌≤◌, ◌-◌, ℕ, List, [], length-take, take, refl, subst, sym, arith, IsSome}
+use Rattle.std.proofs.Common.{◌≡◌, ◌≤◌, ◌-◌, ◌++◌, ℕ, List, [], length-take, take, refl, subst, sym, arith, IsSome}
 use Rattle.std.specs.Prelude.{Result, Ok, Err}
 use Rattle.std.specs.declared.option.Option.{Option}
 use Rattle.std.specs.declared.option.Option.TheVariants.{None, Some}
@@ -14,7 +14,7 @@ use Rattle.af_tool.specs.declared.end.ToolEnd.{ToolEnd}
 use Rattle.af_tool.specs.declared.end.ToolEnd.TheVariants as end
 use Rattle.af_tool.specs.Trace.{ClientState, asks}
 use Rattle.af_tool.specs.Ends.{ObservedPart, TracePart}
-use Rattle.af_io.proofs.ConsumedLemmas.{consumed_none}
+use Rattle.af_io.proofs.ConsumedLemmas.{consumed_known, consumed_none, consumed_told}
 use Rattle.af_tool.proofs.TracePartLemmas.{goes_on, goes_stop}
 use Rattle.af_tools.specs.declared.player.Played.{Played}
 use Rattle.af_tools.specs.declared.sound.SourceSound.{SourceSound}
@@ -66,7 +66,7 @@ unfolding plays_sound
 first_too_long sound block start bytes w gives gives' left wire s h b low is above tells =
     let width = source_width sound.coding sound.ty sound.channels in
     let some = some_size_of sound.coding sound.ty sound.channels block width b.count b.some refl in
-    play_too_long sound.coding sound.head width start (block_bytes sound block) 0 sound.head sound.length _ w gives (Some []) (λ _. w) s s h
+    play_too_long
     (play_begin sound.coding sound.head width start (block_bytes sound block) sound.length bytes w [] gives (Some []) (λ _. w) s h is refl refl) (most_bytes - sound.head) gives' left wire some (omega arith) above tells
 
 -- what was read early is no more than aplay takes
@@ -89,3 +89,9 @@ later_up_to room most len early bytes a b c later is few =
 pub told_since : (block : List ℕ) (b : Option (List ℕ)) → IsSome (left_before block b) → IsSome b
 told_since block None told = told
 told_since block (Some rest) told = refl
+
+-- a source that tells what is left told what it had behind a block, before it gave the rest
+pub first_known : {most : ℕ} (before middle : Option (List ℕ)) {after : Option (List ℕ)} (bytes block : List ℕ) → before ≡ Some bytes → Consumed before block middle → ConsumedUpTo most (left_before block middle) after → IsSome after →
+    (rest : List ℕ) × (middle ≡ Some rest) × (bytes ≡ block ++ rest)
+first_known before middle {after} bytes block is first more tells =
+    consumed_known before middle bytes block is first (told_since block middle (consumed_told (left_before block middle) after more.bytes more.consumed tells))

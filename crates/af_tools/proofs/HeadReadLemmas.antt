@@ -37,7 +37,7 @@ pub read_begin : (form : SoundForm) (reader : HeadReader) (before : Option (List
 read_begin form reader before taken = record { bytes = []; consumed = consumed_none before; all = refl; taken = taken }
 
 -- the one byte that was read
-pub one_byte : (n : ℕ) (into : List ℕ) → length into ≡ 1 → 1 ≤ n → take n into ≡ slice_index into 0 ∷ []
+one_byte : (n : ℕ) (into : List ℕ) → length into ≡ 1 → 1 ≤ n → take n into ≡ slice_index into 0 ∷ []
 one_byte n [] one some = absurd (omega arith)
 one_byte (suc n) (b ∷ []) one some = ap (λ (l : List ℕ). b ∷ l) (nothing n) where
   nothing : (n : ℕ) → take n [] ≡ (let l : List ℕ = [] in l)
@@ -45,6 +45,9 @@ one_byte (suc n) (b ∷ []) one some = ap (λ (l : List ℕ). b ∷ l) (nothing 
   nothing (suc n) = refl
 one_byte zero (b ∷ []) one some = absurd (omega arith)
 one_byte n (a ∷ b ∷ into) one some = absurd (omega arith)
+
+pub byte_read : (n : ℕ) (into : List ℕ) (a b : Option (List ℕ)) → length into ≡ 1 → 1 ≤ n → Consumed a (take n into) b → Consumed a (slice_index into 0 ∷ []) b
+byte_read n into a b one some taken = subst (λ (l : List ℕ). Consumed a l b) (one_byte n into one some) taken
 
 -- a byte more
 pub read_more : (form : SoundForm) (reader reader' : HeadReader) (size byte : ℕ) (a b c : Option (List ℕ)) (h : HasRead form reader size a b) → Consumed b (byte ∷ []) c →

@@ -1,5 +1,5 @@
 -- A tool that dials its server.
-use Rattle.std.proofs.Common.{◌≡◌, ◌≢◌, ◌==◌, ◌+◌, ◌-◌, ℕ, Bool, nat_lt, if◌then◌else◌, drop, length-drop, ◌≤◌, ◌⊎◌, inl, inr, true, false, List, [], ◌∷◌, ◌++◌, length, slice_get, sym, ap, ap₂, ◌∙◌, subst, refl, arith, length-append}
+use Rattle.std.proofs.Common.{◌≡◌, ◌≢◌, ◌==◌, ◌+◌, ◌-◌, ℕ, Bool, nat_lt, if◌then◌else◌, drop, length-drop, ◌≤◌, ◌⊎◌, inl, inr, true, false, List, [], ◌∷◌, ◌++◌, length, slice_get, sym, ap, ◌∙◌, subst, refl, arith, length-append}
 use Rattle.std.specs.Prelude.{Result, Ok, Err}
 use Rattle.std.proofs.lemmas.Bool.Decides.{nat_tests}
 use Rattle.std.specs.declared.option.Option.{Option}
@@ -9,12 +9,11 @@ use Rattle.af_io.specs.Dial.{AppendedBack, IsFirstOf, ToldLink}
 use Rattle.af_wire.specs.declared.order.Order.{Order}
 use Rattle.af_request.specs.declared.reply.DeviceInfo.{DeviceInfo}
 use Rattle.af_lib.specs.declared.fault.ConnFault.{ConnFault}
-use Rattle.af_lib.specs.declared.fault.ConnFault.TheVariants as fault
 use Rattle.af_tool.specs.declared.end.ToolEnd.{ToolEnd}
 use Rattle.af_tool.specs.declared.end.ToolEnd.TheVariants as end
 use Rattle.af_options.specs.declared.job.Task.{Task}
 use Rattle.af_options.specs.declared.job.Task.TheVariants as task
-use Rattle.af_tool.specs.Trace.{Trace, Finish, ClientState, answered_by, bad_sound, channel_mismatch, connects, dials, done, tool_end, ends, mismatch, no_device, not_dialled, on_device, refused, set_up, setup_answer, sound_cut, too_long, writing}
+use Rattle.af_tool.specs.Trace.{Trace, Finish, ClientState, answered_by, bad_sound, channel_mismatch, connects, dials, done, ends, mismatch, no_device, not_dialled, on_device, refused, set_up, setup_answer, sound_cut, too_long, writing}
 use Rattle.af_sound.specs.declared.head.HeadStep.{HeadStep}
 use Rattle.af_sound.specs.declared.head.HeadStep.TheVariants as step
 use Rattle.af_sound.specs.declared.head.SoundFault.{SoundFault}
@@ -35,7 +34,7 @@ use Rattle.af_tools.specs.Run.{EndsByDevice, EndsByRates, RanOne, one_trace, tas
 use Rattle.af_tool.specs.Ends.{MatchesTrace, ObservedTrace, is_outer}
 use Rattle.af_io.proofs.AppendedLemmas.{appended_none}
 use Rattle.af_tool.proofs.TracePartLemmas.{ended_early}
-use Rattle.af_tool.proofs.ToolEndLemmas.{IsDoneOrRefused}
+use Rattle.af_tool.proofs.ToolEndLemmas.{IsDoneOrRefused, ends_as, finish_is}
 use Rattle.af_tools.proofs.TraceEndLemmas.{played_finish, recorded_finish, set_finish}
 
 -- what a link was sent in all is its entry
@@ -164,67 +163,21 @@ served_done (refused f) there even shape good whole answered short = absurd (ans
 
 -- a tool that has no link ends for something from outside
 pub undialled_outer : (trace : Trace) (how : ToolEnd) (sends output : List ℕ) → MatchesTrace trace how sends output → trace.finish ≡ not_dialled → is_outer how ≡ true
-undialled_outer trace how sends output e is = elim (is_outer how) as (λ b. is_outer how ≡ b → is_outer how ≡ true) [
-  | true ↦ λ outer. outer
-  | false ↦ λ inner. ap is_outer ((e.whole inner).0 ∙ ap tool_end is)
-] refl
-
-device_told : (finish : Finish) (n : ℕ) → end.NoDevice n ≡ tool_end finish → finish ≡ no_device n
-device_told done n e = cc
-device_told not_dialled n e = cc
-device_told (no_device m) n e = let same : n ≡ m = cc in ap (λ (k : ℕ). no_device k) (sym same)
-device_told (mismatch from to) n e = cc
-device_told (channel_mismatch from to) n e = cc
-device_told (bad_sound f) n e = cc
-device_told sound_cut n e = cc
-device_told too_long n e = cc
-device_told (refused fault.LinkFault) n e = cc
-device_told (refused fault.LinkEnded) n e = cc
-device_told (refused (fault.ServerError code value)) n e = cc
-device_told (refused (fault.BadReply header first)) n e = cc
-device_told (refused fault.OutOfMemory) n e = cc
-device_told (refused fault.EventFlood) n e = cc
-device_told (refused (fault.Spent first)) n e = cc
-
-inner_device : (how : ToolEnd) (n : ℕ) → how ≡ end.NoDevice n → is_outer how ≡ false
-inner_device how n is = ap is_outer is
+undialled_outer trace how sends output e is = elim (ends_as trace how sends output e not_dialled is) [
+  | inl way ↦ ap is_outer way
+  | inr outer ↦ outer
+]
 
 -- an end for want of the device is that of the trace, and of no other
 pub device_of : (trace : Trace) (how : ToolEnd) (sends output : List ℕ) → MatchesTrace trace how sends output → EndsByDevice trace how
 device_of trace how sends output e = record {
-  only = λ n is. device_told trace.finish n (sym is ∙ (e.whole (inner_device how n is)).0);
-  always = λ n is. elim (is_outer how) as (λ b. is_outer how ≡ b → (how ≡ end.NoDevice n) ⊎ (is_outer how ≡ true)) [
-    | true ↦ λ outer. inr outer
-    | false ↦ λ inner. inl ((e.whole inner).0 ∙ ap tool_end is)
-  ] refl;
+  only = λ n is. finish_is trace how sends output e (no_device n) refl is;
+  always = λ n is. ends_as trace how sends output e (no_device n) is;
 }
-
-rates_told : (finish : Finish) (a b : ℕ) → end.RateMismatch a b ≡ tool_end finish → finish ≡ mismatch a b
-rates_told done a b e = cc
-rates_told not_dialled a b e = cc
-rates_told (no_device m) a b e = cc
-rates_told (mismatch x y) a b e = let one : a ≡ x = cc in let other : b ≡ y = cc in ap₂ (λ (k l : ℕ). mismatch k l) (sym one) (sym other)
-rates_told (channel_mismatch from to) a b e = cc
-rates_told (bad_sound f) a b e = cc
-rates_told sound_cut a b e = cc
-rates_told too_long a b e = cc
-rates_told (refused fault.LinkFault) a b e = cc
-rates_told (refused fault.LinkEnded) a b e = cc
-rates_told (refused (fault.ServerError code value)) a b e = cc
-rates_told (refused (fault.BadReply header first)) a b e = cc
-rates_told (refused fault.OutOfMemory) a b e = cc
-rates_told (refused fault.EventFlood) a b e = cc
-rates_told (refused (fault.Spent first)) a b e = cc
-
-inner_rates : (how : ToolEnd) (a b : ℕ) → how ≡ end.RateMismatch a b → is_outer how ≡ false
-inner_rates how a b is = ap is_outer is
 
 -- an end for two rates is that of the trace, and of no other
 pub rates_of : (trace : Trace) (how : ToolEnd) (sends output : List ℕ) → MatchesTrace trace how sends output → EndsByRates trace how
 rates_of trace how sends output e = record {
-  only = λ a b is. rates_told trace.finish a b (sym is ∙ (e.whole (inner_rates how a b is)).0);
-  always = λ a b is. elim (is_outer how) as (λ t. is_outer how ≡ t → (how ≡ end.RateMismatch a b) ⊎ (is_outer how ≡ true)) [
-    | true ↦ λ outer. inr outer
-    | false ↦ λ inner. inl ((e.whole inner).0 ∙ ap tool_end is)
-  ] refl;
+  only = λ a b is. finish_is trace how sends output e (mismatch a b) refl is;
+  always = λ a b is. ends_as trace how sends output e (mismatch a b) is;
 }

@@ -7,7 +7,6 @@ use Rattle.std.proofs.Math.Nat.{zero-div}
 use Rattle.std.specs.declared.option.Option.{Option}
 use Rattle.std.specs.declared.option.Option.TheVariants.{None, Some}
 use Rattle.af_time.specs.declared.DevTime.{DevTime}
-use Rattle.af_io.specs.Observed.{Consumed}
 use Rattle.af_io.specs.Flow.{IsSpent}
 use Rattle.af_request.specs.Asked.{play_run}
 use Rattle.af_lib.specs.Calls.{as_time}
@@ -18,12 +17,14 @@ use Rattle.af_sound.specs.declared.head.Coding.{Coding}
 use Rattle.af_tools.specs.Most.{most_bytes}
 use Rattle.af_tools.specs.Sounds.{as_served, stated_behind, stated_part, stated_room, FitsStated}
 use Rattle.af_tools.specs.Play.{block_time, blocks, frames_in, plays, whole_frames}
-use Rattle.af_tools.specs.Fill.{ConsumedAbove}
+use Rattle.af_tools.specs.Fill.{left_before, ConsumedAbove}
 use Rattle.af_tool.specs.Ends.{ObservedPart, is_outer}
 use Rattle.af_io.proofs.ConsumedLemmas.{consumed_known}
 use Rattle.af_tool.proofs.TracePartLemmas.{goes_stop}
 use Rattle.af_tool.proofs.PartProgressLemmas.{goes_at_once, goes_early, goes_same, goes_value, Reaches, reaches_goes, reaches_none, reaches_on}
 use Rattle.af_tools.proofs.PlayBlockLemmas.{IsPlaying, plays_beyond, plays_next, plays_over}
+use Rattle.af_tools.proofs.SourceCountLemmas.{read_before}
+use Rattle.af_tools.proofs.SourceFrameLemmas.{BlockFits, block_short}
 
 -- what is left of a sound of known bytes, behind a block that was read
 pub record IsRead (size n : ℕ) (of : Option ℕ) (room rest : List ℕ) (left' : Option (List ℕ)) : Type 0 where
@@ -64,11 +65,11 @@ part_ended of n left' behind is (inr all) = part_over of n behind all
 fits_same : (of : Option ℕ) (n m : ℕ) → m ≡ n → FitsStated of n → FitsStated of m
 fits_same of n m same fits = subst (λ (k : ℕ). FitsStated of k) (sym same) fits
 
-pub is_read : (size n : ℕ) (of : Option ℕ) (room rest : List ℕ) (left left' : Option (List ℕ)) → left ≡ Some rest → Consumed left (take n room) left' → IsSome left' → n ≤ length room → FitsStated of n →
+pub is_read : (size n : ℕ) (of : Option ℕ) (room rest : List ℕ) (left' : Option (List ℕ)) → left_before (take n room) left' ≡ Some rest → IsSome left' → n ≤ size → length room ≡ size → FitsStated of n →
     (n < size → IsSpent left' ⊎ (of ≡ Some n)) → IsRead size n of room rest left'
-is_read size n of room rest left left' is consumed told fits stated ended =
-    let k = consumed_known left left' rest (take n room) is consumed told in
-    let full = length-take-le n room fits in
+is_read size n of room rest left' is told within sized stated ended =
+    let k = consumed_known (left_before (take n room) left') left' rest (take n room) is (read_before (take n room) left') told in
+    let full = length-take-le n room (subst (λ (k : ℕ). n ≤ k) (sym sized) within) in
     record {
       behind = k.0;
       is_left = k.1;
@@ -79,15 +80,15 @@ is_read size n of room rest left left' is consumed told fits stated ended =
     }
 
 -- the samples of a block, which are the first of a buffer
-pub samples_of : (n width : ℕ) (room : List ℕ) → length (take n room) ≡ n → n ≤ length room → n / width * width ≤ n → take (n / width * width) room ≡ whole_frames width (take n room)
-samples_of n width room full fits within =
+pub samples_of : (n width : ℕ) (room : List ℕ) → length (take n room) ≡ n → n / width * width ≤ n → take (n / width * width) room ≡ whole_frames width (take n room)
+samples_of n width room full within =
     sym (take-take (n / width * width) n room within) ∙ ap (λ k. take (k / width * width) (take n room)) (sym full)
 
 fits_room : (of : Option ℕ) (size n : ℕ) → n ≤ stated_room of size → (n ≤ size) × FitsStated of n
 fits_room None size n fits = (fits, tt)
 fits_room (Some m) size n fits = (omega arith, omega arith)
 
-module _ (coding : Option Coding) (head width start size frames given : ℕ) (of : Option ℕ) (bytes : List ℕ) (first : ClientState) (left told : Option (List ℕ)) (wire : List ℕ → ClientState) (sent sent' held : Option (List ℕ))
+module _ {coding : Option Coding} {head width start size frames given : ℕ} {of : Option ℕ} {bytes : List ℕ} {first : ClientState} {left told : Option (List ℕ)} {wire : List ℕ → ClientState} {sent sent' held : Option (List ℕ)}
     (p : IsPlaying coding head width start size frames given of bytes first left told wire sent sent' held) where
   -- something from outside ended the tool
   pub play_stopped : (how : ToolEnd) (told' : Option (List ℕ)) (wire' : List ℕ → ClientState) → is_outer how ≡ true → ObservedPart {X = ℕ} (plays coding width start 0 head (blocks size bytes) first) (Err how) told' wire' sent sent' held held
@@ -106,23 +107,28 @@ module _ (coding : Option Coding) (head width start size frames given : ℕ) (of
       (goes_at_once _ too_long end.TooLong told' wire' sent' held (λ next. plays_beyond coding width start frames given (wire p.input) next size (stated_part of p.rest) above.bytes
       (stated_part (stated_behind of (length above.bytes)) k.0) some (ap (stated_part of) k.2 ∙ part_front of above.bytes k.0 part.1) fits (omega arith) (omega arith)) refl)
 
-  module _ (n : ℕ) (room : List ℕ) (left' : Option (List ℕ)) (r : IsRead size n of room p.rest left') (some : 0 < size) (fits : n ≤ size) (within : given + n ≤ most_bytes) where
+  module _ (n : ℕ) (room : List ℕ) (left' : Option (List ℕ)) (r : IsRead size n of room p.rest left') (fits : BlockFits n size width given) where
     -- fewer bytes than a frame has were left
-    pub play_over : n < size → n / width ≡ 0 → ObservedPart (plays coding width start 0 head (blocks size bytes) first) (Ok frames) told wire sent sent' held held
-    play_over short none =
+    pub play_over : n / width ≡ 0 → ObservedPart (plays coding width start 0 head (blocks size bytes) first) (Ok frames) told wire sent sent' held held
+    play_over none =
+        let within = fits.within in
+        let most = fits.most in
+        let short = block_short n size width given fits none in
         let len : length (stated_part of p.rest) ≡ n = ap length (r.parts ∙ ap (λ b. take n room ++ b) (r.ended short) ∙ append-nil (take n room)) ∙ r.full in
         reaches_goes _ (plays coding width start frames given (blocks size (stated_part of p.rest)) (wire p.input)) (Ok frames) told wire sent sent' sent' held held held p.reaches
         (goes_value _ frames p.input told wire sent' held p.is_told
-        (λ next. plays_over coding width start frames given (wire p.input) next size (stated_part of p.rest) some (omega arith) (omega arith) (ap (λ k. k / width) len ∙ none)))
+        (λ next. plays_over coding width start frames given (wire p.input) next size (stated_part of p.rest) fits.some (omega arith) (omega arith) (ap (λ k. k / width) len ∙ none)))
 
     module _ (at : ℕ) (samples : List ℕ) (place : at ≡ block_time start frames) (is_whole : samples ≡ as_served coding (whole_frames width (take n room))) (whole : 0 < n / width) where
       -- the block is played
       asked_next : (next : ℕ → ClientState → Trace) → plays coding width start frames given (blocks size (stated_part of p.rest)) (wire p.input) next
           ≡ asks (play_run false 1 at samples) as_time (wire p.input) (λ _ v. plays coding width start (frames + n / width) (given + n) (blocks size (stated_part (stated_behind of n) r.behind)) v next)
       asked_next next =
+          let within = fits.within in
+          let most = fits.most in
           let full = r.full in
           let count : frames_in width (take n room) ≡ n / width = ap (λ k. k / width) full in
-          plays_next coding width start frames given (wire p.input) next size (stated_part of p.rest) (take n room) (stated_part (stated_behind of n) r.behind) some (omega arith) r.parts (λ short. r.ended (omega arith)) (omega arith) (omega arith)
+          plays_next coding width start frames given (wire p.input) next size (stated_part of p.rest) (take n room) (stated_part (stated_behind of n) r.behind) fits.some (omega arith) r.parts (λ short. r.ended (omega arith)) (omega arith) (omega arith)
           ∙ ap₂ (λ (t : ℕ) (b : List ℕ). asks (play_run false 1 t b) as_time (wire p.input) (λ _ v. plays coding width start (frames + frames_in width (take n room)) (given + length (take n room)) (blocks size (stated_part (stated_behind of n) r.behind)) v next)) (sym place) (sym is_whole)
           ∙ ap₂ (λ (k m : ℕ). asks (play_run false 1 at samples) as_time (wire p.input) (λ _ v. plays coding width start (frames + k) (given + m) (blocks size (stated_part (stated_behind of n) r.behind)) v next)) count full
 
@@ -160,14 +166,14 @@ play_begin coding head width start size of bytes first input left told wire sent
 }
 
 -- the same in frames of another name
-pub plays_named : (coding : Option Coding) (head width width' start block : ℕ) (bytes : List ℕ) (w : ClientState) (r : Result ℕ ToolEnd) (left : Option (List ℕ)) (wire : List ℕ → ClientState) (s s' h h' : Option (List ℕ)) → width ≡ width' →
+pub plays_named : (coding : Option Coding) (head width width' start block : ℕ) (bytes : List ℕ) (w : ClientState) {r : Result ℕ ToolEnd} {left : Option (List ℕ)} {wire : List ℕ → ClientState} {s s' h h' : Option (List ℕ)} → width ≡ width' →
     ObservedPart (plays coding width start 0 head (blocks (block * width) bytes) w) r left wire s s' h h' → ObservedPart (plays coding width' start 0 head (blocks (block * width') bytes) w) r left wire s s' h h'
-plays_named coding head width width' start block bytes w r left wire s s' h h' same g = subst (λ (x : ℕ). ObservedPart (plays coding x start 0 head (blocks (block * x) bytes) w) r left wire s s' h h') same g
+plays_named coding head width width' start block bytes w {r} {left} {wire} {s} {s'} {h} {h'} same g = subst (λ (x : ℕ). ObservedPart (plays coding x start 0 head (blocks (block * x) bytes) w) r left wire s s' h h') same g
 
 -- the same with other names of what was given and what is left
-pub playing_on : (coding : Option Coding) (head width start size frames given n : ℕ) (left left' : Option ℕ) (bytes : List ℕ) (first : ClientState) (gives told : Option (List ℕ)) (wire : List ℕ → ClientState) (sent sent' held : Option (List ℕ)) → left' ≡ stated_behind left n →
+pub playing_on : (coding : Option Coding) (head width start size frames given n : ℕ) (left left' : Option ℕ) {bytes : List ℕ} {first : ClientState} {gives told : Option (List ℕ)} {wire : List ℕ → ClientState} {sent sent' held : Option (List ℕ)} → left' ≡ stated_behind left n →
     IsPlaying coding head width start size frames (head + given + n) (stated_behind left n) bytes first gives told wire sent sent' held → IsPlaying coding head width start size frames (head + (given + n)) left' bytes first gives told wire sent sent' held
-playing_on coding head width start size frames given n left left' bytes first gives told wire sent sent' held same p =
+playing_on coding head width start size frames given n left left' {bytes} {first} {gives} {told} {wire} {sent} {sent'} {held} same p =
     let count : head + given + n ≡ head + (given + n) = omega arith in
     subst (λ (o : Option ℕ). IsPlaying coding head width start size frames (head + (given + n)) o bytes first gives told wire sent sent' held) (sym same)
     (subst (λ (k : ℕ). IsPlaying coding head width start size frames k (stated_behind left n) bytes first gives told wire sent sent' held) count p)
@@ -182,8 +188,8 @@ same_rest : (left : Option (List ℕ)) (a b : List ℕ) → left ≡ Some a → 
 same_rest left a b is other = cc
 
 -- all blocks were played of a source that still tells this, of which nothing is stated
-pub play_ended : (coding : Option Coding) (head width start size frames given : ℕ) (of : Option ℕ) (bytes : List ℕ) (first : ClientState) (left told : Option (List ℕ)) (wire : List ℕ → ClientState) (sent sent' held : Option (List ℕ)) →
+pub play_ended : {coding : Option Coding} {head width start size frames given : ℕ} {of : Option ℕ} {bytes : List ℕ} {first : ClientState} {left told : Option (List ℕ)} {wire : List ℕ → ClientState} {sent sent' held : Option (List ℕ)} →
     IsPlaying coding head width start size frames given of bytes first left told wire sent sent' held → 0 < size → given ≤ most_bytes → (behind : List ℕ) → left ≡ Some behind → stated_part of behind ≡ [] →
     ObservedPart (plays coding width start 0 head (blocks size bytes) first) (Ok frames) told wire sent sent' held held
-play_ended coding head width start size frames given of bytes first left told wire sent sent' held p some within behind is none =
+play_ended {coding} {head} {width} {start} {size} {frames} {given} {of} {bytes} {first} {left} {told} {wire} {sent} {sent'} {held} p some within behind is none =
     play_done coding head width start size frames given of bytes first left told wire sent sent' held p some within (ap (stated_part of) (same_rest left p.rest behind p.is_left is) ∙ none)

@@ -109,7 +109,7 @@ abbrev behind_block : RecordJob → RecordedSound → (block at n before frames 
 behind_block job sound block at n before frames peaks p v = λ next.
     if ends_row job (p ∷ peaks) then next (before + n) v else records job sound ((at + n) % 2 ^ 32) (before + n) (p ∷ peaks) (block_lengths block frames) v next
 
-module _ (job : RecordJob) (sound : RecordedSound) (block start at frames row : ℕ) (first : ClientState) (told : Option (List ℕ)) (wire : List ℕ → ClientState) (sent sent' held held' : Option (List ℕ))
+module _ {job : RecordJob} {sound : RecordedSound} {block start at frames row : ℕ} {first : ClientState} {told : Option (List ℕ)} {wire : List ℕ → ClientState} {sent sent' held held' : Option (List ℕ)}
     (r : IsRecording job sound block start at frames row first told wire sent sent' held held') (some : 0 < block) where
   -- none is left
   pub record_done : frames ≡ 0 → ObservedPart (left_to_record job sound block start 0 [] job.frames first) (Ok job.frames) told wire sent sent' held held'
@@ -195,9 +195,9 @@ record_begin job sound block start first input told wire sent held is_told is = 
 }
 
 -- all frames, in blocks of another name
-pub all_recorded : (job : RecordJob) (sound : RecordedSound) (block block' start : ℕ) (first : ClientState) (result : Result ℕ ToolEnd) (told : Option (List ℕ)) (wire : List ℕ → ClientState) (s s' h h' : Option (List ℕ)) → block ≡ block' →
+pub all_recorded : (job : RecordJob) (sound : RecordedSound) {block block' : ℕ} (start : ℕ) (first : ClientState) {result : Result ℕ ToolEnd} {told : Option (List ℕ)} {wire : List ℕ → ClientState} {s s' h h' : Option (List ℕ)} → block ≡ block' →
     ObservedPart (left_to_record job sound block start 0 [] job.frames first) result told wire s s' h h' → ObservedPart (left_to_record job sound block' start 0 [] job.frames first) result told wire s s' h h'
-all_recorded job sound block block' start first result told wire s s' h h' is g = subst (λ (b : ℕ). ObservedPart (left_to_record job sound b start 0 [] job.frames first) result told wire s s' h h') is g
+all_recorded job sound start first {result} {told} {wire} {s} {s'} {h} {h'} is g = subst (λ (b : ℕ). ObservedPart (left_to_record job sound b start 0 [] job.frames first) result told wire s s' h h') is g
 
 -- a block has a frame
 pub some_recorded : (sound : RecordedSound) (asked : ℕ) → IsChannelCount sound.channels → 1 ≤ asked → 1 ≤ block_frames asked (recorded_frame sound)

@@ -7,6 +7,7 @@ use Rattle.af_lib.specs.declared.fault.ConnFault.{ConnFault}
 use Rattle.af_lib.specs.Ring.{RingState}
 use Rattle.af_wire.specs.declared.order.Order.{Order}
 use Rattle.af_wire.specs.Front.{setup_bytes}
+pub use Rattle.af_tool.proofs.TracePartLemmas.{setup_known}
 use Rattle.af_lib.specs.Calls.{IsSetUp}
 use Rattle.af_request.specs.declared.reply.DeviceInfo.{DeviceInfo}
 use Rattle.af_tool.specs.Trace.{Trace, ClientState, answered_by, begun, connects, sending, set_up, setup_answer}
@@ -19,17 +20,10 @@ module _ (order : Order) where
   unfolding connects
   connects_is input next = refl
 
-  pub setup_known : {L : Type 0} (left sent : L → Option (List ℕ)) (faults : L → ℕ) (old new : L) (ring : RingState) (input : List ℕ) (result : Result (List DeviceInfo) ConnFault) →
-      IsSetUp order left sent faults old new ring result → left old ≡ Some input → Known (setup_answer order input) (set_up order input) (left new) (begun order ring) result
-  setup_known left sent faults old new ring input result is told = λ sound.
-      let both = told_both (left old) (left new) input _ told is.tells (is.answers sound) in
-      let facts = both.2 in
-      (both.0, both.1, facts.0, ap₂ (begun order) facts.1 facts.2)
-
   -- a setup and its answer are a part of a tool
   pub setup_goes : {L : Type 0} (left sent : L → Option (List ℕ)) (faults : L → ℕ) (old new : L) (ring : RingState) (input : List ℕ) (held : Option (List ℕ)) (result : Result (List DeviceInfo) ConnFault) →
       IsSetUp order left sent faults old new ring result → left old ≡ Some input →
       ObservedPart {X = List DeviceInfo} (connects order input) (ended result) (left new) (begun order ring) (sent old) (sent new) held held
   setup_goes left sent faults old new ring input held result is told =
       exchange_goes (connects order input) (setup_bytes order) (setup_answer order input) (set_up order input) (connects_is input) (left new) (begun order ring) (sent old) (sent new) held result is.sends
-      (setup_known left sent faults old new ring input result is told)
+      (setup_known order left sent faults old new ring input result is told)

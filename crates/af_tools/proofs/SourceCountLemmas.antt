@@ -28,7 +28,7 @@ fault_known P fill.ReadFault long failed = failed refl
 fault_known P fill.TooLong long failed = long refl
 
 -- what was given so far, and a block more
-pub given_on : (n given : ℕ) (a b c : Option (List ℕ)) (block : List ℕ) → ConsumedAll given a b → Consumed b (take n block) c → n ≤ length block → ConsumedAll (given + n) a c
+given_on : (n given : ℕ) (a b c : Option (List ℕ)) (block : List ℕ) → ConsumedAll given a b → Consumed b (take n block) c → n ≤ length block → ConsumedAll (given + n) a c
 given_on n given a b c block so_far consumed fits = record {
   bytes = so_far.bytes ++ take n block;
   consumed = consumed_on a b c so_far.bytes (take n block) so_far.consumed consumed;
@@ -39,6 +39,11 @@ given_on n given a b c block so_far consumed fits = record {
 pub read_before : (block : List ℕ) (after : Option (List ℕ)) → Consumed (left_before block after) block after
 read_before block None = tt
 read_before block (Some rest) = refl
+
+-- what was given with the block that stands in a room
+pub block_given : (n given : ℕ) (a left : Option (List ℕ)) (room : List ℕ) {size : ℕ} → ConsumedAll given a (left_before (take n room) left) → n ≤ size → length room ≡ size → ConsumedAll (given + n) a left
+block_given n given a left room so_far within sized =
+    given_on n given a (left_before (take n room) left) left room so_far (read_before (take n room) left) (subst (λ (k : ℕ). n ≤ k) (sym sized) within)
 
 pub before_is : (block : List ℕ) (b c : Option (List ℕ)) → Consumed b block c → IsSome c → left_before block c ≡ b
 before_is block b None consumed told = cc told
@@ -178,7 +183,7 @@ sound_spent form n len a b c h (inr s) = inr (record {
 })
 
 -- a sound was played to its end: that of the source, or that of the stated length
-pub spent_or_all : (of left : Option ℕ) (given n : ℕ) (room : List ℕ) (a b c : Option (List ℕ)) → left ≡ stated_behind of given → FitsStated of given → ConsumedAll given a b → Consumed b (take n room) c → n ≤ length room →
+pub spent_or_all : (of left : Option ℕ) (given n : ℕ) (room : List ℕ) (a c : Option (List ℕ)) {size : ℕ} → left ≡ stated_behind of given → FitsStated of given → ConsumedAll given a (left_before (take n room) c) → n ≤ size → length room ≡ size →
     IsSpent c ⊎ (left ≡ Some n) → IsSpent c ⊎ ConsumedStated of a c
-spent_or_all of left given n room a b c is fits so_far more bound (inl spent) = inl spent
-spent_or_all of left given n room a b c is fits so_far more bound (inr all) = inr (stated_all of left given n a c is fits all (given_on n given a b c room so_far more bound))
+spent_or_all of left given n room a c is fits so_far within sized (inl spent) = inl spent
+spent_or_all of left given n room a c is fits so_far within sized (inr all) = inr (stated_all of left given n a c is fits all (block_given n given a c room so_far within sized))

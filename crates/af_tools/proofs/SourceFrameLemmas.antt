@@ -1,5 +1,5 @@
 -- Blocks of a source's frames, and of the frames as a server takes them, have room.
-use Rattle.std.proofs.Common.{◌≡◌, ℕ, ◌*◌, ◌/◌, ◌%◌, ◌<◌, ◌≤◌, sym, subst, arith, inl, inr}
+use Rattle.std.proofs.Common.{◌≡◌, ℕ, ◌+◌, ◌-◌, ◌*◌, ◌/◌, ◌%◌, ◌<◌, ◌≤◌, sym, subst, arith, inl, inr}
 use Rattle.std.proofs.lemmas.Nat.{mul-le}
 use Rattle.std.specs.declared.option.Option.{Option}
 use Rattle.std.specs.declared.option.Option.TheVariants.{None, Some}
@@ -12,9 +12,12 @@ use Rattle.af_sound.specs.declared.head.Coding.TheVariants as coding
 use Rattle.af_sound.specs.Served.{served_length}
 use Rattle.af_sound.specs.Written.{sample_size}
 use Rattle.af_options.specs.Sizes.{greatest_block}
+use Rattle.af_options.proofs.FrameSizeLemmas.{some_bytes}
+use Rattle.af_tools.specs.Most.{most_bytes}
 use Rattle.af_tools.specs.Play.{IsBlock}
 use Rattle.af_tools.specs.Sounds.{served_room, served_type, source_sample, source_width, AreWhole, IsServedAs}
 use Rattle.af_tools.proofs.ServedBlockLemmas.{some_size, source_size}
+use Rattle.af_tools.proofs.SourceCountLemmas.{short_of}
 
 -- a sample has no more bytes in the source than as a server takes it
 least_sample : (c : Coding) → sample_size c ≤ width_of (served_type c)
@@ -35,6 +38,28 @@ wide_of frames width some = let one : 1 * width ≤ frames * width = mul-le 1 wi
 pub some_size_of : (c : Option Coding) (to : SampleType) (channels frames width : ℕ) → IsChannelCount channels → 1 ≤ frames → width ≡ source_width c to channels → 0 < frames * width
 some_size_of c to channels frames width count some is =
     subst (λ (n : ℕ). 0 < frames * n) (sym is) (some_size (source_width c to channels) (source_size c to channels count) frames (omega arith))
+
+-- a block of n bytes, behind so many that were given: it fits its room, which has a frame, and what a source may give
+pub record BlockFits (n size width given : ℕ) : Type 0 where
+  pub some : 0 < size
+  pub frame : 0 < width
+  pub wide : width ≤ size
+  pub within : n ≤ size
+  pub most : given + n ≤ most_bytes
+
+pub block_fits : (c : Option Coding) (to : SampleType) (channels frames width head given n : ℕ) → IsBlock to channels frames → width ≡ source_width c to channels → head ≤ most_bytes →
+    n ≤ frames * width → given + n ≤ most_bytes - head → BlockFits n (frames * width) width (head + given)
+block_fits c to channels frames width head given n b same low within permitted =
+    let frame : 0 < width = subst (λ (k : ℕ). 0 < k) (sym same) (some_bytes (source_width c to channels) (source_size c to channels b.count)) in
+    let wide : width ≤ frames * width = wide_of frames width b.some in
+    record { some = omega arith; frame = frame; wide = wide; within = within; most = omega arith }
+
+-- one without a whole frame is short
+pub block_short : (n size width given : ℕ) → BlockFits n size width given → n / width ≡ 0 → n < size
+block_short n size width given b none =
+    let less : n < width = short_of n width b.frame none in
+    let wide = b.wide in
+    omega arith
 
 pub size_fits : (c : Option Coding) (to : SampleType) (channels frames width : ℕ) → IsServedAs c to → IsBlock to channels frames → width ≡ source_width c to channels → frames * width ≤ greatest_block
 size_fits c to channels frames width is b same =

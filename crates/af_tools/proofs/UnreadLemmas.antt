@@ -36,12 +36,17 @@ asks_replied context w w' u s o passed =
     let more : Unit {0} → ClientState → Trace = λ _ _. ends done in
     replied_at (request_bytes w.order context) (answer_on context as_done w) (after_reply w) more (ap (λ (t : Trace). t.finish) (sym (asks_is context w more) ∙ passed more))
 
+-- the context of a job, by other names of its device and of its channels
+pub context_asked : (devices : List DeviceInfo) (context : ToolContext) (job : PlayJob) (ty : SampleType) (channels : ℕ) → context.device ≡ job.device → device_channels devices job.device ≡ channels →
+    ((n : ℕ) → creates n context ≡ play_context job ty n) → creates (device_channels devices context.device) context ≡ play_context job ty channels
+context_asked devices context job ty channels same_device same_channels same =
+    ap (λ n. creates n context) (ap (device_channels devices) same_device ∙ same_channels) ∙ same channels
+
 -- the same by the context of a job
 pub context_replied : (devices : List DeviceInfo) (context : ToolContext) (job : PlayJob) (ty : SampleType) (channels : ℕ) (w w' : ClientState) (u : Unit {0}) (s o : List ℕ) → context.device ≡ job.device → device_channels devices job.device ≡ channels →
     ((n : ℕ) → creates n context ≡ play_context job ty n) → PartCompletes (asks (creates (device_channels devices context.device) context) as_done w) u w' s o → GivesReply (play_context job ty channels) w
 context_replied devices context job ty channels w w' u s o same_device same_channels same passed =
-    let count : device_channels devices context.device ≡ channels = ap (device_channels devices) same_device ∙ same_channels in
-    subst (λ (a : Asked). GivesReply a w) (ap (λ n. creates n context) count ∙ same channels) (asks_replied (creates (device_channels devices context.device) context) w w' u s o passed)
+    subst (λ (a : Asked). GivesReply a w) (context_asked devices context job ty channels same_device same_channels same) (asks_replied (creates (device_channels devices context.device) context) w w' u s o passed)
 
 -- aplay leaves a source without a head behind the reply, by what it does behind the head
 pub read_late : {L S : Type 0} (left : L → Option (List ℕ)) (job : PlayJob) (device : DeviceInfo) (conn : ConnState L) → slice_get conn.devices job.device ≡ Some device → (ty : SampleType) (channels : ℕ) → ty ≡ unwrap_or job.ty device.ty → channels ≡ device.channels →

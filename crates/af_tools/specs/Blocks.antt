@@ -1,5 +1,6 @@
 -- The blocks that aplay sends of a source's bytes, and what is heard of them.
-use Rattle.std.specs.Prelude.{◌≡◌, ℕ, ◌+◌, ◌*◌, ◌/◌, ◌<◌, ◌≤◌, nat_lt, if◌then◌else◌, true, ℤ, pos, List, [], ◌∷◌, map, length, slice_get, slice_index_or, Some}
+use Rattle.std.specs.Prelude.{◌≡◌, ℕ, ◌+◌, ◌*◌, ◌/◌, ◌<◌, ◌≤◌, nat_lt, if◌then◌else◌, true, ℤ, pos}
+use Rattle.std.specs.Prelude.{List, [], ◌∷◌, map, length, slice_get, slice_index_or, Some}
 use Rattle.af_sample.specs.declared.sample_type.SampleType.{SampleType}
 use Rattle.af_sample.specs.Channels.{IsChannelCount}
 use Rattle.af_sample.specs.SampleTypes.{frame_bytes}
@@ -37,10 +38,13 @@ pub record IsEntryOf (ty : SampleType) (gain : ℤ) (start : ℕ) (block : Block
 
 -- Each block has an entry in an accepted list of a device with so many channels, at a place of its own, and no entry at another
 -- place covers a time of the frames.
-pub record AreAccepted (ty : SampleType) (channels : ℕ) (gain : ℤ) (start frames : ℕ) (sent : List Block) (accepted : List AcceptedPlay) : Type 0 where
+pub record AreAccepted (ty : SampleType) (channels : ℕ) (gain : ℤ) (start frames : ℕ) (sent : List Block)
+    (accepted : List AcceptedPlay) : Type 0 where
   pub place : ℕ → ℕ
-  pub each : (k : ℕ) (block : Block) → slice_get sent k ≡ Some block → (entry : AcceptedPlay) × (slice_get accepted (place k) ≡ Some entry) × IsEntryOf ty gain start block entry
-  pub no_other : (j i : ℕ) (entry : AcceptedPlay) → slice_get accepted j ≡ Some entry → i < frames → covers channels entry (start + i) ≡ true → (k : ℕ) × (k < length sent) × (j ≡ place k)
+  pub each : (k : ℕ) (block : Block) → slice_get sent k ≡ Some block →
+      (entry : AcceptedPlay) × (slice_get accepted (place k) ≡ Some entry) × IsEntryOf ty gain start block entry
+  pub no_other : (j i : ℕ) (entry : AcceptedPlay) → slice_get accepted j ≡ Some entry → i < frames →
+      covers channels entry (start + i) ≡ true → (k : ℕ) × (k < length sent) × (j ≡ place k)
 
 -- the sample of a channel in frame i
 abbrev pub sample_in : (channels : ℕ) → List ℤ → (i channel : ℕ) → ℤ
@@ -48,7 +52,9 @@ sample_in channels xs i channel = slice_index_or xs (channels * i + channel) (po
 
 -- Where the blocks of a source's bytes are accepted, what is heard in each channel is the samples of its whole frames.
 abbrev pub HeardAsIntended : Type 0
-HeardAsIntended = (ty : SampleType) (channels : ℕ) (gain : ℤ) (block : ℕ) (bytes : List ℕ) (start : ℕ) (accepted : List AcceptedPlay) → IsChannelCount channels → 0 < block →
+HeardAsIntended =
+    (ty : SampleType) (channels : ℕ) (gain : ℤ) (block : ℕ) (bytes : List ℕ) (start : ℕ) (accepted : List AcceptedPlay) →
+    IsChannelCount channels → 0 < block →
     AreAccepted ty channels gain start (length bytes / frame_bytes ty channels) (sent_blocks ty channels block bytes) accepted →
     (i channel : ℕ) → i < length bytes / frame_bytes ty channels → channel < channels →
     heard channels accepted (start + i) channel ≡ sample_in channels (gained_samples ty gain bytes) i channel

@@ -24,7 +24,8 @@ recorded_type (Some form) ty.Lin32 = ty.Lin16
 recorded_type (Some form) ty = ty
 recorded_type None ty = ty
 
--- how a file codes the samples of a type: those of 16 bits have the high byte first in an .au file, and the low one in a WAVE file
+-- how a file codes the samples of a type: those of 16 bits have the high byte first in an .au file, and the low one in a WAVE
+-- file
 abbrev pub coding_in : SoundForm → SampleType → Coding
 coding_in form ty.Mu255 = coding.Mu255
 coding_in form ty.Alaw = coding.Alaw
@@ -47,7 +48,8 @@ recorded_sound job device =
     let ty = recorded_type job.form (unwrap_or job.ty device.ty) in
     record { ty = ty; coding = option_map (λ form. coding_in form ty) job.form; channels = device.channels }
 
--- the length that a head states: that of all frames, each of so many bytes, if quiet cannot end the recording and a head can state it
+-- the length that a head states: that of all frames, each of so many bytes, if quiet cannot end the recording and a head can
+-- state it
 abbrev pub stated_length : RecordJob → (frame : ℕ) → Option ℕ
 stated_length job frame =
     if (job.stop_peak == 0) && nat_lt (job.frames * frame) unknown_length then Some (job.frames * frame) else None
@@ -56,7 +58,12 @@ stated_length job frame =
 abbrev pub file_head : SoundForm → RecordJob → DeviceInfo → SoundHead
 file_head form job device =
     let ty = (recorded_sound job device).ty in
-    record { coding = coding_in form ty; rate = device.rate; channels = device.channels; length = stated_length job (frame_bytes ty device.channels) }
+    record {
+      coding = coding_in form ty;
+      rate = device.rate;
+      channels = device.channels;
+      length = stated_length job (frame_bytes ty device.channels);
+    }
 
 -- what is written before the sound: the head, of a file
 abbrev pub front_in : Option SoundForm → RecordJob → DeviceInfo → List ℕ

@@ -38,8 +38,8 @@ abbrev pub left_before : List ℕ → Option (List ℕ) → Option (List ℕ)
 left_before bytes None = None
 left_before bytes (Some rest) = Some (bytes ++ rest)
 
--- The block that was read has n bytes: as many as it has room for, and fewer only at the end of the source, or of a sound of which
--- this length is left.
+-- The block that was read has n bytes: as many as it has room for, and fewer only at the end of the source, or of a sound of
+-- which this length is left.
 pub record IsNextBlock (room allowed : ℕ) (len : Option ℕ) (count : ℕ) (after : Option (List ℕ)) : Type 0 where
   pub within : count ≤ room
   pub permitted : count ≤ allowed
@@ -48,7 +48,8 @@ pub record IsNextBlock (room allowed : ℕ) (len : Option ℕ) (count : ℕ) (af
 
 -- the first block was read early, before the device's time was asked, or is left for later
 abbrev pub IsEarlyBlock : (room allowed : ℕ) → (len early : Option ℕ) → List ℕ → (before after : Option (List ℕ)) → Type 0
-IsEarlyBlock room allowed len (Some count) bytes before after = Consumed before (take count bytes) after × IsNextBlock room allowed len count after
+IsEarlyBlock room allowed len (Some count) bytes before after =
+    Consumed before (take count bytes) after × IsNextBlock room allowed len count after
 IsEarlyBlock room allowed len None bytes before after = after ≡ before
 
 -- the source gave no more than aplay takes

@@ -28,8 +28,8 @@ play_of order start block = request_bytes order (play_run false 1 ((start + bloc
 abbrev pub blocks_sent : PlayJob → SampleType → (channels : ℕ) → List ℕ → List Block
 blocks_sent job ty channels samples = sent_blocks ty channels (played_frames job ty channels) samples
 
--- what is sent of samples of a type, of so many channels: a context is made and the time asked, each block is played, and the context
--- is freed
+-- what is sent of samples of a type, of so many channels: a context is made and the time asked, each block is played, and the
+-- context is freed
 abbrev pub played_whole : Order → PlayJob → SampleType → (channels : ℕ) → List ℕ → ℕ → List ℕ
 played_whole order job ty channels samples start =
     request_bytes order (play_context job ty channels) ++ (request_bytes order (get_time job.device)
@@ -37,9 +37,10 @@ played_whole order job ty channels samples start =
 
 -- A job is done on the device with the samples that the source gives, raw or in a sound file, from a start on, which is stated or
 -- follows the time that the device told, and which is written behind the number of whole frames. Where a device with the channels
--- that the context names accepts the blocks from a whole time on that is this start modulo 2^32, it plays the samples of the source in
--- each of them.
-pub record IsPlayed (job : PlayJob) (devices : List DeviceInfo) (bytes : List ℕ) (w : ClientState) (sent sent' held held' : Option (List ℕ)) : Type 0 where
+-- that the context names accepts the blocks from a whole time on that is this start modulo 2^32, it plays the samples of the
+-- source in each of them.
+pub record IsPlayed (job : PlayJob) (devices : List DeviceInfo) (bytes : List ℕ) (w : ClientState)
+    (sent sent' held held' : Option (List ℕ)) : Type 0 where
   pub device : DeviceInfo
   pub is_there : slice_get devices job.device ≡ Some device
   pub ty : SampleType
@@ -52,6 +53,8 @@ pub record IsPlayed (job : PlayJob) (devices : List DeviceInfo) (bytes : List �
   pub link : Appended sent (played_whole w.order job ty device.channels samples start) sent'
   pub sink : Appended held (played (length samples / frame_bytes ty device.channels) start) held'
   pub hears : (whole : ℕ) (accepted : List AcceptedPlay) → whole % 2 ^ 32 ≡ start →
-      AreAccepted ty device.channels job.gain whole (length samples / frame_bytes ty device.channels) (blocks_sent job ty device.channels samples) accepted →
+      AreAccepted ty device.channels job.gain whole (length samples / frame_bytes ty device.channels)
+      (blocks_sent job ty device.channels samples) accepted →
       (i channel : ℕ) → i < length samples / frame_bytes ty device.channels → channel < device.channels →
-      heard device.channels accepted (whole + i) channel ≡ sample_in device.channels (gained_samples ty job.gain samples) i channel
+      heard device.channels accepted (whole + i) channel
+      ≡ sample_in device.channels (gained_samples ty job.gain samples) i channel

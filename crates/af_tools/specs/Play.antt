@@ -1,5 +1,6 @@
 -- What aplay does: the bytes of its source are cut into blocks, and each block is played at its time.
-use Rattle.std.specs.Prelude.{◌≤◌, ℕ, zero, suc, ◌+◌, ◌*◌, ◌/◌, ◌%◌, ◌^◌, nat_lt, if◌then◌else◌, pos, false, List, [], ◌∷◌, ◌++◌, length, take, drop, codes, decimal}
+use Rattle.std.specs.Prelude.{◌≤◌, ℕ, zero, suc, ◌+◌, ◌*◌, ◌/◌, ◌%◌, ◌^◌, nat_lt, if◌then◌else◌, pos}
+use Rattle.std.specs.Prelude.{false, List, [], ◌∷◌, ◌++◌, length, take, drop, codes, decimal}
 use Rattle.std.specs.declared.option.Option.{Option}
 use Rattle.std.specs.declared.option.Option.TheVariants.{None, Some}
 use Rattle.af_time.specs.DeviceTime.{frames_lasting}
@@ -38,13 +39,15 @@ whole_frames width block = take (frames_in width block * width) block
 abbrev pub block_time : (start sent : ℕ) → ℕ
 block_time start sent = (start + sent) % 2 ^ 32
 
--- Each block is played behind those before it, as a server takes it. What follows is told how many frames there were in all. A block without a whole
--- frame is not sent, and if the source has given too much the tool ends.
-unfoldable pub plays : Option Coding → (width start sent given : ℕ) → List (List ℕ) → ClientState → (ℕ → ClientState → Trace) → Trace
+-- Each block is played behind those before it, as a server takes it. What follows is told how many frames there were in all. A
+-- block without a whole frame is not sent, and if the source has given too much the tool ends.
+unfoldable pub plays : Option Coding → (width start sent given : ℕ) → List (List ℕ) → ClientState → (ℕ → ClientState → Trace) →
+    Trace
 plays coding width start sent given [] w next = next sent w
 plays coding width start sent given (block ∷ more) w next =
     if nat_lt most_bytes (given + length block) then ends too_long
-    else if nat_lt 0 (frames_in width block) then asks (play_run false 1 (block_time start sent) (as_served coding (whole_frames width block))) as_time w
+    else if nat_lt 0 (frames_in width block)
+    then asks (play_run false 1 (block_time start sent) (as_served coding (whole_frames width block))) as_time w
     (λ _ v. plays coding width start (sent + frames_in width block) (given + length block) more v next)
     else next sent w
 
@@ -86,8 +89,8 @@ played_on job sound device bytes w next =
     plays_sound sound (played_frames job sound.ty sound.channels) start bytes w (λ frames w.
     asks (free_ac 1) as_done w (λ _ w. next frames start w)))
 
--- the trace of aplay, by the devices of the server, the bytes of the source, and what the link gives: it reads a head, if the source
--- has one, plays all, and then writes how much from when on
+-- the trace of aplay, by the devices of the server, the bytes of the source, and what the link gives: it reads a head, if the
+-- source has one, plays all, and then writes how much from when on
 unfoldable pub aplay_trace : PlayJob → List DeviceInfo → List ℕ → ClientState → Trace
 aplay_trace job devices bytes w = with_job_device job.device devices (λ device.
     reads_sound job.form job device bytes (λ sound rest.

@@ -14,10 +14,11 @@ use Rattle.af_tools.specs.Play.{aplay_trace}
 use Rattle.af_tools.specs.Sounds.{IsPlayable}
 use Rattle.af_tools.specs.Intent.{IsPlayed}
 
--- A tool ran that is about the device with this number, by what its link gives. What the link was sent and the sink gained are those of
--- the trace, or prefixes of them where something from outside ended it. An end of a reply is that of the trace. With the device there
--- and an awaited reply for each request it is done, unless something from outside ended it.
-pub record ToolRan (trace : Trace) (device : ℕ) (devices : List DeviceInfo) (how : ToolEnd) (sent sent' held held' : Option (List ℕ)) : Type 0 where
+-- A tool ran that is about the device with this number, by what its link gives. What the link was sent and the sink gained are
+-- those of the trace, or prefixes of them where something from outside ended it. An end of a reply is that of the trace. With the
+-- device there and an awaited reply for each request it is done, unless something from outside ended it.
+pub record ToolRan (trace : Trace) (device : ℕ) (devices : List DeviceInfo) (how : ToolEnd)
+    (sent sent' held held' : Option (List ℕ)) : Type 0 where
   pub followed : ObservedTrace trace how sent sent' held held'
   pub reply : EndsByReply trace how
   pub complete : device < length devices → IsAnswered trace → (how ≡ end.Done) ⊎ (is_outer how ≡ true)
@@ -40,20 +41,24 @@ is_of_sound_finish _ = false
 -- something from outside has ended it; and it ends so only there.
 pub record EndsBySound (trace : Trace) (how : ToolEnd) : Type 0 where
   pub only : (finish : Finish) → is_of_sound_finish finish ≡ true → how ≡ tool_end finish → trace.finish ≡ finish
-  pub always : (finish : Finish) → is_of_sound_finish finish ≡ true → trace.finish ≡ finish → (how ≡ tool_end finish) ⊎ (is_outer how ≡ true)
+  pub always : (finish : Finish) → is_of_sound_finish finish ≡ true → trace.finish ≡ finish →
+      (how ≡ tool_end finish) ⊎ (is_outer how ≡ true)
 
--- aplay ran, by what its link and its source give: as above, if the source gives what the device plays, and no more than it takes. Done, each block was played
--- at its time, and is heard there by whom accepts it in time.
-pub record AplayRan (job : PlayJob) (devices : List DeviceInfo) (bytes : List ℕ) (w : ClientState) (how : ToolEnd) (sent sent' held held' : Option (List ℕ)) : Type 0 where
+-- aplay ran, by what its link and its source give: as above, if the source gives what the device plays, and no more than it
+-- takes. Done, each block was played at its time, and is heard there by whom accepts it in time.
+pub record AplayRan (job : PlayJob) (devices : List DeviceInfo) (bytes : List ℕ) (w : ClientState) (how : ToolEnd)
+    (sent sent' held held' : Option (List ℕ)) : Type 0 where
   pub followed : ObservedTrace (aplay_trace job devices bytes w) how sent sent' held held'
   pub heard : how ≡ end.Done → IsPlayed job devices bytes w sent sent' held held'
   pub reply : EndsByReply (aplay_trace job devices bytes w) how
   pub sound : EndsBySound (aplay_trace job devices bytes w) how
-  pub complete : (device : DeviceInfo) → slice_get devices job.device ≡ Some device → IsPlayable job device bytes → length bytes ≤ most_bytes →
+  pub complete : (device : DeviceInfo) → slice_get devices job.device ≡ Some device → IsPlayable job device bytes →
+      length bytes ≤ most_bytes →
       IsAnswered (aplay_trace job devices bytes w) → (how ≡ end.Done) ⊎ (is_outer how ≡ true)
 
 -- the same over a connection whose link and a source that tell what they give; the source still tells it afterwards
-abbrev pub RunsAplay : {L S K : Type 0} → (left sent : L → Option (List ℕ)) → (gives : S → Option (List ℕ)) → (held : K → Option (List ℕ)) →
+abbrev pub RunsAplay : {L S K : Type 0} → (left sent : L → Option (List ℕ)) → (gives : S → Option (List ℕ)) →
+    (held : K → Option (List ℕ)) →
     PlayJob → ToolEnd → (conn conn' : ConnState L) → (source source' : S) → (sink sink' : K) → Type 0
 RunsAplay left sent gives held job how conn conn' source source' sink sink' =
     (input bytes : List ℕ) → left conn.link ≡ Some input → gives source ≡ Some bytes → IsSome (gives source') →

@@ -1,5 +1,6 @@
 -- What arecord does: it records block behind block, and writes each.
-use Rattle.std.specs.Prelude.{ℕ, suc, ◌+◌, ◌*◌, ◌/◌, ◌%◌, ◌^◌, ◌==◌, max, nat_le, nat_lt, unsigned_abs, if◌then◌else◌, pos, Bool, true, List, [], ◌∷◌, ◌++◌, map, replicate, unwrap_or}
+use Rattle.std.specs.Prelude.{ℕ, suc, ◌+◌, ◌*◌, ◌/◌, ◌%◌, ◌^◌, ◌==◌, max, nat_le, nat_lt, unsigned_abs}
+use Rattle.std.specs.Prelude.{if◌then◌else◌, pos, Bool, true, List, [], ◌∷◌, ◌++◌, map, replicate, unwrap_or}
 use Rattle.af_sample.specs.declared.sample_type.SampleType.{SampleType}
 use Rattle.af_sample.specs.SampleTypes.{code_of, frame_bytes}
 use Rattle.af_sample.specs.Samples.{samples}
@@ -43,9 +44,10 @@ abbrev pub takes_block : RecordedSound → (at size : ℕ) → ClientState → (
 takes_block sound at size w next = asks (record_run true 1 at size) (as_recorded true size) w (λ r v.
     writing (as_filed sound.coding r.samples) (next (peak sound.ty r.samples) v))
 
--- Blocks of these lengths are recorded, one behind the other and behind so many frames, and written. Behind a row of quiet ones none
--- is asked any more. What follows is told how many frames there were in all.
-unfoldable pub records : RecordJob → RecordedSound → (at before : ℕ) (peaks : List ℕ) → List ℕ → ClientState → (ℕ → ClientState → Trace) → Trace
+-- Blocks of these lengths are recorded, one behind the other and behind so many frames, and written. Behind a row of quiet ones
+-- none is asked any more. What follows is told how many frames there were in all.
+unfoldable pub records : RecordJob → RecordedSound → (at before : ℕ) (peaks : List ℕ) → List ℕ → ClientState →
+    (ℕ → ClientState → Trace) → Trace
 records job sound at before peaks [] w next = next before w
 records job sound at before peaks (n ∷ more) w next = takes_block sound at (n * recorded_frame sound) w (λ peak v.
     if ends_row job (peak ∷ peaks) then next (before + n) v
@@ -60,8 +62,8 @@ records_all job sound start w next =
 abbrev pub record_context : RecordJob → DeviceInfo → Asked
 record_context job device = create_ac job.device 1 (code_of (recorded_sound job device).ty) device.channels 0 (pos 0) job.gain
 
--- the blocks are recorded from a start on; of a file the head is written before them, and behind them the byte that makes the sound of
--- a WAVE file even
+-- the blocks are recorded from a start on; of a file the head is written before them, and behind them the byte that makes the
+-- sound of a WAVE file even
 unfoldable pub writes_recording : RecordJob → DeviceInfo → (start : ℕ) → ClientState → (ClientState → Trace) → Trace
 writes_recording job device start w next =
     let sound = recorded_sound job device in
@@ -69,8 +71,8 @@ writes_recording job device start w next =
     records_all job sound start w (λ frames w.
     writing (pad_behind job.form (frames * recorded_frame sound)) (next w)))
 
--- a context is made and the device's time asked, all is recorded and written from the stated start or else from that time on, and the
--- context is freed
+-- a context is made and the device's time asked, all is recorded and written from the stated start or else from that time on, and
+-- the context is freed
 unfoldable pub recorded_on : RecordJob → DeviceInfo → ClientState → (ClientState → Trace) → Trace
 recorded_on job device w next =
     begins (record_context job device) job.device w (λ now w.

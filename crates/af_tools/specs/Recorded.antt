@@ -13,8 +13,10 @@ use Rattle.af_lib.specs.Calls.{ConnState}
 use Rattle.af_tools.specs.Files.{as_raw, recording_of}
 use Rattle.af_tools.specs.Record.{arecord_output, arecord_sends}
 
--- A job is done on a device. It sent the same requests as a raw recording, and wrote that recording as a sound file, if it writes one.
-pub record IsRecorded (job : RecordJob) (devices : List DeviceInfo) (w : ClientState) (sent sent' held held' : Option (List ℕ)) : Type 0 where
+-- A job is done on a device. It sent the same requests as a raw recording, and wrote that recording as a sound file, if it writes
+-- one.
+pub record IsRecorded (job : RecordJob) (devices : List DeviceInfo) (w : ClientState)
+    (sent sent' held held' : Option (List ℕ)) : Type 0 where
   pub device : DeviceInfo
   pub is_there : slice_get devices job.device ≡ Some device
   pub samples : List ℕ
@@ -23,6 +25,7 @@ pub record IsRecorded (job : RecordJob) (devices : List DeviceInfo) (w : ClientS
   pub sink : Appended held (recording_of job device samples) held'
 
 -- arecord, if it is done, over a connection whose link tells what it gives
-abbrev pub LeavesRecording : {L K : Type 0} → (left sent : L → Option (List ℕ)) → (held : K → Option (List ℕ)) → RecordJob → ToolEnd → (conn conn' : ConnState L) → (sink sink' : K) → Type 0
+abbrev pub LeavesRecording : {L K : Type 0} → (left sent : L → Option (List ℕ)) → (held : K → Option (List ℕ)) → RecordJob →
+    ToolEnd → (conn conn' : ConnState L) → (sink sink' : K) → Type 0
 LeavesRecording left sent held job how conn conn' sink sink' = (input : List ℕ) → left conn.link ≡ Some input → how ≡ end.Done →
     IsRecorded job conn.devices (client_of conn input) (sent conn.link) (sent conn'.link) (held sink) (held sink')

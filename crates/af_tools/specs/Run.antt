@@ -10,7 +10,8 @@ use Rattle.af_tool.specs.declared.end.ToolEnd.{ToolEnd}
 use Rattle.af_tool.specs.declared.end.ToolEnd.TheVariants as end
 use Rattle.af_options.specs.declared.job.Task.{Task}
 use Rattle.af_options.specs.declared.job.Task.TheVariants as task
-use Rattle.af_tool.specs.Trace.{Trace, ClientState, bad_sound, channel_mismatch, dials, mismatch, no_device, set_up, setup_answer, sound_cut}
+use Rattle.af_tool.specs.Trace.{Trace, ClientState, bad_sound, channel_mismatch, dials}
+use Rattle.af_tool.specs.Trace.{mismatch, no_device, set_up, setup_answer, sound_cut}
 use Rattle.af_tools.specs.Most.{most_bytes}
 use Rattle.af_tools.specs.Play.{aplay_trace}
 use Rattle.af_tools.specs.Record.{arecord_trace}
@@ -91,7 +92,8 @@ abbrev pub is_of_one : (reads : Bool) → ToolEnd → Bool
 is_of_one reads end.DialFault = true
 is_of_one reads how = is_of_far reads how
 
--- the ends of a relay that has a second link, and of one that dials; only a relay, and a tool that reads its source, ends for two rates
+-- the ends of a relay that has a second link, and of one that dials; only a relay, and a tool that reads its source, ends for two
+-- rates
 abbrev pub is_of_over : ToolEnd → Bool
 is_of_over end.OutOfMemory = true
 is_of_over how = is_of_pass how
@@ -117,14 +119,17 @@ is_of_af named how = is_of_named named how
 
 -- Each link that was dialled was given back: none, and then nothing was sent; or the first, having been sent this besides what
 -- it had been sent before.
-abbrev pub ReturnedLink : List ToldLink → Option (List ToldLink) → List ℕ → Option (List (List ℕ)) → Option (List (List ℕ)) → Type 0
+abbrev pub ReturnedLink : List ToldLink → Option (List ToldLink) → List ℕ → Option (List (List ℕ)) → Option (List (List ℕ)) →
+    Type 0
 ReturnedLink links links' sends back back' =
     ((sends ≡ []) × (links' ≡ Some links) × (back' ≡ back))
-    ⊎ ((link : ToldLink) × (rest : List ToldLink) × (links ≡ link ∷ rest) × (links' ≡ Some rest) × Appended back ((link.sent ++ sends) ∷ []) back')
+    ⊎ ((link : ToldLink) × (rest : List ToldLink) × (links ≡ link ∷ rest) × (links' ≡ Some rest)
+    × Appended back ((link.sent ++ sends) ∷ []) back')
 
 -- A tool with one server ran: what it sent and wrote are those of its trace, or prefixes where something from outside ended it,
 -- and its link was given back.
-pub record RanOne (trace : Trace) (how : ToolEnd) (links : List ToldLink) (links' : Option (List ToldLink)) (held held' : Option (List ℕ)) (back back' : Option (List (List ℕ))) : Type 0 where
+pub record RanOne (trace : Trace) (how : ToolEnd) (links : List ToldLink) (links' : Option (List ToldLink))
+    (held held' : Option (List ℕ)) (back back' : Option (List (List ℕ))) : Type 0 where
   pub sends : List ℕ
   pub output : List ℕ
   pub ended : MatchesTrace trace how sends output
@@ -135,7 +140,9 @@ pub record RanOne (trace : Trace) (how : ToolEnd) (links : List ToldLink) (links
 
 -- What a relay does behind the setup of its first link, which gives this and had been sent that: the second server is dialled, or
 -- not, and both links are given back in the order in which they were dialled.
-pub record RelayRanTo (order : Order) (job : PassJob) (from : List DeviceInfo) (v : ClientState) (how : ToolEnd) (links : List ToldLink) (links' : Option (List ToldLink)) (sent held held' : Option (List ℕ)) (back back' : Option (List (List ℕ))) : Type 0 where
+pub record RelayRanTo (order : Order) (job : PassJob) (from : List DeviceInfo) (v : ClientState) (how : ToolEnd)
+    (links : List ToldLink) (links' : Option (List ToldLink)) (sent held held' : Option (List ℕ))
+    (back back' : Option (List (List ℕ))) : Type 0 where
   pub sends_from : List ℕ
   pub sends_to : List ℕ
   pub output : List ℕ
@@ -151,7 +158,8 @@ pub record RelayRanTo (order : Order) (job : PassJob) (from : List DeviceInfo) (
 
 -- Each link that was dialled was given back, in the order of dialling: none, and then nothing was sent; or the first, having been
 -- sent this besides what it had been sent before, and then none or the second likewise.
-abbrev pub ReturnedLinks : List ToldLink → Option (List ToldLink) → (sends_from sends_to : List ℕ) → Option (List (List ℕ)) → Option (List (List ℕ)) → Type 0
+abbrev pub ReturnedLinks : List ToldLink → Option (List ToldLink) → (sends_from sends_to : List ℕ) → Option (List (List ℕ)) →
+    Option (List (List ℕ)) → Type 0
 ReturnedLinks links links' sends_from sends_to back back' =
     ((sends_from ≡ []) × (sends_to ≡ []) × (links' ≡ Some links) × (back' ≡ back))
     ⊎ ((link : ToldLink) × (rest : List ToldLink) × (between : Option (List (List ℕ))) × (links ≡ link ∷ rest)
@@ -164,7 +172,8 @@ IsEarly (relay from to order job) sends_from sends_to = ((sends_from ≡ []) ⊎
 
 -- A tool ran: what it sent on its one or two links and what it wrote are those of its trace, or prefixes where something from
 -- outside ended it, and the links were given back.
-pub record JobRan (j : Job) (bytes : List ℕ) (how : ToolEnd) (links : List ToldLink) (links' : Option (List ToldLink)) (held held' : Option (List ℕ)) (back back' : Option (List (List ℕ))) : Type 0 where
+pub record JobRan (j : Job) (bytes : List ℕ) (how : ToolEnd) (links : List ToldLink) (links' : Option (List ToldLink))
+    (held held' : Option (List ℕ)) (back back' : Option (List (List ℕ))) : Type 0 where
   pub sends_from : List ℕ
   pub sends_to : List ℕ
   pub output : List ℕ
@@ -175,7 +184,8 @@ pub record JobRan (j : Job) (bytes : List ℕ) (how : ToolEnd) (links : List Tol
   pub early : how ≡ end.OutOfMemory → IsEarly j sends_from sends_to
 
 -- What a relay has passed between its two servers: its first two links were set up and then used, and given back in their order.
-pub record RelayRan (order : Order) (job : PassJob) (links : List ToldLink) (links' : Option (List ToldLink)) (held held' : Option (List ℕ)) (back back' : Option (List (List ℕ))) : Type 0 where
+pub record RelayRan (order : Order) (job : PassJob) (links : List ToldLink) (links' : Option (List ToldLink))
+    (held held' : Option (List ℕ)) (back back' : Option (List (List ℕ))) : Type 0 where
   pub first : ToldLink
   pub second : ToldLink
   pub rest : List ToldLink
@@ -184,11 +194,13 @@ pub record RelayRan (order : Order) (job : PassJob) (links : List ToldLink) (lin
   pub set : setup_answer order first.gives ≡ Ok from
   pub sends_from : List ℕ
   pub sends_to : List ℕ
-  pub relayed : IsRelayed job from (set_up order first.gives) (set_up order second.gives) (Some []) (Some sends_from) (Some []) (Some sends_to) held held'
+  pub relayed : IsRelayed job from (set_up order first.gives) (set_up order second.gives) (Some []) (Some sends_from) (Some [])
+      (Some sends_to) held held'
   pub link : ReturnedLinks links links' (setup_bytes order ++ sends_from) (setup_bytes order ++ sends_to) back back'
 
 -- What aplay has played on its server: its link was set up and then used, and given back.
-pub record PlayRan (order : Order) (job : PlayJob) (bytes : List ℕ) (links : List ToldLink) (links' : Option (List ToldLink)) (held held' : Option (List ℕ)) (back back' : Option (List (List ℕ))) : Type 0 where
+pub record PlayRan (order : Order) (job : PlayJob) (bytes : List ℕ) (links : List ToldLink) (links' : Option (List ToldLink))
+    (held held' : Option (List ℕ)) (back back' : Option (List (List ℕ))) : Type 0 where
   pub first : ToldLink
   pub rest : List ToldLink
   pub links_are : links ≡ first ∷ rest
@@ -199,7 +211,8 @@ pub record PlayRan (order : Order) (job : PlayJob) (bytes : List ℕ) (links : L
   pub link : ReturnedLinks links links' (setup_bytes order ++ sends) [] back back'
 
 -- What arecord has recorded on its server: its link was set up and then used, and given back.
-pub record RecordRan (order : Order) (job : RecordJob) (links : List ToldLink) (links' : Option (List ToldLink)) (held held' : Option (List ℕ)) (back back' : Option (List (List ℕ))) : Type 0 where
+pub record RecordRan (order : Order) (job : RecordJob) (links : List ToldLink) (links' : Option (List ToldLink))
+    (held held' : Option (List ℕ)) (back back' : Option (List (List ℕ))) : Type 0 where
   pub first : ToldLink
   pub rest : List ToldLink
   pub links_are : links ≡ first ∷ rest
@@ -210,21 +223,24 @@ pub record RecordRan (order : Order) (job : RecordJob) (links : List ToldLink) (
   pub link : ReturnedLinks links links' (setup_bytes order ++ sends) [] back back'
 
 -- the same by what the links that a dial gives, a sink, and a source if the job reads it tell
-abbrev pub RunsJob : {D S K : Type 0} → (links : D → Option (List ToldLink)) → (back : D → Option (List (List ℕ))) → (gives : S → Option (List ℕ)) → (held : K → Option (List ℕ)) →
+abbrev pub RunsJob : {D S K : Type 0} → (links : D → Option (List ToldLink)) → (back : D → Option (List (List ℕ))) →
+    (gives : S → Option (List ℕ)) → (held : K → Option (List ℕ)) →
     Job → ToolEnd → (dial dial' : D) → (source source' : S) → (sink sink' : K) → Type 0
 RunsJob links back gives held j how dial dial' source source' sink sink' =
     (told : List ToldLink) (bytes : List ℕ) → links dial ≡ Some told → TellsIfRead gives (job_reads j) bytes source source' →
     JobRan j bytes how told (links dial') (held sink) (held sink') (back dial) (back dial')
 
 -- the same of a relay behind the setup of its first link
-abbrev pub RunsRelayTo : {F D K : Type 0} → (left sent : F → Option (List ℕ)) → (links : D → Option (List ToldLink)) → (back : D → Option (List (List ℕ))) → (held : K → Option (List ℕ)) →
+abbrev pub RunsRelayTo : {F D K : Type 0} → (left sent : F → Option (List ℕ)) → (links : D → Option (List ToldLink)) →
+    (back : D → Option (List (List ℕ))) → (held : K → Option (List ℕ)) →
     Order → PassJob → ToolEnd → ConnState F → (dial dial' : D) → (sink sink' : K) → Type 0
 RunsRelayTo left sent links back held order job how conn dial dial' sink sink' =
     (v : List ℕ) (told : List ToldLink) → left conn.link ≡ Some v → links dial ≡ Some told →
-    RelayRanTo order job conn.devices (client_of conn v) how told (links dial') (sent conn.link) (held sink) (held sink') (back dial) (back dial')
+    RelayRanTo order job conn.devices (client_of conn v) how told (links dial') (sent conn.link) (held sink) (held sink')
+    (back dial) (back dial')
 
--- where two devices have different rates, the tool ends with that, unless something from outside has ended it; and it ends so only
--- there
+-- where two devices have different rates, the tool ends with that, unless something from outside has ended it; and it ends so
+-- only there
 pub record EndsByRates (trace : Trace) (how : ToolEnd) : Type 0 where
   pub only : (a b : ℕ) → how ≡ end.RateMismatch a b → trace.finish ≡ mismatch a b
   pub always : (a b : ℕ) → trace.finish ≡ mismatch a b → (how ≡ end.RateMismatch a b) ⊎ (is_outer how ≡ true)
@@ -259,22 +275,28 @@ pub record IsServed (trace : Trace) : Type 0 where
   pub one_shape : (from to : ℕ) → trace.finish ≢ channel_mismatch from to
   pub answered : IsAnswered trace
 
--- What the tools did for a job: it ran, and each end that replies or devices cause is that of its trace. Done, what aplay played is
--- heard as it was intended, arecord left a recording, and a relay has passed all blocks. If the source gives no more than a tool takes, and the job is served,
--- it is done, unless something from outside ended it.
-pub record JobDone (j : Job) (bytes : List ℕ) (how : ToolEnd) (links : List ToldLink) (links' : Option (List ToldLink)) (held held' : Option (List ℕ)) (back back' : Option (List (List ℕ))) : Type 0 where
+-- What the tools did for a job: it ran, and each end that replies or devices cause is that of its trace. Done, what aplay played
+-- is heard as it was intended, arecord left a recording, and a relay has passed all blocks. If the source gives no more than a
+-- tool takes, and the job is served, it is done, unless something from outside ended it.
+pub record JobDone (j : Job) (bytes : List ℕ) (how : ToolEnd) (links : List ToldLink) (links' : Option (List ToldLink))
+    (held held' : Option (List ℕ)) (back back' : Option (List (List ℕ))) : Type 0 where
   pub ran : JobRan j bytes how links links' held held' back back'
   pub reply : EndsByReply (on_from (run_trace j links bytes)) how
   pub device : EndsByDevice (on_from (run_trace j links bytes)) how
   pub rates : EndsByRates (on_from (run_trace j links bytes)) how
   pub sound : EndsBySound (on_from (run_trace j links bytes)) how
-  pub heard : (server : Text) (order : Order) (play : PlayJob) → j ≡ one server order (task.Play play) → how ≡ end.Done → PlayRan order play bytes links links' held held' back back'
-  pub recorded : (server : Text) (order : Order) (recording : RecordJob) → j ≡ one server order (task.Record recording) → how ≡ end.Done → RecordRan order recording links links' held held' back back'
-  pub relayed : (from to : Text) (order : Order) (pass : PassJob) → j ≡ relay from to order pass → how ≡ end.Done → RelayRan order pass links links' held held' back back'
-  pub complete : length bytes ≤ most_bytes → IsServed (on_from (run_trace j links bytes)) → (how ≡ end.Done) ⊎ (is_outer how ≡ true)
+  pub heard : (server : Text) (order : Order) (play : PlayJob) → j ≡ one server order (task.Play play) → how ≡ end.Done →
+      PlayRan order play bytes links links' held held' back back'
+  pub recorded : (server : Text) (order : Order) (recording : RecordJob) → j ≡ one server order (task.Record recording) →
+      how ≡ end.Done → RecordRan order recording links links' held held' back back'
+  pub relayed : (from to : Text) (order : Order) (pass : PassJob) → j ≡ relay from to order pass → how ≡ end.Done →
+      RelayRan order pass links links' held held' back back'
+  pub complete : length bytes ≤ most_bytes → IsServed (on_from (run_trace j links bytes)) →
+      (how ≡ end.Done) ⊎ (is_outer how ≡ true)
 
 -- the same by what the links that a dial gives, a sink, and a source if the job reads it tell
-abbrev pub DoesJob : {D S K : Type 0} → (links : D → Option (List ToldLink)) → (back : D → Option (List (List ℕ))) → (gives : S → Option (List ℕ)) → (held : K → Option (List ℕ)) →
+abbrev pub DoesJob : {D S K : Type 0} → (links : D → Option (List ToldLink)) → (back : D → Option (List (List ℕ))) →
+    (gives : S → Option (List ℕ)) → (held : K → Option (List ℕ)) →
     Job → ToolEnd → (dial dial' : D) → (source source' : S) → (sink sink' : K) → Type 0
 DoesJob links back gives held j how dial dial' source source' sink sink' =
     (told : List ToldLink) (bytes : List ℕ) → links dial ≡ Some told → TellsIfRead gives (job_reads j) bytes source source' →

@@ -36,26 +36,31 @@ ends_shape head device =
     then (if head.channels == device.channels then Ok tt else Err (end.ChannelMismatch head.channels device.channels))
     else Err (end.RateMismatch head.rate device.rate)
 
--- The front of a file was read of these bytes, and what is left stands behind it; or the tool ends as it does there, or for something
--- from outside.
+-- The front of a file was read of these bytes, and what is left stands behind it; or the tool ends as it does there, or for
+-- something from outside.
 abbrev pub HeadCame : SoundForm → List ℕ → Result FileHead ToolEnd → Option (List ℕ) → Type 0
 HeadCame form bytes (Ok file) left =
     (front_of form bytes ≡ record { says = step.Head file.head; size = file.size }) × (left ≡ Some (drop file.size bytes))
 HeadCame form bytes (Err how) left =
-    (is_outer how ≡ true) ⊎ ((finish : Finish) × (how ≡ tool_end finish) × ((next : SoundHead → Trace) → reads_front (front_of form bytes) next ≡ ends finish))
+    (is_outer how ≡ true)
+    ⊎ ((finish : Finish) × (how ≡ tool_end finish)
+    × ((next : SoundHead → Trace) → reads_front (front_of form bytes) next ≡ ends finish))
 
-abbrev pub BringsHead : {S : Type 0} → (left : S → Option (List ℕ)) → SoundForm → Result FileHead ToolEnd → (source source' : S) → Type 0
+abbrev pub BringsHead : {S : Type 0} → (left : S → Option (List ℕ)) → SoundForm → Result FileHead ToolEnd → (source source' : S) →
+    Type 0
 BringsHead left form result source source' =
     (bytes : List ℕ) → left source ≡ Some bytes → IsSome (left source') → HeadCame form bytes result (left source')
 
 -- the same of what a source gives to be played on a device
 abbrev pub SoundCame : PlayJob → DeviceInfo → List ℕ → Result SourceSound ToolEnd → Option (List ℕ) → Type 0
 SoundCame job device bytes (Ok sound) left =
-    (rest : List ℕ) × (left ≡ Some rest) × ((next : SourceSound → List ℕ → Trace) → reads_sound job.form job device bytes next ≡ next sound rest)
+    (rest : List ℕ) × (left ≡ Some rest)
+    × ((next : SourceSound → List ℕ → Trace) → reads_sound job.form job device bytes next ≡ next sound rest)
 SoundCame job device bytes (Err how) left =
     (is_outer how ≡ true) ⊎ ((finish : Finish) × (how ≡ tool_end finish)
     × ((next : SourceSound → List ℕ → Trace) → reads_sound job.form job device bytes next ≡ ends finish))
 
-abbrev pub BringsSound : {S : Type 0} → (left : S → Option (List ℕ)) → PlayJob → DeviceInfo → Result SourceSound ToolEnd → (source source' : S) → Type 0
+abbrev pub BringsSound : {S : Type 0} → (left : S → Option (List ℕ)) → PlayJob → DeviceInfo → Result SourceSound ToolEnd →
+    (source source' : S) → Type 0
 BringsSound left job device result source source' =
     (bytes : List ℕ) → left source ≡ Some bytes → IsSome (left source') → SoundCame job device bytes result (left source')

@@ -50,9 +50,10 @@ source_width coding ty channels = source_sample coding ty * channels
 abbrev pub block_bytes : SourceSound → (frames : ℕ) → ℕ
 block_bytes sound frames = frames * source_width sound.coding sound.ty sound.channels
 
--- A source's bytes are a file of this form whose head tells the device's rate and channels, and these are the samples of the sound
--- behind it, as a server takes them as this type.
-pub record IsFileSound (form : SoundForm) (device : DeviceInfo) (bytes : List ℕ) (ty : SampleType) (samples : List ℕ) : Type 0 where
+-- A source's bytes are a file of this form whose head tells the device's rate and channels, and these are the samples of the
+-- sound behind it, as a server takes them as this type.
+pub record IsFileSound (form : SoundForm) (device : DeviceInfo) (bytes : List ℕ) (ty : SampleType)
+    (samples : List ℕ) : Type 0 where
   pub front : List ℕ
   pub rest : List ℕ
   pub head : SoundHead
@@ -63,8 +64,8 @@ pub record IsFileSound (form : SoundForm) (device : DeviceInfo) (bytes : List �
   pub is_type : ty ≡ served_type head.coding
   pub is_samples : samples ≡ served head.coding (stated_part head.length rest)
 
--- What a source gives to be heard: samples of a type. They are its bytes, of the type that is stated or else the device's, or what a
--- sound file means.
+-- What a source gives to be heard: samples of a type. They are its bytes, of the type that is stated or else the device's, or
+-- what a sound file means.
 abbrev pub GivesSamples : Option SoundForm → PlayJob → DeviceInfo → List ℕ → SampleType → List ℕ → Type 0
 GivesSamples None job device bytes ty samples = (ty ≡ unwrap_or job.ty device.ty) × (samples ≡ bytes)
 GivesSamples (Some form) job device bytes ty samples = IsFileSound form device bytes ty samples
@@ -75,7 +76,8 @@ IsPlayable job device bytes = (ty : SampleType) × (samples : List ℕ) × Gives
 
 -- the samples of a source without a head
 abbrev pub raw_sound : PlayJob → DeviceInfo → SourceSound
-raw_sound job device = record { ty = unwrap_or job.ty device.ty; channels = device.channels; coding = None; head = 0; length = None }
+raw_sound job device =
+    record { ty = unwrap_or job.ty device.ty; channels = device.channels; coding = None; head = 0; length = None }
 
 -- the samples of a file behind a head of n bytes, which has the channels of its device
 abbrev pub file_sound : DeviceInfo → SoundHead → ℕ → SourceSound

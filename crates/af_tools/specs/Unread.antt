@@ -27,15 +27,18 @@ GivesContext job devices w = (device : DeviceInfo) × (slice_get devices job.dev
 
 -- the same of a link that is set up first
 abbrev pub LinkGivesContext : Order → PlayJob → List ℕ → Type 0
-LinkGivesContext order job input = (devices : List DeviceInfo) × (setup_answer order input ≡ Ok devices) × GivesContext job devices (set_up order input)
+LinkGivesContext order job input =
+    (devices : List DeviceInfo) × (setup_answer order input ≡ Ok devices) × GivesContext job devices (set_up order input)
 
 -- the same of the first link that is dialled
 abbrev pub DialGivesContext : Order → PlayJob → List ToldLink → Type 0
-DialGivesContext order job links = (first : ToldLink) × (rest : List ToldLink) × (links ≡ first ∷ rest) × LinkGivesContext order job first.gives
+DialGivesContext order job links =
+    (first : ToldLink) × (rest : List ToldLink) × (links ≡ first ∷ rest) × LinkGivesContext order job first.gives
 
--- A source without a head is as it was, unless the link of a connection gives the reply that the context was made, if it tells what it
--- gives.
-abbrev pub ReadsAfterContext : {L S : Type 0} → (left : L → Option (List ℕ)) → PlayJob → ConnState L → (source source' : S) → Type 0
+-- A source without a head is as it was, unless the link of a connection gives the reply that the context was made, if it tells
+-- what it gives.
+abbrev pub ReadsAfterContext : {L S : Type 0} → (left : L → Option (List ℕ)) → PlayJob → ConnState L → (source source' : S) →
+    Type 0
 ReadsAfterContext left job conn source source' = job.form ≡ None →
     (source' ≡ source) ⊎ ((input : List ℕ) → left conn.link ≡ Some input → GivesContext job conn.devices (client_of conn input))
 
@@ -47,7 +50,8 @@ abbrev pub LinkReadsLate : {L S : Type 0} → (left : L → Option (List ℕ)) �
 LinkReadsLate left order t far source source' = (job : PlayJob) → t ≡ task.Play job → job.form ≡ None →
     (source' ≡ source) ⊎ ((input : List ℕ) → left far ≡ Some input → LinkGivesContext order job input)
 
-abbrev pub DialReadsLate : {D S : Type 0} → (links : D → Option (List ToldLink)) → Order → Task → D → (source source' : S) → Type 0
+abbrev pub DialReadsLate : {D S : Type 0} → (links : D → Option (List ToldLink)) → Order → Task → D → (source source' : S) →
+    Type 0
 DialReadsLate links order t dial source source' = (job : PlayJob) → t ≡ task.Play job → job.form ≡ None →
     (source' ≡ source) ⊎ ((told : List ToldLink) → links dial ≡ Some told → DialGivesContext order job told)
 

@@ -122,8 +122,8 @@ fn fill_first<S: Source>(
     )
 }
 
-/// Reads the first block of a sound, of so many frames, before the device's time is asked for: how many bytes it has. Behind a head
-/// that leaves less than a block of what a source may give, it is left for later: it may be too long.
+/// Reads the first block of a sound, of so many frames, before the device's time is asked for: how many bytes it has. Behind a
+/// head that leaves less than a block of what a source may give, it is left for later: it may be too long.
 pub fn read_early<S: Source>(
     source: &mut S,
     sound: SourceSound,
@@ -178,8 +178,8 @@ pub fn read_first<S: Source>(
     }
 }
 
-/// Plays the sound that a source gives, in blocks, from a start on: how many frames these were. The first block was read, and stands
-/// at the front of the room. Bytes at the end that make no whole frame are dropped.
+/// Plays the sound that a source gives, in blocks, from a start on: how many frames these were. The first block was read, and
+/// stands at the front of the room. Bytes at the end that make no whole frame are dropped.
 pub fn play_blocks<L: Link + Drop, S: Source>(
     conn: &mut Conn<L>,
     source: &mut S,
@@ -198,9 +198,11 @@ pub fn play_blocks<L: Link + Drop, S: Source>(
     ensures spent { IfOk result (λ _. IsSpent (S.left source.new)
         ⊎ ConsumedStated playback.sound.length (left_before (take first room.old) (S.left source.old)) (S.left source.new)) }
     ensures long { IsErrOf result ToolEnd.TooLong →
-        ConsumedBeyond (most_bytes - playback.sound.head) (left_before (take first room.old) (S.left source.old)) (S.left source.new) }
+        ConsumedBeyond (most_bytes - playback.sound.head) (left_before (take first room.old) (S.left source.old))
+        (S.left source.new) }
     ensures within { (IsErrOf result ToolEnd.TooLong → ⊥) →
-        ConsumedUpTo (most_bytes - playback.sound.head) (left_before (take first room.old) (S.left source.old)) (S.left source.new) }
+        ConsumedUpTo (most_bytes - playback.sound.head) (left_before (take first room.old) (S.left source.old))
+        (S.left source.new) }
     ensures holds { KeepsConnection L.left L.faults conn.old conn.new result }
     ensures end { IfErr result (λ how. is_of_blocks how ≡ true) }
     ensures fault { CountsFault (IsErrOf result ToolEnd.ReadFault) (S.faults source.old) (S.faults source.new) }

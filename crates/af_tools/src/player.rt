@@ -81,8 +81,9 @@ fn play_on<L: Link + Drop, S: Source>(
     requires channels { device_channels conn.old.devices plan.job.device ≡ plan.sound.channels }
     requires count { IsChannelCount plan.sound.channels }
     requires room { greatest_block ≤ length room.old }
-    ensures goes { ObservedPartReading L.left L.sent S.left conn.old conn.new source.old source.new (λ bytes w next. played_on plan.job
-        plan.sound plan.device bytes w (λ frames start. next (record { frames = frames; start = record { 0 = start } }))) result }
+    ensures goes { ObservedPartReading L.left L.sent S.left conn.old conn.new source.old source.new
+        (λ bytes w next. played_on plan.job plan.sound plan.device bytes w
+        (λ frames start. next (record { frames = frames; start = record { 0 = start } }))) result }
     ensures spent { IfOk result (λ _. IsSpent (S.left source.new)
         ⊎ ConsumedStated plan.sound.length (S.left source.old) (S.left source.new)) }
     ensures long { IsErrOf result ToolEnd.TooLong →
@@ -115,7 +116,8 @@ fn play_on<L: Link + Drop, S: Source>(
 }
 
 /// Plays what a source gives on a device, in blocks, and then writes how many frames were played and from when on. A sound file
-/// is to have the rate and the channels of the device. The connection is one that was just made; room for 16000 bytes is handed in.
+/// is to have the rate and the channels of the device. The connection is one that was just made; room for 16000 bytes is handed
+/// in.
 pub fn aplay<L: Link + Drop, S: Source, K: Sink>(
     job: &PlayJob,
     conn: &mut Conn<L>,

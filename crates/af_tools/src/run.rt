@@ -38,7 +38,8 @@ fn perform<L: Link + Drop, S: Source, K: Sink>(
     requires range { IsRanged task.now }
     requires room { greatest_block ≤ length room.old }
     ensures followed { FollowsTrace L.left L.sent S.left K.held (reads_source task.now) result conn.old.link conn.new.link
-        source.old source.new sink.old sink.new (λ input bytes. task_trace task.now conn.old.devices bytes (client_of conn.old input)) }
+        source.old source.new sink.old sink.new
+        (λ input bytes. task_trace task.now conn.old.devices bytes (client_of conn.old input)) }
     ensures end { is_of_tool (reads_source task.now) result ≡ true }
     ensures source { UsesSource S.left S.faults (reads_source task.now) (source_form task.now) result source.old source.new }
     ensures unread { TaskReadsLate L.left task.now conn.old source.old source.new }
@@ -65,7 +66,8 @@ fn perform_over<L: Link + Drop, S: Source, K: Sink>(
     requires range { IsRanged task.now }
     requires room { greatest_block ≤ length memory.old.room.items }
     ensures followed { FollowsTrace L.left L.sent S.left K.held (reads_source task.now) result.0 far result.1
-        source.old source.new sink.old sink.new (λ input bytes. connects order input (λ devices w. task_trace task.now devices bytes w)) }
+        source.old source.new sink.old sink.new
+        (λ input bytes. connects order input (λ devices w. task_trace task.now devices bytes w)) }
     ensures memory { result.0 ≡ ToolEnd.OutOfMemory → (L.sent result.1 ≡ L.sent far) × (sink.new ≡ sink.old) }
     ensures end { is_of_far (reads_source task.now) result.0 ≡ true }
     ensures source { UsesSource S.left S.faults (reads_source task.now) (source_form task.now) result.0 source.old source.new }
@@ -98,7 +100,8 @@ fn run_one<S: Source, K: Sink, D: Dial>(
     ensures asked { Appended (D.asked dial.old) (call.now.server.now ∷ []) (D.asked dial.new) }
     ensures memory { result ≡ ToolEnd.OutOfMemory → sink.new ≡ sink.old }
     ensures end { is_of_one (reads_source call.now.task) result ≡ true }
-    ensures source { UsesSource S.left S.faults (reads_source call.now.task) (source_form call.now.task) result source.old source.new }
+    ensures source { UsesSource S.left S.faults (reads_source call.now.task) (source_form call.now.task) result
+        source.old source.new }
     ensures unread { DialReadsLate D.links call.now.order call.now.task dial.old source.old source.new }
     ensures dialled { CountsFault (result ≡ ToolEnd.DialFault) (D.faults dial.old) (D.faults dial.new) }
     ensures undialled { result ≡ ToolEnd.DialFault → (source.new ≡ source.old) × (sink.new ≡ sink.old) }
@@ -130,7 +133,8 @@ fn run_call<S: Source, K: Sink, D: Dial>(
     ensures asked { AskedFor (servers_of (job_of_call call.now)) result (D.asked dial.old) (D.asked dial.new) }
     ensures memory { result ≡ ToolEnd.OutOfMemory → sink.new ≡ sink.old }
     ensures end { is_of_job (job_of_call call.now) result ≡ true }
-    ensures source { UsesSource S.left S.faults (job_reads (job_of_call call.now)) (job_form (job_of_call call.now)) result source.old source.new }
+    ensures source { UsesSource S.left S.faults (job_reads (job_of_call call.now)) (job_form (job_of_call call.now)) result
+        source.old source.new }
     ensures unread { JobReadsLate D.links (job_of_call call.now) dial.old source.old source.new }
     ensures dialled { CountsFault (result ≡ ToolEnd.DialFault) (D.faults dial.old) (D.faults dial.new) }
     ensures undialled { result ≡ ToolEnd.DialFault → (source.new ≡ source.old) × (sink.new ≡ sink.old) }

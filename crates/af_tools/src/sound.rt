@@ -65,7 +65,8 @@ fn type_of(coding: Coding) -> SampleType
 // Reads the head of a file, byte by byte.
 fn read_head<S: Source>(form: SoundForm, source: &mut S) -> Result<FileHead, ToolEnd>
     ensures brings { BringsHead S.left form result source.old source.new }
-    ensures read { IfOk result (λ file. ConsumedHead (Some form) file.size file.head.length (S.left source.old) (S.left source.new)) }
+    ensures read { IfOk result (λ file.
+        ConsumedHead (Some form) file.size file.head.length (S.left source.old) (S.left source.new)) }
     ensures end { IfErr result (λ how. is_of_front how ≡ true) }
     ensures bad { (fault : SoundFault) → IsErrOf result (ToolEnd.BadSound fault) →
         ConsumedFault (Some form) fault (S.left source.old) (S.left source.new) }
@@ -118,10 +119,12 @@ pub fn sound_of<S: Source>(
     source: &mut S,
 ) -> Result<SourceSound, ToolEnd>
     ensures brings { BringsSound S.left job.now device result source.old source.new }
-    ensures read { IfOk result (λ sound. ConsumedHead job.now.form sound.head sound.length (S.left source.old) (S.left source.new)) }
+    ensures read { IfOk result (λ sound.
+        ConsumedHead job.now.form sound.head sound.length (S.left source.old) (S.left source.new)) }
     ensures served { IfOk result (λ sound. IsServedAs sound.coding sound.ty) }
     ensures channels { IfOk result (λ sound. sound.channels ≡ device.channels) }
-    ensures raw { job.now.form ≡ None → (source.new ≡ source.old) × IfOk result (λ sound. sound.ty ≡ unwrap_or job.now.ty device.ty) }
+    ensures raw { job.now.form ≡ None →
+        (source.new ≡ source.old) × IfOk result (λ sound. sound.ty ≡ unwrap_or job.now.ty device.ty) }
     ensures end { IfErr result (λ how. is_of_sound how ≡ true) }
     ensures bad { (fault : SoundFault) → IsErrOf result (ToolEnd.BadSound fault) →
         ConsumedFault job.now.form fault (S.left source.old) (S.left source.new) }

@@ -14,7 +14,7 @@ returns-in_err-select_events-clause-goes g c input told =
     let w = client_of c.args.conn.now input in
     let acts = g.S.Spawner.acts c.args.spawner.now in
     let same : c.from_residual.result ≡ Err (connection_end c.in_err-select_events.field-0.0) = search rules in
-    rw same (seen_stop (λ runs next. requests (select_events job.device 3) (record { wire = w; runs = runs }) (next tt)) (λ u b next. attends job.calls job no_calls b next) _ _ _ _ _ _ _ _ _
+    rw same (seen_stop (λ runs next. requests (select_events job.device 3) (record { wire = w; runs = runs }) (next tt)) (λ u b next. attends job.calls job no_calls b next)
     (requested_goes g.L.Link.left g.L.Link.sent g.L.Link.faults (select_events job.device 3) c.args.conn.now c.select_events.new.self input acts (Err c.in_err-select_events.field-0.0) c.in_err-select_events.ensures c.requires.usable told))
 
 pub returns-clause-goes : goal.returns-clause-goes
@@ -22,6 +22,6 @@ returns-clause-goes g c input told =
     let job = c.args.job.now in
     let w = client_of c.args.conn.now input in
     let acts = g.S.Spawner.acts c.args.spawner.now in
-    seen_on (λ runs next. requests (select_events job.device 3) (record { wire = w; runs = runs }) (next tt)) (λ u b next. attends job.calls job no_calls b next) tt _ _ _ _ _ _ _ _ acts acts _
+    seen_on (λ runs next. requests (select_events job.device 3) (record { wire = w; runs = runs }) (next tt)) (λ u b next. attends job.calls job no_calls b next) tt acts acts
     (requested_goes g.L.Link.left g.L.Link.sent g.L.Link.faults (select_events job.device 3) c.args.conn.now c.select_events.new.self input acts (Ok c.in_ok-select_events.field-0) c.in_ok-select_events.ensures c.requires.usable told)
     (λ i t. c.take_calls.ensures.goes i t)

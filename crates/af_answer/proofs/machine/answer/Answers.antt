@@ -14,7 +14,7 @@ returns-in-Ok-attend-clause-ran g c input told =
     let went = c.in-Ok-attend.ensures.goes input told in
     record {
       runs = went.runs ++ [];
-      ran = reported_ran c.args.job.now c.args.conn.now.devices (client_of c.args.conn.now input) c.in-Ok-attend.tally _ _ _ _ _ _ _ _ _ c.requires.range.calls.0 (sym c.in-Ok.ensures) c.report.ensures.end c.report.ensures.wrote went;
+      ran = reported_ran c.args.job.now c.args.conn.now.devices (client_of c.args.conn.now input) c.in-Ok-attend.tally c.requires.range.calls.0 (sym c.in-Ok.ensures) c.report.ensures.end c.report.ensures.wrote went;
     }
 
 pub returns-in-Ok-attend-clause-no_device : goal.returns-in-Ok-attend-clause-no_device
@@ -25,7 +25,7 @@ returns-in-Err-attend-clause-ran g c input told =
     let went = c.in-Err-attend.ensures.goes input told in
     record {
       runs = went.runs ++ [];
-      ran = stopped_ran c.args.job.now c.args.conn.now.devices (client_of c.args.conn.now input) c.in-Err-attend.end _ _ _ _ _ _ _ c.requires.range.calls.0 (sym c.in-Ok.ensures) c.in-Err-attend.ensures.end went;
+      ran = stopped_ran c.args.job.now c.args.conn.now.devices (client_of c.args.conn.now input) c.in-Err-attend.end c.requires.range.calls.0 (sym c.in-Ok.ensures) c.in-Err-attend.ensures.end went;
     }
 
 pub returns-in-Err-attend-clause-no_device : goal.returns-in-Err-attend-clause-no_device

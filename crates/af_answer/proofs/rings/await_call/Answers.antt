@@ -21,18 +21,18 @@ pub returns-in_err-event-clause-goes : goal.returns-in_err-event-clause-goes
 returns-in_err-event-clause-goes g c acts input told =
     let f = c.loop-allowed.invariant.waiting acts input told in
     let same : c.from_residual.result ≡ Err (connection_end c.in_err-event.field-0.0) = search rules in
-    rw same (wait_stops _ _ _ _ _ _ _ _ _ _ _ acts f _ (omega arith)
+    rw same (wait_stops _ _ _ _ _ _ acts f _ (omega arith)
     (awaited_goes g.L.Link.left g.L.Link.sent g.L.Link.faults c.loop-allowed.conn c.wait_event.new.self f.input acts (Err c.in_err-event.field-0.0) c.in_err-event.ensures c.loop-allowed.invariant.usable f.is_told))
 
 pub returns-then-rings-job-clause-goes : goal.returns-then-rings-job-clause-goes
 returns-then-rings-job-clause-goes g c acts input told =
     let f = c.loop-allowed.invariant.waiting acts input told in
-    wait_done _ _ _ _ _ _ _ _ _ _ _ acts f c.in_ok-event.event _ (omega arith) c.rings_after-rings.ensures.rings c.if-rings-job.true
+    wait_done _ _ _ _ _ _ acts f c.in_ok-event.event _ (omega arith) c.rings_after-rings.ensures.rings c.if-rings-job.true
     (awaited_goes g.L.Link.left g.L.Link.sent g.L.Link.faults c.loop-allowed.conn c.wait_event.new.self f.input acts (Ok c.in_ok-event.event) c.in_ok-event.ensures c.loop-allowed.invariant.usable f.is_told)
 
 pub returns-clause-goes : goal.returns-clause-goes
 returns-clause-goes g c acts input told =
-    wait_floods _ _ _ _ _ _ _ _ acts (c.loop-allowed.invariant.waiting acts input told) (omega arith)
+    wait_floods _ _ acts (c.loop-allowed.invariant.waiting acts input told) (omega arith)
 
 pub loop-allowed-preserved : goal.loop-allowed-preserved
 loop-allowed-preserved g c =
@@ -47,6 +47,6 @@ loop-allowed-preserved g c =
       few = omega (arith, c.rings_after-rings.ensures.few, i.few);
       waiting = λ acts input told.
           let f = i.waiting acts input told in
-          wait_on _ _ _ _ _ _ _ _ _ _ _ acts f c.in_ok-event.event _ _ (omega arith) c.rings_after-rings.ensures.rings c.if-rings-job.false refl
+          wait_on _ _ _ _ _ _ acts f c.in_ok-event.event _ _ (omega arith) c.rings_after-rings.ensures.rings c.if-rings-job.false refl
           (awaited_goes g.L.Link.left g.L.Link.sent g.L.Link.faults c.loop-allowed.conn c.wait_event.new.self f.input acts (Ok c.in_ok-event.event) e i.usable f.is_told);
     }

@@ -10,4 +10,4 @@ returns-in-Ok-clause-asked g c a is other =
 pub returns-in-Ok-clause-ran : goal.returns-in-Ok-clause-ran
 returns-in-Ok-clause-ran g c a is other links told =
     let call = c.in-Ok.call in
-    asked_ran a call.server.now call.job _ _ _ _ _ _ _ _ _ (one_asked c.args.words.now (words_of_call call) a c.in-Ok.ensures.ok is) (c.answer_on.ensures.ran links told)
+    asked_ran a call.server.now call.job (one_asked c.args.words.now (words_of_call call) a c.in-Ok.ensures.ok is) (c.answer_on.ensures.ran links told)

@@ -29,10 +29,10 @@ returns-in_err-passed-clause-goes g c v w told_from told_to =
     let pace = c.args.plan.now.pace in
     let v1 = client_of c.loop-left.from r.v in
     let w1 = client_of c.loop-left.to r.w in
-    rw same (reached_both _ _ _ _ _ _ _ _ _ _ r _ _ _ _ _ _ _
-    (goes_both_same (left_to_pass c.loop-left.left job pace c.loop-left.passed v1 w1) (λ next. passes_block job pace c.loop-left.passed v1 w1 (λ passed v w. passes (c.loop-left.left - 1) job pace passed v w next)) _ _ _ _ _ _ _ _ _
+    rw same (reached_both r _
+    (goes_both_same (left_to_pass c.loop-left.left job pace c.loop-left.passed v1 w1) (λ next. passes_block job pace c.loop-left.passed v1 w1 (λ passed v w. passes (c.loop-left.left - 1) job pace passed v w next))
     (λ next. passes_next c.loop-left.left job pace c.loop-left.passed v1 w1 next (omega arith))
-    (both_stop (passes_block job pace c.loop-left.passed v1 w1) (λ passed v w next. passes (c.loop-left.left - 1) job pace passed v w next) _ _ _ _ _ _ _ _ _ _ _ _ _
+    (both_stop (passes_block job pace c.loop-left.passed v1 w1) (λ passed v w next. passes (c.loop-left.left - 1) job pace passed v w next)
     (c.in_err-passed.ensures.goes r.v r.w r.told_from r.told_to))))
 
 pub loop-left-preserved : goal.loop-left-preserved
@@ -56,7 +56,7 @@ loop-left-preserved g c =
           let r = i.passing v w told_from told_to in
           let v1 = client_of c.loop-left.from r.v in
           let w1 = client_of c.loop-left.to r.w in
-          reaches_both_on _ _ _ _ _ _ _ _ _ _ r (passes_block job pace c.loop-left.passed v1 w1) (λ passed v w next. passes (c.loop-left.left - 1) job pace passed v w next) _ _ _ _ _ _ _
+          reaches_both_on r (passes_block job pace c.loop-left.passed v1 w1) (λ passed v w next. passes (c.loop-left.left - 1) job pace passed v w next) _
           (λ next. passes_next c.loop-left.left job pace c.loop-left.passed v1 w1 next (omega arith)) (e.goes r.v r.w r.told_from r.told_to);
     }
 
@@ -68,6 +68,6 @@ returns-clause-goes g c v w told_from told_to =
     let v1 = client_of c.loop-left.from r.v in
     let w1 = client_of c.loop-left.to r.w in
     let none : c.loop-left.left ≡ 0 = omega arith in
-    reached_both _ _ _ _ _ _ _ _ _ _ r _ _ _ _ _ _ _
-    (both_value _ c.loop-left.passed r.v r.w _ _ _ _ _ _ r.told_from r.told_to
+    reached_both r _
+    (both_value r.v r.w r.told_from r.told_to
     (λ next. rw none (passes_none job c.args.plan.now.pace c.loop-left.passed v1 w1 next)))

@@ -1,14 +1,14 @@
 use Rattle.std.proofs.Common.{◌≡◌, ◌∙◌, true, false, ap, sym, refl}
 use Rattle.af_tool.specs.Ends.{is_of_link, is_of_report, client_of}
 use Rattle.af_relay.specs.Pass.{passed_between, passed_text}
-use Rattle.af_relay.proofs.RelayedLemmas.{is_relayed}
-use Rattle.af_relay.proofs.RelayEndLemmas.{apart_followed, apart_iff, apass_there, both_followed_on, both_followed_stop, pair_alike, pair_stated, pair_undone, pass_ran, reports, there_neither}
+use Rattle.af_relay.proofs.RelayedLemmas.{between_ran}
+use Rattle.af_relay.proofs.RelayEndLemmas.{apart_followed, apart_iff, apass_there, both_followed_on, both_followed_stop, pair_alike, pair_undone, pass_ran, reports, there_neither}
 use Rattle.af_relay.proofs.passer.apass.Goals as goal
 
 pub returns-in-Err-clause-ran : goal.returns-in-Err-clause-ran
 returns-in-Err-clause-ran g c v w told_from told_to =
     let job = c.args.job.now in
-    pass_ran job c.args.from.now.devices c.args.to.now.devices (client_of c.args.from.now v) (client_of c.args.to.now w) _ _ _ _ _ _ _
+    pass_ran job c.args.from.now.devices c.args.to.now.devices (client_of c.args.from.now v) (client_of c.args.to.now w)
     (apart_followed job c.args.from.now.devices c.args.to.now.devices _ _ c.in-Err.end _ _ _ c.in-Err.ensures.value)
     (λ done. absurd (pair_undone c.args.from.now.devices job.from_device c.args.to.now.devices job.to_device c.in-Err.end c.in-Err.ensures.value done))
 
@@ -32,10 +32,9 @@ returns-in-Ok-pass_between-clause-ran g c v w told_from told_to =
     let device = c.in-Ok.device in
     let v0 = client_of c.args.from.now v in
     let w0 = client_of c.args.to.now w in
-    let f = both_followed_on _ (passed_between job device v0 w0) (reports job) c.in-Ok-pass_between.resynced (passed_text job.blocks c.in-Ok-pass_between.resynced) _ _ _ _ _ _ _ _ _ _ _
+    let f = both_followed_on (passed_between job device v0 w0) (reports job) c.in-Ok-pass_between.resynced (passed_text job.blocks c.in-Ok-pass_between.resynced)
     (apass_there job from to v0 w0 device c.in-Ok.ensures.value) (λ v w. refl) (c.in-Ok-pass_between.ensures.goes v w told_from told_to) (c.report.ensures.followed _) in
-    pass_ran job from to v0 w0 _ _ _ _ _ _ _ f
-    (is_relayed job from to v0 w0 _ _ _ _ _ _ _ f (pair_stated from job.from_device to job.to_device device c.in-Ok.ensures.value c.in-Ok.ensures.stated) c.requires.range)
+    between_ran job from to v0 w0 device f c.in-Ok.ensures.value c.in-Ok.ensures.stated c.requires.range
 
 pub returns-in-Ok-pass_between-clause-no_device : goal.returns-in-Ok-pass_between-clause-no_device
 returns-in-Ok-pass_between-clause-no_device g c n = there_neither c.in-Ok.device _ _ _ c.in-Ok.ensures.value (λ e. let bad : false ≡ true = ap is_of_report (sym e) ∙ c.report.ensures.end in cc)
@@ -54,10 +53,9 @@ returns-in-Err-pass_between-clause-ran g c v w told_from told_to =
     let device = c.in-Ok.device in
     let v0 = client_of c.args.from.now v in
     let w0 = client_of c.args.to.now w in
-    let f = both_followed_stop _ (passed_between job device v0 w0) (reports job) _ _ _ _ _ _ _ _ _ _
+    let f = both_followed_stop (passed_between job device v0 w0) (reports job)
     (apass_there job from to v0 w0 device c.in-Ok.ensures.value) (c.in-Err-pass_between.ensures.goes v w told_from told_to) in
-    pass_ran job from to v0 w0 _ _ _ _ _ _ _ f
-    (is_relayed job from to v0 w0 _ _ _ _ _ _ _ f (pair_stated from job.from_device to job.to_device device c.in-Ok.ensures.value c.in-Ok.ensures.stated) c.requires.range)
+    between_ran job from to v0 w0 device f c.in-Ok.ensures.value c.in-Ok.ensures.stated c.requires.range
 
 pub returns-in-Err-pass_between-clause-no_device : goal.returns-in-Err-pass_between-clause-no_device
 returns-in-Err-pass_between-clause-no_device g c n = there_neither c.in-Ok.device _ _ _ c.in-Ok.ensures.value (λ e. let bad : false ≡ true = ap is_of_link (sym e) ∙ c.in-Err-pass_between.ensures.end in cc)

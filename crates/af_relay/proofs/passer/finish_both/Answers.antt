@@ -13,20 +13,20 @@ pub returns-in_err-free_ac-clause-goes : goal.returns-in_err-free_ac-clause-goes
 unfolding ends_contexts
 returns-in_err-free_ac-clause-goes g c v w told_from told_to =
     let same : c.from_residual.result ≡ Err (fault_end c.in_err-free_ac.field-0.0) = search rules in
-    rw same (both_stop (λ next. asks_from (free_ac 1) as_done (client_of c.args.from.now v) (λ x v. next x v (client_of c.args.to.now w))) (λ _ v w. behind_freed v w) _ _ _ _ _ _ _ _ _ _ _ _ _
+    rw same (both_stop (λ next. asks_from (free_ac 1) as_done (client_of c.args.from.now v) (λ x v. next x v (client_of c.args.to.now w))) (λ _ v w. behind_freed v w)
     (asked_from g.L.Link.left g.L.Link.sent g.L.Link.faults (free_ac 1) as_done c.args.from.now c.free_ac.new.self v w (Err c.in_err-free_ac.field-0.0) c.in_err-free_ac.ensures c.requires.usable.0 told_from _ (client_of c.args.to.now) _ told_to))
 
 pub returns-in_err-free_ac-2-clause-goes : goal.returns-in_err-free_ac-2-clause-goes
 unfolding ends_contexts
 returns-in_err-free_ac-2-clause-goes g c v w told_from told_to =
     let same : c.from_residual-in_err-free_ac-2.result ≡ Err (fault_end c.in_err-free_ac-2.field-0.0) = search rules in
-    rw same (both_on (λ next. asks_from (free_ac 1) as_done (client_of c.args.from.now v) (λ x v. next x v (client_of c.args.to.now w))) (λ _ v w. behind_freed v w) _ _ _ _ _ _ _ _ _ _ _ _ _ _ _ _
+    rw same (both_on (λ next. asks_from (free_ac 1) as_done (client_of c.args.from.now v) (λ x v. next x v (client_of c.args.to.now w))) (λ _ v w. behind_freed v w)
     (asked_from g.L.Link.left g.L.Link.sent g.L.Link.faults (free_ac 1) as_done c.args.from.now c.free_ac.new.self v w (Ok c.in_ok-free_ac.field-0) c.in_ok-free_ac.ensures c.requires.usable.0 told_from _ (client_of c.args.to.now) _ told_to)
-    (λ v w told_from told_to. both_stop (λ next. asks_to (free_ac 1) as_done (client_of c.args.to.now w) (λ x w. next x (client_of c.free_ac.new.self v) w)) (λ _ v w next. next tt v w) _ _ _ _ _ _ _ _ _ _ _ _ _ (asked_to g.M.Link.left g.M.Link.sent g.M.Link.faults (free_ac 1) as_done c.args.to.now c.free_ac-2.new.self w v (Err c.in_err-free_ac-2.field-0.0) c.in_err-free_ac-2.ensures c.requires.usable.1 told_to _ (client_of c.free_ac.new.self) _ told_from)))
+    (λ v w told_from told_to. both_stop (λ next. asks_to (free_ac 1) as_done (client_of c.args.to.now w) (λ x w. next x (client_of c.free_ac.new.self v) w)) (λ _ v w next. next tt v w) (asked_to g.M.Link.left g.M.Link.sent g.M.Link.faults (free_ac 1) as_done c.args.to.now c.free_ac-2.new.self w v (Err c.in_err-free_ac-2.field-0.0) c.in_err-free_ac-2.ensures c.requires.usable.1 told_to _ (client_of c.free_ac.new.self) _ told_from)))
 
 pub returns-clause-goes : goal.returns-clause-goes
 unfolding ends_contexts
 returns-clause-goes g c v w told_from told_to =
-    both_on (λ next. asks_from (free_ac 1) as_done (client_of c.args.from.now v) (λ x v. next x v (client_of c.args.to.now w))) (λ _ v w. behind_freed v w) _ _ _ _ _ _ _ _ _ _ _ _ _ _ _ _
+    both_on (λ next. asks_from (free_ac 1) as_done (client_of c.args.from.now v) (λ x v. next x v (client_of c.args.to.now w))) (λ _ v w. behind_freed v w)
     (asked_from g.L.Link.left g.L.Link.sent g.L.Link.faults (free_ac 1) as_done c.args.from.now c.free_ac.new.self v w (Ok c.in_ok-free_ac.field-0) c.in_ok-free_ac.ensures c.requires.usable.0 told_from _ (client_of c.args.to.now) _ told_to)
     (λ v w told_from told_to. (asked_to g.M.Link.left g.M.Link.sent g.M.Link.faults (free_ac 1) as_done c.args.to.now c.free_ac-2.new.self w v (Ok c.in_ok-free_ac-2.field-0) c.in_ok-free_ac-2.ensures c.requires.usable.1 told_to _ (client_of c.free_ac.new.self) _ told_from))

@@ -13,10 +13,8 @@ use Rattle.af_tool.specs.Ends.{client_of, ObservedPart}
 use Rattle.af_io.proofs.ConsumedLemmas.{consumed_none, consumed_told}
 use Rattle.af_tools.proofs.PlayBlockLemmas.{ConsumedAll, IsPlaying}
 use Rattle.af_tools.proofs.PlayStepLemmas.{is_read, play_begin, play_ended, play_on, play_over, play_refused, play_stopped, play_too_long, playing_from, playing_on, plays_named, samples_of}
-use Rattle.af_options.proofs.FrameSizeLemmas.{some_bytes}
-use Rattle.af_tools.proofs.ServedBlockLemmas.{source_size}
-use Rattle.af_tools.proofs.SourceFrameLemmas.{size_fits, wide_of}
-use Rattle.af_tools.proofs.SourceCountLemmas.{before_is, fault_cases, fits_begin, fits_on, given_before, given_on, given_too_much, given_up_to, given_within, read_before, rest_begin, rest_on, short_of, spent_or_all, whole_of}
+use Rattle.af_tools.proofs.SourceFrameLemmas.{block_fits, block_short, size_fits}
+use Rattle.af_tools.proofs.SourceCountLemmas.{before_is, block_given, fault_cases, fits_begin, fits_on, given_before, given_too_much, given_up_to, given_within, rest_begin, rest_on, spent_or_all, whole_of}
 use Rattle.af_tools.proofs.play.play_blocks.Goals as goal
 
 pub loop-block-init : goal.loop-block-init
@@ -61,299 +59,179 @@ pub returns-then-count-eq0-clause-goes : goal.returns-then-count-eq0-clause-goes
 unfolding plays_sound
 returns-then-count-eq0-clause-goes g c input bytes held told is tells =
     let i = c.loop-block.invariant in
-    let low = c.requires.sound.1 in
     let sound = c.args.playback.sound in
     let width = c.width-width.result in
     let size = c.args.playback.block * width in
-    let most = most_bytes - sound.head in
     let n = c.loop-block.filled in
     let room = c.loop-block.block in
     let left' = g.S.Source.left c.loop-block.source in
-    let left = left_before (take n room) left' in
-    let within = i.within in
-    let permitted = i.permitted in
-    let sized : length room ≡ size = i.block in
-    let bound : n ≤ length room = omega arith in
-    let block = c.requires.block in
-    let some : 0 < width = subst (λ (n : ℕ). 0 < n) (sym c.width-width.ensures) (some_bytes (source_width sound.coding sound.ty sound.channels) (source_size sound.coding sound.ty sound.channels block.count)) in
-    let wide : width ≤ size = wide_of c.args.playback.block width block.some in
+    let fits = block_fits sound.coding sound.ty sound.channels c.args.playback.block width sound.head c.loop-block.given n c.requires.block c.width-width.ensures c.requires.sound.1 i.within i.permitted in
     let p = i.playing input bytes held told is tells in
-    let r = is_read size n c.loop-block.left room p.rest left left' p.is_left (read_before (take n room) left') tells bound i.stated i.ended in
-    let none = c.if-count-eq0.true in
-    let short : n < width = short_of n width some none in
-    plays_named sound.coding sound.head width (source_width sound.coding sound.ty sound.channels) c.args.playback.start.0 c.args.playback.block _ _ _ _ _ _ _ _ _ c.width-width.ensures
-    (play_over _ _ _ _ _ _ _ _ _ _ _ _ _ _ _ _ p n room left' r (omega arith) (omega arith) (omega arith) (omega arith) none)
+    let r = is_read size n c.loop-block.left room p.rest left' p.is_left tells i.within i.block i.stated i.ended in
+    plays_named sound.coding sound.head width (source_width sound.coding sound.ty sound.channels) c.args.playback.start.0 c.args.playback.block _ _ c.width-width.ensures
+    (play_over p n room left' r fits c.if-count-eq0.true)
 
 pub returns-then-count-eq0-clause-spent : goal.returns-then-count-eq0-clause-spent
 returns-then-count-eq0-clause-spent g c =
     let i = c.loop-block.invariant in
-    let low = c.requires.sound.1 in
     let sound = c.args.playback.sound in
     let width = c.width-width.result in
     let size = c.args.playback.block * width in
-    let most = most_bytes - sound.head in
     let n = c.loop-block.filled in
     let room = c.loop-block.block in
     let left' = g.S.Source.left c.loop-block.source in
-    let left = left_before (take n room) left' in
-    let within = i.within in
-    let permitted = i.permitted in
-    let sized : length room ≡ size = i.block in
-    let bound : n ≤ length room = omega arith in
-    let block = c.requires.block in
-    let some : 0 < width = subst (λ (n : ℕ). 0 < n) (sym c.width-width.ensures) (some_bytes (source_width sound.coding sound.ty sound.channels) (source_size sound.coding sound.ty sound.channels block.count)) in
-    let wide : width ≤ size = wide_of c.args.playback.block width block.some in
-    let none = c.if-count-eq0.true in
-    let short : n < width = short_of n width some none in
-    spent_or_all sound.length c.loop-block.left c.loop-block.given n room _ left left' i.rest i.fits i.given (read_before (take n room) left') bound (i.ended (omega arith))
+    let fits = block_fits sound.coding sound.ty sound.channels c.args.playback.block width sound.head c.loop-block.given n c.requires.block c.width-width.ensures c.requires.sound.1 i.within i.permitted in
+    let short = block_short n size width (sound.head + c.loop-block.given) fits c.if-count-eq0.true in
+    spent_or_all sound.length c.loop-block.left c.loop-block.given n room _ left' i.rest i.fits i.given i.within i.block (i.ended short)
 
 pub returns-then-count-eq0-clause-within : goal.returns-then-count-eq0-clause-within
 returns-then-count-eq0-clause-within g c =
     let i = c.loop-block.invariant in
-    let low = c.requires.sound.1 in
-    let sound = c.args.playback.sound in
-    let width = c.width-width.result in
-    let size = c.args.playback.block * width in
-    let most = most_bytes - sound.head in
-    let n = c.loop-block.filled in
-    let room = c.loop-block.block in
-    let left' = g.S.Source.left c.loop-block.source in
-    let left = left_before (take n room) left' in
-    let within = i.within in
-    let permitted = i.permitted in
-    let sized : length room ≡ size = i.block in
-    let bound : n ≤ length room = omega arith in
-    λ _. given_within most _ _ _ (given_on n c.loop-block.given _ left left' room i.given (read_before (take n room) left') bound) (omega arith)
+    let so_far = block_given c.loop-block.filled c.loop-block.given _ (g.S.Source.left c.loop-block.source) c.loop-block.block i.given i.within i.block in
+    λ _. given_within (most_bytes - c.args.playback.sound.head) _ _ _ so_far i.permitted
 
 pub returns-in_err-play_block-clause-goes : goal.returns-in_err-play_block-clause-goes
 unfolding plays_sound
 returns-in_err-play_block-clause-goes g c input bytes held told is tells =
     let i = c.loop-block.invariant in
-    let low = c.requires.sound.1 in
     let sound = c.args.playback.sound in
     let width = c.width-width.result in
     let size = c.args.playback.block * width in
-    let most = most_bytes - sound.head in
     let n = c.loop-block.filled in
     let room = c.loop-block.block in
     let left' = g.S.Source.left c.loop-block.source in
-    let left = left_before (take n room) left' in
-    let within = i.within in
-    let permitted = i.permitted in
-    let sized : length room ≡ size = i.block in
-    let bound : n ≤ length room = omega arith in
-    let block = c.requires.block in
-    let some : 0 < width = subst (λ (n : ℕ). 0 < n) (sym c.width-width.ensures) (some_bytes (source_width sound.coding sound.ty sound.channels) (source_size sound.coding sound.ty sound.channels block.count)) in
-    let wide : width ≤ size = wide_of c.args.playback.block width block.some in
+    let fits = block_fits sound.coding sound.ty sound.channels c.args.playback.block width sound.head c.loop-block.given n c.requires.block c.width-width.ensures c.requires.sound.1 i.within i.permitted in
     let p = i.playing input bytes held told is tells in
-    let r = is_read size n c.loop-block.left room p.rest left left' p.is_left (read_before (take n room) left') tells bound i.stated i.ended in
+    let r = is_read size n c.loop-block.left room p.rest left' p.is_left tells i.within i.block i.stated i.ended in
     let whole : 0 < n / width = omega arith in
-    let samples = ap (as_served sound.coding) (samples_of n width room r.full bound (whole_of n width)) in
+    let samples = ap (as_served sound.coding) (samples_of n width room r.full (whole_of n width)) in
     let same : c.from_residual.result ≡ Err c.in_err-play_block.field-0.0 = search rules in
-    rw same (plays_named sound.coding sound.head width (source_width sound.coding sound.ty sound.channels) c.args.playback.start.0 c.args.playback.block _ _ _ _ _ _ _ _ _ c.width-width.ensures
-    (play_refused _ _ _ _ _ _ _ _ _ _ _ _ _ _ _ _ p n room left' r (omega arith) (omega arith) (omega arith) c.time_behind-at.result.0 _ c.time_behind-at.ensures samples whole c.in_err-play_block.field-0.0 _ _ _ (c.in_err-play_block.ensures.goes p.input held p.is_told)))
+    rw same (plays_named sound.coding sound.head width (source_width sound.coding sound.ty sound.channels) c.args.playback.start.0 c.args.playback.block _ _ c.width-width.ensures
+    (play_refused p n room left' r fits c.time_behind-at.result.0 _ c.time_behind-at.ensures samples whole c.in_err-play_block.field-0.0 _ _ _ (c.in_err-play_block.ensures.goes p.input held p.is_told)))
 
 pub returns-in_err-play_block-clause-within : goal.returns-in_err-play_block-clause-within
 returns-in_err-play_block-clause-within g c =
     let i = c.loop-block.invariant in
-    let low = c.requires.sound.1 in
-    let sound = c.args.playback.sound in
-    let width = c.width-width.result in
-    let size = c.args.playback.block * width in
-    let most = most_bytes - sound.head in
-    let n = c.loop-block.filled in
-    let room = c.loop-block.block in
-    let left' = g.S.Source.left c.loop-block.source in
-    let left = left_before (take n room) left' in
-    let within = i.within in
-    let permitted = i.permitted in
-    let sized : length room ≡ size = i.block in
-    let bound : n ≤ length room = omega arith in
-    λ _. given_within most _ _ _ (given_on n c.loop-block.given _ left left' room i.given (read_before (take n room) left') bound) (omega arith)
+    let so_far = block_given c.loop-block.filled c.loop-block.given _ (g.S.Source.left c.loop-block.source) c.loop-block.block i.given i.within i.block in
+    λ _. given_within (most_bytes - c.args.playback.sound.head) _ _ _ so_far i.permitted
 
 pub returns-then-filled-size-clause-goes : goal.returns-then-filled-size-clause-goes
 unfolding plays_sound
 returns-then-filled-size-clause-goes g c input bytes held told is tells =
     let i = c.loop-block.invariant in
-    let low = c.requires.sound.1 in
     let sound = c.args.playback.sound in
     let width = c.width-width.result in
     let size = c.args.playback.block * width in
-    let most = most_bytes - sound.head in
     let n = c.loop-block.filled in
     let room = c.loop-block.block in
     let left' = g.S.Source.left c.loop-block.source in
-    let left = left_before (take n room) left' in
-    let within = i.within in
-    let permitted = i.permitted in
-    let sized : length room ≡ size = i.block in
-    let bound : n ≤ length room = omega arith in
-    let block = c.requires.block in
-    let some : 0 < width = subst (λ (n : ℕ). 0 < n) (sym c.width-width.ensures) (some_bytes (source_width sound.coding sound.ty sound.channels) (source_size sound.coding sound.ty sound.channels block.count)) in
-    let wide : width ≤ size = wide_of c.args.playback.block width block.some in
+    let fits = block_fits sound.coding sound.ty sound.channels c.args.playback.block width sound.head c.loop-block.given n c.requires.block c.width-width.ensures c.requires.sound.1 i.within i.permitted in
     let p = i.playing input bytes held told is tells in
-    let r = is_read size n c.loop-block.left room p.rest left left' p.is_left (read_before (take n room) left') tells bound i.stated i.ended in
+    let r = is_read size n c.loop-block.left room p.rest left' p.is_left tells i.within i.block i.stated i.ended in
     let whole : 0 < n / width = omega arith in
-    let samples = ap (as_served sound.coding) (samples_of n width room r.full bound (whole_of n width)) in
-    let q = play_on _ _ _ _ _ _ _ _ _ _ _ _ _ _ _ _ p n room left' r (omega arith) (omega arith) (omega arith) c.time_behind-at.result.0 _ c.time_behind-at.ensures samples whole c.in_ok-play_block.field-0 _ _ _ (c.in_ok-play_block.ensures.goes p.input held p.is_told) in
+    let samples = ap (as_served sound.coding) (samples_of n width room r.full (whole_of n width)) in
+    let q = play_on p n room left' r fits c.time_behind-at.result.0 _ c.time_behind-at.ensures samples whole c.in_ok-play_block.field-0 _ _ _ (c.in_ok-play_block.ensures.goes p.input held p.is_told) in
     let short = c.if-filled-size.true in
-    plays_named sound.coding sound.head width (source_width sound.coding sound.ty sound.channels) c.args.playback.start.0 c.args.playback.block _ _ _ _ _ _ _ _ _ c.width-width.ensures
-    (play_ended _ _ _ _ _ _ _ _ _ _ _ _ _ _ _ _ q (omega arith) (omega arith) r.behind r.is_left (r.ended (omega arith)))
+    plays_named sound.coding sound.head width (source_width sound.coding sound.ty sound.channels) c.args.playback.start.0 c.args.playback.block _ _ c.width-width.ensures
+    (play_ended q fits.some fits.most r.behind r.is_left (r.ended (omega arith)))
 
 pub returns-then-filled-size-clause-spent : goal.returns-then-filled-size-clause-spent
 returns-then-filled-size-clause-spent g c =
     let i = c.loop-block.invariant in
-    let low = c.requires.sound.1 in
-    let sound = c.args.playback.sound in
-    let width = c.width-width.result in
-    let size = c.args.playback.block * width in
-    let most = most_bytes - sound.head in
-    let n = c.loop-block.filled in
-    let room = c.loop-block.block in
-    let left' = g.S.Source.left c.loop-block.source in
-    let left = left_before (take n room) left' in
-    let within = i.within in
-    let permitted = i.permitted in
-    let sized : length room ≡ size = i.block in
-    let bound : n ≤ length room = omega arith in
     let short = c.if-filled-size.true in
-    spent_or_all sound.length c.loop-block.left c.loop-block.given n room _ left left' i.rest i.fits i.given (read_before (take n room) left') bound (i.ended (omega arith))
+    spent_or_all c.args.playback.sound.length c.loop-block.left c.loop-block.given c.loop-block.filled c.loop-block.block _ (g.S.Source.left c.loop-block.source) i.rest i.fits i.given i.within i.block (i.ended (omega arith))
 
 pub returns-then-filled-size-clause-within : goal.returns-then-filled-size-clause-within
 returns-then-filled-size-clause-within g c =
     let i = c.loop-block.invariant in
-    let low = c.requires.sound.1 in
-    let sound = c.args.playback.sound in
-    let width = c.width-width.result in
-    let size = c.args.playback.block * width in
-    let most = most_bytes - sound.head in
-    let n = c.loop-block.filled in
-    let room = c.loop-block.block in
-    let left' = g.S.Source.left c.loop-block.source in
-    let left = left_before (take n room) left' in
-    let within = i.within in
-    let permitted = i.permitted in
-    let sized : length room ≡ size = i.block in
-    let bound : n ≤ length room = omega arith in
-    λ _. given_within most _ _ _ (given_on n c.loop-block.given _ left left' room i.given (read_before (take n room) left') bound) (omega arith)
+    let so_far = block_given c.loop-block.filled c.loop-block.given _ (g.S.Source.left c.loop-block.source) c.loop-block.block i.given i.within i.block in
+    λ _. given_within (most_bytes - c.args.playback.sound.head) _ _ _ so_far i.permitted
 
 pub returns-in_err-filled-clause-goes : goal.returns-in_err-filled-clause-goes
 unfolding plays_sound
 returns-in_err-filled-clause-goes g c input bytes held told is tells =
     let i = c.loop-block.invariant in
-    let low = c.requires.sound.1 in
     let sound = c.args.playback.sound in
     let width = c.width-width.result in
     let size = c.args.playback.block * width in
-    let most = most_bytes - sound.head in
     let n = c.loop-block.filled in
     let room = c.loop-block.block in
     let left' = g.S.Source.left c.loop-block.source in
-    let left = left_before (take n room) left' in
-    let within = i.within in
+    let fits = block_fits sound.coding sound.ty sound.channels c.args.playback.block width sound.head c.loop-block.given n c.requires.block c.width-width.ensures c.requires.sound.1 i.within i.permitted in
+    let low = c.requires.sound.1 in
     let permitted = i.permitted in
-    let sized : length room ≡ size = i.block in
-    let bound : n ≤ length room = omega arith in
-    let block = c.requires.block in
-    let some : 0 < width = subst (λ (n : ℕ). 0 < n) (sym c.width-width.ensures) (some_bytes (source_width sound.coding sound.ty sound.channels) (source_size sound.coding sound.ty sound.channels block.count)) in
-    let wide : width ≤ size = wide_of c.args.playback.block width block.some in
+    let most = most_bytes - sound.head in
     let given = c.loop-block.given + n in
     let left'' = g.S.Source.left c.fill_stated.new.source in
     let e = c.in_err-filled.ensures in
     let same : c.from_residual-in_err-filled.result ≡ Err (fill_end c.in_err-filled.field-0.0) = search rules in
     let playing : IsSome left' → IsPlaying sound.coding sound.head width c.args.playback.start.0 size (c.loop-block.frames + n / width) (sound.head + given) c.left_behind-left.result (stated_part sound.length (take c.args.first c.args.room.now ++ bytes)) (client_of c.args.conn.now input) left' (g.L.Link.left c.play_block.new.conn.link) (client_of c.play_block.new.conn) (g.L.Link.sent c.args.conn.now.link) (g.L.Link.sent c.play_block.new.conn.link) held = λ before.
     let p = i.playing input bytes held told is before in
-    let r = is_read size n c.loop-block.left room p.rest left left' p.is_left (read_before (take n room) left') before bound i.stated i.ended in
+    let r = is_read size n c.loop-block.left room p.rest left' p.is_left before i.within i.block i.stated i.ended in
     let whole : 0 < n / width = omega arith in
-    let samples = ap (as_served sound.coding) (samples_of n width room r.full bound (whole_of n width)) in
-    let q = play_on _ _ _ _ _ _ _ _ _ _ _ _ _ _ _ _ p n room left' r (omega arith) (omega arith) (omega arith) c.time_behind-at.result.0 _ c.time_behind-at.ensures samples whole c.in_ok-play_block.field-0 _ _ _ (c.in_ok-play_block.ensures.goes p.input held p.is_told) in
-    playing_on sound.coding sound.head width c.args.playback.start.0 size (c.loop-block.frames + n / width) c.loop-block.given n c.loop-block.left c.left_behind-left.result _ _ _ _ _ _ _ _ c.left_behind-left.ensures q in
-    let filled : length c.fill_stated.new.block ≡ size = e.room ∙ sized in
+    let samples = ap (as_served sound.coding) (samples_of n width room r.full (whole_of n width)) in
+    let q = play_on p n room left' r fits c.time_behind-at.result.0 _ c.time_behind-at.ensures samples whole c.in_ok-play_block.field-0 _ _ _ (c.in_ok-play_block.ensures.goes p.input held p.is_told) in
+    playing_on sound.coding sound.head width c.args.playback.start.0 size (c.loop-block.frames + n / width) c.loop-block.given n c.loop-block.left c.left_behind-left.result c.left_behind-left.ensures q in
+    let filled : length c.fill_stated.new.block ≡ size = e.room ∙ i.block in
     let P : ToolEnd → Type 0 = λ how. ObservedPart {X = ℕ} (plays sound.coding width c.args.playback.start.0 0 sound.head (blocks size (stated_part sound.length (take c.args.first c.args.room.now ++ bytes))) (client_of c.args.conn.now input)) (Err how) (g.L.Link.left c.play_block.new.conn.link) (client_of c.play_block.new.conn) (g.L.Link.sent c.args.conn.now.link) (g.L.Link.sent c.play_block.new.conn.link) held held in
-    rw same (plays_named sound.coding sound.head width (source_width sound.coding sound.ty sound.channels) c.args.playback.start.0 c.args.playback.block _ _ _ _ _ _ _ _ _ c.width-width.ensures
+    rw same (plays_named sound.coding sound.head width (source_width sound.coding sound.ty sound.channels) c.args.playback.start.0 c.args.playback.block _ _ c.width-width.ensures
     (fault_cases P c.in_err-filled.field-0.0
     (λ long.
     let above = e.long long in
     let before = consumed_told left' left'' above.bytes above.consumed tells in
-    let fits : ConsumedAbove (most - given) (stated_room c.left_behind-left.result size) left' left'' =
+    let beyond : ConsumedAbove (most - given) (stated_room c.left_behind-left.result size) left' left'' =
     subst (λ (k : ℕ). ConsumedAbove (most - given) (stated_room c.left_behind-left.result k) left' left'') filled above in
-    play_too_long _ _ _ _ _ _ _ _ _ _ _ _ _ _ _ _ (playing before) (most - given) left'' _ _ (omega arith) (omega arith) fits tells)
+    play_too_long (playing before) (most - given) left'' _ _ fits.some (omega arith) beyond tells)
     (λ failed.
     let cut = e.cut failed in
     let before = consumed_told left' left'' cut.bytes cut.consumed tells in
-    play_stopped _ _ _ _ _ _ _ _ _ _ _ _ _ _ _ _ (playing before) end.ReadFault _ _ refl)))
+    play_stopped (playing before) end.ReadFault _ _ refl)))
 
 pub returns-in_err-filled-clause-long : goal.returns-in_err-filled-clause-long
 returns-in_err-filled-clause-long g c =
     let i = c.loop-block.invariant in
-    let low = c.requires.sound.1 in
-    let sound = c.args.playback.sound in
-    let width = c.width-width.result in
-    let size = c.args.playback.block * width in
-    let most = most_bytes - sound.head in
-    let n = c.loop-block.filled in
-    let room = c.loop-block.block in
+    let most = most_bytes - c.args.playback.sound.head in
+    let given = c.loop-block.given + c.loop-block.filled in
+    let before = left_before (take c.args.first c.args.room.now) (g.S.Source.left c.args.source.now) in
     let left' = g.S.Source.left c.loop-block.source in
-    let left = left_before (take n room) left' in
-    let within = i.within in
-    let permitted = i.permitted in
-    let sized : length room ≡ size = i.block in
-    let bound : n ≤ length room = omega arith in
-    let given = c.loop-block.given + n in
     let left'' = g.S.Source.left c.fill_stated.new.source in
     let e = c.in_err-filled.ensures in
     let same : c.from_residual-in_err-filled.result ≡ Err (fill_end c.in_err-filled.field-0.0) = search rules in
-    let so_far = given_on n c.loop-block.given _ left left' room i.given (read_before (take n room) left') bound in
-    let P : ToolEnd → Type 0 = λ how. IsErrOf {T = ℕ} (Err how) end.TooLong → ConsumedBeyond most (left_before (take c.args.first c.args.room.now) (g.S.Source.left c.args.source.now)) left'' in
-    rw same (fault_cases P c.in_err-filled.field-0.0 (λ long _. given_too_much most given _ _ left' left'' so_far permitted (e.long long)) (λ failed bad. cc bad))
+    let so_far = block_given c.loop-block.filled c.loop-block.given _ (g.S.Source.left c.loop-block.source) c.loop-block.block i.given i.within i.block in
+    let P : ToolEnd → Type 0 = λ how. IsErrOf {T = ℕ} (Err how) end.TooLong → ConsumedBeyond most before left'' in
+    rw same (fault_cases P c.in_err-filled.field-0.0 (λ long _. given_too_much most given _ _ left' left'' so_far i.permitted (e.long long)) (λ failed bad. cc bad))
 
 pub returns-in_err-filled-clause-within : goal.returns-in_err-filled-clause-within
 returns-in_err-filled-clause-within g c =
     let i = c.loop-block.invariant in
-    let low = c.requires.sound.1 in
-    let sound = c.args.playback.sound in
-    let width = c.width-width.result in
-    let size = c.args.playback.block * width in
-    let most = most_bytes - sound.head in
-    let n = c.loop-block.filled in
-    let room = c.loop-block.block in
+    let most = most_bytes - c.args.playback.sound.head in
+    let given = c.loop-block.given + c.loop-block.filled in
+    let before = left_before (take c.args.first c.args.room.now) (g.S.Source.left c.args.source.now) in
     let left' = g.S.Source.left c.loop-block.source in
-    let left = left_before (take n room) left' in
-    let within = i.within in
-    let permitted = i.permitted in
-    let sized : length room ≡ size = i.block in
-    let bound : n ≤ length room = omega arith in
-    let given = c.loop-block.given + n in
     let left'' = g.S.Source.left c.fill_stated.new.source in
     let e = c.in_err-filled.ensures in
     let same : c.from_residual-in_err-filled.result ≡ Err (fill_end c.in_err-filled.field-0.0) = search rules in
-    let so_far = given_on n c.loop-block.given _ left left' room i.given (read_before (take n room) left') bound in
-    let P : ToolEnd → Type 0 = λ how. (IsErrOf {T = ℕ} (Err how) end.TooLong → ⊥) → ConsumedUpTo most (left_before (take c.args.first c.args.room.now) (g.S.Source.left c.args.source.now)) left'' in
-    rw same (fault_cases P c.in_err-filled.field-0.0 (λ long no. absurd (no refl)) (λ failed _. given_up_to most given _ left' left'' so_far permitted (e.cut failed)))
+    let so_far = block_given c.loop-block.filled c.loop-block.given _ (g.S.Source.left c.loop-block.source) c.loop-block.block i.given i.within i.block in
+    let P : ToolEnd → Type 0 = λ how. (IsErrOf {T = ℕ} (Err how) end.TooLong → ⊥) → ConsumedUpTo most before left'' in
+    rw same (fault_cases P c.in_err-filled.field-0.0 (λ long no. absurd (no refl)) (λ failed _. given_up_to most given _ left' left'' so_far i.permitted (e.cut failed)))
 
 pub loop-block-preserved : goal.loop-block-preserved
 loop-block-preserved g c =
     let i = c.loop-block.invariant in
-    let low = c.requires.sound.1 in
     let sound = c.args.playback.sound in
     let width = c.width-width.result in
     let size = c.args.playback.block * width in
-    let most = most_bytes - sound.head in
     let n = c.loop-block.filled in
     let room = c.loop-block.block in
     let left' = g.S.Source.left c.loop-block.source in
-    let left = left_before (take n room) left' in
+    let fits = block_fits sound.coding sound.ty sound.channels c.args.playback.block width sound.head c.loop-block.given n c.requires.block c.width-width.ensures c.requires.sound.1 i.within i.permitted in
     let within = i.within in
     let permitted = i.permitted in
-    let sized : length room ≡ size = i.block in
-    let bound : n ≤ length room = omega arith in
-    let block = c.requires.block in
-    let some : 0 < width = subst (λ (n : ℕ). 0 < n) (sym c.width-width.ensures) (some_bytes (source_width sound.coding sound.ty sound.channels) (source_size sound.coding sound.ty sound.channels block.count)) in
-    let wide : width ≤ size = wide_of c.args.playback.block width block.some in
+    let most = most_bytes - sound.head in
     let given = c.loop-block.given + n in
     let left'' = g.S.Source.left c.fill_stated.new.source in
     let e = c.in_ok-filled.ensures in
-    let so_far = given_on n c.loop-block.given _ left left' room i.given (read_before (take n room) left') bound in
+    let so_far = block_given c.loop-block.filled c.loop-block.given _ (g.S.Source.left c.loop-block.source) c.loop-block.block i.given i.within i.block in
     let few = i.few in
     let a = c.in_ok-play_block.ensures in
     let fewer = div-le_self n width in
@@ -361,7 +239,7 @@ loop-block-preserved g c =
     let more = take m c.fill_stated.new.block in
     let fill_within = e.within.0 in
     let fill_permitted = e.within.1 in
-    let filled : length c.fill_stated.new.block ≡ size = e.room ∙ sized in
+    let filled : length c.fill_stated.new.block ≡ size = e.room ∙ i.block in
     record {
       usable = a.holds.usable refl;
       devices = a.holds.devices ∙ i.devices;
@@ -381,10 +259,10 @@ loop-block-preserved g c =
       playing = λ input bytes held told is tells.
           let before = consumed_told left' left'' more e.given tells in
           let p = i.playing input bytes held told is before in
-          let r = is_read size n c.loop-block.left room p.rest left left' p.is_left (read_before (take n room) left') before bound i.stated i.ended in
+          let r = is_read size n c.loop-block.left room p.rest left' p.is_left before i.within i.block i.stated i.ended in
           let whole : 0 < n / width = omega arith in
-          let samples = ap (as_served sound.coding) (samples_of n width room r.full bound (whole_of n width)) in
-          let q = play_on _ _ _ _ _ _ _ _ _ _ _ _ _ _ _ _ p n room left' r (omega arith) (omega arith) (omega arith) c.time_behind-at.result.0 _ c.time_behind-at.ensures samples whole c.in_ok-play_block.field-0 _ _ _ (c.in_ok-play_block.ensures.goes p.input held p.is_told) in
+          let samples = ap (as_served sound.coding) (samples_of n width room r.full (whole_of n width)) in
+          let q = play_on p n room left' r fits c.time_behind-at.result.0 _ c.time_behind-at.ensures samples whole c.in_ok-play_block.field-0 _ _ _ (c.in_ok-play_block.ensures.goes p.input held p.is_told) in
           playing_from sound.coding sound.head width c.args.playback.start.0 size (c.loop-block.frames + n / width) (sound.head + given) c.left_behind-left.result _ _ left' (left_before more left'') _ _ _ _ held (before_is more left' left'' e.given tells)
-          (playing_on sound.coding sound.head width c.args.playback.start.0 size (c.loop-block.frames + n / width) c.loop-block.given n c.loop-block.left c.left_behind-left.result _ _ _ _ _ _ _ _ c.left_behind-left.ensures q);
+          (playing_on sound.coding sound.head width c.args.playback.start.0 size (c.loop-block.frames + n / width) c.loop-block.given n c.loop-block.left c.left_behind-left.result c.left_behind-left.ensures q);
     }

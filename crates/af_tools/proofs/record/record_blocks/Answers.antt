@@ -28,7 +28,7 @@ returns-in_err-peak-clause-goes g c input told =
     let n = c.min-count.result in
     let fits : n * c.frame_bytes-frame.result ≤ length c.loop-left.room = search rules in
     let size : length (take (n * c.frame_bytes-frame.result) c.loop-left.room) ≡ n * recorded_frame sound = length-take-le _ c.loop-left.room fits ∙ ap (λ (w : ℕ). n * w) c.frame_bytes-frame.ensures in
-    rw same (all_recorded _ _ _ _ _ _ _ _ _ _ _ _ _ is_block (record_stopped _ _ _ _ _ _ _ _ _ _ _ _ _ _ r (omega arith) (omega arith) n _ c.min-count.ensures size _ _ _ _ c.in_err-peak.field-0.0 (c.in_err-peak.ensures.goes r.input r.is_told)))
+    rw same (all_recorded _ _ _ _ is_block (record_stopped r (omega arith) (omega arith) n _ c.min-count.ensures size _ _ _ _ c.in_err-peak.field-0.0 (c.in_err-peak.ensures.goes r.input r.is_told)))
 
 pub returns-then-row-job-clause-goes : goal.returns-then-row-job-clause-goes
 returns-then-row-job-clause-goes g c input told =
@@ -39,8 +39,8 @@ returns-then-row-job-clause-goes g c input told =
     let n = c.min-count.result in
     let fits : n * c.frame_bytes-frame.result ≤ length c.loop-left.room = search rules in
     let size : length (take (n * c.frame_bytes-frame.result) c.loop-left.room) ≡ n * recorded_frame sound = length-take-le _ c.loop-left.room fits ∙ ap (λ (w : ℕ). n * w) c.frame_bytes-frame.ensures in
-    all_recorded _ _ _ _ _ _ _ _ _ _ _ _ _ is_block
-    (record_quiet _ _ _ _ _ _ _ _ _ _ _ _ _ _ r (omega arith) (omega arith) n _ c.min-count.ensures size _ _ _ _ c.in_ok-peak.peak (c.in_ok-peak.ensures.goes r.input r.is_told) c.row_behind-row.result c.row_behind-row.ensures c.if-row-job.true _ refl)
+    all_recorded _ _ _ _ is_block
+    (record_quiet r (omega arith) (omega arith) n _ c.min-count.ensures size _ _ _ _ c.in_ok-peak.peak (c.in_ok-peak.ensures.goes r.input r.is_told) c.row_behind-row.result c.row_behind-row.ensures c.if-row-job.true _ refl)
 
 pub loop-left-preserved : goal.loop-left-preserved
 loop-left-preserved g c =
@@ -62,7 +62,7 @@ loop-left-preserved g c =
       left = omega (arith, i.left);
       recording = λ input told.
           let r = i.recording input told in
-          record_on _ _ _ _ _ _ _ _ _ _ _ _ _ _ r (omega arith) (omega arith) n _ c.min-count.ensures size _ _ _ _ c.in_ok-peak.peak (e.goes r.input r.is_told) c.row_behind-row.result c.row_behind-row.ensures c.if-row-job.false c.after-at.result.0 c.after-at.ensures;
+          record_on r (omega arith) (omega arith) n _ c.min-count.ensures size _ _ _ _ c.in_ok-peak.peak (e.goes r.input r.is_told) c.row_behind-row.result c.row_behind-row.ensures c.if-row-job.false c.after-at.result.0 c.after-at.ensures;
     }
 
 pub returns-clause-goes : goal.returns-clause-goes
@@ -71,4 +71,4 @@ returns-clause-goes g c input told =
     let sound = c.args.sound in
     let is_block : c.block_frames-block.result ≡ block_frames c.args.job.now.block (recorded_frame sound) = c.block_frames-block.ensures.value ∙ ap (block_frames c.args.job.now.block) c.frame_bytes-frame.ensures in
     let some : 1 ≤ c.block_frames-block.result = omega (arith, is_block, some_recorded sound c.args.job.now.block c.requires.channels c.requires.block.0) in
-    all_recorded _ _ _ _ _ _ _ _ _ _ _ _ _ is_block (record_done _ _ _ _ _ _ _ _ _ _ _ _ _ _ r (omega arith) (omega arith))
+    all_recorded _ _ _ _ is_block (record_done r (omega arith) (omega arith))

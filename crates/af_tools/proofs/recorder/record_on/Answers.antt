@@ -22,7 +22,7 @@ returns-in_err-now-clause-goes g c input told =
     ap (λ (d : ℕ). creates (device_channels devices d) c.context_of-context.result) context.device
     ∙ ap (λ (n : ℕ). creates n c.context_of-context.result) c.requires.channels ∙ context.asked in
     rw same (goes_stop (begins (record_context job device) job.device (client_of c.args.conn.now input)) (λ now w. tail job device (unwrap_or job.time now.0) w) _ _ _ _ _ _ _ _ _
-    (begins_named _ _ _ _ _ _ _ _ _ _ _ _ asked context.device (c.in_err-now.ensures.goes input (g.K.Sink.held c.args.sink.now) told)))
+    (begins_named _ asked context.device (c.in_err-now.ensures.goes input (g.K.Sink.held c.args.sink.now) told)))
 
 pub returns-in_err-write_recording-clause-goes : goal.returns-in_err-write_recording-clause-goes
 unfolding recorded_on
@@ -36,8 +36,8 @@ returns-in_err-write_recording-clause-goes g c input told =
     ap (λ (d : ℕ). creates (device_channels devices d) c.context_of-context.result) context.device
     ∙ ap (λ (n : ℕ). creates n c.context_of-context.result) c.requires.channels ∙ context.asked in
     rw same (goes_on (begins (record_context job device) job.device (client_of c.args.conn.now input)) (λ now w. tail job device (unwrap_or job.time now.0) w) _ _ _ _ _ _ _ _ _ _ _ _
-    (begins_named _ _ _ _ _ _ _ _ _ _ _ _ asked context.device (c.in_ok-now.ensures.goes input (g.K.Sink.held c.args.sink.now) told))
-    (λ i t. tail_named _ _ _ _ _ _ _ _ _ _ _ _ c.start_of-start.ensures (tail_stop _ _ _ _ _ _ _ _ _ _ _ (c.in_err-write_recording.ensures.goes i t))))
+    (begins_named _ asked context.device (c.in_ok-now.ensures.goes input (g.K.Sink.held c.args.sink.now) told))
+    (λ i t. tail_named _ _ _ c.start_of-start.ensures (tail_stop _ _ _ _ (c.in_err-write_recording.ensures.goes i t))))
 
 pub returns-clause-goes : goal.returns-clause-goes
 unfolding recorded_on
@@ -50,5 +50,5 @@ returns-clause-goes g c input told =
     ap (λ (d : ℕ). creates (device_channels devices d) c.context_of-context.result) context.device
     ∙ ap (λ (n : ℕ). creates n c.context_of-context.result) c.requires.channels ∙ context.asked in
     goes_on (begins (record_context job device) job.device (client_of c.args.conn.now input)) (λ now w. tail job device (unwrap_or job.time now.0) w) _ _ _ _ _ _ _ _ _ _ _ _
-    (begins_named _ _ _ _ _ _ _ _ _ _ _ _ asked context.device (c.in_ok-now.ensures.goes input (g.K.Sink.held c.args.sink.now) told))
-    (λ i t. tail_named _ _ _ _ _ _ _ _ _ _ _ _ c.start_of-start.ensures (tail_on _ _ _ _ _ _ _ _ _ _ _ _ _ _ (c.in_ok-write_recording.ensures.goes i t) (λ i' t'. c.finish.ensures.goes i' _ t')))
+    (begins_named _ asked context.device (c.in_ok-now.ensures.goes input (g.K.Sink.held c.args.sink.now) told))
+    (λ i t. tail_named _ _ _ c.start_of-start.ensures (tail_on _ _ _ _ (c.in_ok-write_recording.ensures.goes i t) (λ i' t'. c.finish.ensures.goes i' _ t')))

@@ -25,7 +25,7 @@ returns-in_err-frames-clause-goes g c input told =
     let same : c.from_residual-in_err-frames.result ≡ Err c.in_err-frames.field-0.0 = search rules in
     let sound = c.recorded_sound-sound.ensures.value in
     let front = goes_writing g.K.Sink.held (front_of_recording job device) (Ok tt) c.args.sink.now c.write_front.new.sink input (g.L.Link.left c.args.conn.now.link) (client_of c.args.conn.now) (g.L.Link.sent c.args.conn.now.link) told c.in_ok-write_front.ensures.written in
-    rw same (front_on job device c.args.start.0 w _ _ (Err c.in_err-frames.field-0.0) _ _ _ _ _ _ _ _ front
+    rw same (front_on job device c.args.start.0 w _ _ (Err c.in_err-frames.field-0.0) front
     (λ i t. sound_stop job device c.args.start.0 (client_of c.args.conn.now i) _ _ c.in_err-frames.field-0.0 _ _ _ _
     (subst (λ (x : RecordedSound). ObservedPart {X = ℕ} (records_all job x c.args.start.0 (client_of c.args.conn.now i)) (Err c.in_err-frames.field-0.0) (g.L.Link.left c.record_blocks.new.conn.link) (client_of c.record_blocks.new.conn) (g.L.Link.sent c.args.conn.now.link) (g.L.Link.sent c.record_blocks.new.conn.link) (g.K.Sink.held c.write_front.new.sink) (g.K.Sink.held c.record_blocks.new.sink)) sound
     (c.in_err-frames.ensures.goes i t))))
@@ -39,8 +39,8 @@ returns-clause-goes g c input told =
     let sound = c.recorded_sound-sound.ensures.value in
     let size : c.from.result * c.frame_bytes.result ≡ frames * recorded_frame (recorded_sound job device) = ap₂ (λ (m n : ℕ). m * n) c.from.ensures (c.frame_bytes.ensures ∙ ap recorded_frame sound) in
     let front = goes_writing g.K.Sink.held (front_of_recording job device) (Ok tt) c.args.sink.now c.write_front.new.sink input (g.L.Link.left c.args.conn.now.link) (client_of c.args.conn.now) (g.L.Link.sent c.args.conn.now.link) told c.in_ok-write_front.ensures.written in
-    front_on job device c.args.start.0 w _ _ c.write_pad.result _ _ _ _ _ _ _ _ front
-    (λ i t. sound_on job device c.args.start.0 (client_of c.args.conn.now i) _ _ frames c.write_pad.result _ _ _ _ _ _ _ _
+    front_on job device c.args.start.0 w _ _ c.write_pad.result front
+    (λ i t. sound_on job device c.args.start.0 (client_of c.args.conn.now i) _ _ frames c.write_pad.result
     (subst (λ (x : RecordedSound). ObservedPart (records_all job x c.args.start.0 (client_of c.args.conn.now i)) (Ok frames) (g.L.Link.left c.record_blocks.new.conn.link) (client_of c.record_blocks.new.conn) (g.L.Link.sent c.args.conn.now.link) (g.L.Link.sent c.record_blocks.new.conn.link) (g.K.Sink.held c.write_front.new.sink) (g.K.Sink.held c.record_blocks.new.sink)) sound
     (c.in_ok-frames.ensures.goes i t))
     (λ i' t'. subst (λ (n : ℕ). ObservedPart {X = Unit {0}} (λ next. writing (pad_behind job.form n) (next tt (client_of c.record_blocks.new.conn i'))) c.write_pad.result (g.L.Link.left c.record_blocks.new.conn.link) (client_of c.record_blocks.new.conn) (g.L.Link.sent c.record_blocks.new.conn.link) (g.L.Link.sent c.record_blocks.new.conn.link) (g.K.Sink.held c.record_blocks.new.sink) (g.K.Sink.held c.write_pad.new.sink)) size

@@ -1,9 +1,8 @@
-use Rattle.std.proofs.Common.{rules, arith, ◌≡◌, ◌∷◌, List, [], ℕ, length, slice_index, subst, refl}
+use Rattle.std.proofs.Common.{rules, arith, ◌≡◌, length, slice_index, subst, refl}
 use Rattle.std.specs.declared.option.Option.TheVariants.{Some}
-use Rattle.af_io.specs.Observed.{Consumed}
 use Rattle.af_sound.specs.declared.head.SoundFault.{SoundFault}
 use Rattle.af_tools.specs.Fill.{ConsumedFault}
-use Rattle.af_tools.proofs.HeadReadLemmas.{ended_cut, ended_read, one_byte, read_begin, read_more, read_bad, read_beyond, read_fault, read_head, read_more_within, read_too_long, read_whole}
+use Rattle.af_tools.proofs.HeadReadLemmas.{byte_read, ended_cut, ended_read, read_begin, read_more, read_bad, read_beyond, read_fault, read_head, read_more_within, read_too_long, read_whole}
 use Rattle.af_tools.proofs.sound.read_head.Goals as goal
 
 pub returns-in-Bytes-clause-brings : goal.returns-in-Bytes-clause-brings
@@ -12,8 +11,7 @@ returns-in-Bytes-clause-brings g c bytes told tells =
     let into = c.read.new.into in
     let one : length into ≡ 1 = search rules in
     let e = c.in-Bytes.ensures in
-    let more : Consumed (g.S.Source.left c.loop-size.source) (slice_index into 0 ∷ []) (g.S.Source.left c.read.new.self) =
-    subst (λ (l : List ℕ). Consumed (g.S.Source.left c.loop-size.source) l (g.S.Source.left c.read.new.self)) (one_byte c.in-Bytes.field-0 into one e.bound.0) e.consumed in
+    let more = byte_read c.in-Bytes.field-0 into (g.S.Source.left c.loop-size.source) (g.S.Source.left c.read.new.self) one e.bound.0 e.consumed in
     let many = c.if-size-eq-MOST_BYTES.true in
     read_too_long c.args.form c.loop-size.reader c.loop-size.size _ _ i.read (slice_index into 0) _ more i.opens (omega arith) bytes told tells
 
@@ -23,8 +21,7 @@ returns-in-Bytes-clause-long g c _ =
     let into = c.read.new.into in
     let one : length into ≡ 1 = search rules in
     let e = c.in-Bytes.ensures in
-    let more : Consumed (g.S.Source.left c.loop-size.source) (slice_index into 0 ∷ []) (g.S.Source.left c.read.new.self) =
-    subst (λ (l : List ℕ). Consumed (g.S.Source.left c.loop-size.source) l (g.S.Source.left c.read.new.self)) (one_byte c.in-Bytes.field-0 into one e.bound.0) e.consumed in
+    let more = byte_read c.in-Bytes.field-0 into (g.S.Source.left c.loop-size.source) (g.S.Source.left c.read.new.self) one e.bound.0 e.consumed in
     let many = c.if-size-eq-MOST_BYTES.true in
     read_beyond c.args.form c.loop-size.reader c.loop-size.size _ _ i.read (slice_index into 0) _ more (omega arith)
 
@@ -44,8 +41,7 @@ returns-in-Head-clause-brings g c bytes told tells =
     let into = c.read.new.into in
     let one : length into ≡ 1 = search rules in
     let e = c.in-Bytes.ensures in
-    let more : Consumed (g.S.Source.left c.loop-size.source) (slice_index into 0 ∷ []) (g.S.Source.left c.read.new.self) =
-    subst (λ (l : List ℕ). Consumed (g.S.Source.left c.loop-size.source) l (g.S.Source.left c.read.new.self)) (one_byte c.in-Bytes.field-0 into one e.bound.0) e.consumed in
+    let more = byte_read c.in-Bytes.field-0 into (g.S.Source.left c.loop-size.source) (g.S.Source.left c.read.new.self) one e.bound.0 e.consumed in
     let r = i.read in
     read_whole c.args.form c.loop-size.reader c.loop-size.size _ _ r (slice_index into 0) _ more c.in-Head.head ((c.in-Head.ensures.head c.args.form r.bytes c.in-Head.head r.taken).0 refl) bytes told tells
 
@@ -55,8 +51,7 @@ returns-in-Head-clause-read g c =
     let into = c.read.new.into in
     let one : length into ≡ 1 = search rules in
     let e = c.in-Bytes.ensures in
-    let more : Consumed (g.S.Source.left c.loop-size.source) (slice_index into 0 ∷ []) (g.S.Source.left c.read.new.self) =
-    subst (λ (l : List ℕ). Consumed (g.S.Source.left c.loop-size.source) l (g.S.Source.left c.read.new.self)) (one_byte c.in-Bytes.field-0 into one e.bound.0) e.consumed in
+    let more = byte_read c.in-Bytes.field-0 into (g.S.Source.left c.loop-size.source) (g.S.Source.left c.read.new.self) one e.bound.0 e.consumed in
     let r = i.read in
     let few = c.if-size-eq-MOST_BYTES.false in
     let most = i.permitted in
@@ -68,8 +63,7 @@ returns-in-Head-clause-within g c _ =
     let into = c.read.new.into in
     let one : length into ≡ 1 = search rules in
     let e = c.in-Bytes.ensures in
-    let more : Consumed (g.S.Source.left c.loop-size.source) (slice_index into 0 ∷ []) (g.S.Source.left c.read.new.self) =
-    subst (λ (l : List ℕ). Consumed (g.S.Source.left c.loop-size.source) l (g.S.Source.left c.read.new.self)) (one_byte c.in-Bytes.field-0 into one e.bound.0) e.consumed in
+    let more = byte_read c.in-Bytes.field-0 into (g.S.Source.left c.loop-size.source) (g.S.Source.left c.read.new.self) one e.bound.0 e.consumed in
     let few = c.if-size-eq-MOST_BYTES.false in
     let most = i.permitted in
     read_more_within c.args.form c.loop-size.reader c.loop-size.size _ _ i.read (slice_index into 0) _ more (omega arith)
@@ -80,8 +74,7 @@ returns-in-Bad-clause-brings g c bytes told tells =
     let into = c.read.new.into in
     let one : length into ≡ 1 = search rules in
     let e = c.in-Bytes.ensures in
-    let more : Consumed (g.S.Source.left c.loop-size.source) (slice_index into 0 ∷ []) (g.S.Source.left c.read.new.self) =
-    subst (λ (l : List ℕ). Consumed (g.S.Source.left c.loop-size.source) l (g.S.Source.left c.read.new.self)) (one_byte c.in-Bytes.field-0 into one e.bound.0) e.consumed in
+    let more = byte_read c.in-Bytes.field-0 into (g.S.Source.left c.loop-size.source) (g.S.Source.left c.read.new.self) one e.bound.0 e.consumed in
     let r = i.read in
     let few = c.if-size-eq-MOST_BYTES.false in
     let most = i.permitted in
@@ -93,8 +86,7 @@ returns-in-Bad-clause-bad g c fault is =
     let into = c.read.new.into in
     let one : length into ≡ 1 = search rules in
     let e = c.in-Bytes.ensures in
-    let more : Consumed (g.S.Source.left c.loop-size.source) (slice_index into 0 ∷ []) (g.S.Source.left c.read.new.self) =
-    subst (λ (l : List ℕ). Consumed (g.S.Source.left c.loop-size.source) l (g.S.Source.left c.read.new.self)) (one_byte c.in-Bytes.field-0 into one e.bound.0) e.consumed in
+    let more = byte_read c.in-Bytes.field-0 into (g.S.Source.left c.loop-size.source) (g.S.Source.left c.read.new.self) one e.bound.0 e.consumed in
     let r = i.read in
     let same : c.in-Bad.fault ≡ fault = cc in
     subst (λ (f : SoundFault). ConsumedFault (Some c.args.form) f (g.S.Source.left c.args.source.now) (g.S.Source.left c.read.new.self)) same
@@ -106,8 +98,7 @@ returns-in-Bad-clause-within g c _ =
     let into = c.read.new.into in
     let one : length into ≡ 1 = search rules in
     let e = c.in-Bytes.ensures in
-    let more : Consumed (g.S.Source.left c.loop-size.source) (slice_index into 0 ∷ []) (g.S.Source.left c.read.new.self) =
-    subst (λ (l : List ℕ). Consumed (g.S.Source.left c.loop-size.source) l (g.S.Source.left c.read.new.self)) (one_byte c.in-Bytes.field-0 into one e.bound.0) e.consumed in
+    let more = byte_read c.in-Bytes.field-0 into (g.S.Source.left c.loop-size.source) (g.S.Source.left c.read.new.self) one e.bound.0 e.consumed in
     let few = c.if-size-eq-MOST_BYTES.false in
     let most = i.permitted in
     read_more_within c.args.form c.loop-size.reader c.loop-size.size _ _ i.read (slice_index into 0) _ more (omega arith)
@@ -118,8 +109,7 @@ loop-size-preserved g c =
     let into = c.read.new.into in
     let one : length into ≡ 1 = search rules in
     let e = c.in-Bytes.ensures in
-    let more : Consumed (g.S.Source.left c.loop-size.source) (slice_index into 0 ∷ []) (g.S.Source.left c.read.new.self) =
-    subst (λ (l : List ℕ). Consumed (g.S.Source.left c.loop-size.source) l (g.S.Source.left c.read.new.self)) (one_byte c.in-Bytes.field-0 into one e.bound.0) e.consumed in
+    let more = byte_read c.in-Bytes.field-0 into (g.S.Source.left c.loop-size.source) (g.S.Source.left c.read.new.self) one e.bound.0 e.consumed in
     let r = i.read in
     let few = c.if-size-eq-MOST_BYTES.false in
     let most = i.permitted in

@@ -8,7 +8,7 @@ use Rattle.af_card.specs.Card.{IsFed}
 use Rattle.af_card.specs.Fed.{HasWholeFrames, IsSilent, PastRunFits}
 use Rattle.af_card.specs.Ledger.{new_run}
 use Rattle.af_program.specs.Waits.{wait_after}
-use Rattle.af_parts_tests.proofs.CardRuns.{card, microphone, begins, one, two, first_byte, in_step, no_room, silent_run, spent, spent_fed}
+use Rattle.af_device_tests.proofs.CardRuns.{card, microphone, begins, one, two, first_byte, in_step, no_room, silent_run, spent, spent_fed}
 
 -- Comes back
 

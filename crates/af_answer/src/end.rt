@@ -23,13 +23,13 @@ pub enum AnswerEnd {
     NoLine { device: u8 },
     /// The server refused a request, for this value.
     Refused { code: u8, value: u32 },
-    /// What came is no message, or not the awaited one: its head, and the first bytes of its body, filled with zeros.
+    /// What came is no message, or not the awaited one: its header, and the first bytes of its body, filled with zeros.
     BadReply { header: [u8; 8], first: [u8; 8] },
     /// 4096 events came, and not the awaited reply; or 1000000 events, and no call was taken.
     EventFlood,
     /// A write to the sink failed.
     SinkFault,
-    /// Memory ran out: before the first request behind the setup, or for a child, and then the hook was put on.
+    /// Memory ran out: before the first request after the setup, or for a child, and then the hook was put on.
     OutOfMemory,
 }
 

@@ -12,6 +12,6 @@ pub struct AnswerJob {
     pub calls: u32,
     /// What plays the greeting, 1..200 bytes.
     pub greeting: ArrayString<200>,
-    /// What records the message behind a greeting that ended well, 1..200 bytes.
+    /// What records the message after a greeting that ended well, 1..200 bytes.
     pub message: ArrayString<200>,
 }

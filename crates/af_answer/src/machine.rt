@@ -30,7 +30,7 @@ fn find_line<L: Link + Drop>(job: &AnswerJob, conn: &Conn<L>) -> Result<(), Answ
 
 /// Attends the line of a device until so many calls were taken, and then writes how many of them were answered, how many
 /// messages were recorded, and in how many a child has failed. A call is taken at the ring with the stated number: the hook is
-/// taken off, the greeting is run, behind one that ended well the message, and the hook is put on. The connection is one that was
+/// taken off, the greeting is run, after one that ended well the message, and the hook is put on. The connection is one that was
 /// just made.
 ///
 /// The hook is on at the end. It may be off only if the server refused OnHook, if the link failed, or if the link ended, or a bad

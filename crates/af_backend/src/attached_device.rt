@@ -20,7 +20,7 @@ use std::io::{self, Read, Write};
 use std::marker::Model;
 use std::rt::Files;
 
-/// What stands behind a device.
+/// The backend of a device.
 #[derive(Drop)]
 pub enum Backend<F: Read + Write + Drop, P: Program + Drop> {
     /// Nothing: it captures silence of its sample type, and what it hands out is gone.
@@ -47,7 +47,7 @@ impl<F: Read + Write + Drop, P: Program + Drop> Model for AttachedDevice<F, P> {
 }
 
 impl<F: Read + Write + Drop, P: Program + Drop> AttachedDevice<F, P> {
-    /// A device with what its kind names behind it. Files are opened, and the output is made where it is not there. A program whose time
+    /// A device with the backend that its kind names. Files are opened, and the output is made where it is not there. A program whose time
     /// is that of the device is started.
     pub fn new<R: Files<File = F>, G: Programs<Made = P>>(
         rt: &R,

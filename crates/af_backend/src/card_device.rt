@@ -19,7 +19,7 @@ use std::marker::Model;
 /// The least buffer that the system has for a socket. It holds one to six pieces of sound, 10 to 60 milliseconds.
 const SHORTEST_INPUT: u32 = 2304;
 
-/// What the program of a device is to be: which sound it gives and is given, how often it may be started anew, and by which words.
+/// What the program of a device is to be: which sound it gives and is given, how often it may be started again, and by which words.
 #[derive(Clone, Copy)]
 pub(crate) struct CardOrders<'a> {
     pub card: CardKind,
@@ -134,7 +134,7 @@ fn input_bytes(shape: &Shape) -> u32 {
     }
 }
 
-/// Want of memory, as the system says it.
+/// Out of memory, as the system says it.
 fn no_memory(_: OutOfMemory) -> io::Error {
     ErrorKind::OutOfMemory.into()
 }

@@ -57,7 +57,7 @@ impl<F: Read + Write + Drop, S: Spawner + Drop, P: Program + Drop> Devices<F, S,
         }
     }
 
-    /// Attaches a device, if it is not yet. One device alone may have the codec behind it.
+    /// Attaches a device, if it is not yet. One device alone may have the codec.
     pub fn attach<R: Files<File = F>, G: Programs<Made = P>>(
         &mut self,
         rt: &R,
@@ -105,7 +105,7 @@ impl<F: Read + Write + Drop, S: Spawner + Drop, P: Program + Drop> Devices<F, S,
         self.attached.get(device as usize)?.as_ref()?.card()
     }
 
-    /// Captures of a device as many bytes as there is room for, by what stands behind it.
+    /// Captures of a device as many bytes as there is room for, by its backend.
     pub fn capture(&mut self, device: u8, into: &mut [u8]) -> Put
         ensures captures { CapturesAt device result into.new self.old.attached self.new.attached }
         ensures rest { self.new ≡ record self.old { attached = self.new.attached } }
@@ -117,7 +117,7 @@ impl<F: Read + Write + Drop, S: Spawner + Drop, P: Program + Drop> Devices<F, S,
         capture_by(&mut self.attached[place], into)
     }
 
-    /// Hands all of a device's sound out, by what stands behind it.
+    /// Hands all of a device's sound out, by its backend.
     pub fn emit(&mut self, device: u8, sound: &[u8]) -> Put
         requires { 0 < length sound.now }
         ensures emits { EmitsAt device result sound.now self.old.attached self.new.attached self.old.codec self.new.codec }

@@ -1,4 +1,4 @@
-//! The devices of a server on real time, each over what stands behind it: silence, two files, the codec, or a program whose time is that
+//! The devices of a server on real time, each over its backend: silence, two files, the codec, or a program whose time is that
 //! of the device; and rounds over all of them.
 #![tactic(auto)]
 

@@ -15,8 +15,8 @@ use std::marker::Model;
 /// up, its clients are served between steps that are short against what they send and get at once.
 pub const LONGEST_STEP_NANOS: u64 = 20_000_000;
 
-/// By which clock each device that is attached goes, the device that the round comes to next, whether one ticked in it, the reading of
-/// the system's clock that it goes by, once it has come to a device, and the last reading that this or an earlier round went by.
+/// The round over the attached devices. It has the clock of each, the device that comes next, and whether one ticked in it. It has its
+/// reading of the system's clock, once it has come to a device, and the last reading that this or an earlier round went by.
 #[derive(Drop)]
 pub struct Round {
     sources: [Option<Source>; MOST_DEVICES],

@@ -1,4 +1,4 @@
-//! What a device is about to play and what it has captured of late: a ring of samples each, seen as
+//! What a device is about to play and what it has captured recently: a ring of samples each, seen as
 //! the list of the next and of the last samples.
 #![tactic(auto)]
 

@@ -127,7 +127,7 @@ impl PlayBuffer {
         }
     }
 
-    /// Gives the next frames, at most 4096, and moves now behind them. The room is for whole frames.
+    /// Gives the next frames, at most 4096, and moves now after them. The room is for whole frames.
     pub fn hand_out(&mut self, out: &mut [i16])
         requires count { frame_count self.old.channels out.old ≤ longest_tick }
         requires whole { AreWholeFrames self.old.channels out.old }

@@ -88,7 +88,7 @@ impl RecordBuffer {
         }
     }
 
-    /// Appends frames, at most 4096, and moves the time behind them.
+    /// Appends frames, at most 4096, and moves the time after them.
     pub fn capture(&mut self, samples: &[i16])
         requires count { frame_count self.old.channels samples.now ≤ longest_tick }
         requires whole { AreWholeFrames self.old.channels samples.now }

@@ -1,4 +1,4 @@
-//! A codec: it hands sound to a child program that may fail at any call, and is started anew so many times.
+//! A codec: it hands sound to a child program that may fail at any call, and is started again so many times.
 #![tactic(auto)]
 
 mod codec;

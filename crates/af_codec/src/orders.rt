@@ -6,7 +6,7 @@ ghost use Rattle.af_child.specs.Acts.{words_of};
 use af_child::{Words, copied_words};
 use std::marker::Model;
 
-/// How often a child may be started anew, and the words of each start.
+/// How often a child may be started again, and the words of each start.
 #[derive(Drop)]
 pub(crate) struct Orders {
     restarts: u32,

@@ -11,7 +11,7 @@ use af_text::next_word;
 use arrayvec::ArrayString;
 use std::str;
 
-/// How often the program of a codec may be started anew.
+/// How often the program of a codec may be started again.
 pub const MOST_RESTARTS: u32 = 100;
 
 /// How many words there may be.

@@ -17,7 +17,7 @@ use af_world::{CardKind, DeviceSpec, MOST_CARD_RESTARTS};
 use std::alloc::Global;
 use std::str;
 
-/// What stands behind a device.
+/// The backend of a device.
 #[derive(Drop)]
 pub enum OwnedKind {
     Silent,
@@ -52,7 +52,7 @@ pub struct ConfiguredDevice {
     pub kind: OwnedKind,
 }
 
-/// How a device line ends: whether it states a telephone line, and what stands behind the device.
+/// How a device line ends: whether it states a telephone line, and the backend of the device.
 #[derive(Drop)]
 struct Ending {
     line: bool,
@@ -84,7 +84,7 @@ pub fn device_stated(alloc: Global, line: &[u8]) -> Result<Option<ConfiguredDevi
     }))
 }
 
-/// The device of `TYPE RATE START`, or of `TYPE RATE START stereo`, with no telephone line, and what comes behind these words.
+/// The device of `TYPE RATE START`, or of `TYPE RATE START stereo`, with no telephone line, and what comes after these words.
 fn front_stated(arguments: &[u8]) -> Option<(DeviceSpec, &[u8])>
     ensures value { MatchOption result (configured_with (words arguments.now) ≡ None)
         (λ found. configured_with (words arguments.now) ≡ option_map (placed_at found.0) (ending_of (words found.1.now))) }
@@ -146,7 +146,7 @@ fn kind_stated(alloc: Global, arguments: &[u8]) -> Result<Option<OwnedKind>, Out
     }
 }
 
-/// No words, behind `silent`.
+/// No words, after `silent`.
 fn silent_stated(names: &[u8]) -> Option<OwnedKind>
     ensures { option_map owned_told result ≡ silent_of (words names.now) }
 {
@@ -156,7 +156,7 @@ fn silent_stated(names: &[u8]) -> Option<OwnedKind>
     }
 }
 
-/// `INPUT OUTPUT`, behind `files`.
+/// `INPUT OUTPUT`, after `files`.
 fn files_stated(alloc: Global, names: &[u8]) -> Result<Option<OwnedKind>, OutOfMemory>
     requires { IsUtf8 names.now }
     ensures { IfOk result (λ kind. option_map owned_told kind ≡ files_of (words names.now)) }
@@ -170,7 +170,7 @@ fn files_stated(alloc: Global, names: &[u8]) -> Result<Option<OwnedKind>, OutOfM
     }
 }
 
-/// `RESTARTS WORD ..`, behind `codec`.
+/// `RESTARTS WORD ..`, after `codec`.
 fn codec_stated(names: &[u8]) -> Option<OwnedKind>
     requires { IsUtf8 names.now }
     ensures { option_map owned_told result ≡ codec_of (words names.now) }
@@ -181,7 +181,7 @@ fn codec_stated(names: &[u8]) -> Option<OwnedKind>
     Some(OwnedKind::Codec { restarts, words })
 }
 
-/// `RESTARTS WORD ..`, behind `speaker`, `microphone` or `card`.
+/// `RESTARTS WORD ..`, after `speaker`, `microphone` or `card`.
 fn card_stated(card: CardKind, names: &[u8]) -> Option<OwnedKind>
     requires { IsUtf8 names.now }
     ensures { option_map owned_told result ≡ card_of card (words names.now) }

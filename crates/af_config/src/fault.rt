@@ -5,7 +5,7 @@ use thiserror::Error;
 #[derive(Clone, Copy, Debug, PartialEq, Eq, Error)]
 pub enum ConfigFault {
     /// The number of the first line that may not stand where it stands. Lines count from 1, and those that are passed over
-    /// count too. Where no device is stated and no line is at fault, it is the one behind the last.
+    /// count too. Where no device is stated and no line is at fault, it is the one after the last.
     #[error("line {0} is not allowed where it stands")]
     Line(u32),
     #[error("out of memory")]

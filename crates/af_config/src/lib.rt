@@ -1,4 +1,4 @@
-//! The configuration of a server on real time, read from a text: its devices, what stands behind each of them, and the programs of
+//! The configuration of a server on real time, read from a text: its devices, the backend of each, and the programs of
 //! their telephone lines.
 #![tactic(auto)]
 

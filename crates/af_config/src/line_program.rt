@@ -19,7 +19,7 @@ const LAST_DEVICE: u32 = MOST_DEVICES as u32 - 1;
 pub struct OwnedLineProgram {
     /// The device that has the line.
     pub device: u8,
-    /// How often the program may be started anew.
+    /// How often the program may be started again.
     pub restarts: u32,
     pub words: CommandLine,
 }
@@ -47,7 +47,7 @@ pub(crate) fn line_program_stated(line: &[u8]) -> Option<OwnedLineProgram>
     }
 }
 
-/// `DEVICE RESTARTS WORD ..`, behind `phone`.
+/// `DEVICE RESTARTS WORD ..`, after `phone`.
 fn program_stated(arguments: &[u8]) -> Option<OwnedLineProgram>
     requires { IsUtf8 arguments.now }
     ensures { option_map owned_program result ≡ line_program_with (words arguments.now) }

@@ -18,7 +18,7 @@ use af_time::OutOfMemory;
 use std::alloc::Global;
 
 /// Reads the configuration that a text is. If the text is none, the fault has the number of its first line that may not
-/// stand where it stands; want of memory can come in the place of any answer. The text has at most 65536 bytes.
+/// stand where it stands; OutOfMemory can come in the place of any answer. The text has at most 65536 bytes.
 pub fn read_config(alloc: Global, text: &[u8]) -> Result<Setting, ConfigFault>
     requires { length text.now ≤ longest_config }
     ensures setting { IfOk result (λ s. config_of text.now ≡ Ok s) }

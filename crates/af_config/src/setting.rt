@@ -15,7 +15,7 @@ use arrayvec::ArrayVec;
 use std::alloc::Global;
 use std::marker::Model;
 
-/// The devices of a server, what stands behind each of them, and the programs of their telephone lines.
+/// The devices of a server, the backend of each, and the programs of their telephone lines.
 #[derive(Drop)]
 pub struct Setting {
     config: Config,
@@ -111,7 +111,7 @@ impl Setting {
         has_line(self.config.as_slice(), device) && !has_program(&self.phones, device)
     }
 
-    /// What stands behind a device, which is one of these.
+    /// The backend of a device, which is one of these.
     pub fn kind(&self, device: u8) -> Kind<'_>
         requires { device < length self.now.config }
         ensures { slice_get self.now.kinds device ≡ Some (told_kind result) }

@@ -44,7 +44,7 @@ impl Contexts {
         self.contexts.clear();
     }
 
-    /// One context more, behind the others.
+    /// One context more, after the others.
     pub fn create(&mut self, context: Context) -> Result<(), ContextFault>
         ensures answer { result ≡ creation self.old context.ac }
         ensures bad_id_choice { (result ≡ Err ContextFault.BadIdChoice) ↔ IsTrue (is_in_use self.old context.ac) }

@@ -48,7 +48,7 @@ impl Bounds {
         self.wants_below = self.open_below;
     }
 
-    /// What is known behind what a wake does.
+    /// What is known after what a wake does.
     pub fn wake(&mut self, wake: Wake, slots: &[Slot])
         requires most { (bounds_after wake self.old).open_below ≤ length slots.now }
         requires none_open { NoneOpenFrom (bounds_after wake self.old).open_below slots.now }

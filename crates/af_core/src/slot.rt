@@ -167,7 +167,7 @@ impl Slot {
     }
 }
 
-/// The number behind the highest link that is open, where all that are open are below this one.
+/// One above the highest link that is open, where all that are open are below this one.
 pub fn open_end(slots: &[Slot], below: usize) -> usize
     requires bound { below ≤ length slots.now }
     requires none_open { NoneOpenFrom below slots.now }
@@ -199,7 +199,7 @@ pub fn first_wanting(waits: &DeferredRequests, slots: &[Slot], from: usize, belo
     from.max(below)
 }
 
-/// The number behind the last link below a number that is to be read, written or closed, or behind a lower one.
+/// One above the last link below a number that is to be read, written or closed, or one above a lower number.
 pub fn last_wanting(waits: &DeferredRequests, slots: &[Slot], from: usize, below: usize) -> usize
     requires count { length slots.now ≤ most_links }
     requires bound { below ≤ length slots.now }

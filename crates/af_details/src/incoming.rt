@@ -5,7 +5,7 @@ use arrayvec::ArrayVec;
 // The longest message whose body is looked at whole: the reply to a setup, of eight devices.
 const LONGEST_KEPT: usize = 112;
 
-/// A message that comes: its first bytes, how many have come of it, and how many it has, once its head is there.
+/// A message that comes: its first bytes, how many have come of it, and how many it has, once its header is there.
 #[derive(Drop)]
 pub struct Incoming {
     kept: ArrayVec<u8, LONGEST_KEPT>,

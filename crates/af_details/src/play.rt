@@ -75,7 +75,7 @@ fn tell_remedy(rt: &impl Eprint, job: &PlayJob, form: SoundForm, talk: &Talk) {
     }
 }
 
-/// Tells which frames were not heard, and of a file that has sound though its head says none.
+/// Tells which frames were not heard, and of a file that has sound though its header says none.
 pub fn tell_played<S: Read + Drop>(
     rt: &impl Eprint,
     job: &PlayJob,

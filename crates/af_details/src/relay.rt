@@ -58,7 +58,7 @@ fn tell_missing(rt: &impl Eprint, job: &PassJob, from: &Talk, to: &Talk) {
     }
 }
 
-/// Tells how many blocks were passed, how often the relay fell in step anew, and what was lost.
+/// Tells how many blocks were passed, how often the relay resynchronised, and what was lost.
 pub fn tell_passed(rt: &impl Eprint, job: &PassJob, from: &Talk, to: &Talk) {
     let passed = Counted(to.passage.blocks, "block");
     let last = to.passage.last;

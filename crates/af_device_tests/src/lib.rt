@@ -1,4 +1,4 @@
-//! Tests of what stands behind a device or a telephone line: child programs, the codec, and the programs of cards and exchanges.
+//! Tests of backends of devices and of programs of telephone lines: child programs, the codec, cards and exchanges.
 //! They show what no contract says, on examples worked by hand.
 #![tactic(auto)]
 

@@ -8,7 +8,7 @@ use std::env::Env;
 use std::io::ErrorKind;
 use std::marker::Model;
 
-/// The words of a command line.
+/// The arguments of a program.
 #[derive(Drop)]
 pub struct Args {
     words: Vec<String>,
@@ -75,7 +75,7 @@ pub enum WordsFault {
     OutOfMemory,
 }
 
-/// The words of this program's command line behind its name. What the system gives is taken as it is: no clause says more of it.
+/// The arguments of this program. What the system gives is taken as it is: no clause says more of it.
 pub fn program_words(alloc: Global, rt: &(impl Env + Alloc)) -> Result<Args, WordsFault> {
     let words = match env::args(rt) {
         Ok(words) => words,

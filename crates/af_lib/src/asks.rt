@@ -57,7 +57,7 @@ impl Stated for () {
     }
 }
 
-/// The device's time, behind GetTime and Play.
+/// The device's time, after GetTime and Play.
 impl Stated for DevTime {
     ghost value_of = { as_time };
 

@@ -120,7 +120,7 @@ impl<L: Link + Drop> Conn<L> {
     }
 
     /// Waits for an event: the oldest of the ring, or else the next message, which is to be one. Its faults are LinkFault,
-    /// LinkEnded, BadReply and, behind a fault of the connection, Spent, even where the ring holds events.
+    /// LinkEnded, BadReply and, after a fault of the connection, Spent, even where the ring holds events.
     pub fn wait_event(&mut self) -> Result<Event, ConnFault>
         ensures { EventAwaited L.left L.sent L.faults self.old self.new result }
     {

@@ -30,7 +30,7 @@ pub struct Exchange<L: Link + Drop> {
     pub output: Vec<u8>,
 }
 
-/// The fault, if a connection can be used no more behind it.
+/// The fault, if a connection can be used no more after it.
 pub fn cause_of<T>(answer: &Result<T, ConnFault>) -> Option<Cause>
     ensures { result ≡ cause_of answer.now }
 {

@@ -11,7 +11,7 @@ pub enum Cause {
     EventFlood,
 }
 
-/// Why a call of a client gives no answer. Behind a LinkFault, a LinkEnded, a BadReply or an EventFlood the connection can
+/// Why a call of a client gives no answer. After a LinkFault, a LinkEnded, a BadReply or an EventFlood the connection can
 /// be used no more.
 #[derive(Clone, Copy, Debug, PartialEq, Eq, Error)]
 pub enum ConnFault {
@@ -24,7 +24,7 @@ pub enum ConnFault {
     /// The server refused the request, for this value.
     #[error("refused {code} value {value}")]
     ServerError { code: u8, value: u32 },
-    /// What came is no message, or not the awaited one: its head, and the first bytes of its body, filled with zeros.
+    /// What came is no message, or not the awaited one: its header, and the first bytes of its body, filled with zeros.
     #[error("bad reply")]
     BadReply { header: [u8; 8], first: [u8; 8] },
     /// Memory ran out, before anything was sent.

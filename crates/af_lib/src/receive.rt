@@ -21,7 +21,7 @@ pub enum Filled {
     Failed,
 }
 
-/// How reading one message went: it has n bytes, or its head is none.
+/// How reading one message went: it has n bytes, or its header is none.
 #[derive(Clone, Copy, Debug, PartialEq, Eq)]
 pub enum Framed {
     Message(usize),
@@ -53,7 +53,7 @@ pub fn fill<L: Link>(link: &mut L, into: &mut [u8]) -> Filled
     Filled::Whole
 }
 
-/// Reads one message: a head, and if that is good the rest of its message.
+/// Reads one message: a header, and if that is good the rest of its message.
 pub fn frame<L: Link>(order: Order, link: &mut L, input: &mut [u8]) -> Framed
     requires { longest_message ≤ length input.old }
     ensures frames { Frames order result input.new (L.left link.old) (L.left link.new) }

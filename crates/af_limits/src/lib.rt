@@ -22,7 +22,7 @@ pub const MOST_TICK_SAMPLES: usize = 2 * LONGEST_TICK as usize;
 /// The most bytes that a device captures at once: a sample has four at most.
 pub const LONGEST_CAPTURE: usize = 4 * MOST_TICK_SAMPLES;
 
-/// The most words of four bytes that a request has, its head among them.
+/// The most words of four bytes that a request has, its header among them.
 pub const MOST_WORDS: usize = 4096;
 
 /// The most bytes of a request, which goes over the link as one frame.
@@ -34,7 +34,7 @@ pub const LONGEST_PLAY: usize = LONGEST_FRAME - 16;
 /// The most bytes of the samples that a Record asks for.
 pub const LONGEST_RECORD: usize = 16000;
 
-/// The most bytes of a message, with its head: the reply to the longest Record.
+/// The most bytes of a message, with its header: the reply to the longest Record.
 pub const LONGEST_MESSAGE: usize = 16 + LONGEST_RECORD;
 
 /// The most bytes of one read of a link.

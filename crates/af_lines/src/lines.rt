@@ -72,7 +72,7 @@ impl<P: Program + Drop> Lines<P> {
         }
     }
 
-    /// Puts a program behind the line of a device, which has none so far, and starts it.
+    /// Gives a program to the line of a device, which has none so far, and starts it.
     pub fn attach<G: Programs<Made = P>>(
         &mut self,
         alloc: Global,

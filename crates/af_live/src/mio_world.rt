@@ -47,8 +47,9 @@ use std::time::Clock;
 /// The real outside of a server. It listens at one address, whose links it numbers from 0, at most 32 at a time; a further one is
 /// accepted and ended at once. Up to 8 devices go on by the clock of the system, or by that of their program.
 ///
-/// A server's `main` makes one with `MioWorld::with_programs(rt.clone()?, rt.alloc(), spawner, programs)` and hands it, with the words of its command line and its
-/// configuration, to the server: `listen` comes first, then an `attach` of each device, then a `wait` before each turn.
+/// A server's `main` makes one with `MioWorld::with_programs(rt.clone()?, rt.alloc(), spawner, programs)` and hands it, with its
+/// arguments and its configuration, to the server: `listen` comes first, then an `attach` of each device, then a `wait` before each
+/// turn.
 ///
 /// It tells nothing of what happened. The counts of its faults stand still at 2^64 - 1.
 #[derive(Drop)]

@@ -29,10 +29,10 @@ const PROGRAMS: Token = Token(MOST_LINKS + 1);
 /// How many events one poll takes. Those that are left come with the next.
 const EVENTS_A_POLL: usize = 64;
 
-/// How many connections are accepted behind one poll. Those that are left are accepted behind the next.
+/// How many connections are accepted after one poll. Those that are left are accepted after the next.
 const MOST_ACCEPTS: u32 = 64;
 
-/// What stands behind the links of a world that listens.
+/// The sockets of the links of a world that listens.
 #[derive(Drop)]
 pub struct Sockets {
     poll: Poll,
@@ -114,7 +114,7 @@ impl Sockets {
     }
 
     /// Accepts the connections that wait. Where the system refuses one for the time being, as with no descriptor left, those that
-    /// wait are tried again behind the next poll.
+    /// wait are tried again after the next poll.
     fn accept_all(&mut self, now: u64, links: &mut HeldLinks)
         ensures { PollsTo links.old links.new }
     {

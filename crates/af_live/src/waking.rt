@@ -25,8 +25,8 @@ use std::time::{Clock, Duration};
 /// How many milliseconds a wait with nothing to do waits at most, and so the longest that a device may be late.
 const LONGEST_PAUSE_MILLIS: u64 = 10;
 
-/// For how many nanoseconds a server that catches up serves its clients between two steps. Without this a fast server leaves them
-/// behind.
+/// For how many nanoseconds a server that catches up serves its clients between two steps. Without this a fast server passes what they
+/// have sent.
 const CATCHING_UP_PAUSE_NANOS: u64 = 500_000;
 
 const NANOS_A_MILLISECOND: u64 = 1_000_000;
@@ -57,8 +57,8 @@ pub(crate) fn time_of<R: Clock>(rt: &R) -> u64 {
     }
 }
 
-/// The reading of the clock that a round goes by: its own, or one that is taken now. After the server stood still that is behind
-/// what the clock shows, step by step at most 20 milliseconds further. Between two steps rounds go by the same reading for half a
+/// The reading of the clock that a round goes by: its own, or one that is taken now. After the server stood still that lags what
+/// the clock shows, step by step at most 20 milliseconds further. Between two steps rounds go by the same reading for half a
 /// millisecond, in which all clients are served, if there are any.
 fn reading<R: Clock>(rt: &R, round: &Round, has_links: bool, step: &mut Step) -> Option<u64>
     ensures { IfSome result (λ nanos. IsReadingBy round.now.reading round.now.last nanos) }

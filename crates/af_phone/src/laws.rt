@@ -6,8 +6,8 @@ ghost use Rattle.af_request.specs.declared.reply.Phone.{Phone};
 ghost use Rattle.af_phone.specs.Lines.{changed, hooked, hook_due, selects, wanting};
 ghost use Rattle.af_phone.specs.declared.line.LineChange.{LineChange};
 
-/// A hook is given once, whatever was wanted before: none is due where the last wish is the hook that the line has, none
-/// behind a try, and one where a live line is wanted otherwise.
+/// A hook moves once, whatever was wanted before: none is due where the last wish is the hook that the line has, none
+/// after a try, and one where a live line is wanted otherwise.
 pub fn a_hook_is_given_once()
     ensures back { (line : Phone) (off : Bool) → hook_due (wanting line.given_off (wanting off line)) ≡ None }
     ensures tried { (line : Phone) (done : Bool) → hook_due (hooked done line) ≡ None }

@@ -1,4 +1,4 @@
-//! Programs that stand behind a device: each is started, gives bytes and takes bytes without a wait, and is ended. What a caller sees of
+//! The programs of devices: each is started, gives bytes and takes bytes without a wait, and is ended. What a caller sees of
 //! one, one in memory, and one of the system.
 #![tactic(auto)]
 

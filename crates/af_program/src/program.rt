@@ -56,7 +56,7 @@ pub trait Program {
     ghost use Rattle.af_child.specs.Acts.{words_of};
     ghost use Rattle.af_program.specs.Acts.{launched, ended, captured, emitted, gave_acts, took_acts, GaveFits, TookFits, IdlesWhereTold, RunsWhereTold};
 
-    /// All acts so far, in order, if they are observed.
+    /// All acts so far, in order, if they are observable.
     ghost acts: { Self → Option (List ToldAct) };
 
     /// Its sockets, while it runs.
@@ -70,7 +70,7 @@ pub trait Program {
     fn note_emitted(&mut self, sound: &[u8])
         ensures acts { Appended (acts self.old) (emitted sound.now ∷ []) (acts self.new) };
 
-    /// Starts it, by the words of its command line.
+    /// Starts it, by its command line.
     fn start(&mut self, alloc: Global, at: u64, words: &Words) -> Launched
         requires some { 1 ≤ array_vec_len words.now }
         requires idles { IdlesWhereTold (acts self.old) }

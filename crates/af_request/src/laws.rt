@@ -41,7 +41,7 @@ pub fn requests_round_trip()
         frame_front order (request_bytes order a ++ rest) ≡ Frame (length (request_bytes order a)) }
 {}
 
-/// A reply that is written has a body of the length that its head states, which is read again as the same reply. The devices
+/// A reply that is written has a body of the length that its header states, which is read again as the same reply. The devices
 /// that the reply to a setup is read as are such as it may state.
 pub fn replies_round_trip()
     ensures again { (order : Order) (opcode : ℕ) (a : Answer) → IsReplyTo opcode a → answer_in order opcode (body_bytes order a) ≡ Some a }

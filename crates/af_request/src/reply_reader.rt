@@ -14,9 +14,9 @@ use af_time::DevTime;
 use af_wire::Order;
 
 /// Reads the body, in the order of its link, of a reply to a request of this opcode, or to a setup (`SETUP`). None exactly
-/// where it is no such body: a length that does not fit, a flag above 1, a gain outside -30..30, a type above 3, channels other
-/// than 1 and 2, a rate that is not listed, a horizon that is not 4 seconds, fewer than 1 or more than 8 devices, or padding
-/// that is not zero.
+/// where it is no such body. Its length does not fit, a flag is above 1, a gain outside -30..30, or a type above 3. Or it has channels
+/// other than 1 and 2, a rate that is not listed, a horizon that is not 4 seconds, fewer than 1 or more than 8 devices, or
+/// padding that is not zero.
 pub fn read_reply<'a>(order: Order, opcode: u8, body: &'a [u8]) -> Option<Reply<'a>>
     ensures { option_map reply_meaning result ≡ answer_in order opcode body.entry.now }
 {

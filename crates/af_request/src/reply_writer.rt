@@ -39,7 +39,7 @@ pub fn write_reply(
     put_body(order, out, at, reply)
 }
 
-/// Where the samples of a reply to a Record begin: behind the head, the time and the count of their bytes.
+/// Where the samples of a reply to a Record begin: after the header, the time and the count of their bytes.
 pub const RECORDED_AT: usize = 16;
 
 /// Writes the reply, in an order, to a Record around its samples, n bytes of them, at most 16000, which stand in the message already, from

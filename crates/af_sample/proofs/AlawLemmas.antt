@@ -1,9 +1,9 @@
--- A-law: the list of interval starts is what the code's shifts make, and so are its samples.
+-- A-law: the list of interval starts is what the code's shifts make, with a table and by lines.
 use Rattle.std.proofs.Common.{◌≡◌, ◌<◌, ◌≤◌, ◌+◌, ◌-◌, ◌*◌, ◌/◌, ◌%◌, ◌^◌, ◌&&◌, ◌||◌, ◌⊎◌, inl, inr, ℕ, zero, suc, Bool, true, false, nat_eq, nat_lt, nat_le, length, slice_index, bit_and, bit_or, bit_xor, refl, sym, ap, ◌∙◌, subst, arith, max, ℤ, pos, negsuc, nat_abs, to_z, of_z}
-use Rattle.std.specs.Int.{w16}
+use Rattle.std.specs.Int.{w16, int_max}
 use Rattle.std.specs.Prelude.{FitsSigned}
 use Rattle.std.specs.Int.Count.{count_leading_zeros}
-use Rattle.std.proofs.lemmas.Int.{to_z-of_z, to_z_pos}
+use Rattle.std.proofs.lemmas.Int.{ints, to_z-of_z, to_z_pos}
 use Rattle.std.proofs.lemmas.Bool.{and_parts, or_cases, eqb-true, ltb-true, leb-true, cases_lt, true≢false}
 use Rattle.std.proofs.lemmas.Nat.{leading_length}
 use Rattle.std.proofs.Math.Pow.{pow_mono}
@@ -12,6 +12,7 @@ use Rattle.af_sample.specs.G711.{alaw_starts, interval_of, to_alaw}
 use Rattle.af_sample.proofs.TableLemmas.{all_from, entry_passes}
 use Rattle.af_sample.proofs.IntervalLemmas.{rises, interval_is}
 use Rattle.af_sample.proofs.SegmentLemmas.{InSegment, segment_of, place, code, joined, from, to}
+use Rattle.af_sample.proofs.LineLemmas.{line, least, least-zero, least_to, least_is}
 
 -- a start is n times 16 in the first segment, and 16 and more steps of each other
 abbrev is_start : ℕ → ℕ → Bool
@@ -123,6 +124,28 @@ code_value m s k low segment shift =
           ∙ joined seg.0 (m / 2 ^ (seg.0 + 3)) few ∙ sym (other_segment m seg.0 other seg.1)
     ]
 
+on_its_line : (m e : ℕ) → 256 ≤ m → InSegment m e → least 4 m 6 ≡ place m e
+on_its_line m zero high seg =
+    let some : 1 ≤ zero = not_first m zero high seg in
+    absurd (omega arith)
+on_its_line m (suc k) high seg =
+    let same : m / 2 ^ (suc k + 3) ≡ m / 2 ^ (k + 4) = ap (λ n. m / 2 ^ n) (let e : suc k + 3 ≡ k + 4 = omega arith in e) in
+    let few : suc k ≤ 7 = seg.few in
+    let least' : 16 ≤ m / 2 ^ (suc k + 3) = seg.least in
+    let most : m / 2 ^ (suc k + 3) < 32 = seg.most in
+    let whole : least 4 m 6 ≡ line 4 m k = least_is 4 m 6 k (omega arith) (omega arith) (omega arith) in
+    omega arith
+
+-- the least that the lines say
+pub least_value : (m : ℕ) → m < 32768 → least 4 m 6 ≡ interval_of alaw_starts m
+least_value m low =
+    elim (cases_lt m 256) [
+      | inl first ↦ (least_to 4 m 0 6 6 (omega arith) refl).0 ∙ sym (least-zero 4 m) ∙ sym (first_segment m first)
+      | inr other ↦
+          let seg = segment_of m (omega arith) low in
+          on_its_line m seg.0 other seg.1 ∙ sym (other_segment m seg.0 other seg.1)
+    ]
+
 pub interval_low : (m : ℕ) → m < 32768 → interval_of alaw_starts m < 128
 interval_low m low =
     elim (cases_lt m 256) [
@@ -152,3 +175,16 @@ positive_byte (pos n) code k fits above interval same =
     ap (λ i. bit_xor i 85) (same ∙ ap (λ i. 128 + i) (interval ∙ ap (λ z. interval_of alaw_starts (nat_abs z)) (to_z-of_z w16 (pos n) fits)))
 positive_byte (negsuc n) code k fits above interval same =
     absurd (true≢false (ap (λ z. lt_z z (pos 0)) (sym (to_z-of_z w16 (negsuc n) fits)) ∙ above))
+
+-- the larger of a sample and its complement: the one that is not negative
+pub larger_of_negative : (x r : ℤ) → FitsSigned w16 x → lt_z (to_z w16 (of_z w16 x)) (pos 0) ≡ true →
+    r ≡ int_max (to_z w16 (of_z w16 x)) (to_z w16 (65535 - of_z w16 x)) → to_z w16 (of_z w16 r) ≡ to_z w16 (65535 - of_z w16 x)
+larger_of_negative x r fits below same =
+    let larger : r ≡ to_z w16 (65535 - of_z w16 x) = grind (arith, ints) in
+    grind (arith, ints)
+
+pub larger_of_positive : (x r : ℤ) → FitsSigned w16 x → lt_z (to_z w16 (of_z w16 x)) (pos 0) ≡ false →
+    r ≡ int_max (to_z w16 (of_z w16 x)) (to_z w16 (65535 - of_z w16 x)) → to_z w16 (of_z w16 r) ≡ to_z w16 (of_z w16 x)
+larger_of_positive x r fits above same =
+    let larger : r ≡ to_z w16 (of_z w16 x) = grind (arith, ints) in
+    grind (arith, ints)

@@ -3,6 +3,7 @@ pub mod MultiplierLemmas
 pub mod GainLemmas
 pub mod IntervalLemmas
 pub mod SegmentLemmas
+pub mod LineLemmas
 pub mod MuLawLemmas
 pub mod AlawLemmas
 pub mod LaneLemmas

@@ -1,4 +1,4 @@
--- Mu-law: the list of decision values is what the code's shifts make.
+-- Mu-law: the list of decision values is what the code's shifts make, with a table and by lines.
 use Rattle.std.proofs.Common.{◌≡◌, ◌<◌, ◌≤◌, ◌+◌, ◌-◌, ◌*◌, ◌/◌, ◌%◌, ◌^◌, ◌&&◌, ◌||◌, ◌⊎◌, inl, inr, ℕ, suc, Bool, true, nat_eq, length, slice_index, refl, sym, ap, ◌∙◌, subst, arith, min, ℤ, pos, negsuc, nat_abs, to_z, of_z, false}
 use Rattle.std.specs.Int.{w16}
 use Rattle.std.specs.Prelude.{FitsSigned}
@@ -9,6 +9,7 @@ use Rattle.af_sample.specs.G711.{mu_law_starts, mu_law_decisions, interval_of, t
 use Rattle.af_sample.proofs.TableLemmas.{all_from, entry_passes}
 use Rattle.af_sample.proofs.IntervalLemmas.{rises, interval_is}
 use Rattle.af_sample.proofs.SegmentLemmas.{InSegment, segment_of, place, code, code_is, from, to}
+use Rattle.af_sample.proofs.LineLemmas.{line, least, least_is}
 
 -- a start, biased, is 16 and more steps of its segment, but for the first, which is 0
 abbrev is_start : ℕ → ℕ → Bool
@@ -76,15 +77,30 @@ last_interval : (m : ℕ) → 31612 ≤ m → interval_of mu_law_starts m ≡ 12
 unfolding mu_law_decisions
 last_interval m high = interval_is mu_law_starts m 127 refl (omega arith) high (λ more. absurd (omega arith))
 
--- the code's interval, with the magnitude limited
-pub code_value : (m r : ℕ) → r ≡ min m 32635 → code (r + 132) ≡ interval_of mu_law_starts m
-code_value m r limited =
-    let seg = segment_of (r + 132) (omega arith) (omega arith) in
-    code_is (r + 132) seg.0 seg.1 ∙ place_is r (r + 132) seg.0 refl seg.1
+-- the place of a magnitude that is limited and biased is the magnitude's interval
+limited_place : (m r e : ℕ) → r ≡ min m 32635 → InSegment (r + 132) e → place (r + 132) e ≡ interval_of mu_law_starts m
+limited_place m r e limited seg =
+    place_is r (r + 132) e refl seg
     ∙ elim (cases_lt 32635 m) [
       | inl over ↦ last_interval r (omega arith) ∙ sym (last_interval m (omega arith))
       | inr within ↦ ap (interval_of mu_law_starts) (let e : r ≡ m = omega arith in e)
     ]
+
+-- the code's interval
+pub code_value : (m r : ℕ) → r ≡ min m 32635 → code (r + 132) ≡ interval_of mu_law_starts m
+code_value m r limited =
+    let seg = segment_of (r + 132) (omega arith) (omega arith) in
+    code_is (r + 132) seg.0 seg.1 ∙ limited_place m r seg.0 limited seg.1
+
+-- the least that the lines say
+pub least_value : (m r : ℕ) → r ≡ min m 32635 → least 3 (r + 132) 7 ≡ interval_of mu_law_starts m + 16
+least_value m r limited =
+    let seg = segment_of (r + 132) (omega arith) (omega arith) in
+    let high : 16 ≤ (r + 132) / 2 ^ (seg.0 + 3) = seg.1.least in
+    let few : (r + 132) / 2 ^ (seg.0 + 3) < 32 = seg.1.most in
+    let here : place (r + 132) seg.0 ≡ interval_of mu_law_starts m = limited_place m r seg.0 limited seg.1 in
+    let whole : least 3 (r + 132) 7 ≡ line 3 (r + 132) seg.0 = least_is 3 (r + 132) 7 seg.0 seg.1.few high few in
+    omega arith
 
 pub interval_low : (m r : ℕ) → r ≡ min m 32635 → interval_of mu_law_starts m < 128
 interval_low m r limited =

@@ -58,3 +58,30 @@ pub(crate) fn compressed(x: i16) -> u8
     };
     code ^ EVEN_BITS
 }
+
+// The interval of a magnitude, 0..127, without a table, as mu-law has it. The first two segments lie on one line.
+#[inline(always)]
+fn interval_by_lines(magnitude: u16) -> u8
+    requires { magnitude < 32768 }
+    ensures value { result ≡ interval_of alaw_starts magnitude }
+    ensures range { result < 128 }
+{
+    let least = (magnitude >> 4)
+        .min((magnitude >> 5) + 16)
+        .min((magnitude >> 6) + 32)
+        .min((magnitude >> 7) + 48)
+        .min((magnitude >> 8) + 64)
+        .min((magnitude >> 9) + 80)
+        .min((magnitude >> 10) + 96);
+    least as u8
+}
+
+/// The A-law byte of a sample of a run. Its magnitude is the greater of the sample and its complement.
+#[inline(always)]
+pub(crate) fn compressed_in_run(x: i16) -> u8
+    ensures { result ≡ to_alaw x }
+{
+    let interval = interval_by_lines(x.max(!x) as u16);
+    let code = if x < 0 { interval } else { 0x80 + interval };
+    code ^ EVEN_BITS
+}

@@ -60,6 +60,20 @@ pub fn convert_in(ty: SampleType, bytes: &[u8], out: &mut [i16])
     }
 }
 
+// Encodes a sample of a run. The laws go without a table, since the compiler puts only such a loop on lanes. `encode` keeps the
+// table, which is the shorter way for one sample.
+#[inline(always)]
+fn encode_in_run(ty: SampleType, x: i16, out: &mut [u8])
+    requires { length out.old ≡ width_of ty }
+    ensures { out.new ≡ encoded ty x }
+{
+    match ty {
+        SampleType::Mu255 => out.copy_from_slice(&[mu_law::compressed_in_run(x)]),
+        SampleType::Alaw => out.copy_from_slice(&[alaw::compressed_in_run(x)]),
+        SampleType::Lin16 | SampleType::Lin32 => encode(ty, x, out),
+    }
+}
+
 // Encodes sample by sample, for a type that is known where it is called, as `decode_each` decodes.
 #[inline(always)]
 fn encode_each(ty: SampleType, samples: &[i16], out: &mut [u8])
@@ -69,7 +83,7 @@ fn encode_each(ty: SampleType, samples: &[i16], out: &mut [u8])
     let width = ty.width();
     for (i, x) in samples.iter().enumerate() {
         let at = i * width;
-        encode(ty, *x, &mut out[at..at + width]);
+        encode_in_run(ty, *x, &mut out[at..at + width]);
     }
 }
 

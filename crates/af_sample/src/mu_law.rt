@@ -60,3 +60,36 @@ pub(crate) fn compressed(x: i16) -> u8
         0xFF - interval
     }
 }
+
+// The interval of a magnitude, 0..127, without a table: so the compiler encodes several samples of a run at once. Each segment is
+// a piece of a line, and each line is flatter than the one before. So no line is ever below the curve that the pieces make, and
+// the interval is the least that a line says.
+#[inline(always)]
+fn interval_by_lines(magnitude: u16) -> u8
+    ensures value { result ≡ interval_of mu_law_starts magnitude }
+    ensures range { result < 128 }
+{
+    let biased = magnitude.min(CLIP) + BIAS;
+    let least = (biased >> 3)
+        .min((biased >> 4) + 16)
+        .min((biased >> 5) + 32)
+        .min((biased >> 6) + 48)
+        .min((biased >> 7) + 64)
+        .min((biased >> 8) + 80)
+        .min((biased >> 9) + 96)
+        .min((biased >> 10) + 112);
+    (least - 16) as u8
+}
+
+/// The mu-law byte of a sample of a run.
+#[inline(always)]
+pub(crate) fn compressed_in_run(x: i16) -> u8
+    ensures { result ≡ to_mu_law x }
+{
+    let interval = interval_by_lines(x.unsigned_abs());
+    if x < 0 {
+        0x7F - interval
+    } else {
+        0xFF - interval
+    }
+}

@@ -5,7 +5,7 @@ use thiserror::Error;
 #[derive(Clone, Copy, Debug, PartialEq, Eq, Error)]
 pub enum ScriptFault {
     /// The number of the first line that is not allowed where it stands. Lines count from 1, and those that are passed
-    /// over count too. Where no device is stated it is the first line of another kind, or else the one behind the last.
+    /// over count too. Where no device is stated it is the first line of another kind, or else the one after the last.
     #[error("line {0} is not allowed where it stands")]
     Line(u32),
     #[error("out of memory")]

@@ -28,7 +28,7 @@ pub struct Script {
 }
 
 /// Reads the script that a text is. If the text is none, the fault has the number of its first line that is not
-/// allowed where it stands; want of memory can come in the place of any answer. The text has at most `LONGEST_SCRIPT` bytes.
+/// allowed where it stands; OutOfMemory can come in the place of any answer. The text has at most `LONGEST_SCRIPT` bytes.
 pub fn read_script(alloc: Global, text: &[u8]) -> Result<Script, ScriptFault>
     requires { length text.now ≤ longest_script }
     ensures script { IfOk result (λ s. script_of text.now ≡ Ok (record { config = s.config.items; steps = s.steps })) }
@@ -123,7 +123,7 @@ fn is_further_device(kind: LineKind, config: &Config, steps: &[Step]) -> bool
     kind == LineKind::Device && steps.is_empty() && config.len() < MOST_DEVICES
 }
 
-/// Adds the device that the words behind `device` state, and says whether they state one.
+/// Adds the device that the words after `device` state, and says whether they state one.
 fn add_device(arguments: &[u8], config: &mut Config) -> bool
     requires { length config.old.items < most_devices }
     ensures { option_map (λ device. config.old.items ++ device ∷ []) (device_with (words arguments.now))
@@ -138,7 +138,7 @@ fn add_device(arguments: &[u8], config: &mut Config) -> bool
     }
 }
 
-/// Adds the step that a line of this kind states by the words behind its name, and says whether they state one.
+/// Adds the step that a line of this kind states by the words after its name, and says whether they state one.
 fn add_step(
     alloc: Global,
     config: &[DeviceSpec],

@@ -80,7 +80,7 @@ pub fn kind_named(name: &[u8]) -> Option<LineKind>
     }
 }
 
-/// The device that the words behind `device` state.
+/// The device that the words after `device` state.
 pub fn device_stated(arguments: &[u8]) -> Option<DeviceSpec>
     ensures { result ≡ device_with (words arguments.now) }
 {
@@ -101,7 +101,7 @@ pub fn device_stated(arguments: &[u8]) -> Option<DeviceSpec>
     })
 }
 
-/// Whether the words behind these state a line: `line` does, and no word does not.
+/// Whether the words after these state a line: `line` does, and no word does not.
 fn line_stated(arguments: &[u8]) -> Option<bool>
     ensures { result ≡ line_stated (words arguments.now) }
 {
@@ -228,7 +228,7 @@ fn room(arguments: &[u8]) -> Option<Step>
     Some(Step::Room(link, room))
 }
 
-/// What the words behind `tick D N` state is captured: n bytes, or with no words nothing, which is Some(None).
+/// What the words after `tick D N` state is captured: n bytes, or with no words nothing, which is Some(None).
 fn capture(
     alloc: Global,
     size: usize,
@@ -375,7 +375,7 @@ fn idle(arguments: &[u8]) -> Option<Step>
     }
 }
 
-/// The step of a line of this kind, by the words behind its name, where these are the devices.
+/// The step of a line of this kind, by the words after its name, where these are the devices.
 pub fn step_stated(
     alloc: Global,
     config: &[DeviceSpec],

@@ -59,7 +59,7 @@ impl Session {
         })
     }
 
-    /// Bytes came in, behind those that are not used yet. There has to be room for them.
+    /// Bytes came in, after those that are not used yet. There has to be room for them.
     pub fn take_in(&mut self, bytes: &[u8])
         requires { length self.old.rest + length bytes.now ≤ most_unread }
         ensures taken { self.new ≡ record self.old { rest = self.old.rest ++ bytes.now } }
@@ -85,7 +85,7 @@ impl Session {
         self.input.drop_front(n);
     }
 
-    /// More bytes are to go out, behind those that are. There has to be room for them.
+    /// More bytes are to go out, after those that are. There has to be room for them.
     pub fn push_out(&mut self, bytes: &[u8])
         requires { length self.old.pending + length bytes.now ≤ output_room }
         ensures pushed { self.new ≡ record self.old { pending = self.old.pending ++ bytes.now } }

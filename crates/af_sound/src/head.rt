@@ -26,7 +26,7 @@ pub enum Coding {
     U8,
 }
 
-/// What a head says of the sound behind it.
+/// What a header says of the sound after it.
 #[derive(Clone, Copy, Debug, PartialEq, Eq)]
 pub struct SoundHead {
     pub coding: Coding,
@@ -37,7 +37,7 @@ pub struct SoundHead {
     pub length: Option<u32>,
 }
 
-/// Why bytes are no head.
+/// Why bytes are no header.
 #[derive(Clone, Copy, Debug, PartialEq, Eq)]
 pub enum SoundFault {
     /// A file of another form.
@@ -53,11 +53,11 @@ pub enum SoundFault {
 /// What a reader says to a byte.
 #[derive(Clone, Copy, Debug, PartialEq, Eq)]
 pub enum HeadStep {
-    /// The head goes on.
+    /// The header goes on.
     More,
-    /// The byte was the last of the head. The sound begins behind it.
+    /// The byte was the last of the header. The sound begins after it.
     Head(SoundHead),
-    /// The bytes are no head, whatever follows.
+    /// The bytes are no header, whatever follows.
     Bad(SoundFault),
 }
 

@@ -11,7 +11,7 @@ use crate::au::AuField;
 use crate::wave::{Format, WaveField};
 use crate::{HeadStep, SoundFault, SoundForm, SoundHead};
 
-/// Reads a head byte by byte. It keeps where it is and the fields that it still needs.
+/// Reads a header byte by byte. It keeps where it is and the fields that it still needs.
 #[derive(Clone, Copy, Debug)]
 pub struct HeadReader {
     place: Place,
@@ -26,9 +26,9 @@ pub(crate) enum Place {
     Annotation { left: u32, head: SoundHead },
     /// Before the last bytes of a chunk, with its pad byte.
     Chunk { left: u64, format: Option<Format> },
-    /// Behind the head.
+    /// After the header.
     Head(SoundHead),
-    /// Behind a fault.
+    /// After a fault.
     Bad(SoundFault),
 }
 
@@ -64,8 +64,8 @@ impl HeadReader {
         }
     }
 
-    /// Takes the next byte, as long as each answer was More. It is Bad where the bytes end at the first fault of a head, Head
-    /// where they are a whole head, and else More.
+    /// Takes the next byte, as long as each answer was More. It is Bad where the bytes end at the first fault of a header, Head where they
+    /// are a complete header, and else More.
     pub fn take(&mut self, byte: u8) -> HeadStep
         requires { IsOpen self.old }
         ensures taken { (form : SoundForm) (bytes : List ℕ) → HasTaken self.old form bytes → HasTaken self.new form (bytes ++ (byte ∷ [])) }

@@ -1,4 +1,4 @@
-//! Laws of heads, each the contract of a function that does nothing.
+//! Laws of headers, each the contract of a function that does nothing.
 ghost use Rattle.std.specs.Prelude.{◌≡◌, ◌≤◌, ◌++◌, ℕ, List, [], length, take};
 ghost use Rattle.af_sound.specs.declared.head.SoundForm.{SoundForm};
 ghost use Rattle.af_sound.specs.declared.head.SoundHead.{SoundHead};
@@ -7,7 +7,7 @@ ghost use Rattle.af_sound.specs.declared.head.HeadStep.TheVariants as step;
 ghost use Rattle.af_sound.specs.Fronts.{front_of, Front};
 ghost use Rattle.af_sound.specs.Heads.{HasFault, IsHead};
 
-/// Bytes that end with a fault are the beginning of no head, and of no bytes that end with another fault.
+/// Bytes that end with a fault are the beginning of no header, and of no bytes that end with another fault.
 pub fn a_fault_is_final()
     ensures no_head { (form : SoundForm) (bytes rest : List ℕ) (fault : SoundFault) (head : SoundHead) →
         HasFault form bytes fault → IsHead form (bytes ++ rest) head → ⊥ }
@@ -15,7 +15,7 @@ pub fn a_fault_is_final()
         HasFault form bytes fault → HasFault form (bytes ++ rest) other → (rest ≡ []) × (other ≡ fault) }
 {}
 
-/// A head is the beginning of no other head, says one thing, and is the beginning of no bytes that end with a fault.
+/// A header is the beginning of no other header, says one thing, and is the beginning of no bytes that end with a fault.
 pub fn a_head_is_final()
     ensures one { (form : SoundForm) (bytes rest : List ℕ) (head other : SoundHead) →
         IsHead form bytes head → IsHead form (bytes ++ rest) other → (rest ≡ []) × (other ≡ head) }
@@ -23,8 +23,8 @@ pub fn a_head_is_final()
         IsHead form bytes head → HasFault form (bytes ++ rest) fault → ⊥ }
 {}
 
-/// What the front of some bytes says is what it is: where they begin with a head or with a fault, that one is said behind it; what
-/// is said is so; and where nothing is, they end inside of a head.
+/// What the front of some bytes says is what it is: where they begin with a header or with a fault, that one is said after it; what
+/// is said is so; and where nothing is, they end inside of a header.
 pub fn a_front_is_decided()
     ensures head { (form : SoundForm) (bytes rest : List ℕ) (head : SoundHead) → IsHead form bytes head →
         front_of form (bytes ++ rest) ≡ record { says = step.Head head; size = length bytes } }

@@ -1,4 +1,4 @@
-//! Sound files: the heads of .au and WAVE files, read byte by byte and written, and their sound as a server takes it.
+//! Sound files: the headers of .au and WAVE files, read byte by byte and written, and their sound as a server takes it.
 #![tactic(auto)]
 
 mod au;

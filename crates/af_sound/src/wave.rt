@@ -37,7 +37,7 @@ pub(crate) struct Format {
 // What there is of `fmt ` before the bits of a sample, in sixteen bytes that each such chunk has.
 #[derive(Clone, Copy, Debug)]
 pub(crate) struct FormatFields {
-    /// The bytes of the chunk behind the sixteen that are read.
+    /// The bytes of the chunk after the sixteen that are read.
     more: u32,
     tag: u16,
     channels: u16,

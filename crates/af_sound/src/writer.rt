@@ -9,7 +9,7 @@ ghost use Rattle.af_sound.specs.Written.{IsStatable, IsWritableHead, au_bytes, b
 
 use crate::{Coding, SoundForm, SoundHead};
 
-/// Writes the head of a sound file, and answers how many bytes that are: 24 of an .au file, 44 of a WAVE file. The coding is
+/// Writes the header of a sound file, and answers how many bytes that are: 24 of an .au file, 44 of a WAVE file. The coding is
 /// one of the form: linear samples are big-endian in an .au file and little-endian in a WAVE file.
 pub fn write_sound_head(form: SoundForm, head: &SoundHead, out: &mut [u8]) -> usize
     requires room { 44 ≤ length out.old }

@@ -14,7 +14,7 @@ pub struct Standing {
     pub phone: Option<Phone>,
 }
 
-/// Writes a switch and a gain behind what stands before a place.
+/// Writes a switch and a gain at a place, after what is there.
 pub fn put_control(out: &mut [u8], at: usize, name: &[u8], on: bool, gain: Gain) -> usize
     requires { (length name.now ≤ 10) × (at + 55 ≤ length out.old) }
     ensures at { result ≤ at + 55 }
@@ -36,7 +36,7 @@ fn put_flag(out: &mut [u8], at: usize, flag: bool) -> usize
     put(out, at, if flag { b" 1" } else { b" 0" })
 }
 
-/// Writes the flags of a telephone line behind what stands before a place.
+/// Writes the flags of a telephone line at a place, after what is there.
 pub fn put_phone(out: &mut [u8], at: usize, phone: Phone) -> usize
     requires { at + 14 ≤ length out.old }
     ensures at { result ≡ at + 14 }

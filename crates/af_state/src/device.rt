@@ -69,7 +69,7 @@ fn opening_line(has_line: bool) -> Option<Line>
 }
 
 impl Device {
-    /// A device at its start, with silence ahead and behind.
+    /// A device at its start, with silence before and after it.
     pub fn new(alloc: Global, spec: DeviceSpec) -> Result<Device, OutOfMemory>
         requires rate { IsListedRate spec.rate }
         requires channels { IsChannelCount spec.channels }
@@ -198,8 +198,8 @@ impl Device {
         convert_out(context.ty, samples, bytes);
     }
 
-    /// As many sample periods go by as frames came. These are kept behind the input control, and the next ones are handed out
-    /// behind the output control.
+    /// As many sample periods go by as frames came. These go through the input control and are kept, and the next ones are handed out
+    /// through the output control.
     pub fn pass(&mut self, captured: &mut [i16], sound: &mut [i16])
         requires same { length sound.old ≡ length captured.old }
         requires few { frame_count self.old.next.channels captured.old ≤ longest_tick }

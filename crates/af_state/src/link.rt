@@ -336,7 +336,7 @@ impl ServedLink {
         }
     }
 
-    /// Whether an event still fits behind what waits to be sent.
+    /// Whether an event still fits after what waits to be sent.
     pub fn has_room(&self) -> bool
         ensures { result ≡ nat_le (length self.now.pending + 20) event_limit }
     {
@@ -391,7 +391,7 @@ impl ServedLink {
         self.session.pending()
     }
 
-    /// The first n bytes of the output were sent. If they were not all, the link is stuck.
+    /// The first n bytes of the output were sent. If they were not all, the link is blocked.
     pub fn took(&mut self, n: usize)
         requires { n ≤ length self.old.pending }
         ensures { self.new ≡ sent n self.old }

@@ -23,7 +23,7 @@ fn count_leading(bytes: &[u8], skipped: u8) -> usize
         .unwrap_or(bytes.len())
 }
 
-/// The first line of a text that is not empty, without its LF, and the text behind it.
+/// The first line of a text that is not empty, without its LF, and the text after it.
 pub fn next_line(text: &[u8]) -> (&[u8], &[u8])
     requires { 0 < length text.now }
     ensures lines { lines text.now ≡ result.0.now ∷ lines result.1.now }
@@ -37,7 +37,7 @@ pub fn next_line(text: &[u8]) -> (&[u8], &[u8])
     }
 }
 
-/// The first word of a line, and the line behind it. Of a text both are texts.
+/// The first word of a line, and the line after it. Of a text both are texts.
 pub fn next_word(line: &[u8]) -> Option<(&[u8], &[u8])>
     ensures split { MatchOption result (words line.now ≡ []) (λ found. words line.now ≡ found.0.now ∷ words found.1.now) }
     ensures text { IsUtf8 line.now → IfSome result (λ found. IsUtf8 found.0.now × IsUtf8 found.1.now) }

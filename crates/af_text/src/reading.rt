@@ -11,7 +11,7 @@ use std::alloc::Global;
 /// Why a text was not read to its end.
 #[derive(Clone, Copy, Debug, PartialEq, Eq)]
 pub enum LineFault {
-    /// The number of the first line that is not allowed where it stands, or of the one behind the last where something is
+    /// The number of the first line that is not allowed where it stands, or of the one after the last where something is
     /// still wanting there. Lines count from 1.
     Line(u32),
     OutOfMemory,
@@ -42,7 +42,7 @@ pub trait ByLine {
         ensures { result ≡ wants self.now };
 }
 
-/// Reads a text, line by line. Where a line is not allowed, the fault has the number of the first such line; want of memory can
+/// Reads a text, line by line. Where a line is not allowed, the fault has the number of the first such line; OutOfMemory can
 /// come in the place of any answer. The text has at most `LONGEST_SCRIPT` bytes.
 pub fn read_lines<R: ByLine>(alloc: Global, text: &[u8], read: &mut R) -> Result<(), LineFault>
     requires { length text.now ≤ longest_script }

@@ -39,8 +39,8 @@ pub fn listed_rate(word: &[u8]) -> Option<u32>
     }
 }
 
-/// How many channels a device has by the words behind its type, its rate and its start: two if `stereo` is the first of them,
-/// and else one. And the words behind `stereo`, or all of them.
+/// How many channels a device has by the words after its type, its rate and its start: two if `stereo` is the first of them,
+/// and else one. And the words after `stereo`, or all of them.
 pub fn channel_count(arguments: &[u8]) -> (u8, &[u8])
     ensures channels { result.0 ≡ channels_stated (words arguments.now) }
     ensures count { IsChannelCount result.0 }

@@ -1,4 +1,4 @@
-//! Device time, and the answer for want of memory.
+//! Device time, and the answer when memory runs out.
 #![tactic(auto)]
 
 ghost use Rattle.std.specs.Prelude.{◌≡◌, ◌+◌, ◌%◌, ◌^◌, ◌<◌, ◌≤◌, ◌↔◌, ℕ, pos, ◌-ℤ◌, ◌<ℤ◌, IsTrue, IsNone, IfSome};

@@ -23,13 +23,13 @@ pub enum ToolEnd {
     RateMismatch { from: u32, to: u32 },
     /// Two devices, or a file and a device, have one rate, and these different numbers of channels.
     ChannelMismatch { from: u8, to: u8 },
-    /// The source does not begin with the head of a sound file.
+    /// The source does not begin with the header of a sound file.
     BadSound { fault: SoundFault },
-    /// The source ended inside of the head of a sound file.
+    /// The source ended inside of the header of a sound file.
     SoundCut,
     /// The server refused a request, for this value.
     Refused { code: u8, value: u32 },
-    /// What came is no message, or not the awaited one: its head, and the first bytes of its body, filled with zeros.
+    /// What came is no message, or not the awaited one: its header, and the first bytes of its body, filled with zeros.
     BadReply { header: [u8; 8], first: [u8; 8] },
     /// 4096 events came, and not the awaited message.
     EventFlood,

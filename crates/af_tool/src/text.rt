@@ -9,7 +9,7 @@ use af_io::{Put, Sink};
 use af_sample::Gain;
 use itoa::Buffer;
 
-/// Writes a piece behind what stands before a place: the place behind it.
+/// Writes a piece after what is before a place, and answers the place after it.
 pub fn put(out: &mut [u8], at: usize, piece: &[u8]) -> usize
     requires { at + length piece.now ≤ length out.old }
     ensures at { result ≡ at + length piece.now }
@@ -21,7 +21,7 @@ pub fn put(out: &mut [u8], at: usize, piece: &[u8]) -> usize
     end
 }
 
-/// Writes a number in decimal digits behind what stands before a place.
+/// Writes a number in decimal digits after what stands before a place.
 pub fn put_number(out: &mut [u8], at: usize, number: u64) -> usize
     requires { at + 40 ≤ length out.old }
     ensures at { result ≤ at + 40 }
@@ -32,7 +32,7 @@ pub fn put_number(out: &mut [u8], at: usize, number: u64) -> usize
     put(out, at, buffer.format(number).as_bytes())
 }
 
-/// Writes a gain in decibels behind what stands before a place.
+/// Writes a gain in decibels after what stands before a place.
 pub fn put_gain(out: &mut [u8], at: usize, gain: Gain) -> usize
     requires { at + 40 ≤ length out.old }
     ensures at { result ≤ at + 40 }

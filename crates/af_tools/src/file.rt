@@ -83,7 +83,7 @@ fn file_head(form: SoundForm, job: &RecordJob, device: DeviceInfo) -> SoundHead
     }
 }
 
-/// Writes the head of a file, if it is to be one.
+/// Writes the header of a file, if it is to be one.
 pub fn write_front<K: Sink>(
     sink: &mut K,
     job: &RecordJob,
@@ -113,7 +113,7 @@ pub fn file_samples(coding: Option<Coding>, samples: &mut [u8])
     }
 }
 
-/// Writes the byte that makes the sound of a WAVE file even, behind so many bytes of it.
+/// Writes the byte that makes the sound of a WAVE file even, after so many bytes of it.
 pub fn write_pad<K: Sink>(sink: &mut K, form: Option<SoundForm>, size: u64) -> Result<(), ToolEnd>
     ensures written { Writes K.held (pad_behind form size) result sink.old sink.new }
     ensures fault { CountsFault (result ≡ Err ToolEnd.SinkFault) (K.faults sink.old) (K.faults sink.new) }

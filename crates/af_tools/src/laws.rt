@@ -1,8 +1,8 @@
 //! Laws of the tools, each the contract of a function that does nothing.
 ghost use Rattle.af_tools.specs.Blocks.{HeardAsIntended};
 
-/// What is played is heard as it was intended: where each block of a source has an entry of its own among those that a
-/// device accepted, accepted by its start, and no other entry covers these times, the device plays the samples of the
+/// What is played is heard as it was intended. Suppose that each block of a source has an entry of its own among the plays that a
+/// device accepted, by its start, and that no other entry covers these times. Then the device plays the samples of the
 /// source's whole frames, under the gain.
 pub fn heard_as_intended_law()
     ensures { HeardAsIntended }

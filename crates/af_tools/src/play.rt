@@ -26,7 +26,7 @@ use af_sound::{Coding, to_server};
 use af_time::DevTime;
 use af_tool::{CONTEXT, ToolEnd, time_behind};
 
-/// How many bytes a source may give, with the head of a file.
+/// How many bytes a source may give, with the header of a file.
 pub const MOST_BYTES: u64 = 1 << 40;
 
 /// What is played: a sound, in blocks of so many frames, from a start on.
@@ -122,8 +122,8 @@ fn fill_first<S: Source>(
     )
 }
 
-/// Reads the first block of a sound, of so many frames, before the device's time is asked for: how many bytes it has. Behind a
-/// head that leaves less than a block of what a source may give, it is left for later: it may be too long.
+/// Reads the first block of a sound, of so many frames, before the device's time is asked for: how many bytes it has. After a
+/// header that leaves less than a block of what a source may give, it is left for later: it may be too long.
 pub fn read_early<S: Source>(
     source: &mut S,
     sound: SourceSound,

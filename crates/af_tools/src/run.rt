@@ -151,7 +151,7 @@ fn run_call<S: Source, K: Sink, D: Dial>(
 }
 
 /// The tools: the first word names one, and the others say what it is to do. Its server is dialled, of a relay both are, and the
-/// links are given back before any answer, in the order of dialling. All memory is taken before the first request behind the
+/// links are given back before any answer, in the order of dialling. All memory is taken before the first request after the
 /// setups.
 pub fn af_run<S: Source, K: Sink, D: Dial>(
     alloc: Global,

@@ -15,7 +15,7 @@ use af_sample::SampleType;
 use af_sound::{Coding, HeadReader, HeadStep, SoundForm, SoundHead};
 use af_tool::ToolEnd;
 
-/// The samples that a source gives, behind the bytes that were read of it.
+/// The samples that a source gives, after the bytes that were read of it.
 #[derive(Clone, Copy, Debug, PartialEq, Eq)]
 pub struct SourceSound {
     /// The type that the device takes them as.
@@ -24,9 +24,9 @@ pub struct SourceSound {
     pub channels: u8,
     /// How a file codes them, or none where the bytes of the source are the samples.
     pub coding: Option<Coding>,
-    /// The bytes of the head, which were read.
+    /// The bytes of the header, which were read.
     pub head: u64,
-    /// The bytes of the sound, if the head states that.
+    /// The bytes of the sound, if the header states that.
     pub length: Option<u32>,
 }
 
@@ -112,7 +112,7 @@ fn fit(head: SoundHead, device: DeviceInfo) -> Result<(), ToolEnd>
     Ok(())
 }
 
-/// What a source gives to be played on a device. The head of a file is read, and the sound stands behind it.
+/// What a source gives to be played on a device. The header of a file is read, and the sound stands after it.
 pub fn sound_of<S: Source>(
     job: &PlayJob,
     device: DeviceInfo,

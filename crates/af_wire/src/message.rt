@@ -6,7 +6,7 @@ ghost use Rattle.af_wire.specs.MessageFront.{is_head, IsOneMessage};
 
 use crate::Order;
 
-/// Writes the head of a message: kind 0 (an error), 1 (a reply) or 2 (an event), its detail, the sequence number of the
+/// Writes the header of a message: kind 0 (an error), 1 (a reply) or 2 (an event), its detail, the sequence number of the
 /// request that it answers, and how many words of 4 bytes follow.
 #[tactic(auto, using(crate::proofs::MessageRoundTrips::head_one), unfolding(crate::specs::Message::head))]
 pub fn write_head(order: Order, kind: u8, detail: u8, sequence: u16, words: u32, out: &mut [u8])

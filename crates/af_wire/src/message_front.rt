@@ -9,16 +9,16 @@ use crate::Order;
 /// What the bytes that a server sends begin with.
 #[derive(Clone, Copy, Debug, PartialEq, Eq)]
 pub enum MessageFront {
-    /// Part of a head, or of a message: the length in bytes to which the input must grow.
+    /// Part of a header, or of a message: the length in bytes to which the input must grow.
     NeedMore(usize),
-    /// A whole message: the fields of its head, and the length of all of it in bytes.
+    /// A whole message: the fields of its header, and the length of all of it in bytes.
     Message {
         kind: u8,
         detail: u8,
         sequence: u16,
         length: usize,
     },
-    /// 8 bytes that are no head of a message.
+    /// 8 bytes that are no header of a message.
     BadMessage,
 }
 

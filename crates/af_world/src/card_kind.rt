@@ -1,6 +1,6 @@
 // Devices whose time is that of a program.
 
-/// How often the program of a device whose time it is may be started anew.
+/// How often the program of a device whose time it is may be started again.
 pub const MOST_CARD_RESTARTS: u32 = 1_000_000;
 
 /// What the program of a device does, where the time of the device is that of its program.

@@ -21,12 +21,12 @@ pub enum Kind<'a> {
         input: &'a str,
         output: &'a str,
     },
-    /// It captures silence, and gives what it hands out to a child program: one of these words, which is started anew so often.
+    /// It captures silence, and gives what it hands out to a child program: one of these words, which is started again so often.
     Codec {
         restarts: u32,
         words: &'a Words,
     },
-    /// Its time is that of a program, one of these words, which is started anew so often. The program gives what it captures, is given
+    /// Its time is that of a program, one of these words, which is started again so often. The program gives what it captures, is given
     /// what it hands out, or both.
     Card {
         card: CardKind,
@@ -35,7 +35,7 @@ pub enum Kind<'a> {
     },
 }
 
-/// The program that stands for the exchange of a telephone line: one of these words, which is started anew so often.
+/// The program that stands for the exchange of a telephone line: one of these words, which is started again so often.
 #[derive(Clone, Copy, Debug)]
 pub struct LineProgram<'a> {
     pub restarts: u32,
@@ -57,7 +57,7 @@ pub enum Waited {
     Failed,
 }
 
-/// A world that gives its own wakes. Each call that is done adds exactly its one entry to the outer list, if that is observed,
+/// A world that gives its own wakes. Each call that is done adds exactly its one entry to the lifecycle log, if that is observable,
 /// and adds nothing to the log. No call moves a count of faults down.
 pub trait Live: World {
     /// How often a listen has failed.
@@ -66,7 +66,7 @@ pub trait Live: World {
     /// How often a wait has failed.
     ghost wait_faults: { Self → ℕ };
 
-    /// The listens, attaches and waits that were done so far, in order, if they are observed.
+    /// The listens, attaches and waits that were done so far, in order, if they are observable.
     ghost outer: { Self → Option (List Outer) };
 
     /// Begins to take links at an address.
@@ -79,7 +79,7 @@ pub trait Live: World {
         ensures listen_count { listen_faults self.old ≤ listen_faults self.new }
         ensures wait_count { wait_faults self.old ≤ wait_faults self.new };
 
-    /// Puts what stands behind a device there.
+    /// Attaches a device, with its backend.
     fn attach(&mut self, alloc: Global, device: u8, spec: &DeviceSpec, kind: Kind<'_>) -> Ready
         ensures log { Unchanged (Self.World.log self.old) (Self.World.log self.new) }
         ensures outer { Appended (outer self.old) (attached result device spec.now (told_kind kind.entry)) (outer self.new) }
@@ -118,6 +118,6 @@ pub trait Live: World {
 
     ghost outer_apart: { (a b : Self) → Self.World.leads_to a b → Unchanged (outer a) (outer b) };
 
-    /// Who tells the log tells the outer list too.
+    /// Who tells the log tells the lifecycle log too.
     ghost tells_both: { (a : Self) → IsSome (Self.World.log a) → IsSome (outer a) };
 }

@@ -2,7 +2,7 @@
 use crate::{Bytes, CardKind, DeviceSpec, Wake};
 use af_child::CommandLine;
 
-/// What stands behind a device, with the names and words that it was stated by.
+/// The backend of a device, with the names and words that it was stated by.
 #[derive(Drop)]
 pub enum ToldKind {
     Silent,
@@ -26,13 +26,13 @@ pub enum ToldKind {
 pub enum Outer {
     /// It was listened at an address.
     Listened(Bytes),
-    /// A device was attached, with what stands behind it.
+    /// A device was attached, with its backend.
     Attached {
         device: u8,
         spec: DeviceSpec,
         kind: ToldKind,
     },
-    /// A program was put behind the telephone line of a device, which stands for its exchange.
+    /// The telephone line of a device got a program, which stands for its exchange.
     LineAttached {
         device: u8,
         restarts: u32,

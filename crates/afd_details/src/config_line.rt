@@ -36,7 +36,7 @@ fn check_line<'a>(line: &'a [u8], before: &Stated) -> Result<(), Finding<'a>> {
     }
 }
 
-/// `device TYPE RATE START`, then `stereo` or nothing, then `line` or nothing, then what stands behind the device.
+/// `device TYPE RATE START`, then `stereo` or nothing, then `line` or nothing, then the backend of the device.
 fn check_device<'a>(mut words: LineWords<'a>, before: &Stated) -> Result<(), Finding<'a>> {
     if before.devices >= MOST_DEVICES {
         return Err(words.finding(Slot::NinthDevice));

@@ -21,7 +21,7 @@ pub(crate) enum Slot {
     Type,
     Rate,
     Start,
-    /// What stands behind a device, and before it, as far as they may come, `line` and `stereo`.
+    /// The backend of a device, and before it, as far as they may come, `line` and `stereo`.
     Kind { stereo: bool, line: bool },
     /// `stereo` or `line`, or nothing, at the end of a device of a script.
     Ending { stereo: bool },
@@ -94,7 +94,7 @@ impl Slot {
     }
 }
 
-/// Whether a word names what stands behind a device.
+/// Whether a word names the backend of a device.
 fn names_kind(word: &[u8]) -> bool {
     is_word(word, b"silent")
         || is_word(word, b"files")

@@ -6,7 +6,7 @@ use afd_details::Shown;
 use std::fmt;
 use std::fmt::{Formatter, Write};
 
-/// A device, by its number, and what stands behind it.
+/// A device, by its number, and its backend.
 #[derive(Clone, Copy)]
 pub(crate) struct DeviceWords<'a> {
     pub number: u8,
@@ -41,7 +41,7 @@ fn channels_name(channels: u8) -> &'static str {
     if channels == 2 { "stereo" } else { "mono" }
 }
 
-/// Writes what stands behind a device.
+/// Writes the backend of a device.
 fn write_kind<W: Write>(kind: Kind<'_>, f: &mut Formatter<W>) -> fmt::Result {
     match kind {
         Kind::Silent => f.write_str("silent"),
@@ -75,7 +75,7 @@ fn card_name(card: CardKind) -> &'static str {
     }
 }
 
-/// Writes the words of a program, each behind a space.
+/// Writes the words of a program, each after a space.
 pub(crate) fn write_words<W: Write>(words: &Words, f: &mut Formatter<W>) -> fmt::Result {
     for word in words {
         write!(f, " {}", Shown::new(word.as_bytes()))?;

@@ -10,7 +10,7 @@ use std::net::ToSocketAddrs;
 pub enum ListenRefusal {
     /// It is a host without a port.
     NoPort,
-    /// What stands behind its last colon is no number of 0 to 65535.
+    /// What follows its last colon is no number of 0 to 65535.
     BadPort,
     Refused(Reason),
     /// The system would grant it now.

@@ -51,9 +51,9 @@ pub fn status_of(end: LiveEnd) -> u8
     }
 }
 
-/// The server. With the words `serve ADDRESS WAITS` it reads the source to its end, as its configuration, listens at the address,
-/// attaches the devices by rising number, and then waits, and takes a turn for each wake, until a wait gives Stop or so many
-/// waits had their turn. It takes memory before its first wait alone. It may wait, so what is promised of it holds if it returns.
+/// The server. With the words `serve ADDRESS WAITS` it reads the source to its end, as its configuration. It listens at the address,
+/// attaches the devices in order, and then waits, and takes a turn for each wake, until a wait gives Stop or so many waits had their
+/// turn. It takes memory before its first wait alone. It may wait, so what is promised of it holds if it returns.
 pub fn afd_live<S: Source, W: Live>(
     alloc: Global,
     words: &Args,

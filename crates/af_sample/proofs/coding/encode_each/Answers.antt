@@ -19,5 +19,5 @@ loop-i-preserved c =
     let whole : length c.args.out.now ≡ length c.args.samples.now * w =
     c.requires ∙ ap (λ n. length c.args.samples.now * n) (sym c.width-width.ensures) in
     let room : i * w ≤ length c.loop-i.out = omega arith in
-    encoded_more c.args.ty c.args.samples.now c.loop-i.out c.encode.new.out i w _ c.width-width.ensures low room c.loop-i.invariant
-    (c.encode.ensures ∙ ap (encoded c.args.ty) (to_z-of_z w16 x fits)) more
+    encoded_more c.args.ty c.args.samples.now c.loop-i.out c.encode_in_run.new.out i w _ c.width-width.ensures low room c.loop-i.invariant
+    (c.encode_in_run.ensures ∙ ap (encoded c.args.ty) (to_z-of_z w16 x fits)) more

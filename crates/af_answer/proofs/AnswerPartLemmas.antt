@@ -6,7 +6,7 @@ use Rattle.std.specs.declared.option.Option.TheVariants.{Some}
 use Rattle.af_wire.specs.declared.event.Event.{Event}
 use Rattle.af_io.specs.Observed.{Appended}
 use Rattle.af_io.proofs.AppendedLemmas.{appended_none, appended_on}
-use Rattle.af_child.specs.Acts.{Told}
+use Rattle.af_process.specs.Acts.{Told}
 use Rattle.af_tool.specs.Trace.{ClientState}
 use Rattle.af_answer.specs.declared.end.AnswerEnd.{AnswerEnd}
 use Rattle.af_answer.specs.declared.end.AnswerEnd.TheVariants as end

@@ -7,7 +7,7 @@ use Rattle.af_wire.specs.declared.event.Event.{Event}
 use Rattle.af_io.specs.Observed.{Appended}
 use Rattle.af_io.specs.Flow.{AppendedPrefix}
 use Rattle.af_io.proofs.AppendedLemmas.{appended_none}
-use Rattle.af_child.specs.Acts.{Told}
+use Rattle.af_process.specs.Acts.{Told}
 use Rattle.af_request.specs.Asked.{Asked, change_ac, create_ac, free_ac, get_time, hook_switch, no_op, play_run, query_controls, query_phone, record_run, select_events, set_controls}
 use Rattle.af_request.specs.Requests.{request_bytes}
 use Rattle.af_lib.specs.declared.fault.ConnFault.{ConnFault}

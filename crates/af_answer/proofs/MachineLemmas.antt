@@ -9,7 +9,7 @@ use Rattle.af_io.specs.Observed.{Appended}
 use Rattle.af_io.proofs.AppendedLemmas.{appended_none}
 use Rattle.af_wire.specs.declared.event.Event.{Event}
 use Rattle.af_wire.specs.declared.order.Order.{Order}
-use Rattle.af_child.specs.Acts.{Told}
+use Rattle.af_process.specs.Acts.{Told}
 use Rattle.af_request.specs.Asked.{select_events}
 use Rattle.af_request.specs.Requests.{request_bytes}
 use Rattle.af_request.specs.declared.reply.DeviceInfo.{DeviceInfo}
@@ -27,7 +27,7 @@ use Rattle.af_answer.specs.AnswerTrace.{ToCome, AnswerTrace, AnswerFinish, Deeds
 use Rattle.af_answer.specs.AnswerParts.{MatchesAnswer, PartSeen, WritesTo, is_from_outside}
 use Rattle.af_answer.specs.Answered.{HangsUp, HasLine, HookAtEnd, IsReplied, KeepsToActs, LeavesHook, PutsOn, RanAs, StopsAtOffHook, SwitchesHook, hook_at, never_off, children_of, line_if, line_or_end, requests_of, sends_of_job, text_of_acts}
 use Rattle.af_answer.specs.Children.{ChildRun, run_end}
-use Rattle.af_answer.specs.Ways.{is_of_calls, is_of_line}
+use Rattle.af_answer.specs.Outcomes.{is_of_calls, is_of_line}
 use Rattle.af_answer.proofs.AnswerPartLemmas.{matches_at_once, no_deeds}
 use Rattle.af_answer.proofs.KeptActLemmas.{KeepsTo, acts_leave_on, attending, attends_keeps}
 

@@ -9,7 +9,7 @@ use Rattle.af_io.specs.Dial.{AppendedBack, IsFirstOf, ToldLink}
 use Rattle.af_io.proofs.AppendedLemmas.{appended_none, appended_on}
 use Rattle.af_wire.specs.declared.order.Order.TheVariants.{Big}
 use Rattle.af_wire.specs.Front.{setup_bytes}
-use Rattle.af_child.specs.Acts.{Told}
+use Rattle.af_process.specs.Acts.{Told}
 use Rattle.af_request.specs.declared.reply.DeviceInfo.{DeviceInfo}
 use Rattle.af_lib.specs.declared.fault.ConnFault.{ConnFault}
 use Rattle.af_lib.specs.declared.fault.ConnFault.TheVariants as fault

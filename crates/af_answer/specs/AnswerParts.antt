@@ -4,7 +4,7 @@ use Rattle.std.specs.declared.option.Option.{Option}
 use Rattle.std.specs.declared.option.Option.TheVariants.{None, Some}
 use Rattle.af_io.specs.Observed.{Appended, FaultCounted}
 use Rattle.af_io.specs.Flow.{AppendedPrefix}
-use Rattle.af_child.specs.Acts.{Told}
+use Rattle.af_process.specs.Acts.{Told}
 use Rattle.af_lib.specs.Calls.{ConnState}
 use Rattle.af_tool.specs.Trace.{ClientState}
 use Rattle.af_tool.specs.Ends.{client_of}

@@ -8,7 +8,7 @@ use Rattle.af_io.specs.Flow.{AppendedPrefix}
 use Rattle.af_io.specs.Dial.{AppendedBack, ToldLink}
 use Rattle.af_wire.specs.declared.order.Order.TheVariants.{Big}
 use Rattle.af_wire.specs.Front.{setup_bytes}
-use Rattle.af_child.specs.Acts.{Told}
+use Rattle.af_process.specs.Acts.{Told}
 use Rattle.af_request.specs.declared.reply.DeviceInfo.{DeviceInfo}
 use Rattle.af_lib.specs.declared.fault.ConnFault.{ConnFault}
 use Rattle.af_tool.specs.Trace.{set_up, setup_answer}
@@ -21,7 +21,7 @@ use Rattle.af_answer.specs.AnswerTrace.{machine_end, met_fault, requesting, stop
 use Rattle.af_answer.specs.AnswerParts.{MatchesAnswer}
 use Rattle.af_answer.specs.Answered.{RanAs}
 use Rattle.af_answer.specs.AnswerWords.{AnswerWords, words_of_job}
-use Rattle.af_answer.specs.Ways.{is_of_answer}
+use Rattle.af_answer.specs.Outcomes.{is_of_answer}
 
 -- what follows the answer to a setup
 abbrev pub by_setup : Result (List DeviceInfo) ConnFault → AnswerJob → ToCome → AnswerTrace

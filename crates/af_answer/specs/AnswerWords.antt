@@ -5,9 +5,9 @@ use Rattle.std.specs.Prelude.{None, codes, is_some, option_and_then, option_map,
 use Rattle.std.specs.Str.{bytes_eq}
 use Rattle.af_limits.specs.Limits.{most_devices}
 use Rattle.clap.specs.Words.{App, Row, Text, first_of, matches_of, new_app, takes}
-use Rattle.af_options.specs.declared.command.ArgumentKind.TheVariants.{Place, NeededOption, FreeOption}
-use Rattle.af_options.specs.Numbers.{number_in}
-use Rattle.af_options.specs.Words.{address_at, number_at, rule_at, with_rules}
+use Rattle.af_cli.specs.declared.command.ArgumentKind.TheVariants.{Place, NeededOption, FreeOption}
+use Rattle.af_cli.specs.Numbers.{number_in}
+use Rattle.af_cli.specs.Words.{address_at, number_at, rule_at, with_rules}
 use Rattle.af_answer.specs.declared.job.AnswerJob.{AnswerJob}
 use Rattle.af_answer.specs.declared.options.AnswerCall.{AnswerCall}
 

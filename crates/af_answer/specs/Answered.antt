@@ -6,7 +6,7 @@ use Rattle.std.specs.declared.option.Option.TheVariants.{None, Some}
 use Rattle.af_limits.specs.Limits.{most_devices}
 use Rattle.af_io.specs.Observed.{Appended}
 use Rattle.af_wire.specs.declared.order.Order.{Order}
-use Rattle.af_child.specs.Acts.{Told}
+use Rattle.af_process.specs.Acts.{Told}
 use Rattle.af_lib.specs.declared.fault.ConnFault.{ConnFault}
 use Rattle.af_lib.specs.Calls.{ConnState}
 use Rattle.af_request.specs.Asked.{hook_switch, select_events}

@@ -3,9 +3,9 @@ use Rattle.std.specs.Prelude.{◌≡◌, ℕ, ℤ, pos, negsuc, zero, suc, Bool,
 use Rattle.std.specs.declared.option.Option.{Option}
 use Rattle.std.specs.declared.option.Option.TheVariants.{None, Some}
 use Rattle.af_io.specs.Observed.{Appended}
-use Rattle.af_child.specs.declared.act.BeganGot.TheVariants as got
-use Rattle.af_child.specs.declared.spawner.Finished.{Finished}
-use Rattle.af_child.specs.Acts.{Told, began, finished, status_of}
+use Rattle.af_process.specs.declared.act.BeganGot.TheVariants as got
+use Rattle.af_process.specs.declared.spawner.Finished.{Finished}
+use Rattle.af_process.specs.Acts.{Told, began, finished, status_of}
 use Rattle.af_answer.specs.declared.child.ChildEnd.{ChildEnd}
 use Rattle.af_answer.specs.declared.child.ChildEnd.TheVariants as end
 

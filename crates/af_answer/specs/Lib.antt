@@ -3,7 +3,7 @@ pub mod Acts
 pub mod AnswerTrace
 pub mod AnswerParts
 pub mod Calls
-pub mod Ways
+pub mod Outcomes
 pub mod Answered
 pub mod AnswerWords
 pub mod AnswerRun

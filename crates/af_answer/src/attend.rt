@@ -5,16 +5,16 @@ ghost use Rattle.af_request.specs.Asked.{select_events};
 ghost use Rattle.af_answer.specs.Acts.{no_calls};
 ghost use Rattle.af_answer.specs.AnswerTrace.{attends, requests};
 ghost use Rattle.af_answer.specs.AnswerParts.{GoesBy, HoldsConnection};
-ghost use Rattle.af_answer.specs.Ways.{is_of_calls};
+ghost use Rattle.af_answer.specs.Outcomes.{is_of_calls};
 
 use crate::call::take_call;
 use crate::end::AnswerEnd;
 use crate::job::AnswerJob;
 use crate::rings::await_call;
 use crate::tally::Tally;
-use af_child::Spawner;
 use af_io::Link;
 use af_lib::Conn;
+use af_process::Spawner;
 use std::alloc::Global;
 
 // What rings and hooks of a line are in a mask of events.

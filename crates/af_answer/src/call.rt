@@ -4,14 +4,14 @@ ghost use Rattle.std.specs.declared.option.Option.TheVariants.{None};
 ghost use Rattle.af_answer.specs.AnswerTrace.{takes_call};
 ghost use Rattle.af_answer.specs.AnswerParts.{GoesBy, HoldsConnection};
 ghost use Rattle.af_answer.specs.Calls.{LeavesMessage};
-ghost use Rattle.af_answer.specs.Ways.{is_of_machine};
+ghost use Rattle.af_answer.specs.Outcomes.{is_of_machine};
 
 use crate::child::{ChildEnd, run_child};
 use crate::end::AnswerEnd;
 use crate::job::AnswerJob;
-use af_child::Spawner;
 use af_io::Link;
 use af_lib::Conn;
+use af_process::Spawner;
 use std::alloc::Global;
 
 // Records the message behind a good greeting. A call ends as its last child does.

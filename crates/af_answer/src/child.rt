@@ -1,10 +1,10 @@
 // The children of an answering machine, each a shell that runs one text.
 ghost use Rattle.std.specs.Prelude.{◌≡◌, ◌≤◌, length};
 ghost use Rattle.arrayvec.specs.ArrayVec.{array_vec_len};
-ghost use Rattle.af_child.specs.Acts.{words_of};
+ghost use Rattle.af_process.specs.Acts.{words_of};
 ghost use Rattle.af_answer.specs.Children.{finished_end, is_starved, shell_words, RunsChild};
 
-use af_child::{Finished, Spawner, Started, Words};
+use af_process::{Finished, Spawner, Started, Words};
 use arrayvec::ArrayString;
 use std::alloc::Global;
 

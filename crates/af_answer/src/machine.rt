@@ -3,15 +3,15 @@ ghost use Rattle.std.specs.Prelude.{◌≡◌, ◌≤◌, length, slice_get, tru
 ghost use Rattle.std.specs.declared.option.Option.TheVariants.{None};
 ghost use Rattle.af_io.specs.Observed.{CountsFault};
 ghost use Rattle.af_answer.specs.Answered.{line_or_end, IsAnswerJob, LacksItsDevice, LacksItsLine, RunsAnswer};
-ghost use Rattle.af_answer.specs.Ways.{is_of_answer};
+ghost use Rattle.af_answer.specs.Outcomes.{is_of_answer};
 
 use crate::attend::attend;
 use crate::end::AnswerEnd;
 use crate::job::AnswerJob;
 use crate::report::report;
-use af_child::Spawner;
 use af_io::{Link, Sink};
 use af_lib::Conn;
+use af_process::Spawner;
 use std::alloc::Global;
 
 // Whether the device of a job is there and has a line, or how the machine ends for want of that.

@@ -2,17 +2,17 @@
 ghost use Rattle.std.specs.Prelude.{◌≡◌, ◌≤◌, true, false, length, map, option_map, string_bytes, Err, IfErr, IfOk, IfSome};
 ghost use Rattle.std.specs.declared.option.Option.TheVariants.{Some};
 ghost use Rattle.clap.specs.Words.{found_of, kind_of, matches_of, rows_of, takes};
-ghost use Rattle.af_options.specs.Ranges.{IsAddress};
-ghost use Rattle.af_options.specs.Words.{command_app};
+ghost use Rattle.af_cli.specs.Ranges.{IsAddress};
+ghost use Rattle.af_cli.specs.Words.{command_app};
 ghost use Rattle.af_answer.specs.Answered.{IsAnswerJob};
 ghost use Rattle.af_answer.specs.AnswerWords.{answer_app, answer_words, words_in, is_answer_spelled, names_answer, shell_text_at, words_of_call};
 
 use crate::job::AnswerJob;
+use af_cli::{
+    Argument, ArgumentKind, OptionsFault, address_at, matches_for, number_at, number_in, text_of,
+};
 use af_io::Args;
 use af_limits::MOST_DEVICES;
-use af_options::{
-    ArgumentKind, OptionsFault, Word, address_at, matches_for, number_at, number_in, text_of,
-};
 use arrayvec::ArrayString;
 use clap::error::ErrorKind;
 use clap::{ArgMatches, Error};
@@ -25,17 +25,17 @@ pub struct AnswerCall<'a> {
     pub job: AnswerJob,
 }
 
-static ANSWER: [Word<'static>; 6] = [
-    Word("SERVER", ArgumentKind::Place),
-    Word("device", ArgumentKind::FreeOption),
-    Word("rings", ArgumentKind::FreeOption),
-    Word("calls", ArgumentKind::NeededOption),
-    Word("greeting", ArgumentKind::NeededOption),
-    Word("message", ArgumentKind::NeededOption),
+static ANSWER: [Argument<'static>; 6] = [
+    Argument("SERVER", ArgumentKind::Place),
+    Argument("device", ArgumentKind::FreeOption),
+    Argument("rings", ArgumentKind::FreeOption),
+    Argument("calls", ArgumentKind::NeededOption),
+    Argument("greeting", ArgumentKind::NeededOption),
+    Argument("message", ArgumentKind::NeededOption),
 ];
 
 // The name of the command, and its arguments.
-fn command_words<'a>() -> (&'a str, &'a [Word<'a>])
+fn command_words<'a>() -> (&'a str, &'a [Argument<'a>])
     ensures { command_app result.0.now result.1.now ≡ answer_app }
 {
     ("answer", ANSWER.as_slice())

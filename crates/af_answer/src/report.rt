@@ -3,7 +3,7 @@ ghost use Rattle.std.specs.Prelude.{◌≡◌, ◌<◌, ◌≤◌, length, take,
 ghost use Rattle.af_io.specs.Observed.{CountsFault};
 ghost use Rattle.af_answer.specs.AnswerTrace.{tally_text};
 ghost use Rattle.af_answer.specs.AnswerParts.{WritesTo};
-ghost use Rattle.af_answer.specs.Ways.{is_of_line};
+ghost use Rattle.af_answer.specs.Outcomes.{is_of_line};
 
 use crate::end::AnswerEnd;
 use crate::tally::Tally;

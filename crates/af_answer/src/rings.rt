@@ -4,7 +4,7 @@ ghost use Rattle.std.specs.declared.option.Option.TheVariants.{None};
 ghost use Rattle.af_answer.specs.Acts.{rings_after};
 ghost use Rattle.af_answer.specs.AnswerTrace.{awaits_call, most_for_a_call};
 ghost use Rattle.af_answer.specs.AnswerParts.{GoesAlone, HoldsConnection};
-ghost use Rattle.af_answer.specs.Ways.{is_of_machine};
+ghost use Rattle.af_answer.specs.Outcomes.{is_of_machine};
 
 use crate::end::AnswerEnd;
 use crate::job::AnswerJob;

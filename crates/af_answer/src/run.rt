@@ -2,20 +2,20 @@
 ghost use Rattle.std.specs.Prelude.{◌≡◌, ◌≢◌, ◌≤◌, ◌⊎◌, ◌∷◌, [], true, ℕ, List};
 ghost use Rattle.std.specs.declared.option.Option.TheVariants.{None, Some};
 ghost use Rattle.af_io.specs.Observed.{Appended, CountsFault, FaultCounted};
-ghost use Rattle.af_options.specs.Ranges.{IsAddress};
+ghost use Rattle.af_cli.specs.Ranges.{IsAddress};
 ghost use Rattle.af_answer.specs.Answered.{IsAnswerJob};
 ghost use Rattle.af_answer.specs.AnswerWords.{answer_words, is_answer_spelled, AnswerWords};
 ghost use Rattle.af_answer.specs.AnswerRun.{is_of_dial, is_of_run, AskedForServer, RanOver, RunsAsked, RunsJobOn};
-ghost use Rattle.af_answer.specs.Ways.{is_of_answer};
+ghost use Rattle.af_answer.specs.Outcomes.{is_of_answer};
 
 use crate::end::AnswerEnd;
 use crate::job::AnswerJob;
 use crate::machine::answer;
 use crate::options::{AnswerCall, call_of};
-use af_child::Spawner;
+use af_cli::OptionsFault;
 use af_io::{Args, Dial, Dialed, Link, Sink};
 use af_lib::Conn;
-use af_options::OptionsFault;
+use af_process::Spawner;
 use af_wire::Order;
 use std::alloc::Global;
 

@@ -3,7 +3,7 @@ use Rattle.std.proofs.Common.{◌≡◌, ◌≢◌, ◌⊎◌, ⊎_elim, inl, in
 use Rattle.std.proofs.lemmas.Bool.{cases_lt, cases_eq, false≢true}
 use Rattle.std.proofs.lemmas.List.{get_or-set_same, get_or-set_other, get_or_default}
 use Rattle.af_limits.specs.Limits.{most_devices, longest_tick}
-use Rattle.af_pace.specs.Pacing.{PaceState, first_reading, gone_by, due_at, after_due}
+use Rattle.af_clock.specs.Pacing.{PaceState, first_reading, gone_by, due_at, after_due}
 use Rattle.af_backend.specs.declared.source.Source.{Source}
 use Rattle.af_backend.specs.declared.source.Source.TheVariants as source
 use Rattle.af_backend.specs.Rounds.{source_in, goes_by_program, due_of, read_at, IsDue, FindsDue, SourcesRead, NoneDue, NoneFrom, NoneByProgram, IsSettled}

@@ -14,8 +14,8 @@ use Rattle.af_world.specs.declared.live.Kind.{Kind}
 use Rattle.af_world.specs.declared.live.Kind.TheVariants as kind
 use Rattle.af_world.specs.declared.script.DeviceSpec.{DeviceSpec}
 use Rattle.af_world.specs.Outside.{silent_byte}
-use Rattle.af_child.specs.Acts.{words_of}
-use Rattle.af_pace.specs.Pacing.{begun}
+use Rattle.af_process.specs.Acts.{words_of}
+use Rattle.af_clock.specs.Pacing.{begun}
 use Rattle.af_backend.specs.declared.source.Source.{Source}
 use Rattle.af_backend.specs.declared.source.Source.TheVariants as source
 use Rattle.af_backend.specs.Rounds.{RoundState, round_with}

@@ -11,7 +11,7 @@ use Rattle.af_program.specs.Acts.{ToldAct, captured, launched}
 use Rattle.af_world.specs.declared.card_kind.CardKind.{CardKind}
 use Rattle.af_world.specs.declared.script.DeviceSpec.{DeviceSpec}
 use Rattle.af_world.specs.Outside.{silent_byte}
-use Rattle.af_pace.specs.Pacing.{PaceState, begun}
+use Rattle.af_clock.specs.Pacing.{PaceState, begun}
 use Rattle.af_card.specs.declared.shape.Shape.{Shape}
 use Rattle.af_card.specs.Between.{BetweenState, new_between, captured_of}
 use Rattle.af_card.specs.Card.{CardState, DueOf, EmitsAndStarts, IsFed, StartsOnly, captures, emits}

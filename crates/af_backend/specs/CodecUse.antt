@@ -3,7 +3,7 @@ use Rattle.std.specs.Prelude.{◌≡◌, ⊤, ℕ, ◌≤◌, nat_le, Bool, true
 use Rattle.std.specs.declared.option.Option.{Option}
 use Rattle.af_io.specs.declared.flow.Put.{Put}
 use Rattle.af_io.specs.declared.flow.Put.TheVariants as put
-use Rattle.af_child.specs.Acts.{Told, words_of}
+use Rattle.af_process.specs.Acts.{Told, words_of}
 use Rattle.af_codec.specs.declared.feeding.Feeding.{Feeding}
 use Rattle.af_codec.specs.Fed.{OrdersState, feeding_start}
 use Rattle.af_codec.specs.Codec.{Feeds, IsFed}

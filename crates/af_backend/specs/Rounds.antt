@@ -1,7 +1,7 @@
 -- Rounds over devices, each of which goes by a clock.
 use Rattle.std.specs.Prelude.{◌≡◌, ⊤, ℕ, ◌+◌, ◌≤◌, ◌<◌, max, min, Bool, true, false, List, replicate, slice_index_or, slice_set, option_map, is_some, Option, Some, None}
 use Rattle.af_limits.specs.Limits.{most_devices, longest_tick}
-use Rattle.af_pace.specs.Pacing.{PaceState, due_at, after_due}
+use Rattle.af_clock.specs.Pacing.{PaceState, due_at, after_due}
 use Rattle.af_backend.specs.declared.source.Source.{Source}
 use Rattle.af_backend.specs.declared.source.Source.TheVariants as source
 

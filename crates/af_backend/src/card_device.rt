@@ -1,14 +1,14 @@
 // A device whose time is that of a program.
 ghost use Rattle.std.specs.Prelude.{◌≡◌, ◌<◌, ◌≤◌, length, IfOk};
 ghost use Rattle.af_limits.specs.Limits.{longest_tick};
-ghost use Rattle.af_child.specs.Acts.{words_of};
+ghost use Rattle.af_process.specs.Acts.{words_of};
 ghost use Rattle.af_sample.specs.SampleTypes.{frame_bytes};
 ghost use Rattle.af_backend.specs.CardUse.{shape_of, AsksCard, CardCaptures, CardEmits, IsBegun};
 
 use af_card::{Card, Shape};
-use af_child::Words;
 use af_config::is_command_line;
 use af_io::Put;
+use af_process::Words;
 use af_program::{Launched, Program, Programs, Ways};
 use af_time::OutOfMemory;
 use af_world::{CardKind, DeviceSpec, MOST_CARD_RESTARTS, silent_byte};

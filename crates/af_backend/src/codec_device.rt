@@ -1,13 +1,13 @@
 // The codec of a world, which takes the sound of one device.
 ghost use Rattle.std.specs.Prelude.{◌≡◌, ◌<◌, length, [], if◌then◌else◌};
-ghost use Rattle.af_child.specs.Acts.{words_of};
+ghost use Rattle.af_process.specs.Acts.{words_of};
 ghost use Rattle.af_codec.specs.Codec.{TellsThese};
 ghost use Rattle.af_backend.specs.CodecUse.{begun_codec, codec_allows, codec_with, CodecTakes, may_set, with_orders};
 
-use af_child::{Spawner, Words};
 use af_codec::Codec;
 use af_config::{MOST_RESTARTS, is_command_line};
 use af_io::Put;
+use af_process::{Spawner, Words};
 use af_world::Kind;
 use std::alloc::Global;
 use std::marker::Model;

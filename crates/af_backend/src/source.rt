@@ -3,7 +3,7 @@ ghost use Rattle.std.specs.Prelude.{◌≡◌};
 ghost use Rattle.std.specs.declared.option.Option.TheVariants.{Some};
 ghost use Rattle.af_backend.specs.Rounds.{goes_by_program};
 
-use af_pace::Pace;
+use af_clock::Pace;
 
 /// By which clock the time of a device goes.
 #[derive(Drop)]

@@ -12,12 +12,12 @@ use Rattle.af_sample.specs.Heard.{AcceptedPlay, heard, heard_from, with_entry}
 use Rattle.af_sample.proofs.FrameLemmas.{channel_behind, channel_within, frame_behind, place_is, some_channel, time_from}
 use Rattle.af_sample.proofs.HeardLemmas.{heard-push}
 use Rattle.af_buffers.specs.Horizons.{whole_time}
-use Rattle.af_buffers.specs.PlayBuffer.{Next, accepted_at, accepted_by, frames_beyond, frames_within, CoversNoneFrom, Plays, HandsOut, Hears}
+use Rattle.af_buffers.specs.PlayBuffer.{PlayWindow, accepted_at, accepted_by, frames_beyond, frames_within, CoversNoneFrom, Plays, HandsOut, Hears}
 use Rattle.af_buffers.proofs.HorizonLemmas.{get_or-silence}
 use Rattle.af_buffers.proofs.AcceptedPlayLemmas.{covers_past, not_covered, with_entry-later, unwrap-same}
 
 -- silence stands for what is heard where nothing was accepted
-pub hears_silence : (b : Next) (channels now : ℕ) → 2 ^ 32 ≤ now → b.time ≡ now % 2 ^ 32 → IsChannelCount channels → b.channels ≡ channels → b.next ≡ replicate (channels * b.horizon) (pos 0) → Hears b channels [] now
+pub hears_silence : (b : PlayWindow) (channels now : ℕ) → 2 ^ 32 ≤ now → b.time ≡ now % 2 ^ 32 → IsChannelCount channels → b.channels ≡ channels → b.next ≡ replicate (channels * b.horizon) (pos 0) → Hears b channels [] now
 unfolding heard
 hears_silence b channels now late time count is next = record {
   late = late;
@@ -30,7 +30,7 @@ hears_silence b channels now late time count is next = record {
 }
 
 -- the time of a buffer and a whole time mean the same by a word
-same_start : (b : Next) (channels : ℕ) (accepted : List AcceptedPlay) (now start : ℕ) → Hears b channels accepted now → start < 2 ^ 32 → unwrap (whole_time b.time) start + now ≡ unwrap now start + whole_time b.time
+same_start : (b : PlayWindow) (channels : ℕ) (accepted : List AcceptedPlay) (now start : ℕ) → Hears b channels accepted now → start < 2 ^ 32 → unwrap (whole_time b.time) start + now ≡ unwrap now start + whole_time b.time
 same_start b channels accepted now start h word =
     let late : 2 ^ 32 ≤ now = h.late in
     let time : b.time ≡ now % 2 ^ 32 = h.time in
@@ -43,7 +43,7 @@ past_horizon channels n j some past =
     time_from channels (j / channels) n (j % channels) (channel_within channels j some) (omega arith)
 
 -- a play
-pub hears_play : (b c : Next) (channels : ℕ) (accepted : List AcceptedPlay) (now start : ℕ) (samples : List ℤ) (preempt : Bool) → Hears b channels accepted now → start < 2 ^ 32 →
+pub hears_play : (b c : PlayWindow) (channels : ℕ) (accepted : List AcceptedPlay) (now start : ℕ) (samples : List ℤ) (preempt : Bool) → Hears b channels accepted now → start < 2 ^ 32 →
     unwrap now start + frame_count channels samples ≤ now + b.horizon → Plays b c (accepted_by b start samples preempt) → Hears c channels (accepted ++ accepted_at now start samples preempt ∷ []) now
 hears_play b c channels accepted now start samples preempt h word within p =
     let size : length c.next ≡ length b.next = p.size in
@@ -72,26 +72,26 @@ hears_play b c channels accepted now start samples preempt h word within p =
     }
 
 -- how many frames end within the horizon is the same in whole times
-pub frames_within-same : (b : Next) (channels : ℕ) (accepted : List AcceptedPlay) (now start : ℕ) → Hears b channels accepted now → start < 2 ^ 32 → frames_within b start ≡ now + b.horizon - unwrap now start
+pub frames_within-same : (b : PlayWindow) (channels : ℕ) (accepted : List AcceptedPlay) (now start : ℕ) → Hears b channels accepted now → start < 2 ^ 32 → frames_within b start ≡ now + b.horizon - unwrap now start
 frames_within-same b channels accepted now start h word = let same = same_start b channels accepted now start h word in omega arith
 
 -- how long it takes until frames end within the horizon is the same in whole times
-pub frames_beyond-same : (b : Next) (channels : ℕ) (accepted : List AcceptedPlay) (now start n : ℕ) → Hears b channels accepted now → start < 2 ^ 32 → frames_beyond b start n ≡ unwrap now start + n - (now + b.horizon)
+pub frames_beyond-same : (b : PlayWindow) (channels : ℕ) (accepted : List AcceptedPlay) (now start n : ℕ) → Hears b channels accepted now → start < 2 ^ 32 → frames_beyond b start n ≡ unwrap now start + n - (now + b.horizon)
 frames_beyond-same b channels accepted now start n h word = let same = same_start b channels accepted now start h word in omega arith
 
 -- no more is given than is next
-given_few : (b c : Next) (given : List ℤ) → HandsOut b c given → length given ≤ length b.next
+given_few : (b c : PlayWindow) (given : List ℤ) → HandsOut b c given → length given ≤ length b.next
 given_few b c given o = let e = ap length o.first ∙ length-take (length given) b.next in omega arith
 
 -- as many samples are next behind it
-pub size_hand_out : (b c : Next) (given : List ℤ) → HandsOut b c given → length c.next ≡ length b.next
+pub size_hand_out : (b c : PlayWindow) (given : List ℤ) → HandsOut b c given → length c.next ≡ length b.next
 size_hand_out b c given o =
     let few : length given ≤ length b.next = given_few b c given o in
     ap length o.next ∙ length-append (drop (length given) b.next) (replicate (length given) (pos 0))
     ∙ ap (λ m. m + length (replicate (length given) (pos 0))) (length-drop (length given) b.next) ∙ ap (λ m. length b.next - length given + m) (length-replicate (length given) (pos 0)) ∙ omega arith
 
 -- each sample behind what was handed out, and silence past them
-next_behind : (b c : Next) (given : List ℤ) (j : ℕ) → HandsOut b c given → get_or c.next j (pos 0) ≡ get_or b.next (length given + j) (pos 0)
+next_behind : (b c : PlayWindow) (given : List ℤ) (j : ℕ) → HandsOut b c given → get_or c.next j (pos 0) ≡ get_or b.next (length given + j) (pos 0)
 next_behind b c given j o =
     let few : length given ≤ length b.next = given_few b c given o in
     let left : length (drop (length given) b.next) ≡ length b.next - length given = length-drop (length given) b.next in
@@ -114,7 +114,7 @@ heard_behind channels accepted now k m j some whole =
     ∙ ap (λ t. heard channels accepted t (j % channels)) (omega arith)
 
 -- what is handed out
-pub hears_hand_out : (b c : Next) (channels : ℕ) (accepted : List AcceptedPlay) (now : ℕ) (given : List ℤ) → Hears b channels accepted now → HandsOut b c given → AreWholeFrames channels given →
+pub hears_hand_out : (b c : PlayWindow) (channels : ℕ) (accepted : List AcceptedPlay) (now : ℕ) (given : List ℤ) → Hears b channels accepted now → HandsOut b c given → AreWholeFrames channels given →
     Hears c channels accepted (now + frame_count channels given)
 hears_hand_out b c channels accepted now given h o whole =
     let late : 2 ^ 32 ≤ now = h.late in
@@ -130,12 +130,12 @@ hears_hand_out b c channels accepted now given h o whole =
     }
 
 -- what is handed out is heard
-pub gives_heard : (b c : Next) (channels : ℕ) (accepted : List AcceptedPlay) (now : ℕ) (given : List ℤ) → Hears b channels accepted now → HandsOut b c given →
+pub gives_heard : (b c : PlayWindow) (channels : ℕ) (accepted : List AcceptedPlay) (now : ℕ) (given : List ℤ) → Hears b channels accepted now → HandsOut b c given →
     (j : ℕ) → j < length given → get_or given j (pos 0) ≡ heard channels accepted (now + j / channels) (j % channels)
 gives_heard b c channels accepted now given h o j low =
     ap (λ xs. get_or xs j (pos 0)) o.first ∙ get_or-take (length given) b.next j (pos 0) low ∙ h.each j
 
-pub gives_heard_from : (b c : Next) (channels : ℕ) (accepted : List AcceptedPlay) (now n : ℕ) (given : List ℤ) → Hears b channels accepted now → HandsOut b c given → length given ≡ channels * n →
+pub gives_heard_from : (b c : PlayWindow) (channels : ℕ) (accepted : List AcceptedPlay) (now n : ℕ) (given : List ℤ) → Hears b channels accepted now → HandsOut b c given → length given ≡ channels * n →
     given ≡ heard_from channels accepted now n
 gives_heard_from b c channels accepted now n given h o long =
     fill_by_all (λ j. heard channels accepted (now + j / channels) (j % channels)) given (channels * n) (pos 0) long (λ j low. gives_heard b c channels accepted now given h o j (omega arith))

@@ -13,7 +13,7 @@ use Rattle.af_sample.proofs.FrameLemmas.{some_channel}
 use Rattle.af_ring.specs.Cells.{cell, ChangesRun, IsRunAt, IsSize}
 use Rattle.af_ring.proofs.RingStepLemmas.{same_cell, around, in_run, past_run, before_run}
 use Rattle.af_buffers.specs.Horizons.{IsRoomFor, whole_time}
-use Rattle.af_buffers.specs.PlayBuffer.{Next, next_of, accepted_at, EndsWithin, Plays, ChangesCovered, HandsOut, HoldsNext, IsRingOf}
+use Rattle.af_buffers.specs.PlayBuffer.{PlayWindow, next_of, accepted_at, EndsWithin, Plays, ChangesCovered, HandsOut, HoldsNext, IsRingOf}
 use Rattle.af_buffers.proofs.AcceptedPlayLemmas.{not_covered, before_samples, past_samples, at_sample}
 use Rattle.af_buffers.proofs.HorizonLemmas.{horizon_within, silent_cell, get_or-silence}
 use Rattle.af_buffers.proofs.PlaceLemmas.{run_place, same_place}
@@ -244,15 +244,15 @@ holds_next cells t channels n ring =
     }
 
 -- the end of a play, in a buffer's whole times
-pub within_of : (cells : List ℤ) (t channels n start : ℕ) (samples : List ℤ) (b : Next) → next_of cells t channels n ≡ b → EndsWithin b start (frame_count b.channels samples) →
+pub within_of : (cells : List ℤ) (t channels n start : ℕ) (samples : List ℤ) (b : PlayWindow) → next_of cells t channels n ≡ b → EndsWithin b start (frame_count b.channels samples) →
     unwrap (whole_time t) start + frame_count channels samples ≤ whole_time t + n
-within_of cells t channels n start samples b e h = subst (λ (v : Next). EndsWithin v start (frame_count v.channels samples)) (sym e) h
+within_of cells t channels n start samples b e h = subst (λ (v : PlayWindow). EndsWithin v start (frame_count v.channels samples)) (sym e) h
 
 -- samples of as many whole frames, by a buffer's channels
-pub whole_of : (cells : List ℤ) (t channels n : ℕ) (b : Next) (samples given : List ℤ) → next_of cells t channels n ≡ b → length given ≡ length samples → AreWholeFrames b.channels samples → AreWholeFrames channels given
+pub whole_of : (cells : List ℤ) (t channels n : ℕ) (b : PlayWindow) (samples given : List ℤ) → next_of cells t channels n ≡ b → length given ≡ length samples → AreWholeFrames b.channels samples → AreWholeFrames channels given
 whole_of cells t channels n b samples given e same whole =
-    subst (λ m. m ≡ channels * (m / channels)) (sym same) (subst (λ (v : Next). AreWholeFrames v.channels samples) (sym e) whole)
+    subst (λ m. m ≡ channels * (m / channels)) (sym same) (subst (λ (v : PlayWindow). AreWholeFrames v.channels samples) (sym e) whole)
 
-pub few_of : (cells : List ℤ) (t channels n most : ℕ) (b : Next) (samples given : List ℤ) → next_of cells t channels n ≡ b → length given ≡ length samples → frame_count b.channels samples ≤ most → frame_count channels given ≤ most
+pub few_of : (cells : List ℤ) (t channels n most : ℕ) (b : PlayWindow) (samples given : List ℤ) → next_of cells t channels n ≡ b → length given ≡ length samples → frame_count b.channels samples ≤ most → frame_count channels given ≤ most
 few_of cells t channels n most b samples given e same few =
-    subst (λ m. m / channels ≤ most) (sym same) (subst (λ (v : Next). frame_count v.channels samples ≤ most) (sym e) few)
+    subst (λ m. m / channels ≤ most) (sym same) (subst (λ (v : PlayWindow). frame_count v.channels samples ≤ most) (sym e) few)

@@ -10,7 +10,7 @@ use Rattle.af_sample.specs.Window.{recorded, window}
 use Rattle.af_sample.proofs.FrameLemmas.{some_channel, channel_within, frame_at, channel_at, place_before}
 use Rattle.af_sample.proofs.HeardLemmas.{recorded_within, recorded_before, recorded-append}
 use Rattle.af_buffers.specs.Horizons.{whole_time}
-use Rattle.af_buffers.specs.RecordBuffer.{Last, Captures, frames_before, frames_until_past, sample_at, samples_from, Keeps}
+use Rattle.af_buffers.specs.RecordBuffer.{RecordWindow, Captures, frames_before, frames_until_past, sample_at, samples_from, Keeps}
 use Rattle.af_buffers.proofs.AcceptedPlayLemmas.{unwrap-same}
 use Rattle.af_buffers.proofs.RecordRingLemmas.{by_count, frame_within, sample_before, sample_within, sample_after}
 
@@ -37,17 +37,17 @@ get_or-window channels captured begin now horizon start n j low =
     get_or-map-range_with_len (λ j. recorded channels captured begin now horizon (start + j / channels) (j % channels)) 0 (channels * n) j j (pos 0) low (omega arith)
 
 -- a sample of what a buffer keeps
-kept_at : (b : Last) (channels : ℕ) (captured : List ℤ) (begin now j : ℕ) → Keeps b channels captured begin now → j < channels * b.horizon →
+kept_at : (b : RecordWindow) (channels : ℕ) (captured : List ℤ) (begin now j : ℕ) → Keeps b channels captured begin now → j < channels * b.horizon →
     get_or b.last j (pos 0) ≡ recorded channels captured begin now b.horizon (now - b.horizon + j / channels) (j % channels)
 kept_at b channels captured begin now j k low =
     ap (λ xs. get_or xs j (pos 0)) k.last ∙ get_or-window channels captured begin now b.horizon (now - b.horizon) b.horizon j low
 
 -- how many samples are last
-pub length-last : (b : Last) (channels : ℕ) (captured : List ℤ) (begin now : ℕ) → Keeps b channels captured begin now → length b.last ≡ channels * b.horizon
+pub length-last : (b : RecordWindow) (channels : ℕ) (captured : List ℤ) (begin now : ℕ) → Keeps b channels captured begin now → length b.last ≡ channels * b.horizon
 length-last b channels captured begin now k = ap length k.last ∙ length-window channels captured begin now b.horizon (now - b.horizon) b.horizon
 
 -- silence is kept where nothing was captured
-pub keeps_silence : (b : Last) (channels now n : ℕ) → 2 ^ 32 ≤ now → n ≤ 2 ^ 32 → IsChannelCount channels → b.time ≡ now % 2 ^ 32 → b.channels ≡ channels → b.horizon ≡ n →
+pub keeps_silence : (b : RecordWindow) (channels now n : ℕ) → 2 ^ 32 ≤ now → n ≤ 2 ^ 32 → IsChannelCount channels → b.time ≡ now % 2 ^ 32 → b.channels ≡ channels → b.horizon ≡ n →
     b.last ≡ replicate (channels * n) (pos 0) → Keeps b channels [] now now
 keeps_silence b channels now n late short count time same horizon last =
     let size : length b.last ≡ channels * b.horizon = ap length last ∙ length-replicate (channels * n) (pos 0) ∙ ap (λ m. channels * m) (sym horizon) in
@@ -70,7 +70,7 @@ keeps_silence b channels now n late short count time same horizon last =
     }
 
 -- how many frames are before now is the same in whole times
-pub frames_before-same : (b : Last) (channels : ℕ) (captured : List ℤ) (begin now start : ℕ) → Keeps b channels captured begin now → start < 2 ^ 32 → frames_before b start ≡ now - unwrap now start
+pub frames_before-same : (b : RecordWindow) (channels : ℕ) (captured : List ℤ) (begin now start : ℕ) → Keeps b channels captured begin now → start < 2 ^ 32 → frames_before b start ≡ now - unwrap now start
 frames_before-same b channels captured begin now start k word =
     let late : 2 ^ 32 ≤ begin = k.late in
     let begun : begin ≤ now = k.begun in
@@ -79,7 +79,7 @@ frames_before-same b channels captured begin now start k word =
     omega arith
 
 -- how long it takes until frames are before now is the same in whole times
-pub frames_beyond-same : (b : Last) (channels : ℕ) (captured : List ℤ) (begin now start n : ℕ) → Keeps b channels captured begin now → start < 2 ^ 32 → frames_until_past b start n ≡ unwrap now start + n - now
+pub frames_beyond-same : (b : RecordWindow) (channels : ℕ) (captured : List ℤ) (begin now start n : ℕ) → Keeps b channels captured begin now → start < 2 ^ 32 → frames_until_past b start n ≡ unwrap now start + n - now
 frames_beyond-same b channels captured begin now start n k word =
     let late : 2 ^ 32 ≤ begin = k.late in
     let begun : begin ≤ now = k.begun in
@@ -88,7 +88,7 @@ frames_beyond-same b channels captured begin now start n k word =
     omega arith
 
 -- as many samples are last behind a capture
-pub size_capture : (b c : Last) (samples : List ℤ) → Captures b c samples → length c.last ≡ length b.last
+pub size_capture : (b c : RecordWindow) (samples : List ℤ) → Captures b c samples → length c.last ≡ length b.last
 size_capture b c samples more = let all : length (b.last ++ samples) ≡ length b.last + length samples = length-append b.last samples in ap length more.last ∙ length-drop (length samples) (b.last ++ samples) ∙ omega arith
 
 -- the frame and the channel of a place, so many frames later
@@ -109,7 +109,7 @@ all_frames : (channels begin now n : ℕ) → IsChannelCount channels → begin 
 all_frames channels begin now n count begun = by_count (λ ch. ch * (now - begin) + ch * n ≡ ch * (now + n - begin)) (omega arith) (omega arith) channels count
 
 -- a sample behind a capture of n frames: one that was there, or a fresh one
-captured_at : (b : Last) (channels : ℕ) (captured samples : List ℤ) (begin now n j : ℕ) → Keeps b channels captured begin now → length samples ≡ channels * n → j < channels * b.horizon →
+captured_at : (b : RecordWindow) (channels : ℕ) (captured samples : List ℤ) (begin now n j : ℕ) → Keeps b channels captured begin now → length samples ≡ channels * n → j < channels * b.horizon →
     get_or (b.last ++ samples) (length samples + j) (pos 0) ≡ recorded channels (captured ++ samples) begin (now + n) b.horizon (now + n - b.horizon + j / channels) (j % channels)
 captured_at b channels captured samples begin now n j k whole low =
     let late : 2 ^ 32 ≤ begin = k.late in
@@ -140,7 +140,7 @@ captured_at b channels captured samples begin now n j k whole low =
     ]
 
 -- more is captured
-pub keeps_capture : (b c : Last) (channels : ℕ) (captured samples : List ℤ) (begin now : ℕ) → Keeps b channels captured begin now → AreWholeFrames channels samples → Captures b c samples →
+pub keeps_capture : (b c : RecordWindow) (channels : ℕ) (captured samples : List ℤ) (begin now : ℕ) → Keeps b channels captured begin now → AreWholeFrames channels samples → Captures b c samples →
     Keeps c channels (captured ++ samples) begin (now + frame_count channels samples)
 keeps_capture b c channels captured samples begin now k whole more =
     let late : 2 ^ 32 ≤ begin = k.late in
@@ -167,7 +167,7 @@ keeps_capture b c channels captured samples begin now k whole more =
     }
 
 -- a sample of a channel at a time near now is as it is recorded
-recorded_at : (b : Last) (channels : ℕ) (captured : List ℤ) (begin now t u c : ℕ) → Keeps b channels captured begin now → c < channels → u + now ≡ t + whole_time b.time →
+recorded_at : (b : RecordWindow) (channels : ℕ) (captured : List ℤ) (begin now t u c : ℕ) → Keeps b channels captured begin now → c < channels → u + now ≡ t + whole_time b.time →
     sample_at b u c ≡ recorded channels captured begin now b.horizon t c
 recorded_at b channels captured begin now t u c k listed same =
     let late : 2 ^ 32 ≤ begin = k.late in
@@ -190,7 +190,7 @@ recorded_at b channels captured begin now t u c k listed same =
     ]
 
 -- a read is the window
-pub reads_window : (b : Last) (channels : ℕ) (captured : List ℤ) (begin now start n : ℕ) → Keeps b channels captured begin now → start < 2 ^ 32 →
+pub reads_window : (b : RecordWindow) (channels : ℕ) (captured : List ℤ) (begin now start n : ℕ) → Keeps b channels captured begin now → start < 2 ^ 32 →
     samples_from b start n ≡ window channels captured begin now b.horizon (unwrap now start) n
 reads_window b channels captured begin now start n k word =
     let late : 2 ^ 32 ≤ begin = k.late in

@@ -12,7 +12,7 @@ use Rattle.af_sample.proofs.FrameLemmas.{one_or_two}
 use Rattle.af_ring.specs.Cells.{cell, ChangesRun, IsRunAt, IsSize}
 use Rattle.af_ring.proofs.RingStepLemmas.{same_cell, in_run, before_run}
 use Rattle.af_buffers.specs.Horizons.{IsRoomFor, whole_time}
-use Rattle.af_buffers.specs.RecordBuffer.{Last, last_of, Captures, sample_at, samples_from, HoldsLast, IsRoomOf, frames_before}
+use Rattle.af_buffers.specs.RecordBuffer.{RecordWindow, last_of, Captures, sample_at, samples_from, HoldsLast, IsRoomOf, frames_before}
 use Rattle.af_buffers.proofs.HorizonLemmas.{horizon_within, silent_cell}
 
 -- what holds of one channel and of two
@@ -107,17 +107,17 @@ captures old new samples t channels n room few whole run =
     }
 
 -- a time before the window, one of it, and one from now on
-pub sample_before : (b : Last) (t channel : ℕ) → t + b.horizon < whole_time b.time → sample_at b t channel ≡ pos 0
+pub sample_before : (b : RecordWindow) (t channel : ℕ) → t + b.horizon < whole_time b.time → sample_at b t channel ≡ pos 0
 sample_before b t channel before =
     ap (λ p. cond (p && nat_lt t (whole_time b.time)) (get_or b.last (b.channels * (t + b.horizon - whole_time b.time) + channel) (pos 0)) (pos 0)) (lt-leb (whole_time b.time) (t + b.horizon) before)
 
-pub sample_within : (b : Last) (t channel i : ℕ) → t < whole_time b.time → t + b.horizon ≡ whole_time b.time + i → sample_at b t channel ≡ get_or b.last (b.channels * i + channel) (pos 0)
+pub sample_within : (b : RecordWindow) (t channel i : ℕ) → t < whole_time b.time → t + b.horizon ≡ whole_time b.time + i → sample_at b t channel ≡ get_or b.last (b.channels * i + channel) (pos 0)
 sample_within b t channel i past place =
     ap (λ p. cond (p && nat_lt t (whole_time b.time)) (get_or b.last (b.channels * (t + b.horizon - whole_time b.time) + channel) (pos 0)) (pos 0)) (le-leb (whole_time b.time) (t + b.horizon) (omega arith))
     ∙ ap (λ p. cond p (get_or b.last (b.channels * (t + b.horizon - whole_time b.time) + channel) (pos 0)) (pos 0)) (lt-ltb t (whole_time b.time) past)
     ∙ ap (λ i. get_or b.last (b.channels * i + channel) (pos 0)) (let e : t + b.horizon - whole_time b.time ≡ i = omega arith in e)
 
-pub sample_after : (b : Last) (t channel : ℕ) → whole_time b.time ≤ t → sample_at b t channel ≡ pos 0
+pub sample_after : (b : RecordWindow) (t channel : ℕ) → whole_time b.time ≤ t → sample_at b t channel ≡ pos 0
 sample_after b t channel after =
     ap (λ p. cond (p && nat_lt t (whole_time b.time)) (get_or b.last (b.channels * (t + b.horizon - whole_time b.time) + channel) (pos 0)) (pos 0)) (le-leb (whole_time b.time) (t + b.horizon) (omega arith))
     ∙ ap (λ p. cond p (get_or b.last (b.channels * (t + b.horizon - whole_time b.time) + channel) (pos 0)) (pos 0)) (le-ltb t (whole_time b.time) after)

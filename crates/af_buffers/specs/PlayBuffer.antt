@@ -8,7 +8,7 @@ use Rattle.af_ring.specs.Cells.{cell, ChangesRun}
 use Rattle.af_buffers.specs.Horizons.{IsHorizon, IsRoomFor, whole_time}
 
 -- a buffer: the word of its time, its channels, its horizon in frames, the samples of its next frames, and the cells of its ring
-pub record Next : Type 0 where
+pub record PlayWindow : Type 0 where
   pub time : ℕ
   pub channels : ℕ
   pub horizon : ℕ
@@ -21,28 +21,28 @@ accepted_at now start samples preempt =
     record { start = unwrap now start; samples = samples; preempt = preempt; at = now }
 
 -- the same at a buffer's time
-abbrev pub accepted_by : Next → ℕ → List ℤ → Bool → AcceptedPlay
+abbrev pub accepted_by : PlayWindow → ℕ → List ℤ → Bool → AcceptedPlay
 accepted_by b start samples preempt = accepted_at (whole_time b.time) start samples preempt
 
 -- the frames from a word to the horizon: more than a horizon's worth if it is late, 0 if it is beyond
-abbrev pub frames_within : Next → ℕ → ℕ
+abbrev pub frames_within : PlayWindow → ℕ → ℕ
 frames_within b start = whole_time b.time + b.horizon - unwrap (whole_time b.time) start
 
 -- how long it takes until n frames from a word on end at most a horizon after a buffer's time
-abbrev pub frames_beyond : Next → ℕ → ℕ → ℕ
+abbrev pub frames_beyond : PlayWindow → ℕ → ℕ → ℕ
 frames_beyond b start n = unwrap (whole_time b.time) start + n - (whole_time b.time + b.horizon)
 
 -- n frames from a word on end at most a horizon after a buffer's time
-abbrev pub EndsWithin : Next → ℕ → ℕ → Type 0
+abbrev pub EndsWithin : PlayWindow → ℕ → ℕ → Type 0
 EndsWithin b start n = unwrap (whole_time b.time) start + n ≤ whole_time b.time + b.horizon
 
 -- the sample at a place of the next ones, with one entry more
-abbrev pub next_with : Next → AcceptedPlay → ℕ → ℤ
+abbrev pub next_with : PlayWindow → AcceptedPlay → ℕ → ℤ
 next_with b play j =
     with_entry b.channels (whole_time b.time + j / b.channels) (j % b.channels) (slice_index_or b.next j (pos 0)) play
 
 -- a play is laid over the next samples: each is what one accepted play more makes of it
-pub record Plays (old new : Next) (play : AcceptedPlay) : Type 0 where
+pub record Plays (old new : PlayWindow) (play : AcceptedPlay) : Type 0 where
   pub time : new.time ≡ old.time
   pub channels : new.channels ≡ old.channels
   pub horizon : new.horizon ≡ old.horizon
@@ -50,13 +50,13 @@ pub record Plays (old new : Next) (play : AcceptedPlay) : Type 0 where
   pub each : (j : ℕ) → j < length old.next → slice_index_or new.next j (pos 0) ≡ next_with old play j
 
 -- only cells of times that a play covers are changed, and it covers none before its acceptance
-pub record ChangesCovered (old new : Next) (play : AcceptedPlay) : Type 0 where
+pub record ChangesCovered (old new : PlayWindow) (play : AcceptedPlay) : Type 0 where
   pub size : length new.ring ≡ length old.ring
   pub kept : (j : ℕ) → j < length old.ring → covers old.channels play (whole_time old.time + j / old.channels) ≡ false →
       cell new.ring (old.channels * old.time + j) ≡ cell old.ring (old.channels * old.time + j)
 
 -- the first of the next frames are given out: the rest and as much silence come next, and time goes on by the number of the frames
-pub record HandsOut (old new : Next) (given : List ℤ) : Type 0 where
+pub record HandsOut (old new : PlayWindow) (given : List ℤ) : Type 0 where
   pub time : new.time ≡ (old.time + frame_count old.channels given) % 2 ^ 32
   pub channels : new.channels ≡ old.channels
   pub horizon : new.horizon ≡ old.horizon
@@ -65,7 +65,7 @@ pub record HandsOut (old new : Next) (given : List ℤ) : Type 0 where
 
 -- A ring that has each next sample in its cell, that of channel c of a frame at time t at channels * t + c, and silence in every
 -- other cell.
-pub record HoldsNext (b : Next) : Type 0 where
+pub record HoldsNext (b : PlayWindow) : Type 0 where
   pub size : length b.next ≡ b.channels * b.horizon
   pub room : IsRoomFor (length b.next) (length b.ring)
   pub next : (j : ℕ) → j < length b.next → cell b.ring (b.channels * b.time + j) ≡ slice_index_or b.next j (pos 0)
@@ -77,7 +77,7 @@ CoversNoneFrom channels e from = (t : ℕ) → from ≤ t → covers channels e 
 
 -- A buffer stands for what is heard from a whole time on in so many channels: its samples are those that the accepted plays make,
 -- none of which covers a time past its horizon.
-pub record Hears (b : Next) (number : ℕ) (accepted : List AcceptedPlay) (now : ℕ) : Type 0 where
+pub record Hears (b : PlayWindow) (number : ℕ) (accepted : List AcceptedPlay) (now : ℕ) : Type 0 where
   pub late : 2 ^ 32 ≤ now
   pub time : b.time ≡ now % 2 ^ 32
   pub count : IsChannelCount number
@@ -92,7 +92,7 @@ OverlaysRun old new t samples preempt =
     ChangesRun old new t (length samples) (λ k x. blended preempt x (slice_index_or samples k (pos 0)))
 
 -- the cells of a ring as a buffer: those of the n frames from its time on are its next samples
-abbrev pub next_of : List ℤ → ℕ → ℕ → ℕ → Next
+abbrev pub next_of : List ℤ → ℕ → ℕ → ℕ → PlayWindow
 next_of cells time channels n = record {
   time = time;
   channels = channels;

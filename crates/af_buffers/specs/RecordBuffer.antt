@@ -8,7 +8,7 @@ use Rattle.af_ring.specs.Cells.{cell}
 use Rattle.af_buffers.specs.Horizons.{IsHorizon, IsRoomFor, whole_time}
 
 -- a buffer: the word of its time, its channels, its horizon in frames, the samples of its last frames, and the cells of its ring
-pub record Last : Type 0 where
+pub record RecordWindow : Type 0 where
   pub time : ℕ
   pub channels : ℕ
   pub horizon : ℕ
@@ -16,44 +16,44 @@ pub record Last : Type 0 where
   pub ring : List ℤ
 
 -- samples are appended to the last ones, as many of which are given up, and time goes on by the number of their frames
-pub record Captures (old new : Last) (samples : List ℤ) : Type 0 where
+pub record Captures (old new : RecordWindow) (samples : List ℤ) : Type 0 where
   pub time : new.time ≡ (old.time + frame_count old.channels samples) % 2 ^ 32
   pub channels : new.channels ≡ old.channels
   pub horizon : new.horizon ≡ old.horizon
   pub last : new.last ≡ drop (length samples) (old.last ++ samples)
 
 -- how many frames from a word on are before a buffer's time
-abbrev pub frames_before : Last → ℕ → ℕ
+abbrev pub frames_before : RecordWindow → ℕ → ℕ
 frames_before b start = whole_time b.time - unwrap (whole_time b.time) start
 
 -- how long it takes until n frames from a word on are before a buffer's time
-abbrev pub frames_until_past : Last → ℕ → ℕ → ℕ
+abbrev pub frames_until_past : RecordWindow → ℕ → ℕ → ℕ
 frames_until_past b start n = unwrap (whole_time b.time) start + n - whole_time b.time
 
 -- the sample of a channel at a whole time: one of the last, and silence further back and from now on
-abbrev pub sample_at : Last → ℕ → ℕ → ℤ
+abbrev pub sample_at : RecordWindow → ℕ → ℕ → ℤ
 sample_at b t channel =
     if nat_le (whole_time b.time) (t + b.horizon) && nat_lt t (whole_time b.time)
     then slice_index_or b.last (b.channels * (t + b.horizon - whole_time b.time) + channel) (pos 0) else pos 0
 
 -- the samples of n frames from a word on
-abbrev pub samples_from : Last → ℕ → ℕ → List ℤ
+abbrev pub samples_from : RecordWindow → ℕ → ℕ → List ℤ
 samples_from b start n =
     map (λ j. sample_at b (unwrap (whole_time b.time) start + j / b.channels) (j % b.channels)) (range_with_len 0 (b.channels * n))
 
 -- the place of a buffer's first sample, as cells are numbered
-abbrev pub first_place : Last → ℕ
+abbrev pub first_place : RecordWindow → ℕ
 first_place b = b.channels * (whole_time b.time - b.horizon)
 
 -- a ring that has each last sample in its cell, that of channel c of a frame at time t at channels * t + c
-pub record HoldsLast (b : Last) : Type 0 where
+pub record HoldsLast (b : RecordWindow) : Type 0 where
   pub size : length b.last ≡ b.channels * b.horizon
   pub room : IsRoomFor (length b.last) (length b.ring)
   pub last : (j : ℕ) → j < length b.last → cell b.ring (first_place b + j) ≡ slice_index_or b.last j (pos 0)
 
 -- A buffer keeps what was recorded in so many channels: of all that was captured from a begin on up to a whole time, its samples
 -- are those of the last horizon.
-pub record Keeps (b : Last) (number : ℕ) (captured : List ℤ) (begin now : ℕ) : Type 0 where
+pub record Keeps (b : RecordWindow) (number : ℕ) (captured : List ℤ) (begin now : ℕ) : Type 0 where
   pub late : 2 ^ 32 ≤ begin
   pub begun : begin ≤ now
   pub all : length captured ≡ number * (now - begin)
@@ -64,7 +64,7 @@ pub record Keeps (b : Last) (number : ℕ) (captured : List ℤ) (begin now : �
   pub last : b.last ≡ window number captured begin now b.horizon (now - b.horizon) b.horizon
 
 -- the cells of a ring as a buffer: those of the n frames before its time are its last samples
-abbrev pub last_of : List ℤ → ℕ → ℕ → ℕ → Last
+abbrev pub last_of : List ℤ → ℕ → ℕ → ℕ → RecordWindow
 last_of cells time channels n = record {
   time = time;
   channels = channels;

@@ -25,9 +25,9 @@ pub struct PlayBuffer {
 }
 
 impl Model for PlayBuffer {
-    ghost use Rattle.af_buffers.specs.PlayBuffer.{Next, next_of, IsRingOf};
+    ghost use Rattle.af_buffers.specs.PlayBuffer.{PlayWindow, next_of, IsRingOf};
 
-    ghost Value = { Next };
+    ghost Value = { PlayWindow };
 
     ghost view = { λ b. next_of b.ring b.time.0 b.channels b.horizon };
 

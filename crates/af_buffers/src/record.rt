@@ -24,9 +24,9 @@ pub struct RecordBuffer {
 }
 
 impl Model for RecordBuffer {
-    ghost use Rattle.af_buffers.specs.RecordBuffer.{Last, last_of, IsRoomOf};
+    ghost use Rattle.af_buffers.specs.RecordBuffer.{RecordWindow, last_of, IsRoomOf};
 
-    ghost Value = { Last };
+    ghost Value = { RecordWindow };
 
     ghost view = { λ b. last_of b.ring b.time.0 b.channels b.horizon };
 

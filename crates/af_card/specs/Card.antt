@@ -4,7 +4,7 @@ use Rattle.std.specs.declared.option.Option.{Option}
 use Rattle.std.specs.declared.option.Option.TheVariants.{None, Some}
 use Rattle.af_io.specs.declared.flow.Put.{Put}
 use Rattle.af_io.specs.declared.flow.Put.TheVariants as put
-use Rattle.af_pace.specs.Pacing.{PaceState, begun, due_at, after_due}
+use Rattle.af_clock.specs.Pacing.{PaceState, begun, due_at, after_due}
 use Rattle.af_io.specs.Observed.{Appended, Unchanged}
 use Rattle.af_program.specs.declared.program.Launched.{Launched}
 use Rattle.af_program.specs.Acts.{ToldAct, launched, emitted}

@@ -4,7 +4,7 @@ ghost use Rattle.std.specs.declared.option.Option.TheVariants.{None, Some};
 ghost use Rattle.arrayvec.specs.ArrayVec.{array_vec_len};
 ghost use Rattle.af_limits.specs.Limits.{longest_tick};
 ghost use Rattle.af_io.specs.Observed.{Appended, Unchanged};
-ghost use Rattle.af_child.specs.Acts.{words_of};
+ghost use Rattle.af_process.specs.Acts.{words_of};
 ghost use Rattle.af_program.specs.Acts.{captured, launched, TellsNothing};
 ghost use Rattle.af_world.specs.Kinds.{most_card_restarts};
 ghost use Rattle.af_program.specs.Waits.{may_come, next_start};
@@ -14,9 +14,9 @@ ghost use Rattle.af_card.specs.Card.{new_card, begins_now, EmitsAndStarts, SameO
 
 use crate::between::Between;
 use crate::shape::Shape;
-use af_child::{Words, copied_words};
+use af_clock::Pace;
 use af_io::Put;
-use af_pace::Pace;
+use af_process::{Words, copied_words};
 use af_program::{Launched, Program};
 use af_time::OutOfMemory;
 use std::alloc::Global;
@@ -39,7 +39,7 @@ pub struct Card<P: Program + Drop> {
 impl<P: Program + Drop> Model for Card<P> {
     ghost use Rattle.std.specs.Prelude.{◌≤◌};
     ghost use Rattle.arrayvec.specs.ArrayVec.{array_vec_len};
-    ghost use Rattle.af_child.specs.Acts.{words_of};
+    ghost use Rattle.af_process.specs.Acts.{words_of};
     ghost use Rattle.af_card.specs.Between.{Accounts};
     ghost use Rattle.af_card.specs.Card.{CardState};
 

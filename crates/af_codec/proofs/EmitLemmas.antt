@@ -5,8 +5,8 @@ use Rattle.std.specs.declared.option.Option.TheVariants.{None, Some}
 use Rattle.af_io.specs.declared.flow.Put.{Put}
 use Rattle.af_io.specs.Observed.{Appended}
 use Rattle.af_io.proofs.AppendedLemmas.{appended_on}
-use Rattle.af_child.specs.declared.act.BeganGot.{BeganGot}
-use Rattle.af_child.specs.Acts.{Told, noted, began, given, finished}
+use Rattle.af_process.specs.declared.act.BeganGot.{BeganGot}
+use Rattle.af_process.specs.Acts.{Told, noted, began, given, finished}
 use Rattle.af_codec.specs.declared.feeding.Feeding.{Feeding}
 use Rattle.af_codec.specs.Fed.{Emit, OrdersState, emit_acts, fed_behind, fed_on, feeding_start, give_acts, give_acts_for, give_for, put_of, start_acts_for, start_for, behind_start, started_with}
 use Rattle.af_codec.specs.Codec.{TellsThese, ChildRuns, Feeds, Gives, HasStart, IsFed, Starts}

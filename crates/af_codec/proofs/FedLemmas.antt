@@ -3,7 +3,7 @@ use Rattle.std.proofs.Common.{◌≡◌, Bool, true, false, List, [], ◌∷◌,
 use Rattle.std.specs.declared.option.Option.{Option}
 use Rattle.std.specs.declared.option.Option.TheVariants.{None, Some}
 use Rattle.af_io.specs.Observed.{Appended}
-use Rattle.af_child.specs.Acts.{Told}
+use Rattle.af_process.specs.Acts.{Told}
 use Rattle.af_codec.specs.declared.feeding.Feeding.{Feeding}
 use Rattle.af_codec.specs.Fed.{Emit, OrdersState, acts_of, emit_acts, fed_behind, fed_on}
 use Rattle.af_codec.specs.Codec.{TellsThese}

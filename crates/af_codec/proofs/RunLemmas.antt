@@ -2,9 +2,9 @@
 use Rattle.std.proofs.Common.{◌≡◌, ℕ, ℤ, ◌+◌, Bool, true, false, List, [], ◌∷◌, ◌++◌, IfSome, refl, sym, ap, ◌∙◌, subst, arith, append_assoc}
 use Rattle.std.specs.declared.option.Option.{Option}
 use Rattle.std.specs.declared.option.Option.TheVariants.{None, Some}
-use Rattle.af_child.specs.declared.act.BeganGot.{BeganGot}
-use Rattle.af_child.specs.declared.act.BeganGot.TheVariants.{Child, Failed, NoMemory}
-use Rattle.af_child.specs.Acts.{Told}
+use Rattle.af_process.specs.declared.act.BeganGot.{BeganGot}
+use Rattle.af_process.specs.declared.act.BeganGot.TheVariants.{Child, Failed, NoMemory}
+use Rattle.af_process.specs.Acts.{Told}
 use Rattle.af_codec.specs.declared.feeding.Feeding.{Feeding}
 use Rattle.af_codec.specs.Fed.{CallAnswers, Emit, OrdersState, acts_of, begun_run, emit_acts, fed, fed_behind, fed_on, feeding_start, rest_of_run, sounds_of, taken_by_child}
 use Rattle.af_codec.specs.Codec.{TellsThese, IsFed}

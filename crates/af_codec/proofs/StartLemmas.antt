@@ -3,8 +3,8 @@ use Rattle.std.proofs.Common.{◌≡◌, ℕ, ◌+◌, ◌==◌, ◌≤◌, ◌<
 use Rattle.std.specs.declared.option.Option.{Option}
 use Rattle.std.specs.declared.option.Option.TheVariants.{None, Some}
 use Rattle.std.proofs.lemmas.Bool.{eq-eqb}
-use Rattle.af_child.specs.declared.act.BeganGot.{BeganGot}
-use Rattle.af_child.specs.declared.act.BeganGot.TheVariants.{Child, Failed, NoMemory}
+use Rattle.af_process.specs.declared.act.BeganGot.{BeganGot}
+use Rattle.af_process.specs.declared.act.BeganGot.TheVariants.{Child, Failed, NoMemory}
 use Rattle.af_codec.specs.declared.feeding.Feeding.{Feeding}
 use Rattle.af_codec.specs.Fed.{Emit, OrdersState, fed_behind, fed_on, feeding_start, give_for, start_for, behind_start, started_with}
 use Rattle.af_codec.specs.Codec.{HasStart}

@@ -4,8 +4,8 @@ use Rattle.std.specs.declared.option.Option.{Option}
 use Rattle.std.specs.declared.option.Option.TheVariants.{None, Some}
 use Rattle.af_io.specs.declared.flow.Put.{Put}
 use Rattle.af_io.specs.Observed.{Appended}
-use Rattle.af_child.specs.declared.act.BeganGot.{BeganGot}
-use Rattle.af_child.specs.Acts.{Told, finished, RunsWhereTold}
+use Rattle.af_process.specs.declared.act.BeganGot.{BeganGot}
+use Rattle.af_process.specs.Acts.{Told, finished, RunsWhereTold}
 use Rattle.af_codec.specs.declared.feeding.Feeding.{Feeding}
 use Rattle.af_codec.specs.Fed.{CallAnswers, Emit, OrdersState, acts_of, emit_acts, fed_behind, fed_on, feeding_start, give_acts, handed, put_of, start_acts, behind_start}
 

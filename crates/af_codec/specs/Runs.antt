@@ -1,7 +1,7 @@
 -- The runs of sounds that children are given, as the acts tell of them.
 use Rattle.std.specs.Prelude.{◌≡◌, ⊤, ℕ, ◌+◌, ◌≤◌, List, [], ◌∷◌, ◌++◌}
-use Rattle.af_child.specs.declared.act.BeganGot.TheVariants.{Child, Failed, NoMemory}
-use Rattle.af_child.specs.Acts.{Told, noted, began, given, finished}
+use Rattle.af_process.specs.declared.act.BeganGot.TheVariants.{Child, Failed, NoMemory}
+use Rattle.af_process.specs.Acts.{Told, noted, began, given, finished}
 
 -- these are contiguous parts of a list, in its order, none of which reaches into the next
 abbrev pub ArePartsInOrder : {A : Type 0} → List (List A) → List A → Type 0

@@ -3,15 +3,15 @@ ghost use Rattle.std.specs.Prelude.{◌≡◌, ◌≤◌, ◌<◌, ◌+◌, true
 ghost use Rattle.std.specs.declared.option.Option.TheVariants.{Some};
 ghost use Rattle.arrayvec.specs.ArrayVec.{array_vec_len};
 ghost use Rattle.af_io.specs.Observed.{FaultCounted};
-ghost use Rattle.af_child.specs.Acts.{words_of};
+ghost use Rattle.af_process.specs.Acts.{words_of};
 ghost use Rattle.af_codec.specs.Fed.{feeding_start};
 ghost use Rattle.af_codec.specs.Codec.{TellsThese, Feeds, IsFed};
 ghost use Rattle.af_codec.specs.Runs.{FeedsOnce};
 
 use crate::feeding::Feeding;
 use crate::orders::Orders;
-use af_child::{Spawner, Words};
 use af_io::Put;
+use af_process::{Spawner, Words};
 use std::alloc::Global;
 use std::marker::Model;
 

@@ -1,13 +1,13 @@
 // What a codec knows of its child programs.
 ghost use Rattle.std.specs.Prelude.{◌≡◌, ◌≤◌, ◌<◌, true, false, length};
 ghost use Rattle.af_io.specs.Observed.{FaultCounted};
-ghost use Rattle.af_child.specs.Acts.{RunsWhereTold};
+ghost use Rattle.af_process.specs.Acts.{RunsWhereTold};
 ghost use Rattle.af_codec.specs.Fed.{feeding_start, put_of};
 ghost use Rattle.af_codec.specs.Codec.{ChildRuns, Gives, HasStart, IsFinished, Starts};
 
 use crate::orders::Orders;
-use af_child::{Spawner, Started};
 use af_io::Put;
+use af_process::{Spawner, Started};
 use std::alloc::Global;
 
 /// The child that runs, how many starts were made, and whether an emit has failed.

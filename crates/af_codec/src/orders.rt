@@ -1,9 +1,9 @@
 // How a codec starts its child programs.
 ghost use Rattle.std.specs.Prelude.{◌≡◌, ◌≤◌, ◌+◌, []};
 ghost use Rattle.arrayvec.specs.ArrayVec.{array_vec_len};
-ghost use Rattle.af_child.specs.Acts.{words_of};
+ghost use Rattle.af_process.specs.Acts.{words_of};
 
-use af_child::{Words, copied_words};
+use af_process::{Words, copied_words};
 use std::marker::Model;
 
 /// How often a child may be started again, and the words of each start.
@@ -15,7 +15,7 @@ pub(crate) struct Orders {
 
 impl Model for Orders {
     ghost use Rattle.std.specs.Prelude.{◌≤◌};
-    ghost use Rattle.af_child.specs.Acts.{words_of};
+    ghost use Rattle.af_process.specs.Acts.{words_of};
     ghost use Rattle.af_codec.specs.Fed.{OrdersState};
 
     ghost Value = { OrdersState };

@@ -5,7 +5,7 @@ use Rattle.std.proofs.lemmas.Bool.Decides.{nat_tests}
 use Rattle.std.proofs.lemmas.List.{length-map, map-append}
 use Rattle.arrayvec.specs.ArrayVec.{ArrayVec}
 use Rattle.arrayvec.specs.ArrayString.{ArrayString}
-use Rattle.af_child.specs.Acts.{words_of}
+use Rattle.af_process.specs.Acts.{words_of}
 use Rattle.af_text.specs.Words.{then_some, only_if}
 use Rattle.af_config.specs.Stating.{are_short, is_command_line}
 

@@ -5,7 +5,7 @@ use Rattle.std.proofs.lemmas.Bool.Decides.{nat_tests}
 use Rattle.std.proofs.lemmas.List.Sums.{fold-append}
 use Rattle.af_limits.specs.Limits.{most_devices}
 use Rattle.af_world.specs.declared.script.DeviceSpec.{DeviceSpec}
-use Rattle.af_world.specs.declared.outer.ToldKind.{ToldKind}
+use Rattle.af_world.specs.declared.lifecycle.ToldKind.{ToldKind}
 use Rattle.af_text.specs.Lines.{is_nil, lines, words, with_first}
 use Rattle.af_text.specs.Reading.{Entry, go_on, read_on}
 use Rattle.af_text.proofs.LineByLine.{entry, entries_over, entries_read}

@@ -5,7 +5,7 @@ use Rattle.af_limits.specs.Limits.{most_devices}
 use Rattle.af_text.specs.Lines.{lines, words, is_passed_over, with_first}
 use Rattle.af_text.specs.Reading.{Entry, entries_of}
 use Rattle.af_text.specs.Words.{only_if}
-use Rattle.af_world.specs.declared.outer.ToldKind.{ToldKind}
+use Rattle.af_world.specs.declared.lifecycle.ToldKind.{ToldKind}
 use Rattle.af_world.specs.declared.script.DeviceSpec.{DeviceSpec}
 use Rattle.af_config.specs.declared.fault.ConfigFault.{ConfigFault}
 use Rattle.af_config.specs.declared.fault.ConfigFault.TheVariants as fault

@@ -1,6 +1,6 @@
 -- What the parts of a line stand for, once they are read.
 use Rattle.std.specs.Prelude.{string_bytes}
-use Rattle.af_world.specs.declared.outer.ToldKind.{ToldKind}
+use Rattle.af_world.specs.declared.lifecycle.ToldKind.{ToldKind}
 use Rattle.af_world.specs.Kinds.{silence, two_files, child_program, card_program}
 use Rattle.af_config.specs.declared.device.OwnedKind.{OwnedKind}
 use Rattle.af_config.specs.declared.device.OwnedKind.TheVariants as held

@@ -7,8 +7,8 @@ use Rattle.af_text.specs.Sound.{type_of, rate_of, channels_stated, behind_channe
 use Rattle.af_world.specs.declared.card_kind.CardKind.{CardKind}
 use Rattle.af_world.specs.declared.card_kind.CardKind.TheVariants as card_kind
 use Rattle.af_world.specs.declared.script.DeviceSpec.{DeviceSpec}
-use Rattle.af_world.specs.declared.outer.ToldKind.{ToldKind}
-use Rattle.af_world.specs.declared.outer.ToldKind.TheVariants as told
+use Rattle.af_world.specs.declared.lifecycle.ToldKind.{ToldKind}
+use Rattle.af_world.specs.declared.lifecycle.ToldKind.TheVariants as told
 use Rattle.af_world.specs.Outside.{spec_has_line}
 use Rattle.af_world.specs.Kinds.{silence, two_files, child_program, card_program, most_card_restarts}
 

@@ -1,12 +1,12 @@
 // The command line of a program, as a line of a configuration states it.
 ghost use Rattle.std.specs.Prelude.{◌≡◌, ◌≤◌, length, map};
 ghost use Rattle.std.specs.Str.{IsUtf8};
-ghost use Rattle.af_child.specs.Acts.{words_of};
+ghost use Rattle.af_process.specs.Acts.{words_of};
 ghost use Rattle.af_text.specs.Lines.{words};
 ghost use Rattle.af_text.specs.Words.{only_if};
 ghost use Rattle.af_config.specs.Stating.{are_short, is_command_line};
 
-use af_child::{CommandLine, Words};
+use af_process::{CommandLine, Words};
 use af_text::next_word;
 use arrayvec::ArrayString;
 use std::str;

@@ -8,7 +8,7 @@ ghost use Rattle.af_config.specs.Stating.{configured_of, configured_with, placed
 ghost use Rattle.af_config.specs.Kept.{placed, owned_told, stated_ending};
 
 use crate::command_line::{MOST_RESTARTS, command_line_stated};
-use af_child::CommandLine;
+use af_process::CommandLine;
 use af_text::{
     channel_count, is_word, listed_rate, next_word, number_between, sample_type, two_words,
 };

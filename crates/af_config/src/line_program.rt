@@ -6,8 +6,8 @@ ghost use Rattle.af_config.specs.Stating.{is_phone_line, line_program_of, line_p
 ghost use Rattle.af_config.specs.Kept.{owned_program};
 
 use crate::command_line::command_line_stated;
-use af_child::CommandLine;
 use af_limits::MOST_DEVICES;
+use af_process::CommandLine;
 use af_text::{is_word, next_word, number_between};
 use af_world::MOST_CARD_RESTARTS;
 

@@ -13,7 +13,7 @@ use crate::device::{device_stated, is_text};
 use crate::line_program::{is_phone_line, line_program_stated};
 use crate::{ConfigFault, Setting};
 use af_limits::MOST_DEVICES;
-use af_text::{ByLine, LineFault, passes_over, read_lines};
+use af_text::{LineFault, LineParser, passes_over, read_lines};
 use af_time::OutOfMemory;
 use std::alloc::Global;
 
@@ -40,7 +40,7 @@ pub fn read_config(alloc: Global, text: &[u8]) -> Result<Setting, ConfigFault>
     }
 }
 
-impl ByLine for Setting {
+impl LineParser for Setting {
     ghost use Rattle.af_config.specs.Reading.{with_config_line, lacks_configured, IsSound};
 
     ghost with_line = { with_config_line };

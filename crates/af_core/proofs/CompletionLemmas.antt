@@ -18,7 +18,7 @@ use Rattle.af_model.proofs.BoolTestLemmas.{both-true}
 use Rattle.af_model.proofs.SlotLemmas.{some_link, slot_link, links_of-set}
 use Rattle.af_state.specs.Kept.{KeptDevice, StandsForDevice, StandForDevices}
 use Rattle.af_state.specs.Deferrals.{KeptDeferral, has_waiting, kept_due, worded, CanComplete, OnlyQueues, IsNear, IsShort, StandForDeferrals}
-use Rattle.af_state.specs.Environment.{StandsForLink, KeptEnvironment, StepsLink, StandsForEnvironment}
+use Rattle.af_state.specs.SharedState.{StandsForLink, KeptSharedState, StepsLink, StandsForSharedState}
 use Rattle.af_perform.specs.Sounds.{CompletesDeferred}
 use Rattle.af_state.proofs.DeferralLemmas.{dues, dues_few, dues_grown, dues_taken, first_due, only_queues_others, length-waits, none_due}
 use Rattle.af_perform.proofs.LinkRequestLemmas.{stands_here}
@@ -67,7 +67,7 @@ kept_there (x ∷ ds) [] d s e h = absurd h
 kept_there (x ∷ ds) (y ∷ ss) zero s e h = omega arith
 kept_there (x ∷ ds) (y ∷ ss) (suc d) s e h = let low = kept_there ds ss d s e h.1 in omega (arith, low)
 
-pub due_there : (env : KeptEnvironment) (a : EnvironmentState) (d number : ℕ) → StandsForEnvironment env a → option_map (λ k. k.wait.link) (find (kept_due d) env.waits) ≡ Some number → d < length env.devices
+pub due_there : (env : KeptSharedState) (a : EnvironmentState) (d number : ℕ) → StandsForSharedState env a → option_map (λ k. k.wait.link) (find (kept_due d) env.waits) ≡ Some number → d < length env.devices
 due_there env a d number h due_link = let s = due_state a.devices d number env.waits a.waiting h.1 due_link in kept_there env.devices a.devices d s.0 s.1 h.0
 
 -- the first that is due of a device, with what the room of its link holds
@@ -82,7 +82,7 @@ record DueFirst (d : ℕ) (s : DeviceState) (a : EnvironmentState) (ks : List Ke
   now : due s.channels (s.rate * 4) waiter.deferred ≤ s.now
   rest : StandForDeferrals a.devices (without_first (kept_due d) ks) (without_first (falls_due d s) a.waiting)
 
-due_first : (env : KeptEnvironment) (d : ℕ) (s : DeviceState) (a : EnvironmentState) (number : ℕ) (deferred : Deferred) → StandsForEnvironment env a → slice_get a.devices d ≡ Some s → option_map (λ k. k.wait.link) (find (kept_due d) env.waits) ≡ Some number →
+due_first : (env : KeptSharedState) (d : ℕ) (s : DeviceState) (a : EnvironmentState) (number : ℕ) (deferred : Deferred) → StandsForSharedState env a → slice_get a.devices d ≡ Some s → option_map (λ k. k.wait.link) (find (kept_due d) env.waits) ≡ Some number →
     All (λ k. k.wait.link ≡ number → deferred ≡ k.deferred) env.waits → DueFirst d s a env.waits number deferred
 due_first env d s a number deferred h here due_link room =
     let k = some_due d number (find (kept_due d) env.waits) due_link in
@@ -115,7 +115,7 @@ can_complete x s (deferred_play quiet whole sound preempt) stands near short now
 can_complete x s (deferred_record c whole frames) stands near short now =
     (subst (λ n. IsShort n (deferred_record c whole frames)) (sym stands.hears.channels) short, tt)
 
-pub fits_now : (env : KeptEnvironment) (d : ℕ) (x : KeptDevice) (a : EnvironmentState) (number : ℕ) (deferred : Deferred) → StandsForEnvironment env a → slice_get env.devices d ≡ Some x → option_map (λ k. k.wait.link) (find (kept_due d) env.waits) ≡ Some number →
+pub fits_now : (env : KeptSharedState) (d : ℕ) (x : KeptDevice) (a : EnvironmentState) (number : ℕ) (deferred : Deferred) → StandsForSharedState env a → slice_get env.devices d ≡ Some x → option_map (λ k. k.wait.link) (find (kept_due d) env.waits) ≡ Some number →
     All (λ k. k.wait.link ≡ number → deferred ≡ k.deferred) env.waits → CanComplete x deferred
 fits_now env d x a number deferred h kept due_link room =
     let s = due_state a.devices d number env.waits a.waiting h.1 due_link in
@@ -123,7 +123,7 @@ fits_now env d x a number deferred h kept due_link room =
     subst (CanComplete x) (sym f.is) (can_complete x s.0 f.waiter.deferred (stands_here env.devices env.waits a d x s.0 h kept s.1) f.near f.short f.now)
 
 -- it completes, and its link goes on
-pub completes_link : (env env' : KeptEnvironment) (ds1 : List KeptDevice) (ks1 : List KeptDeferral) (l l1 l2 : LinkState) (number d : ℕ) (deferred : Deferred) (a : EnvironmentState) (s : DeviceState) (w : Deferral) → StandsForEnvironment env a → slice_get a.devices d ≡ Some s →
+pub completes_link : (env env' : KeptSharedState) (ds1 : List KeptDevice) (ks1 : List KeptDeferral) (l l1 l2 : LinkState) (number d : ℕ) (deferred : Deferred) (a : EnvironmentState) (s : DeviceState) (w : Deferral) → StandsForSharedState env a → slice_get a.devices d ≡ Some s →
     find (falls_due d s) a.waiting ≡ Some w → option_map (λ k. k.wait.link) (find (kept_due d) env.waits) ≡ Some number → All (λ k. k.wait.link ≡ number → deferred ≡ k.deferred) env.waits → ks1 ≡ without_first (kept_due d) env.waits →
     CompletesDeferred deferred d env.devices l ds1 l1 → StepsLink (advance number) (record { devices = ds1; waits = ks1 }) l1 env' l2 →
     StandsForLink env' l2 (complete_for w (slice_get a.devices w.device) (open_link (record a { waiting = without_first (falls_due d s) a.waiting }) l))
@@ -140,7 +140,7 @@ completes_link env env' ds1 ks1 l l1 l2 number d deferred a s w h here first due
     (subst (λ n. StandsForLink env' l2 (advance n (q f.waiter.device))) (sym f.link) (subst (λ e. StandsForLink env' l2 (advance number (q e))) (sym f.device) goes)))
 
 -- a number where no link is open
-pub completes_closed : (env : KeptEnvironment) (ks' : List KeptDeferral) (d : ℕ) (old : Option LinkState) (s : DeviceState) (w : Deferral) (number : ℕ) (a : EnvironmentState) → StandsForEnvironment env a → slice_get a.devices d ≡ Some s → old ≡ None →
+pub completes_closed : (env : KeptSharedState) (ks' : List KeptDeferral) (d : ℕ) (old : Option LinkState) (s : DeviceState) (w : Deferral) (number : ℕ) (a : EnvironmentState) → StandsForSharedState env a → slice_get a.devices d ≡ Some s → old ≡ None →
     option_map (λ k. k.wait.link) (find (kept_due d) env.waits) ≡ Some number → ks' ≡ without_first (kept_due d) env.waits →
     StandsForSlot (record env { waits = ks' }) old (complete_at w (record a { waiting = without_first (falls_due d s) a.waiting }) old)
 completes_closed env ks' d old s w number a h here is due_link taken =
@@ -151,8 +151,8 @@ completes_closed env ks' d old s w number a h here is due_link taken =
 
 -- The first that is due of all
 
-pub completes_first : (env env' : KeptEnvironment) (links : List (Option LinkState)) (link link' : Option LinkState) (d number : ℕ) → option_map (λ k. k.wait.link) (find (kept_due d) env.waits) ≡ Some number → some_link (slice_get links number) ≡ link →
-    ((a : EnvironmentState) (s : DeviceState) (w : Deferral) → StandsForEnvironment env a → slice_get a.devices d ≡ Some s → find (falls_due d s) a.waiting ≡ Some w → StandsForSlot env' link' (complete_at w (record a { waiting = without_first (falls_due d s) a.waiting }) link)) →
+pub completes_first : (env env' : KeptSharedState) (links : List (Option LinkState)) (link link' : Option LinkState) (d number : ℕ) → option_map (λ k. k.wait.link) (find (kept_due d) env.waits) ≡ Some number → some_link (slice_get links number) ≡ link →
+    ((a : EnvironmentState) (s : DeviceState) (w : Deferral) → StandsForSharedState env a → slice_get a.devices d ≡ Some s → find (falls_due d s) a.waiting ≡ Some w → StandsForSlot env' link' (complete_at w (record a { waiting = without_first (falls_due d s) a.waiting }) link)) →
     (s : State) → StandsFor (kept_of env links) s → CompletesTo true (complete_step d s) (kept_of env' (slice_set links number link'))
 completes_first env env' links link link' d number due_link here step s h =
     let t = due_state s.devices d number env.waits s.waiting h.waiting due_link in

@@ -17,11 +17,11 @@ use Rattle.af_world.specs.Log.{Log}
 use Rattle.af_world.proofs.EqualityTestLemmas.{eq-refl}
 use Rattle.af_model.specs.State.{State, DeviceState, LinkState, EnvironmentState, open_link, slot_link_at, with_device, device_set, none_selected, say}
 use Rattle.af_model.specs.Events.{dropped, hook_given, hook_refused, line_changes, tell, tell_at, tell_from, tell_open, tell_selected, without_waiter}
-use Rattle.af_model.specs.Turn.{parsed, parse_then, wake_phase, line_phase, hook_all, hook_at, hook_for, hook_from, hook_wanted, same_flag}
+use Rattle.af_model.specs.Turn.{accept, parse_then, wake_phase, line_phase, hook_all, hook_at, hook_for, hook_from, hook_wanted, same_flag}
 use Rattle.af_model.proofs.SlotLemmas.{some_link, slot_link, links_of-set, length-links_of}
 use Rattle.af_state.specs.Kept.{KeptDevice, StandsForDevice}
 use Rattle.af_state.specs.Deferrals.{KeptDeferral, has_waiting, kept_without, AreLater, StandForDeferrals}
-use Rattle.af_state.specs.Environment.{StandsForLink, KeptEnvironment, StandsForEnvironment}
+use Rattle.af_state.specs.SharedState.{StandsForLink, KeptSharedState, StandsForSharedState}
 use Rattle.af_state.proofs.DeviceLemmas.{Found, found, state_there, stands_length, stands_set}
 use Rattle.af_perform.proofs.DeviceRequestLemmas.{relined}
 use Rattle.af_state.proofs.DeferralLemmas.{waits_set, without_later, without_others, without_waits}
@@ -31,30 +31,30 @@ use Rattle.af_io.proofs.AppendedLemmas.{appended_none}
 use Rattle.af_core.proofs.SimulationLemmas.{simulates_nothing, simulates_more}
 
 -- a link is dropped
-pub drops_at : (env : KeptEnvironment) (ks' : List KeptDeferral) (k : ℕ) (cause : Why) (a : EnvironmentState) (l l' : LinkState) → ks' ≡ kept_without k env.waits →
-    l' ≡ record l { rest = []; pending = []; closing = Some cause; selections = none_selected } → StandsForEnvironment env a → StandsForLink (record env { waits = ks' }) l' (dropped k cause (open_link a l))
+pub drops_at : (env : KeptSharedState) (ks' : List KeptDeferral) (k : ℕ) (cause : Why) (a : EnvironmentState) (l l' : LinkState) → ks' ≡ kept_without k env.waits →
+    l' ≡ record l { rest = []; pending = []; closing = Some cause; selections = none_selected } → StandsForSharedState env a → StandsForLink (record env { waits = ks' }) l' (dropped k cause (open_link a l))
 drops_at env ks' k cause a l l' waits is h =
     ((h.0, subst (λ qs. StandForDeferrals a.devices qs (without_waiter k a.waiting)) (sym waits) (without_waits a.devices k env.waits a.waiting h.1)), sym is)
 
 -- a link that has no room for an event is
-pub overruns_at : (env' : KeptEnvironment) (k : ℕ) (e : Event) (a : EnvironmentState) (l l' : LinkState) → nat_le (length l.pending + 20) event_limit ≡ false →
+pub overruns_at : (env' : KeptSharedState) (k : ℕ) (e : Event) (a : EnvironmentState) (l l' : LinkState) → nat_le (length l.pending + 20) event_limit ≡ false →
     StandsForLink env' l' (dropped k why.Overrun (open_link a l)) → StandsForLink env' l' (tell_selected k e (open_link a l))
 overruns_at env' k e a l l' full h =
     subst (λ b. StandsForLink env' l' (cond b (say (open_link a l) (event_bytes l.order e l.sequence)) (dropped k why.Overrun (open_link a l)))) (sym full) h
 
 -- who waits when one link may have ended to
-pub only_drops_others : (k j : ℕ) (env env' : KeptEnvironment) → OnlyDrops k env env' → j ≢ k → has_waiting env'.waits j ≡ has_waiting env.waits j
-only_drops_others k j env env' s apart = ⊎_elim (λ e. ap (λ (x : KeptEnvironment). has_waiting x.waits j) e) (λ e. ap (λ (x : KeptEnvironment). has_waiting x.waits j) e ∙ without_others k j env.waits apart) s
+pub only_drops_others : (k j : ℕ) (env env' : KeptSharedState) → OnlyDrops k env env' → j ≢ k → has_waiting env'.waits j ≡ has_waiting env.waits j
+only_drops_others k j env env' s apart = ⊎_elim (λ e. ap (λ (x : KeptSharedState). has_waiting x.waits j) e) (λ e. ap (λ (x : KeptSharedState). has_waiting x.waits j) e ∙ without_others k j env.waits apart) s
 
-pub only_drops_later : (k : ℕ) (env env' : KeptEnvironment) → OnlyDrops k env env' → AreLater env.waits → AreLater env'.waits
-only_drops_later k env env' s l = ⊎_elim (λ e. subst (λ (x : KeptEnvironment). AreLater x.waits) (sym e) l) (λ e. subst (λ (x : KeptEnvironment). AreLater x.waits) (sym e) (without_later k env.waits l)) s
+pub only_drops_later : (k : ℕ) (env env' : KeptSharedState) → OnlyDrops k env env' → AreLater env.waits → AreLater env'.waits
+only_drops_later k env env' s l = ⊎_elim (λ e. subst (λ (x : KeptSharedState). AreLater x.waits) (sym e) l) (λ e. subst (λ (x : KeptSharedState). AreLater x.waits) (sym e) (without_later k env.waits l)) s
 
-pub only_drops_devices : (k : ℕ) (env env' : KeptEnvironment) → OnlyDrops k env env' → env'.devices ≡ env.devices
-only_drops_devices k env env' s = ⊎_elim (λ e. ap (λ (x : KeptEnvironment). x.devices) e) (λ e. ap (λ (x : KeptEnvironment). x.devices) e) s
+pub only_drops_devices : (k : ℕ) (env env' : KeptSharedState) → OnlyDrops k env env' → env'.devices ≡ env.devices
+only_drops_devices k env env' s = ⊎_elim (λ e. ap (λ (x : KeptSharedState). x.devices) e) (λ e. ap (λ (x : KeptSharedState). x.devices) e) s
 
 -- one link is told
-one_told : (env env' : KeptEnvironment) (links : List (Option LinkState)) (k : ℕ) (e : Event) (link link' : Option LinkState) → some_link (slice_get links k) ≡ link →
-    ((a : EnvironmentState) → StandsForEnvironment env a → StandsForSlot env' link' (tell_open k e a link)) → (s : State) → StandsFor (kept_of env links) s → StandsFor (kept_of env' (slice_set links k link')) (tell_at k e s)
+one_told : (env env' : KeptSharedState) (links : List (Option LinkState)) (k : ℕ) (e : Event) (link link' : Option LinkState) → some_link (slice_get links k) ≡ link →
+    ((a : EnvironmentState) → StandsForSharedState env a → StandsForSlot env' link' (tell_open k e a link)) → (s : State) → StandsFor (kept_of env links) s → StandsFor (kept_of env' (slice_set links k link')) (tell_at k e s)
 one_told env env' links k e link link' here step s h =
     let d = slot_link_at k s in
     let is : d.link ≡ link = slot_link s.slots k ∙ ap (λ ls. some_link (slice_get ls k)) h.links ∙ here in
@@ -75,8 +75,8 @@ pub tells_begin : (kept : Kept) (e : Event) (n : ℕ) (s : State) → n ≡ leng
 unfolding tell
 tells_begin kept e n s size h = record { state = s; stands = h; same = ap (λ m. tell_from m 0 e s) (sym (length-links_of s.slots) ∙ ap length h.links ∙ sym size) }
 
-pub tells_more : (env env' : KeptEnvironment) (links : List (Option LinkState)) (e : Event) (n m k : ℕ) (link link' : Option LinkState) (s : State) → n ≡ suc m → some_link (slice_get links k) ≡ link →
-    ((a : EnvironmentState) → StandsForEnvironment env a → StandsForSlot env' link' (tell_open k e a link)) → TellsOn (kept_of env links) e n k s → TellsOn (kept_of env' (slice_set links k link')) e m (k + 1) s
+pub tells_more : (env env' : KeptSharedState) (links : List (Option LinkState)) (e : Event) (n m k : ℕ) (link link' : Option LinkState) (s : State) → n ≡ suc m → some_link (slice_get links k) ≡ link →
+    ((a : EnvironmentState) → StandsForSharedState env a → StandsForSlot env' link' (tell_open k e a link)) → TellsOn (kept_of env links) e n k s → TellsOn (kept_of env' (slice_set links k link')) e m (k + 1) s
 tells_more env env' links e n m k link link' s left here step t = record {
   state = tell_at k e t.state;
   stands = one_told env env' links k e link link' here step t.state t.stands;
@@ -121,7 +121,7 @@ time_is kept d x s device t here there is h =
 -- a wake by which a line changes
 pub line_changed : (t : Option Log) (kept kept' : Kept) (d : ℕ) (change : LineChange) → d < length kept.devices →
     ((s : State) (device : DeviceState) → StandsFor kept s → slice_get s.devices d ≡ Some device → StandsFor kept' (line_changes change d device s)) →
-    Simulates t t (StandsFor kept) (StandsFor kept') (wake_phase (Line d change)) parsed
+    Simulates t t (StandsFor kept) (StandsFor kept') (wake_phase (Line d change)) accept
 unfolding wake_phase
 line_changed t kept kept' d change there step = record {
   part = [];
@@ -147,16 +147,16 @@ wanted_same : (x : KeptDevice) (device : DeviceState) → StandsForDevice x devi
 wanted_same x device h = ap (option_and_then hook_due) h.line
 
 pub hooks_nothing : (t : Option Log) (kept : Kept) (d : ℕ) (x : KeptDevice) → slice_get kept.devices d ≡ Some x → option_and_then hook_due x.line ≡ None →
-    Simulates t t (StandsFor kept) (StandsFor kept) (λ s log. hook_at d (slice_get s.devices d) s log) parsed
+    Simulates t t (StandsFor kept) (StandsFor kept) (λ s log. hook_at d (slice_get s.devices d) s log) accept
 hooks_nothing t kept d x here none =
-    simulates_nothing t (StandsFor kept) (StandsFor kept) (λ s log. hook_at d (slice_get s.devices d) s log) parsed (λ s. s) (λ s h. h)
+    simulates_nothing t (StandsFor kept) (StandsFor kept) (λ s log. hook_at d (slice_get s.devices d) s log) accept (λ s. s) (λ s h. h)
     (λ s h log.
     let r : Found s.devices d x = found kept.devices s.devices d x here h.devices in
     ap (λ o. hook_at d o s log) r.here ∙ ap (λ o. hook_for d r.state o s log) (sym (wanted_same x r.state r.stands) ∙ none))
 
 pub hooks_one : (a b : Option Log) (kept kept' : Kept) (d : ℕ) (x : KeptDevice) (off done : Bool) → d < length kept.devices → slice_get kept.devices d ≡ Some x → option_and_then hook_due x.line ≡ Some off →
     Appended a (Hooked d off done ∷ []) b → ((s : State) (device : DeviceState) → StandsFor kept s → slice_get s.devices d ≡ Some device → StandsFor kept' (cond done (hook_given off d device s) (hook_refused d s))) →
-    Simulates a b (StandsFor kept) (StandsFor kept') (λ s log. hook_at d (slice_get s.devices d) s log) parsed
+    Simulates a b (StandsFor kept) (StandsFor kept') (λ s log. hook_at d (slice_get s.devices d) s log) accept
 hooks_one a b kept kept' d x off done there here wanted told step = record {
   part = Hooked d off done ∷ [];
   told = told;
@@ -174,7 +174,7 @@ hooks_one a b kept kept' d x off done there here wanted told step = record {
 
 -- one hook of all
 pub next_hooked : (a b c : Option Log) (count n k : ℕ) (kept kept' kept'' : Kept) → n ≡ suc (count - (k + 1)) → Simulates a b (StandsFor kept) (StandsFor kept') (hook_from count 0) (hook_from n k) →
-    Simulates b c (StandsFor kept') (StandsFor kept'') (λ s log. hook_at k (slice_get s.devices k) s log) parsed → Simulates a c (StandsFor kept) (StandsFor kept'') (hook_from count 0) (hook_from (count - (k + 1)) (k + 1))
+    Simulates b c (StandsFor kept') (StandsFor kept'') (λ s log. hook_at k (slice_get s.devices k) s log) accept → Simulates a c (StandsFor kept) (StandsFor kept'') (hook_from count 0) (hook_from (count - (k + 1)) (k + 1))
 unfolding hook_from
 next_hooked a b c count n k kept kept' kept'' e d one =
     simulates_more d (subst (λ m. Simulates b c (StandsFor kept') (StandsFor kept'') (hook_from m k) (hook_from (count - (k + 1)) (k + 1))) (sym e)
@@ -191,7 +191,7 @@ pub none_hooked : (t : Option Log) (n m : ℕ) (kept : Kept) → n ≡ m → Sim
 none_hooked t n m kept e = simulates_nothing t (StandsFor kept) (StandsFor kept) (hook_from n 0) (hook_from m 0) (λ s. s) (λ s h. h) (λ s h log. ap (λ x. hook_from x 0 s log) e)
 
 pub all_hooked : (a b : Option Log) (m k : ℕ) (kept kept' : Kept) → m ≡ 0 →
-    Simulates a b (StandsFor kept) (StandsFor kept') (hook_from (length kept.devices) 0) (hook_from m k) → Simulates a b (StandsFor kept) (StandsFor kept') hook_all parsed
+    Simulates a b (StandsFor kept) (StandsFor kept') (hook_from (length kept.devices) 0) (hook_from m k) → Simulates a b (StandsFor kept) (StandsFor kept') hook_all accept
 unfolding hook_from
 all_hooked a b m k kept kept' e d = record {
   part = d.part;

@@ -1,7 +1,7 @@
 pub mod AdvanceStepLemmas
 pub mod WantsTurnLemmas
 pub mod SimulationLemmas
-pub mod EnvironmentLemmas
+pub mod SharedStateLemmas
 pub mod LinkPhaseLemmas
 pub mod EventLemmas
 pub mod CompletionLemmas

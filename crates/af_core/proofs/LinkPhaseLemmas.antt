@@ -5,7 +5,7 @@ use Rattle.std.proofs.lemmas.Option.{slice_get-get_or}
 use Rattle.std.proofs.lemmas.Bool.Decides.{nat_tests}
 use Rattle.std.specs.declared.option.Option.{Option}
 use Rattle.std.specs.declared.option.Option.TheVariants.{None, Some}
-use Rattle.af_limits.specs.Limits.{longest_read, most_to_send}
+use Rattle.af_limits.specs.Limits.{longest_read, perform_limit}
 use Rattle.af_world.specs.declared.happening.Happening.TheVariants.{Read, Wrote, Closed}
 use Rattle.af_world.specs.declared.happening.ReadGot.{ReadGot}
 use Rattle.af_world.specs.declared.happening.ReadGot.TheVariants.{Given}
@@ -16,69 +16,69 @@ use Rattle.af_world.proofs.EqualityTestLemmas.{same_bytes-refl, eq-refl}
 use Rattle.af_model.specs.State.{OpenLink, EnvironmentState, LinkState, open_link, opened, link_in_slot, slot_link_at, with_slot_link}
 use Rattle.af_model.specs.Waiting.{has_deferral}
 use Rattle.af_model.specs.Advance.{absorb, advance, takes_more}
-use Rattle.af_model.specs.Turn.{parsed, parse_then, then_go, parse_one, wants_read, is_read, read_by, read_phase, after_read, wants_write, sent, write_by, write_taken, write_phase, same_why, number_of_why, close_due, close_for, close_phase, serve_link, serve_open, serve_slot_link, serve_from, serve_all, in_open}
+use Rattle.af_model.specs.Turn.{accept, parse_then, and_then, parse_one, wants_read, is_read, read_by, read_phase, after_read, wants_write, sent, write_by, write_taken, write_phase, same_why, number_of_why, close_due, close_for, close_phase, serve_link, serve_open, serve_slot_link, serve_from, serve_all, in_open}
 use Rattle.af_model.proofs.BoolTestLemmas.{both-true}
 use Rattle.af_model.proofs.ListLemmas.{get-set_other}
 use Rattle.af_model.proofs.SlotLemmas.{some_link, slot_link, links_of-set, length-links_of}
 use Rattle.af_state.specs.Deferrals.{KeptDeferral, has_waiting}
-use Rattle.af_state.specs.Environment.{StandsForLink, KeptEnvironment, StandsForEnvironment}
+use Rattle.af_state.specs.SharedState.{StandsForLink, KeptSharedState, StandsForSharedState}
 use Rattle.af_state.proofs.DeferralLemmas.{same_waiting}
 use Rattle.af_core.specs.Stands.{AreSettled, StandsForSlot, IsSettled, IsSettledSlot, Kept, StandsFor, kept_of, writes_left}
 use Rattle.af_core.specs.Simulates.{Simulates}
 use Rattle.af_core.proofs.SimulationLemmas.{simulates_nothing, simulates_one, simulates_more, simulates_then}
 
 -- what holds of a link in whatever environment holds of each open link
-pub at_open_link : (env env' : KeptEnvironment) (l l' : LinkState) (f : OpenLink → OpenLink) → ((a : EnvironmentState) → StandsForEnvironment env a → StandsForLink env' l' (f (open_link a l))) → (p : OpenLink) → StandsForLink env l p → StandsForLink env' l' (f p)
+pub at_open_link : (env env' : KeptSharedState) (l l' : LinkState) (f : OpenLink → OpenLink) → ((a : EnvironmentState) → StandsForSharedState env a → StandsForLink env' l' (f (open_link a l))) → (p : OpenLink) → StandsForLink env l p → StandsForLink env' l' (f p)
 at_open_link env env' l l' f h p s = subst (λ m. StandsForLink env' l' (f (open_link p.environment m))) (sym s.1) (h p.environment s.0)
 
-pub at_update : (env : KeptEnvironment) (l l' : LinkState) (f : LinkState → LinkState) → l' ≡ f l → (p : OpenLink) → StandsForLink env l p → StandsForLink env l' (open_link p.environment (f p.link))
+pub at_update : (env : KeptSharedState) (l l' : LinkState) (f : LinkState → LinkState) → l' ≡ f l → (p : OpenLink) → StandsForLink env l p → StandsForLink env l' (open_link p.environment (f p.link))
 at_update env l l' f e p s = (s.0, ap f s.1 ∙ sym e)
 
 -- Reads
 
 -- whether a link is to be read is what the state says
-reads_same : (env : KeptEnvironment) (k : ℕ) (l : LinkState) (p : OpenLink) → StandsForLink env l p → wants_read (has_deferral p.environment.waiting k) p.link ≡ wants_read (has_waiting env.waits k) l
+reads_same : (env : KeptSharedState) (k : ℕ) (l : LinkState) (p : OpenLink) → StandsForLink env l p → wants_read (has_deferral p.environment.waiting k) p.link ≡ wants_read (has_waiting env.waits k) l
 reads_same env k l p s = ap (λ b. wants_read b p.link) (sym (same_waiting p.environment.devices env.waits p.environment.waiting k s.0.1)) ∙ ap (wants_read (has_waiting env.waits k)) s.1
 
-pub reads_nothing : (t : Option Log) (k : ℕ) (env : KeptEnvironment) (l : LinkState) → wants_read (has_waiting env.waits k) l ≡ false → Simulates t t (StandsForLink env l) (StandsForLink env l) (read_phase k) parsed
+pub reads_nothing : (t : Option Log) (k : ℕ) (env : KeptSharedState) (l : LinkState) → wants_read (has_waiting env.waits k) l ≡ false → Simulates t t (StandsForLink env l) (StandsForLink env l) (read_phase k) accept
 unfolding read_phase
 reads_nothing t k env l idle =
-    simulates_nothing t (StandsForLink env l) (StandsForLink env l) (read_phase k) parsed (λ p. p) (λ p s. s)
-    (λ p s log. ap (λ b. cond b (parse_one (read_by k p) log) (parsed p log)) (reads_same env k l p s ∙ idle))
+    simulates_nothing t (StandsForLink env l) (StandsForLink env l) (read_phase k) accept (λ p. p) (λ p s. s)
+    (λ p s log. ap (λ b. cond b (parse_one (read_by k p) log) (accept p log)) (reads_same env k l p s ∙ idle))
 
-pub reads : (a b : Option Log) (k : ℕ) (env env' : KeptEnvironment) (l l' : LinkState) (got : ReadGot) → wants_read (has_waiting env.waits k) l ≡ true → is_read got ≡ true → Appended a (Read k got ∷ []) b →
-    ((p : OpenLink) → StandsForLink env l p → StandsForLink env' l' (after_read k got p)) → Simulates a b (StandsForLink env l) (StandsForLink env' l') (read_phase k) parsed
+pub reads : (a b : Option Log) (k : ℕ) (env env' : KeptSharedState) (l l' : LinkState) (got : ReadGot) → wants_read (has_waiting env.waits k) l ≡ true → is_read got ≡ true → Appended a (Read k got ∷ []) b →
+    ((p : OpenLink) → StandsForLink env l p → StandsForLink env' l' (after_read k got p)) → Simulates a b (StandsForLink env l) (StandsForLink env' l') (read_phase k) accept
 unfolding read_phase
 reads a b k env env' l l' got wants fits told step =
-    simulates_one (Read k got) (StandsForLink env l) (StandsForLink env' l') (read_phase k) parsed (λ p. after_read k got p) refl told step
-    (λ p s log. ap (λ b. cond b (parse_one (read_by k p) (Read k got ∷ log)) (parsed p (Read k got ∷ log))) (reads_same env k l p s ∙ wants) ∙ rw (eq-refl k, fits))
+    simulates_one (Read k got) (StandsForLink env l) (StandsForLink env' l') (read_phase k) accept (λ p. after_read k got p) refl told step
+    (λ p s log. ap (λ b. cond b (parse_one (read_by k p) (Read k got ∷ log)) (accept p (Read k got ∷ log))) (reads_same env k l p s ∙ wants) ∙ rw (eq-refl k, fits))
 
 pub given_fits : (n : ℕ) (xs : List ℕ) → 1 ≤ n → n ≤ length xs → length xs ≡ longest_read → is_read (Given (take n xs)) ≡ true
 given_fits n xs some within room = let e : length (take n xs) ≡ n = length-take-le n xs within in rw e (grind arith)
 
 -- bytes that come are taken in and then what they complete is taken off
-pub absorbed : (k : ℕ) (env env' : KeptEnvironment) (l l1 l' : LinkState) (bytes : List ℕ) → wants_read (has_waiting env.waits k) l ≡ true → l1 ≡ record l { rest = l.rest ++ bytes } →
-    ((a : EnvironmentState) → StandsForEnvironment env a → StandsForLink env' l' (advance k (open_link a l1))) → (a : EnvironmentState) → StandsForEnvironment env a → StandsForLink env' l' (absorb k bytes (open_link a l))
+pub absorbed : (k : ℕ) (env env' : KeptSharedState) (l l1 l' : LinkState) (bytes : List ℕ) → wants_read (has_waiting env.waits k) l ≡ true → l1 ≡ record l { rest = l.rest ++ bytes } →
+    ((a : EnvironmentState) → StandsForSharedState env a → StandsForLink env' l' (advance k (open_link a l1))) → (a : EnvironmentState) → StandsForSharedState env a → StandsForLink env' l' (absorb k bytes (open_link a l))
 absorbed k env env' l l1 l' bytes wants e step a h =
     let waits = has_waiting env.waits k in
-    let open_to : is_none l.closing ≡ true = (both-true (is_none l.closing) (nat_le (length l.pending) most_to_send) (both-true (not waits) (is_none l.closing && nat_le (length l.pending) most_to_send) (both-true l.is_ready (takes_more waits l) wants).1).1).0 in
+    let open_to : is_none l.closing ≡ true = (both-true (is_none l.closing) (nat_le (length l.pending) perform_limit) (both-true (not waits) (is_none l.closing && nat_le (length l.pending) perform_limit) (both-true l.is_ready (takes_more waits l) wants).1).1).0 in
     subst (λ b. StandsForLink env' l' (cond b (advance k (open_link a (record l { rest = l.rest ++ bytes }))) (open_link a l))) (sym open_to)
     (subst (λ m. StandsForLink env' l' (advance k (open_link a m))) e (step a h))
 
 -- Writes
 
 -- a link that is not to be written takes nothing off
-pub write_phase-idle : (k : ℕ) (p : OpenLink) (log : Log) → wants_write p.link ≡ false → write_phase k p log ≡ parsed p log
+pub write_phase-idle : (k : ℕ) (p : OpenLink) (log : Log) → wants_write p.link ≡ false → write_phase k p log ≡ accept p log
 write_phase-idle k p [] e = rw e
 write_phase-idle k p (h ∷ log) e = rw e
 
-pub writes_nothing : (t : Option Log) (k : ℕ) (env : KeptEnvironment) (l : LinkState) → wants_write l ≡ false → Simulates t t (StandsForLink env l) (StandsForLink env l) (write_phase k) parsed
+pub writes_nothing : (t : Option Log) (k : ℕ) (env : KeptSharedState) (l : LinkState) → wants_write l ≡ false → Simulates t t (StandsForLink env l) (StandsForLink env l) (write_phase k) accept
 writes_nothing t k env l idle =
-    simulates_nothing t (StandsForLink env l) (StandsForLink env l) (write_phase k) parsed (λ p. p) (λ p s. s) (λ p s log. write_phase-idle k p log (ap wants_write s.1 ∙ idle))
+    simulates_nothing t (StandsForLink env l) (StandsForLink env l) (write_phase k) accept (λ p. p) (λ p s. s) (λ p s log. write_phase-idle k p log (ap wants_write s.1 ∙ idle))
 
-pub writes : (a b : Option Log) (k : ℕ) (env env' : KeptEnvironment) (l l' : LinkState) (took : Option (List ℕ)) (f : OpenLink → OpenLink) → wants_write l ≡ true →
+pub writes : (a b : Option Log) (k : ℕ) (env env' : KeptSharedState) (l l' : LinkState) (took : Option (List ℕ)) (f : OpenLink → OpenLink) → wants_write l ≡ true →
     ((a : EnvironmentState) → write_taken k took (open_link a l) ≡ Some (f (open_link a l))) → Appended a (Wrote k (length l.pending) took ∷ []) b →
-    ((a : EnvironmentState) → StandsForEnvironment env a → StandsForLink env' l' (f (open_link a l))) → Simulates a b (StandsForLink env l) (StandsForLink env' l') (write_phase k) (write_phase k)
+    ((a : EnvironmentState) → StandsForSharedState env a → StandsForLink env' l' (f (open_link a l))) → Simulates a b (StandsForLink env l) (StandsForLink env' l') (write_phase k) (write_phase k)
 writes a b k env env' l l' took f wants takes told step =
     simulates_one (Wrote k (length l.pending) took) (StandsForLink env l) (StandsForLink env' l') (write_phase k) (write_phase k) f refl told (at_open_link env env' l l' f step)
     (λ p s log.
@@ -86,8 +86,8 @@ writes a b k env env' l l' took f wants takes told step =
     let here : write_by k p (Wrote k (length l.pending) took) ≡ Some (f p) =
     subst (λ m. write_by k (open_link p.environment m) (Wrote k (length l.pending) took) ≡ Some (f (open_link p.environment m))) (sym s.1)
     (rw (eq-refl k, eq-refl (length l.pending)) (takes p.environment)) in
-    ap (λ b. cond b (then_go (write_by k p (Wrote k (length l.pending) took)) (λ q. write_phase k q log)) (parsed p (Wrote k (length l.pending) took ∷ log))) e
-    ∙ ap (λ o. then_go o (λ q. write_phase k q log)) here)
+    ap (λ b. cond b (and_then (write_by k p (Wrote k (length l.pending) took)) (λ q. write_phase k q log)) (accept p (Wrote k (length l.pending) took ∷ log))) e
+    ∙ ap (λ o. and_then o (λ q. write_phase k q log)) here)
 
 -- the first bytes that wait to be sent may be taken
 pub first_taken : (k n : ℕ) (p : OpenLink) → n ≤ length p.link.pending → write_taken k (Some (take n p.link.pending)) p ≡ Some (advance k (open_link p.environment (sent n p.link)))
@@ -118,32 +118,32 @@ fewer_writes n l l' within wants answered =
 
 -- Closes
 
-pub closes_nothing : (t : Option Log) (k : ℕ) (env : KeptEnvironment) (l : LinkState) → close_due l ≡ None → Simulates t t (StandsForLink env l) (StandsForSlot env (Some l)) (close_phase k) parsed
+pub closes_nothing : (t : Option Log) (k : ℕ) (env : KeptSharedState) (l : LinkState) → close_due l ≡ None → Simulates t t (StandsForLink env l) (StandsForSlot env (Some l)) (close_phase k) accept
 unfolding close_phase
 closes_nothing t k env l idle =
-    simulates_nothing t (StandsForLink env l) (StandsForSlot env (Some l)) (close_phase k) parsed (λ p. link_in_slot p.environment (Some p.link)) (λ p s. (s.0, ap (λ m. Some m) s.1))
+    simulates_nothing t (StandsForLink env l) (StandsForSlot env (Some l)) (close_phase k) accept (λ p. link_in_slot p.environment (Some p.link)) (λ p s. (s.0, ap (λ m. Some m) s.1))
     (λ p s log. ap (λ o. close_for k p o log) (ap close_due s.1 ∙ idle))
 
 same_why-refl : (cause : Why) → same_why cause cause ≡ true
 same_why-refl cause = eq-refl (number_of_why cause)
 
-pub closes : (a b : Option Log) (k : ℕ) (env : KeptEnvironment) (l : LinkState) (cause : Why) → close_due l ≡ Some cause → Appended a (Closed k cause ∷ []) b → Simulates a b (StandsForLink env l) (StandsForSlot env None) (close_phase k) parsed
+pub closes : (a b : Option Log) (k : ℕ) (env : KeptSharedState) (l : LinkState) (cause : Why) → close_due l ≡ Some cause → Appended a (Closed k cause ∷ []) b → Simulates a b (StandsForLink env l) (StandsForSlot env None) (close_phase k) accept
 unfolding close_phase
 closes a b k env l cause due told =
-    simulates_one (Closed k cause) (StandsForLink env l) (StandsForSlot env None) (close_phase k) parsed (λ p. link_in_slot p.environment None) refl told (λ p s. (s.0, refl))
+    simulates_one (Closed k cause) (StandsForLink env l) (StandsForSlot env None) (close_phase k) accept (λ p. link_in_slot p.environment None) refl told (λ p s. (s.0, refl))
     (λ p s log. ap (λ o. close_for k p o (Closed k cause ∷ log)) (ap close_due s.1 ∙ due) ∙ rw (eq-refl k, same_why-refl cause))
 
 -- A link, and all links
 
-pub serves : (a b c d : Option Log) (k : ℕ) (env env' env'' : KeptEnvironment) (l l' l'' : LinkState) (link : Option LinkState) →
-    Simulates a b (StandsForLink env l) (StandsForLink env' l') (read_phase k) parsed → Simulates b c (StandsForLink env' l') (StandsForLink env'' l'') (write_phase k) parsed → Simulates c d (StandsForLink env'' l'') (StandsForSlot env'' link) (close_phase k) parsed →
-    Simulates a d (StandsForLink env l) (StandsForSlot env'' link) (serve_link k) parsed
+pub serves : (a b c d : Option Log) (k : ℕ) (env env' env'' : KeptSharedState) (l l' l'' : LinkState) (link : Option LinkState) →
+    Simulates a b (StandsForLink env l) (StandsForLink env' l') (read_phase k) accept → Simulates b c (StandsForLink env' l') (StandsForLink env'' l'') (write_phase k) accept → Simulates c d (StandsForLink env'' l'') (StandsForSlot env'' link) (close_phase k) accept →
+    Simulates a d (StandsForLink env l) (StandsForSlot env'' link) (serve_link k) accept
 unfolding serve_link
 serves a b c d k env env' env'' l l' l'' link read write close =
     simulates_more (simulates_then (λ p log. parse_then (write_phase k p log) (close_phase k)) read) (simulates_more (simulates_then (close_phase k) write) close)
 
-pub door_serves : (a b : Option Log) (k : ℕ) (env env' : KeptEnvironment) (l : LinkState) (link : Option LinkState) →
-    Simulates a b (StandsForLink env l) (StandsForSlot env' link) (serve_link k) parsed → Simulates a b (StandsForSlot env (Some l)) (StandsForSlot env' link) (serve_slot_link k) parsed
+pub door_serves : (a b : Option Log) (k : ℕ) (env env' : KeptSharedState) (l : LinkState) (link : Option LinkState) →
+    Simulates a b (StandsForLink env l) (StandsForSlot env' link) (serve_link k) accept → Simulates a b (StandsForSlot env (Some l)) (StandsForSlot env' link) (serve_slot_link k) accept
 door_serves a b k env env' l link d = record {
   part = d.part;
   told = d.told;
@@ -154,15 +154,15 @@ door_serves a b k env env' l link d = record {
 }
 
 -- the same, as a slot shows it
-pub door_shows : (a b : Option Log) (k : ℕ) (env env' : KeptEnvironment) (old : Option LinkState) (l l' : LinkState) (is_closed : Bool) → old ≡ Some l →
-    Simulates a b (StandsForLink env l) (StandsForSlot env' (cond is_closed None (Some l'))) (serve_link k) parsed →
-    Simulates a b (StandsForSlot env old) (StandsForSlot env' (cond (not is_closed) (Some l') None)) (serve_slot_link k) parsed
-door_shows a b k env env' old l l' true e d = subst (λ o. Simulates a b (StandsForSlot env o) (StandsForSlot env' None) (serve_slot_link k) parsed) (sym e) (door_serves a b k env env' l None d)
-door_shows a b k env env' old l l' false e d = subst (λ o. Simulates a b (StandsForSlot env o) (StandsForSlot env' (Some l')) (serve_slot_link k) parsed) (sym e) (door_serves a b k env env' l (Some l') d)
+pub door_shows : (a b : Option Log) (k : ℕ) (env env' : KeptSharedState) (old : Option LinkState) (l l' : LinkState) (is_closed : Bool) → old ≡ Some l →
+    Simulates a b (StandsForLink env l) (StandsForSlot env' (cond is_closed None (Some l'))) (serve_link k) accept →
+    Simulates a b (StandsForSlot env old) (StandsForSlot env' (cond (not is_closed) (Some l') None)) (serve_slot_link k) accept
+door_shows a b k env env' old l l' true e d = subst (λ o. Simulates a b (StandsForSlot env o) (StandsForSlot env' None) (serve_slot_link k) accept) (sym e) (door_serves a b k env env' l None d)
+door_shows a b k env env' old l l' false e d = subst (λ o. Simulates a b (StandsForSlot env o) (StandsForSlot env' (Some l')) (serve_slot_link k) accept) (sym e) (door_serves a b k env env' l (Some l') d)
 
 -- one link of all
-pub one_served : (a b : Option Log) (n k : ℕ) (env env' : KeptEnvironment) (links : List (Option LinkState)) (link link' : Option LinkState) → some_link (slice_get links k) ≡ link →
-    Simulates a b (StandsForSlot env link) (StandsForSlot env' link') (serve_slot_link k) parsed →
+pub one_served : (a b : Option Log) (n k : ℕ) (env env' : KeptSharedState) (links : List (Option LinkState)) (link link' : Option LinkState) → some_link (slice_get links k) ≡ link →
+    Simulates a b (StandsForSlot env link) (StandsForSlot env' link') (serve_slot_link k) accept →
     Simulates a b (StandsFor (kept_of env links)) (StandsFor (kept_of env' (slice_set links k link'))) (serve_from (suc n) k) (serve_from n (k + 1))
 unfolding serve_from
 one_served a b n k env env' links link link' here d = record {
@@ -174,12 +174,12 @@ one_served a b n k env env' links link link' here d = record {
       record {
         state = with_slot_link k s r.state;
         stands = record { devices = r.stands.0.0; waiting = r.stands.0.1; links = links_of-set s.slots k (record { link = r.state.link; said = r.state.environment.said }) ∙ ap (λ ls. slice_set ls k r.state.link) h.links ∙ ap (λ o. slice_set links k o) r.stands.1 };
-        same = λ more. ap (λ o. parse_then (parse_then o (λ d log. parsed (with_slot_link k s d) log)) (serve_from n (k + 1))) (r.same more);
+        same = λ more. ap (λ o. parse_then (parse_then o (λ d log. accept (with_slot_link k s d) log)) (serve_from n (k + 1))) (r.same more);
       };
 }
 
-pub next_served : (a b c : Option Log) (count n k : ℕ) (kept : Kept) (env env' : KeptEnvironment) (links : List (Option LinkState)) (link link' : Option LinkState) → n ≡ suc (count - (k + 1)) → some_link (slice_get links k) ≡ link →
-    Simulates a b (StandsFor kept) (StandsFor (kept_of env links)) (serve_from count 0) (serve_from n k) → Simulates b c (StandsForSlot env link) (StandsForSlot env' link') (serve_slot_link k) parsed →
+pub next_served : (a b c : Option Log) (count n k : ℕ) (kept : Kept) (env env' : KeptSharedState) (links : List (Option LinkState)) (link link' : Option LinkState) → n ≡ suc (count - (k + 1)) → some_link (slice_get links k) ≡ link →
+    Simulates a b (StandsFor kept) (StandsFor (kept_of env links)) (serve_from count 0) (serve_from n k) → Simulates b c (StandsForSlot env link) (StandsForSlot env' link') (serve_slot_link k) accept →
     Simulates a c (StandsFor kept) (StandsFor (kept_of env' (slice_set links k link'))) (serve_from count 0) (serve_from (count - (k + 1)) (k + 1))
 next_served a b c count n k kept env env' links link link' e here d one =
     simulates_more d (subst (λ m. Simulates b c (StandsFor (kept_of env links)) (StandsFor (kept_of env' (slice_set links k link'))) (serve_from m k) (serve_from (count - (k + 1)) (k + 1))) (sym e) (one_served b c (count - (k + 1)) k env env' links link link' here one))
@@ -187,7 +187,7 @@ next_served a b c count n k kept env env' links link link' e here d one =
 pub none_served : (t : Option Log) (n m : ℕ) (kept : Kept) → n ≡ m → Simulates t t (StandsFor kept) (StandsFor kept) (serve_from n 0) (serve_from m 0)
 none_served t n m kept e = simulates_nothing t (StandsFor kept) (StandsFor kept) (serve_from n 0) (serve_from m 0) (λ s. s) (λ s h. h) (λ s h log. ap (λ x. serve_from x 0 s log) e)
 
-pub all_served : (a b : Option Log) (m k : ℕ) (kept kept' : Kept) → m ≡ 0 → Simulates a b (StandsFor kept) (StandsFor kept') (serve_from (length kept.links) 0) (serve_from m k) → Simulates a b (StandsFor kept) (StandsFor kept') serve_all parsed
+pub all_served : (a b : Option Log) (m k : ℕ) (kept kept' : Kept) → m ≡ 0 → Simulates a b (StandsFor kept) (StandsFor kept') (serve_from (length kept.links) 0) (serve_from m k) → Simulates a b (StandsFor kept) (StandsFor kept') serve_all accept
 unfolding serve_from
 all_served a b m k kept kept' e d = record {
   part = d.part;

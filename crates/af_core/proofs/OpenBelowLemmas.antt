@@ -14,13 +14,13 @@ use Rattle.af_world.specs.Log.{Log}
 use Rattle.af_model.specs.State.{State, DeviceState, LinkState, link_in_slot, opened, slot_at, with_slot}
 use Rattle.af_model.specs.Tick.{captured_samples, tick}
 use Rattle.af_model.specs.Events.{hook_given, hook_refused, line_changes}
-use Rattle.af_model.specs.Turn.{Parsed, parsed, parse_then, parse_one, capture_by, after_capture, tick_phase, line_phase, wake_phase, hook_all, hook_at, hook_from, fits, is_closed_at, is_open_at, ready, writable, in_slot, serve_open, serve_slot_link}
+use Rattle.af_model.specs.Turn.{Parsed, accept, parse_then, parse_one, capture_by, after_capture, tick_phase, line_phase, wake_phase, hook_all, hook_at, hook_from, fits, is_closed_at, is_open_at, ready, writable, in_slot, serve_open, serve_slot_link}
 use Rattle.af_model.proofs.BoolTestLemmas.{none_some}
 use Rattle.af_model.proofs.ListLemmas.{get-set_other}
 use Rattle.af_model.proofs.SlotLemmas.{some_link}
 use Rattle.af_model.proofs.OpenLinkLemmas.{becomes-opens, flagged, open_after, open_links, open_links-set, tick-opens}
 use Rattle.af_model.proofs.PhasePartLemmas.{Takes, hook_takes, live_takes, takes_chain, takes_nothing}
-use Rattle.af_state.specs.Environment.{KeptEnvironment}
+use Rattle.af_state.specs.SharedState.{KeptSharedState}
 use Rattle.af_core.specs.Stands.{Kept, NoneOpenFrom, StandsFor, StandsForSlot, open_below_after, outline_of}
 use Rattle.af_core.specs.Simulates.{Simulates}
 use Rattle.af_core.proofs.SimulationLemmas.{simulates_nothing}
@@ -37,7 +37,7 @@ OpensAs f s log t = open_links t.slots ≡ f (open_links s.slots)
 ticked_opens : (d n : ℕ) (o : Option DeviceState) (s : State) → Takes (tick_phase d n o s) (OpensAs (λ w. w) s)
 ticked_opens d n None s = λ log b e. absurd (none_some e)
 ticked_opens d n (Some device) s =
-    elim device.is_dead as (λ t. Takes (λ log. cond t (parsed (tick d n (captured_samples device n None) true s) log) (parse_then (parse_one (capture_by d n device) log) (after_capture d n device s))) (OpensAs (λ w. w) s)) [
+    elim device.is_dead as (λ t. Takes (λ log. cond t (accept (tick d n (captured_samples device n None) true s) log) (parse_then (parse_one (capture_by d n device) log) (after_capture d n device s))) (OpensAs (λ w. w) s)) [
       | true ↦ takes_nothing (tick d n (captured_samples device n None) true s) (OpensAs (λ w. w) s) (tick-opens d n (captured_samples device n None) true s)
       | false ↦ live_takes d n device s (OpensAs (λ w. w) s) (tick-opens d n (captured_samples device n None) true s) (λ bytes done size. tick-opens d n (captured_samples device n (Some bytes)) (not done) s)
     ]
@@ -75,7 +75,7 @@ hooks_open s = hooks_from (length s.devices) 0 s
 
 -- what is kept says the same
 pub kept_opens : {a b : Option Log} (kept kept' : Kept) (phase : State → Log → Option (Parsed State)) (f : List Bool → List Bool) → ((s : State) → Takes (phase s) (OpensAs f s)) → (s : State) × StandsFor kept s →
-    Simulates a b (StandsFor kept) (StandsFor kept') phase parsed → opens kept'.links ≡ f (opens kept.links)
+    Simulates a b (StandsFor kept) (StandsFor kept') phase accept → opens kept'.links ≡ f (opens kept.links)
 kept_opens kept kept' phase f takes stood d =
     let s = stood.0 in
     let r = d.each s stood.1 in
@@ -145,10 +145,10 @@ set_closed [] k e = refl
 set_closed (x ∷ links) zero e = ap (λ o. o ∷ links) (sym e)
 set_closed (x ∷ links) (suc k) e = ap (λ ls. x ∷ ls) (set_closed links k e)
 
-pub closed_serves : (t : Option Log) (k : ℕ) (env : KeptEnvironment) → Simulates t t (StandsForSlot env None) (StandsForSlot env None) (serve_slot_link k) parsed
+pub closed_serves : (t : Option Log) (k : ℕ) (env : KeptSharedState) → Simulates t t (StandsForSlot env None) (StandsForSlot env None) (serve_slot_link k) accept
 closed_serves t k env =
-    simulates_nothing t (StandsForSlot env None) (StandsForSlot env None) (serve_slot_link k) parsed (λ d. d) (λ d h. h)
-    (λ d h log. ap (λ o. serve_open k d.environment o log) h.1 ∙ ap (λ (o : Option LinkState). parsed (link_in_slot d.environment o) log) (sym h.1))
+    simulates_nothing t (StandsForSlot env None) (StandsForSlot env None) (serve_slot_link k) accept (λ d. d) (λ d h. h)
+    (λ d h log. ap (λ o. serve_open k d.environment o log) h.1 ∙ ap (λ (o : Option LinkState). accept (link_in_slot d.environment o) log) (sym h.1))
 
 -- a link that is opened has a number
 below_woken : (wake : Wake) (n : ℕ) (kept : Kept) → fits (outline_of kept) wake ≡ true → n ≤ length kept.links → open_below_after wake n ≤ length kept.links

@@ -5,7 +5,7 @@ use Rattle.af_world.specs.declared.happening.Happening.{Happening}
 use Rattle.af_io.specs.Observed.{Appended}
 use Rattle.af_world.specs.Log.{Log}
 use Rattle.af_io.proofs.AppendedLemmas.{appended_none, appended_on}
-use Rattle.af_model.specs.Turn.{Parsed, parsed, parse_then}
+use Rattle.af_model.specs.Turn.{Parsed, accept, parse_then}
 use Rattle.af_model.specs.Run.{wakes}
 use Rattle.af_model.proofs.RunLemmas.{wakes-append-none}
 use Rattle.af_core.specs.Simulates.{Simulates}
@@ -52,7 +52,7 @@ module _ {S T U R : Type 0} where
 module _ {S T R : Type 0} where
   -- a part is the first of two
   pub simulates_then : {a b : Option Log} {P : S → Type 0} {Q : T → Type 0} {f : S → Log → Option (Parsed T)} (h : T → Log → Option (Parsed R)) →
-      Simulates a b P Q f parsed → Simulates a b P Q (λ s log. parse_then (f s log) h) h
+      Simulates a b P Q f accept → Simulates a b P Q (λ s log. parse_then (f s log) h) h
   simulates_then h d = record {
     part = d.part;
     told = d.told;

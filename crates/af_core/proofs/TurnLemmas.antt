@@ -21,14 +21,14 @@ use Rattle.af_model.specs.Waiting.{due, AreDueLater}
 use Rattle.af_model.specs.NoLoss.{LosesNone}
 use Rattle.af_model.specs.Controls.{through_output_control}
 use Rattle.af_model.specs.Tick.{next_sound, sound, tick, later, captured_samples, complete_due}
-use Rattle.af_model.specs.Turn.{Parsed, parsed, parse_then, parse_one, turn, fits, is_open_at, wake_phase, tick_phase, is_capture, capture_by, after_capture, emit_by, serve_and_hook, ready, writable, in_open, in_slot}
+use Rattle.af_model.specs.Turn.{Parsed, accept, parse_then, parse_one, turn, fits, is_open_at, wake_phase, tick_phase, is_capture, capture_by, after_capture, emit_by, serve_and_hook, ready, writable, in_open, in_slot}
 use Rattle.af_model.specs.Run.{wakes}
 use Rattle.af_model.proofs.RunLemmas.{wakes-append-none}
 use Rattle.af_model.proofs.WakeLemmas.{turn_lines}
 use Rattle.af_model.proofs.SlotLemmas.{slot_link, links_of-set, some_link}
 use Rattle.af_state.specs.Kept.{KeptDevice, StandsForDevice, StandForDevices}
 use Rattle.af_state.specs.Deferrals.{KeptDeferral, has_waiting, kept_passed, waits_of, AreLater, StandForDeferrals}
-use Rattle.af_state.specs.Environment.{KeptEnvironment}
+use Rattle.af_state.specs.SharedState.{KeptSharedState}
 use Rattle.af_core.specs.Stands.{AreOrderly, AreSettled, IsBetweenPhases, IsSettled, IsSettledSlot, Kept, Stands, StandsFor, StandForWaiting, Turns, kept_lines, kept_of, outline_of}
 use Rattle.af_sample.specs.Channels.{frame_count}
 use Rattle.af_sample.specs.Samples.{bytes_of, samples}
@@ -111,11 +111,11 @@ same_count a b ds es e h g =
     sym (stands_length es b.devices g) ∙ sym (size b.devices) ∙ ap length e ∙ size a.devices ∙ stands_length ds a.devices h
 
 pub turns : (a b c d : Option Log) (wake : Wake) (kept kept' kept'' : Kept) → fits (outline_of kept) wake ≡ true → IsBetweenPhases kept → AreOrderly kept''.waits kept''.links → Appended a (Woke wake ∷ []) b →
-    Simulates b c (StandsFor kept) (StandsFor kept') (wake_phase wake) parsed → Simulates c d (StandsFor kept') (StandsFor kept'') serve_and_hook parsed → Turns a d wake kept kept''
+    Simulates b c (StandsFor kept) (StandsFor kept') (wake_phase wake) accept → Simulates c d (StandsFor kept') (StandsFor kept'') serve_and_hook accept → Turns a d wake kept kept''
 unfolding turn
 turns a b c d wake kept kept' kept'' fit old new told w e =
     let open_to : (s : State) → StandsFor kept s → fits (outline s) wake ≡ true = λ s h. ap (λ o. fits o wake) (same_outline kept s h) ∙ fit in
-    let leads : (s : State) (h : StandsFor kept s) (more : Log) → turn s (Woke wake ∷ (w.part ++ e.part) ++ more) ≡ parsed (e.each (w.each s h).state (w.each s h).stands).state more = λ s h more.
+    let leads : (s : State) (h : StandsFor kept s) (more : Log) → turn s (Woke wake ∷ (w.part ++ e.part) ++ more) ≡ accept (e.each (w.each s h).state (w.each s h).stands).state more = λ s h more.
     let first = w.each s h in
     let second = e.each first.state first.stands in
     ap (λ b. cond b (parse_then (wake_phase wake s ((w.part ++ e.part) ++ more)) serve_and_hook) None) (open_to s h) ∙ rw append_assoc (ap (λ o. parse_then o serve_and_hook) (first.same (e.part ++ more)) ∙ second.same more) in
@@ -154,10 +154,10 @@ simulates_keep kept kept' d old orderly = record { orderly = orderly; stands = s
 -- Wakes of links
 
 pub opens : (t : Option Log) (k : ℕ) (kept : Kept) (links' : List (Option LinkState)) → links' ≡ slice_set kept.links k (Some opened) →
-    Simulates t t (StandsFor kept) (StandsFor (record kept { links = links' })) (wake_phase (Opened k)) parsed
+    Simulates t t (StandsFor kept) (StandsFor (record kept { links = links' })) (wake_phase (Opened k)) accept
 unfolding wake_phase
 opens t k kept links' e =
-    simulates_nothing t (StandsFor kept) (StandsFor (record kept { links = links' })) (wake_phase (Opened k)) parsed (λ s. with_slot k (record { link = Some opened; said = [] }) s)
+    simulates_nothing t (StandsFor kept) (StandsFor (record kept { links = links' })) (wake_phase (Opened k)) accept (λ s. with_slot k (record { link = Some opened; said = [] }) s)
     (λ s h. record { devices = h.devices; waiting = h.waiting; links = links_of-set s.slots k (record { link = Some opened; said = [] }) ∙ ap (λ l. slice_set l k (Some opened)) h.links ∙ sym e })
     (λ s h log. refl)
 
@@ -175,22 +175,22 @@ write_below n k links wake e fit = open_below links k (subst (λ w. fits (outlin
 
 -- a wake that sets a flag of a link, or clears it
 flags : (t : Option Log) (k : ℕ) (f : LinkState → LinkState) (wake : Wake) (kept : Kept) (links' : List (Option LinkState)) (link : Option LinkState) →
-    ((s : State) (log : Log) → wake_phase wake s log ≡ parsed (with_slot k (in_slot f (slot_at k s)) s) log) → some_link (slice_get kept.links k) ≡ link → links' ≡ slice_set kept.links k (in_open f link) →
-    Simulates t t (StandsFor kept) (StandsFor (record kept { links = links' })) (wake_phase wake) parsed
+    ((s : State) (log : Log) → wake_phase wake s log ≡ accept (with_slot k (in_slot f (slot_at k s)) s) log) → some_link (slice_get kept.links k) ≡ link → links' ≡ slice_set kept.links k (in_open f link) →
+    Simulates t t (StandsFor kept) (StandsFor (record kept { links = links' })) (wake_phase wake) accept
 flags t k f wake kept links' link simulates here e =
-    simulates_nothing t (StandsFor kept) (StandsFor (record kept { links = links' })) (wake_phase wake) parsed (λ s. with_slot k (in_slot f (slot_at k s)) s)
+    simulates_nothing t (StandsFor kept) (StandsFor (record kept { links = links' })) (wake_phase wake) accept (λ s. with_slot k (in_slot f (slot_at k s)) s)
     (λ s h.
     let same : (slot_at k s).link ≡ link = slot_link s.slots k ∙ ap (λ l. some_link (slice_get l k)) h.links ∙ here in
     record { devices = h.devices; waiting = h.waiting; links = links_of-set s.slots k (in_slot f (slot_at k s)) ∙ ap (λ l. slice_set l k (in_open f (slot_at k s).link)) h.links ∙ ap (λ o. slice_set kept.links k (in_open f o)) same ∙ sym e })
     (λ s h log. simulates s log)
 
 pub readies : (t : Option Log) (k : ℕ) (kept : Kept) (links' : List (Option LinkState)) (link : Option LinkState) → some_link (slice_get kept.links k) ≡ link → links' ≡ slice_set kept.links k (in_open ready link) →
-    Simulates t t (StandsFor kept) (StandsFor (record kept { links = links' })) (wake_phase (Readable k)) parsed
+    Simulates t t (StandsFor kept) (StandsFor (record kept { links = links' })) (wake_phase (Readable k)) accept
 unfolding wake_phase
 readies t k kept links' link here e = flags t k ready (Readable k) kept links' link (λ s log. refl) here e
 
 pub unsticks : (t : Option Log) (k : ℕ) (kept : Kept) (links' : List (Option LinkState)) (link : Option LinkState) → some_link (slice_get kept.links k) ≡ link → links' ≡ slice_set kept.links k (in_open writable link) →
-    Simulates t t (StandsFor kept) (StandsFor (record kept { links = links' })) (wake_phase (Writable k)) parsed
+    Simulates t t (StandsFor kept) (StandsFor (record kept { links = links' })) (wake_phase (Writable k)) accept
 unfolding wake_phase
 unsticks t k kept links' link here e = flags t k writable (Writable k) kept links' link (λ s log. refl) here e
 
@@ -200,20 +200,20 @@ ready_settled waits l s = record { bounds = record { rest = s.bounds.rest; pendi
 pub writable_settled : (waits : Bool) (l : LinkState) → IsSettled waits l → IsSettled waits (writable l)
 writable_settled waits l s = record { bounds = record { rest = s.bounds.rest; pending = s.bounds.pending }; short = s.short; room = s.room }
 
-pub stays_idle : (t : Option Log) (kept : Kept) → Simulates t t (StandsFor kept) (StandsFor kept) (wake_phase Idle) parsed
+pub stays_idle : (t : Option Log) (kept : Kept) → Simulates t t (StandsFor kept) (StandsFor kept) (wake_phase Idle) accept
 unfolding wake_phase
-stays_idle t kept = simulates_nothing t (StandsFor kept) (StandsFor kept) (wake_phase Idle) parsed (λ s. s) (λ s h. h) (λ s h log. refl)
+stays_idle t kept = simulates_nothing t (StandsFor kept) (StandsFor kept) (wake_phase Idle) accept (λ s. s) (λ s h. h) (λ s h log. refl)
 
-pub stays_stop : (t : Option Log) (kept : Kept) → Simulates t t (StandsFor kept) (StandsFor kept) (wake_phase Stop) parsed
+pub stays_stop : (t : Option Log) (kept : Kept) → Simulates t t (StandsFor kept) (StandsFor kept) (wake_phase Stop) accept
 unfolding wake_phase
-stays_stop t kept = simulates_nothing t (StandsFor kept) (StandsFor kept) (wake_phase Stop) parsed (λ s. s) (λ s h. h) (λ s h log. refl)
+stays_stop t kept = simulates_nothing t (StandsFor kept) (StandsFor kept) (wake_phase Stop) accept (λ s. s) (λ s h. h) (λ s h log. refl)
 
 -- the same of a wake by another name
-pub at_wake : {a b : Option Log} {kept kept' : Kept} {wake wake' : Wake} → wake ≡ wake' → Simulates a b (StandsFor kept) (StandsFor kept') (wake_phase wake') parsed → Simulates a b (StandsFor kept) (StandsFor kept') (wake_phase wake) parsed
-at_wake {a} {b} {kept} {kept'} {wake} {wake'} e d = subst (λ w. Simulates a b (StandsFor kept) (StandsFor kept') (wake_phase w) parsed) (sym e) d
+pub at_wake : {a b : Option Log} {kept kept' : Kept} {wake wake' : Wake} → wake ≡ wake' → Simulates a b (StandsFor kept) (StandsFor kept') (wake_phase wake') accept → Simulates a b (StandsFor kept) (StandsFor kept') (wake_phase wake) accept
+at_wake {a} {b} {kept} {kept'} {wake} {wake'} e d = subst (λ w. Simulates a b (StandsFor kept) (StandsFor kept') (wake_phase w) accept) (sym e) d
 
 -- what is kept behind a wake that changed one link, which is settled then
-pub wake_keeps : {a b : Option Log} (env : KeptEnvironment) (links : List (Option LinkState)) (k : ℕ) (link : Option LinkState) {f : State → Log → Option (Parsed State)} {g : State → Log → Option (Parsed State)} →
+pub wake_keeps : {a b : Option Log} (env : KeptSharedState) (links : List (Option LinkState)) (k : ℕ) (link : Option LinkState) {f : State → Log → Option (Parsed State)} {g : State → Log → Option (Parsed State)} →
     Simulates a b (StandsFor (kept_of env links)) (StandsFor (kept_of env (slice_set links k link))) f g → IsBetweenPhases (kept_of env links) → IsSettledSlot (has_waiting env.waits k) link → IsBetweenPhases (kept_of env (slice_set links k link))
 wake_keeps env links k link d old one =
     simulates_keep (kept_of env links) (kept_of env (slice_set links k link)) d old
@@ -238,7 +238,7 @@ record Passed (k n : ℕ) (kept : Kept) (d' : KeptDevice) (part : Log) (s : Stat
   captured : List ℤ
   is_dead : Bool
   stands : StandsFor (passed_kept k n d' kept) (record s { devices = with_device k (later n captured is_dead) s.devices })
-  same : (more : Log) → wake_phase (Ticked k n) s (part ++ more) ≡ parsed (tick k n captured is_dead s) more
+  same : (more : Log) → wake_phase (Ticked k n) s (part ++ more) ≡ accept (tick k n captured is_dead s) more
 
 -- a device has passed over sample periods, and those that wait for it have
 passed_on : (k n : ℕ) (kept : Kept) (d d' : KeptDevice) (s : State) (captured : List ℤ) (is_dead : Bool) (device : DeviceState) → n ≤ longest_tick → AreLater kept.waits → StandsFor kept s →
@@ -264,8 +264,8 @@ passes_dead k n kept d d' given few l here dead p s h =
       is_dead = true;
       stands = passed_on k n kept d d' s silent true r.state few l h r.here r.stands gone;
       same = λ more.
-          subst (λ o. tick_phase k n o s more ≡ parsed (tick k n silent true s) more) (sym r.here)
-          (ap (λ b. cond b (parsed (tick k n silent true s) more) (parse_then (parse_one (capture_by k n r.state) more) (after_capture k n r.state s))) (sym r.stands.dead ∙ dead));
+          subst (λ o. tick_phase k n o s more ≡ accept (tick k n silent true s) more) (sym r.here)
+          (ap (λ b. cond b (accept (tick k n silent true s) more) (parse_then (parse_one (capture_by k n r.state) more) (after_capture k n r.state s))) (sym r.stands.dead ∙ dead));
     }
 
 -- a live device
@@ -279,8 +279,8 @@ passes_live a b k n kept d d' few l here live t s h =
       is_dead = t.is_dead;
       stands = passed_on k n kept d d' s (captured_samples r.state n t.came) t.is_dead r.state few l h r.here r.stands (t.stands r.state r.stands);
       same = λ more.
-          subst (λ o. tick_phase k n o s (t.part ++ more) ≡ parsed (tick k n (captured_samples r.state n t.came) t.is_dead s) more) (sym r.here)
-          (ap (λ b. cond b (parsed (tick k n (captured_samples r.state n None) true s) (t.part ++ more)) (parse_then (parse_one (capture_by k n r.state) (t.part ++ more)) (after_capture k n r.state s))) (sym r.stands.dead ∙ live)
+          subst (λ o. tick_phase k n o s (t.part ++ more) ≡ accept (tick k n (captured_samples r.state n t.came) t.is_dead s) more) (sym r.here)
+          (ap (λ b. cond b (accept (tick k n (captured_samples r.state n None) true s) (t.part ++ more)) (parse_then (parse_one (capture_by k n r.state) (t.part ++ more)) (after_capture k n r.state s))) (sym r.stands.dead ∙ live)
           ∙ t.goes r.state r.stands s more);
     }
 
@@ -306,7 +306,7 @@ passed_state a b k n kept d d' few l here t h =
 
 -- a tick, behind which requests complete
 pub ticks : (a b : Option Log) (k n : ℕ) (kept kept' : Kept) (d d' : KeptDevice) → n ≤ longest_tick → AreLater kept.waits → slice_get kept.devices k ≡ Some d → Ticks d.is_dead k n d d' a b →
-    ((s : State) → StandsFor (passed_kept k n d' kept) s → StandsFor kept' (complete_due k s)) → Simulates a b (StandsFor kept) (StandsFor kept') (wake_phase (Ticked k n)) parsed
+    ((s : State) → StandsFor (passed_kept k n d' kept) s → StandsFor kept' (complete_due k s)) → Simulates a b (StandsFor kept) (StandsFor kept') (wake_phase (Ticked k n)) accept
 ticks a b k n kept kept' d d' few l here t complete =
     let all = passes_all a b k n kept d d' few l here t in
     record {
@@ -340,10 +340,10 @@ passes_by came n m d d' bytes given xs sound all size is told stands hands = rec
 
 -- what a live device does by its calls
 
-capture_taken : (k n : ℕ) (device : DeviceState) (got : Option (List ℕ)) → is_capture n device got ≡ true → (log : Log) → parse_one (capture_by k n device) (Captured k n got ∷ log) ≡ parsed got log
+capture_taken : (k n : ℕ) (device : DeviceState) (got : Option (List ℕ)) → is_capture n device got ≡ true → (log : Log) → parse_one (capture_by k n device) (Captured k n got ∷ log) ≡ accept got log
 capture_taken k n device got fits log = rw (eq-refl k, eq-refl n, fits)
 
-emit_taken : (k n : ℕ) (device : DeviceState) (captured : List ℤ) (s : State) (done : Bool) (log : Log) → parse_one (emit_by k n device captured s) (Emitted k (sound device n) done ∷ log) ≡ parsed (tick k n captured (not done) s) log
+emit_taken : (k n : ℕ) (device : DeviceState) (captured : List ℤ) (s : State) (done : Bool) (log : Log) → parse_one (emit_by k n device captured s) (Emitted k (sound device n) done ∷ log) ≡ accept (tick k n captured (not done) s) log
 emit_taken k n device captured s done log = rw (eq-refl k, same_bytes-refl (sound device n))
 
 pub capture_failed : (a b : Option Log) (k n : ℕ) (d d' e : KeptDevice) (came : Bool) (bytes given : List ℕ) → came ≡ false → Passes d d' n (cond came (Some bytes) None) given →

@@ -11,13 +11,13 @@ use Rattle.af_world.specs.declared.happening.Why.{Why}
 use Rattle.af_world.specs.Log.{Log}
 use Rattle.af_model.specs.State.{LinkState}
 use Rattle.af_model.specs.More.{any_wants, open_wants}
-use Rattle.af_model.specs.Turn.{parsed, close_due, fits, is_open_at, serve_all, serve_from, serve_slot_link, wake_phase, wants_read, wants_write}
+use Rattle.af_model.specs.Turn.{accept, close_due, fits, is_open_at, serve_all, serve_from, serve_slot_link, wake_phase, wants_read, wants_write}
 use Rattle.af_model.proofs.ListLemmas.{get-set_other}
 use Rattle.af_model.proofs.OpenLinkLemmas.{open_after}
 use Rattle.af_model.proofs.SlotLemmas.{some_link}
 use Rattle.af_state.specs.Deferrals.{KeptDeferral, has_waiting}
-use Rattle.af_state.specs.Environment.{KeptEnvironment}
-use Rattle.af_core.specs.declared.bounds.Bounds.{Bounds}
+use Rattle.af_state.specs.SharedState.{KeptSharedState}
+use Rattle.af_core.specs.declared.wanting_span.WantingSpan.{WantingSpan}
 use Rattle.af_core.specs.Simulates.{Simulates}
 use Rattle.af_core.specs.Stands.{AreBounds, AreExact, IsBetweenPhases, Kept, NoneOpenFrom, StandsFor, StandsForSlot, WakesOnly, WantsWithin, bounds_after, bounds_of_all, bounds_with, kept_of, open_below_after, outline_of, wants_at}
 use Rattle.af_core.proofs.LinkPhaseLemmas.{all_served, closes_nothing, door_serves, link_here, none_served, one_served, reads_nothing, serves, writes_nothing}
@@ -60,8 +60,8 @@ no_cause : (o : Option Why) → is_some o ≡ false → o ≡ None
 no_cause None e = refl
 no_cause (Some why) e = absurd cc
 
-quiet_serves : (t : Option Log) (k : ℕ) (env : KeptEnvironment) (link : Option LinkState) → open_wants (has_waiting env.waits k) link ≡ false →
-    Simulates t t (StandsForSlot env link) (StandsForSlot env link) (serve_slot_link k) parsed
+quiet_serves : (t : Option Log) (k : ℕ) (env : KeptSharedState) (link : Option LinkState) → open_wants (has_waiting env.waits k) link ≡ false →
+    Simulates t t (StandsForSlot env link) (StandsForSlot env link) (serve_slot_link k) accept
 quiet_serves t k env None quiet = closed_serves t k env
 quiet_serves t k env (Some l) quiet =
     let reads = neither (wants_read (has_waiting env.waits k) l) (wants_write l || is_some (close_due l)) quiet in
@@ -76,7 +76,7 @@ set_same (x ∷ links) (suc k) = ap (λ ls. x ∷ ls) (set_same links k)
 
 quiet_served : (t : Option Log) (n k : ℕ) (kept : Kept) → wants_at kept.waits kept.links k ≡ false → Simulates t t (StandsFor kept) (StandsFor kept) (serve_from (suc n) k) (serve_from n (k + 1))
 quiet_served t n k kept quiet =
-    let env : KeptEnvironment = record { devices = kept.devices; waits = kept.waits } in
+    let env : KeptSharedState = record { devices = kept.devices; waits = kept.waits } in
     let link : Option LinkState = some_link (slice_get kept.links k) in
     subst (λ (ls : List (Option LinkState)). Simulates t t (StandsFor kept) (StandsFor (kept_of env ls)) (serve_from (suc n) k) (serve_from n (k + 1))) (set_same kept.links k)
     (one_served t t n k env env kept.links link link refl (quiet_serves t k env link (sym (ap (open_wants (has_waiting kept.waits k)) (link_in (slice_get kept.links k))) ∙ quiet)))
@@ -98,7 +98,7 @@ before_quiet t count k kept few quiet =
 
 -- and the last ones
 pub rest_quiet : (a b : Option Log) (n k : ℕ) (kept kept' : Kept) → ((j : ℕ) → k ≤ j → wants_at kept'.waits kept'.links j ≡ false) → Simulates a b (StandsFor kept) (StandsFor kept') (serve_from (length kept.links) 0) (serve_from n k) →
-    Simulates a b (StandsFor kept) (StandsFor kept') serve_all parsed
+    Simulates a b (StandsFor kept) (StandsFor kept') serve_all accept
 rest_quiet a b zero k kept kept' quiet d = all_served a b 0 k kept kept' refl d
 rest_quiet a b (suc n) k kept kept' quiet d =
     rest_quiet a b n (k + 1) kept kept' (λ j from. quiet j (omega (arith, from))) (simulates_more d (quiet_served b n k kept' (quiet k (omega arith))))
@@ -112,7 +112,7 @@ opens_below n k links none is = elim (cases_lt k n) [
   | inr more ↦ let closed = none k more in absurd cc
 ]
 
-with_wants : (k : ℕ) (b : Bounds) (ks ks' : List KeptDeferral) (links links' : List (Option LinkState)) → ((j : ℕ) → j ≢ k → wants_at ks' links' j ≡ wants_at ks links j) →
+with_wants : (k : ℕ) (b : WantingSpan) (ks ks' : List KeptDeferral) (links links' : List (Option LinkState)) → ((j : ℕ) → j ≢ k → wants_at ks' links' j ≡ wants_at ks links j) →
     WantsWithin b.wants_from b.wants_below ks links → WantsWithin (bounds_with k b).wants_from (bounds_with k b).wants_below ks' links'
 with_wants k b ks ks' links links' only h = record {
   before = λ j less. only j (λ same. absurd (omega (arith, same, less))) ∙ h.before j (omega (arith, less));
@@ -122,10 +122,10 @@ with_wants k b ks ks' links links' only h = record {
 all_wants : (n : ℕ) (ks : List KeptDeferral) (links : List (Option LinkState)) → NoneOpenFrom n links → WantsWithin 0 n ks links
 all_wants n ks links none = record { before = λ j less. absurd (omega (arith, less)); behind = λ j more. closed_wants n ks links none j more }
 
-pub all_bounds : (b : Bounds) (ks : List KeptDeferral) (links : List (Option LinkState)) → b.open_below ≤ most_links → NoneOpenFrom b.open_below links → AreBounds (bounds_of_all b) ks links
+pub all_bounds : (b : WantingSpan) (ks : List KeptDeferral) (links : List (Option LinkState)) → b.open_below ≤ most_links → NoneOpenFrom b.open_below links → AreBounds (bounds_of_all b) ks links
 all_bounds b ks links most none = record { most = most; none_open = none; from = omega arith; within = omega arith; wants = all_wants b.open_below ks links none }
 
-pub woken_bounds : (wake : Wake) (b : Bounds) (kept : Kept) (ks' : List KeptDeferral) (links' : List (Option LinkState)) → fits (outline_of kept) wake ≡ true → AreBounds b kept.waits kept.links →
+pub woken_bounds : (wake : Wake) (b : WantingSpan) (kept : Kept) (ks' : List KeptDeferral) (links' : List (Option LinkState)) → fits (outline_of kept) wake ≡ true → AreBounds b kept.waits kept.links →
     WakesOnly wake kept.waits kept.links ks' links' → open_below_after wake b.open_below ≤ most_links → NoneOpenFrom (open_below_after wake b.open_below) links' → AreBounds (bounds_after wake b) ks' links'
 woken_bounds (Opened k) b kept ks' links' fit h only most none = record {
   most = most;
@@ -206,7 +206,7 @@ pub wants_of : (ks : List KeptDeferral) (links : List (Option LinkState)) (k : �
 wants_of ks links k d there = ap (open_wants (has_waiting ks k)) (link_in (slice_get links k) ∙ link_here links k d there)
 
 -- a wake moves this bound as it is said without the others
-pub same_open : (wake : Wake) (b : Bounds) → (bounds_after wake b).open_below ≡ open_below_after wake b.open_below
+pub same_open : (wake : Wake) (b : WantingSpan) → (bounds_after wake b).open_below ≡ open_below_after wake b.open_below
 same_open (Opened k) b = refl
 same_open (Readable k) b = refl
 same_open (Writable k) b = refl
@@ -216,7 +216,7 @@ same_open Idle b = refl
 same_open Stop b = refl
 
 -- and never down
-pub open_grows : (wake : Wake) (b : Bounds) → b.open_below ≤ (bounds_after wake b).open_below
+pub open_grows : (wake : Wake) (b : WantingSpan) → b.open_below ≤ (bounds_after wake b).open_below
 open_grows (Opened k) b = le-max_left b.open_below (k + 1)
 open_grows (Readable k) b = le_refl b.open_below
 open_grows (Writable k) b = le_refl b.open_below
@@ -226,12 +226,12 @@ open_grows Idle b = le_refl b.open_below
 open_grows Stop b = le_refl b.open_below
 
 -- behind the parts of the links
-pub served_bounds : (b : Bounds) (ks ks' : List KeptDeferral) (links links' : List (Option LinkState)) → AreBounds b ks links → NoneOpenFrom b.open_below links' → WantsWithin b.wants_from b.wants_below ks' links' → AreBounds b ks' links'
+pub served_bounds : (b : WantingSpan) (ks ks' : List KeptDeferral) (links links' : List (Option LinkState)) → AreBounds b ks links → NoneOpenFrom b.open_below links' → WantsWithin b.wants_from b.wants_below ks' links' → AreBounds b ks' links'
 served_bounds b ks ks' links links' h none wants = record { most = h.most; none_open = none; from = h.from; within = h.within; wants = wants }
 
 -- where no link is open
-pub starts_bounds : (b : Bounds) (ks : List KeptDeferral) (links : List (Option LinkState)) → b ≡ record { open_below = 0; wants_from = most_links; wants_below = 0 } → links ≡ replicate most_links None → AreBounds b ks links
-starts_bounds b ks links is e = subst (λ (x : Bounds). AreBounds x ks links) (sym is) (record {
+pub starts_bounds : (b : WantingSpan) (ks : List KeptDeferral) (links : List (Option LinkState)) → b ≡ record { open_below = 0; wants_from = most_links; wants_below = 0 } → links ≡ replicate most_links None → AreBounds b ks links
+starts_bounds b ks links is e = subst (λ (x : WantingSpan). AreBounds x ks links) (sym is) (record {
   most = omega arith;
   none_open = none_open_starts links e;
   from = omega arith;
@@ -255,7 +255,7 @@ none_up from n ks links rest here k low high = elim (cases_lt k n) [
 ]
 
 -- there is more to do exactly if there is a number among them
-pub more_is : (b : Bounds) (ks : List KeptDeferral) (links : List (Option LinkState)) → AreBounds b ks links → AreExact b ks links → nat_lt b.wants_from b.wants_below ≡ any_wants 0 (has_waiting ks) links
+pub more_is : (b : WantingSpan) (ks : List KeptDeferral) (links : List (Option LinkState)) → AreBounds b ks links → AreExact b ks links → nat_lt b.wants_from b.wants_below ≡ any_wants 0 (has_waiting ks) links
 more_is b ks links h exact = elim (cases_lt b.wants_from b.wants_below) [
   | inl less ↦ lt-ltb b.wants_from b.wants_below less ∙ sym (some_want b.wants_from ks links (exact less))
   | inr more ↦ le-ltb b.wants_from b.wants_below more ∙ sym (none_want b.wants_from b.wants_below ks links more h.wants)
@@ -263,14 +263,14 @@ more_is b ks links h exact = elim (cases_lt b.wants_from b.wants_below) [
 
 -- Of a turn: no link is open from where a wake moves the bound, and what is known before the links have their parts
 
-pub none_woken : {a a' : Option Log} (wake : Wake) (b : Bounds) (kept kept' : Kept) → IsBetweenPhases kept → NoneOpenFrom b.open_below kept.links → Simulates a a' (StandsFor kept) (StandsFor kept') (wake_phase wake) parsed →
+pub none_woken : {a a' : Option Log} (wake : Wake) (b : WantingSpan) (kept kept' : Kept) → IsBetweenPhases kept → NoneOpenFrom b.open_below kept.links → Simulates a a' (StandsFor kept) (StandsFor kept') (wake_phase wake) accept →
     NoneOpenFrom (bounds_after wake b).open_below kept'.links
 none_woken wake b kept kept' between none woke =
     subst (λ n. NoneOpenFrom n kept'.links) (sym (same_open wake b))
     (none_open_woken wake b.open_below kept.links kept'.links (kept_opens kept kept' (wake_phase wake) (λ w. open_after w wake) (wake_opens wake) between.stands woke) none)
 
-pub known_woken : {a a' : Option Log} (wake : Wake) (b b' : Bounds) (kept kept' : Kept) → fits (outline_of kept) wake ≡ true → IsBetweenPhases kept → AreBounds b kept.waits kept.links →
-    WakesOnly wake kept.waits kept.links kept'.waits kept'.links → IsBetweenPhases kept' → Simulates a a' (StandsFor kept) (StandsFor kept') (wake_phase wake) parsed →
+pub known_woken : {a a' : Option Log} (wake : Wake) (b b' : WantingSpan) (kept kept' : Kept) → fits (outline_of kept) wake ≡ true → IsBetweenPhases kept → AreBounds b kept.waits kept.links →
+    WakesOnly wake kept.waits kept.links kept'.waits kept'.links → IsBetweenPhases kept' → Simulates a a' (StandsFor kept) (StandsFor kept') (wake_phase wake) accept →
     ((ks : List KeptDeferral) → AreBounds (bounds_after wake b) ks kept'.links → AreBounds b' ks kept'.links) → AreBounds b' kept'.waits kept'.links
 known_woken wake b b' kept kept' fit between h only between' woke moved =
     let size = between'.orderly.links in

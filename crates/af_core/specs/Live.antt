@@ -7,7 +7,7 @@ use Rattle.af_io.specs.Observed.{Appended}
 use Rattle.af_world.specs.Log.{Log}
 use Rattle.af_model.specs.State.{State, DeviceState}
 use Rattle.af_model.specs.Tick.{captured_samples, later, sound, tick}
-use Rattle.af_model.specs.Turn.{parsed, parse_then, parse_one, capture_by, after_capture}
+use Rattle.af_model.specs.Turn.{accept, parse_then, parse_one, capture_by, after_capture}
 use Rattle.af_model.specs.Run.{wakes}
 use Rattle.af_state.specs.Kept.{KeptDevice, StandsForDevice}
 use Rattle.af_core.specs.declared.tick.DeviceTick.{DeviceTick}
@@ -31,7 +31,7 @@ pub record TicksLive (d n : ℕ) (old new : KeptDevice) (before after : Option L
   pub is_dead : Bool
   pub stands : (device : DeviceState) → StandsForDevice old device → StandsForDevice new (later n (captured_samples device n came) is_dead device)
   pub goes : (device : DeviceState) → StandsForDevice old device → (s : State) (more : Log) →
-      parse_then (parse_one (capture_by d n device) (part ++ more)) (after_capture d n device s) ≡ parsed (tick d n (captured_samples device n came) is_dead s) more
+      parse_then (parse_one (capture_by d n device) (part ++ more)) (after_capture d n device s) ≡ accept (tick d n (captured_samples device n came) is_dead s) more
 
 -- A dead device has passed over silence and nothing was added to the log, and a live one has made its calls.
 abbrev pub Ticks : Bool → ℕ → ℕ → KeptDevice → KeptDevice → Option Log → Option Log → Type 0

@@ -18,30 +18,30 @@ use Rattle.af_model.specs.More.{open_wants}
 use Rattle.af_model.specs.Turn.{IsTurn, is_open_at, wants_write}
 use Rattle.af_model.specs.Run.{wakes}
 use Rattle.af_model.specs.NoLoss.{StateLosesNone}
-use Rattle.af_core.specs.declared.bounds.Bounds.{Bounds}
+use Rattle.af_core.specs.declared.wanting_span.WantingSpan.{WantingSpan}
 use Rattle.af_state.specs.Kept.{KeptDevice, StandForDevices, IsBounded}
 use Rattle.af_state.specs.Deferrals.{KeptDeferral, has_waiting, kept_without, AreLater, AreLaterBut, StandForDeferrals, LeavesOthers}
-use Rattle.af_state.specs.Environment.{StandsForLink, KeptEnvironment, StandsForEnvironment}
+use Rattle.af_state.specs.SharedState.{StandsForLink, KeptSharedState, StandsForSharedState}
 
 -- a slot, open or not, with its environment
-abbrev pub StandsForSlot : KeptEnvironment → Option LinkState → SlotLink → Type 0
-StandsForSlot e link d = StandsForEnvironment e d.environment × (d.link ≡ link)
+abbrev pub StandsForSlot : KeptSharedState → Option LinkState → SlotLink → Type 0
+StandsForSlot e link d = StandsForSharedState e d.environment × (d.link ≡ link)
 
 -- what holds, of each state that is stood for, of the first that is due of a device and of its link's environment without it
-abbrev pub OfFirstDue : ℕ → KeptEnvironment → (Deferral → EnvironmentState → Type 0) → Type 0
+abbrev pub OfFirstDue : ℕ → KeptSharedState → (Deferral → EnvironmentState → Type 0) → Type 0
 OfFirstDue device e Holds =
-    (a : EnvironmentState) (s : DeviceState) (w : Deferral) → StandsForEnvironment e a → slice_get a.devices device ≡ Some s → find (falls_due device s) a.waiting ≡ Some w → Holds w (record a { waiting = without_first (falls_due device s) a.waiting })
+    (a : EnvironmentState) (s : DeviceState) (w : Deferral) → StandsForSharedState e a → slice_get a.devices device ≡ Some s → find (falls_due device s) a.waiting ≡ Some w → Holds w (record a { waiting = without_first (falls_due device s) a.waiting })
 
 -- if something was taken off, what is kept now is what that leads to, and else there was nothing to take
-abbrev pub AdvancesTo : Bool → Option OpenLink → KeptEnvironment → LinkState → Type 0
+abbrev pub AdvancesTo : Bool → Option OpenLink → KeptSharedState → LinkState → Type 0
 AdvancesTo true (Some p) e l = StandsForLink e l p
 AdvancesTo true None e l = ⊥
 AdvancesTo false None e l = Unit {0}
 AdvancesTo false (Some p) e l = ⊥
 
 -- the same, in whatever environment, of a step from it
-abbrev pub Advances : Bool → (OpenLink → Option OpenLink) → KeptEnvironment → LinkState → KeptEnvironment → LinkState → Type 0
-Advances taken f e l e' l' = (a : EnvironmentState) → StandsForEnvironment e a → AdvancesTo taken (f (open_link a l)) e' l'
+abbrev pub Advances : Bool → (OpenLink → Option OpenLink) → KeptSharedState → LinkState → KeptSharedState → LinkState → Type 0
+Advances taken f e l e' l' = (a : EnvironmentState) → StandsForSharedState e a → AdvancesTo taken (f (open_link a l)) e' l'
 
 -- A link is within its bounds. One that takes more has less than a whole frame unread, and one that waits has room for the reply
 -- that it waits for.
@@ -63,7 +63,7 @@ abbrev pub writes_left : LinkState → ℕ
 writes_left l = length l.rest + (if wants_write l then 1 else 0)
 
 -- only one link may have ended to wait
-abbrev pub OnlyDrops : ℕ → KeptEnvironment → KeptEnvironment → Type 0
+abbrev pub OnlyDrops : ℕ → KeptSharedState → KeptSharedState → Type 0
 OnlyDrops link old new = (new ≡ old) ⊎ (new ≡ record old { waits = kept_without link old.waits })
 
 -- A link is in turn: it has a number, and is settled.
@@ -117,7 +117,7 @@ pub record WantsWithin (from below : ℕ) (ks : List KeptDeferral) (links : List
   pub behind : (k : ℕ) → below ≤ k → wants_at ks links k ≡ false
 
 -- what is known of the numbers of links holds of these
-pub record AreBounds (b : Bounds) (ks : List KeptDeferral) (links : List (Option LinkState)) : Type 0 where
+pub record AreBounds (b : WantingSpan) (ks : List KeptDeferral) (links : List (Option LinkState)) : Type 0 where
   pub most : b.open_below ≤ most_links
   pub none_open : NoneOpenFrom b.open_below links
   pub from : b.wants_from ≤ most_links
@@ -125,19 +125,19 @@ pub record AreBounds (b : Bounds) (ks : List KeptDeferral) (links : List (Option
   pub wants : WantsWithin b.wants_from b.wants_below ks links
 
 -- and if there is a number among them, the first is that of a link that is to be read, written or closed
-abbrev pub AreExact : Bounds → List KeptDeferral → List (Option LinkState) → Type 0
+abbrev pub AreExact : WantingSpan → List KeptDeferral → List (Option LinkState) → Type 0
 AreExact b ks links = b.wants_from < b.wants_below → wants_at ks links b.wants_from ≡ true
 
 -- one more link may want something
-abbrev pub bounds_with : ℕ → Bounds → Bounds
+abbrev pub bounds_with : ℕ → WantingSpan → WantingSpan
 bounds_with k b = record b { wants_from = min b.wants_from k; wants_below = max b.wants_below (k + 1) }
 
 -- any link that is open may
-abbrev pub bounds_of_all : Bounds → Bounds
+abbrev pub bounds_of_all : WantingSpan → WantingSpan
 bounds_of_all b = record b { wants_from = 0; wants_below = b.open_below }
 
 -- what is known behind a wake
-abbrev pub bounds_after : Wake → Bounds → Bounds
+abbrev pub bounds_after : Wake → WantingSpan → WantingSpan
 bounds_after (Opened k) b = bounds_with k (record b { open_below = max b.open_below (k + 1) })
 bounds_after (Readable k) b = bounds_with k b
 bounds_after (Writable k) b = bounds_with k b
@@ -157,7 +157,7 @@ WakesOnly Idle ks links ks' links' = (j : ℕ) → wants_at ks' links' j ≡ wan
 WakesOnly Stop ks links ks' links' = (j : ℕ) → wants_at ks' links' j ≡ wants_at ks links j
 
 -- what all links share, and the links
-abbrev pub kept_of : KeptEnvironment → List (Option LinkState) → Kept
+abbrev pub kept_of : KeptSharedState → List (Option LinkState) → Kept
 kept_of e links = record { devices = e.devices; waits = e.waits; links = links }
 
 -- What a core keeps of its devices, its links and those that wait stands for each state that has them; it keeps no history, so

@@ -1,6 +1,6 @@
 // Advancing a link: what stands whole at the front of its input is taken off and answered.
 ghost use Rattle.std.specs.Prelude.{◌≡◌, ◌⊎◌, ◌≤◌, ◌<◌, ◌++◌, length, map, IsTrue, IsFalse, true};
-ghost use Rattle.af_limits.specs.Limits.{most_links, most_devices, longest_capture, longest_frame, longest_message, most_to_send, event_limit};
+ghost use Rattle.af_limits.specs.Limits.{most_links, most_devices, longest_capture, longest_frame, longest_message, perform_limit, event_limit};
 ghost use Rattle.af_world.specs.declared.happening.Why.TheVariants as why;
 ghost use Rattle.af_wire.specs.declared.front.Front.TheVariants.{Frame};
 ghost use Rattle.af_wire.specs.Front.{setup_front, frame_front};
@@ -12,12 +12,12 @@ ghost use Rattle.af_model.specs.Reply.{reply_message};
 ghost use Rattle.af_model.specs.Advance.{after_setup, after_frame, advance_step, advance, takes_more};
 ghost use Rattle.af_state.specs.Kept.{kept_info, IsBounded};
 ghost use Rattle.af_state.specs.Deferrals.{has_waiting, OnlyQueues};
-ghost use Rattle.af_state.specs.Environment.{StepsLink, MayAsk};
+ghost use Rattle.af_state.specs.SharedState.{StepsLink, MayAsk};
 ghost use Rattle.af_core.specs.Stands.{IsSettled, Advances};
 
 use af_perform::perform;
 use af_request::{Devices, Reply, opcode, read_request, write_reply};
-use af_state::{Device, Environment, Scratch, ServedLink, Work};
+use af_state::{Device, Scratch, ServedLink, SharedState, Work};
 use af_wire::{Front, Order, SetupFront, frame_at, setup_of, write_error};
 use af_world::Why;
 
@@ -38,7 +38,7 @@ fn infos_of(devices: &[Device]) -> Devices
 // The reply to a setup, in the order of the link.
 fn reply_setup(devices: &[Device], link: &mut ServedLink, message: &mut [u8])
     requires count { length devices.now ≤ most_devices }
-    requires room { length link.old.pending ≤ most_to_send }
+    requires room { length link.old.pending ≤ perform_limit }
     requires size { length message.old ≡ longest_message }
     ensures { link.new ≡ record link.old {
       pending = link.old.pending ++ reply_message link.old.order opcodes.setup (setup (map kept_info devices.now)) 0;
@@ -53,7 +53,7 @@ fn reply_setup(devices: &[Device], link: &mut ServedLink, message: &mut [u8])
 
 // A bad setup is answered in an order, and closes the link.
 fn refuse_setup(order: Order, value: u32, link: &mut ServedLink)
-    requires room { length link.old.pending ≤ most_to_send }
+    requires room { length link.old.pending ≤ perform_limit }
     ensures { link.new ≡
         record (stopped why.BadSetup link.old) { pending = link.old.pending ++ error order 1 value opcodes.setup 0 } }
 {
@@ -64,8 +64,8 @@ fn refuse_setup(order: Order, value: u32, link: &mut ServedLink)
 }
 
 // A setup is taken off, if one is there.
-fn setup_once(environment: &Environment, link: &mut ServedLink, work: &mut Work) -> bool
-    requires room { length link.old.pending ≤ most_to_send }
+fn setup_once(environment: &SharedState, link: &mut ServedLink, work: &mut Work) -> bool
+    requires room { length link.old.pending ≤ perform_limit }
     ensures step { Advances result (after_setup (setup_front link.old.rest)) environment.now link.old environment.now link.new }
     ensures same { IsFalse result → link.new ≡ link.old }
     ensures shorter { IsTrue result → length link.new.rest < length link.old.rest }
@@ -90,7 +90,7 @@ fn setup_once(environment: &Environment, link: &mut ServedLink, work: &mut Work)
 #[inline(never)]
 fn perform_front(
     number: u8,
-    environment: &mut Environment,
+    environment: &mut SharedState,
     link: &mut ServedLink,
     frame: &mut [u8],
     work: &mut Work,
@@ -102,7 +102,7 @@ fn perform_front(
     ensures step { Advances true (after_frame number (Frame (length frame.old))) environment.old link.old environment.new link.new }
     ensures shorter { length link.new.rest < length link.old.rest }
     ensures only_queues { OnlyQueues number environment.old.waits environment.new.waits }
-    ensures small_pending { IsTrue (has_waiting environment.new.waits number) → length link.new.pending ≤ most_to_send }
+    ensures small_pending { IsTrue (has_waiting environment.new.waits number) → length link.new.pending ≤ perform_limit }
 {
     link.take_front(frame);
     match read_request(link.order(), frame) {
@@ -114,7 +114,7 @@ fn perform_front(
 // A frame is taken off, if one is there.
 fn frame_once(
     number: u8,
-    environment: &mut Environment,
+    environment: &mut SharedState,
     link: &mut ServedLink,
     input: &mut [u8],
     work: &mut Work,
@@ -127,7 +127,7 @@ fn frame_once(
     ensures shorter { IsTrue result → length link.new.rest < length link.old.rest }
     ensures short { IsFalse result → length link.new.rest < longest_frame }
     ensures only_queues { OnlyQueues number environment.old.waits environment.new.waits }
-    ensures small_pending { IsTrue (has_waiting environment.new.waits number) → length link.new.pending ≤ most_to_send }
+    ensures small_pending { IsTrue (has_waiting environment.new.waits number) → length link.new.pending ≤ perform_limit }
 {
     match frame_at(link.order(), link.rest()) {
         Front::NeedMore => false,
@@ -145,7 +145,7 @@ fn frame_once(
 // One setup or frame is taken off, where the link takes more and one is there.
 fn advance_once(
     number: u8,
-    environment: &mut Environment,
+    environment: &mut SharedState,
     link: &mut ServedLink,
     scratch: &mut Scratch,
 ) -> bool
@@ -157,7 +157,7 @@ fn advance_once(
         length link.new.rest < longest_frame }
     ensures bounds { IsFalse result → IsBounded link.new }
     ensures only_queues { OnlyQueues number environment.old.waits environment.new.waits }
-    ensures small_pending { IsTrue result → IsTrue (has_waiting environment.new.waits number) → length link.new.pending ≤ most_to_send }
+    ensures small_pending { IsTrue result → IsTrue (has_waiting environment.new.waits number) → length link.new.pending ≤ perform_limit }
 {
     if !link.takes_more(environment.waits.is_waiting(number)) {
         return false;
@@ -178,7 +178,7 @@ fn advance_once(
 /// Takes off and answers what is there, one after the other, as far as the link takes more.
 pub fn advance(
     number: u8,
-    environment: &mut Environment,
+    environment: &mut SharedState,
     link: &mut ServedLink,
     scratch: &mut Scratch,
 )

@@ -7,26 +7,26 @@ ghost use Rattle.af_model.specs.State.{EnvironmentState, State, open_link};
 ghost use Rattle.af_model.specs.Tick.{complete_due, complete_for, complete_step};
 ghost use Rattle.af_state.specs.Deferrals.{has_waiting, kept_due, OnlyQueues};
 ghost use Rattle.af_state.proofs.DeferralLemmas.{dues};
-ghost use Rattle.af_state.specs.Environment.{StandsForLink, StandsForEnvironment};
+ghost use Rattle.af_state.specs.SharedState.{StandsForLink, StandsForSharedState};
 ghost use Rattle.af_core.specs.Stands.{CompletesTo, IsBetweenPhases, IsCompleting, IsSettled, StepsAll, OfFirstDue, StandsFor, kept_of};
 
 use crate::advance::advance;
 use crate::slot::Slot;
 use af_perform::complete_deferred;
-use af_state::{Environment, Scratch, ServedLink};
+use af_state::{Scratch, ServedLink, SharedState};
 
 /// The first request that is due of a device, which is this link's, completes, and then those that the link may then make.
 pub fn complete_link(
     number: u8,
     device: u8,
-    environment: &mut Environment,
+    environment: &mut SharedState,
     link: &mut ServedLink,
     scratch: &mut Scratch,
 )
     requires number { number < most_links }
     requires due { option_map (λ k. k.wait.link) (find (kept_due device) environment.old.waits) ≡ Some number }
     requires room { length link.old.pending ≤ event_limit }
-    requires stands { (a : EnvironmentState) × StandsForEnvironment environment.old a }
+    requires stands { (a : EnvironmentState) × StandsForSharedState environment.old a }
     ensures step { OfFirstDue device environment.old (λ w a. StandsForLink environment.new link.new
         (complete_for w (slice_get a.devices w.device) (open_link a link.old))) }
     ensures settled { IsSettled (has_waiting environment.new.waits number) link.new }
@@ -42,7 +42,7 @@ pub fn complete_link(
 // The first request that is due of a device completes. The answer is whether there was one.
 fn complete_first(
     device: u8,
-    environment: &mut Environment,
+    environment: &mut SharedState,
     slots: &mut [Slot],
     scratch: &mut Scratch,
 ) -> bool
@@ -67,7 +67,7 @@ fn complete_first(
 /// The requests that are due of a device complete, each followed by those that its link may then make.
 pub fn complete_due(
     device: u8,
-    environment: &mut Environment,
+    environment: &mut SharedState,
     slots: &mut [Slot],
     scratch: &mut Scratch,
 )

@@ -5,17 +5,17 @@ ghost use Rattle.af_request.specs.declared.reply.Phone.{Phone};
 ghost use Rattle.af_model.specs.State.{State};
 ghost use Rattle.af_model.specs.Events.{dropped, line_becomes, tell, tell_link, tell_selected};
 ghost use Rattle.af_state.specs.Deferrals.{has_waiting, kept_without};
-ghost use Rattle.af_state.specs.Environment.{StepsLink};
+ghost use Rattle.af_state.specs.SharedState.{StepsLink};
 ghost use Rattle.af_core.specs.Stands.{AreOrderly, IsSettled, StepsAll, OfDevice, OnlyDrops, StandsFor, kept_of, writes_left};
 
 use crate::slot::Slot;
 use af_phone::Line;
-use af_state::{Environment, ServedLink};
+use af_state::{ServedLink, SharedState};
 use af_wire::{Event, EventKind};
 use af_world::Why;
 
 /// A link is dropped for a cause: it is to be closed, nothing of it is read or sent any more, and it waits no more.
-pub fn drop_link(number: u8, cause: Why, environment: &mut Environment, link: &mut ServedLink)
+pub fn drop_link(number: u8, cause: Why, environment: &mut SharedState, link: &mut ServedLink)
     ensures step { StepsLink (dropped number cause) environment.old link.old environment.new link.new }
     ensures settled { IsSettled (has_waiting environment.new.waits number) link.new }
     ensures without { environment.new ≡ record environment.old { waits = kept_without number environment.old.waits } }
@@ -26,7 +26,7 @@ pub fn drop_link(number: u8, cause: Why, environment: &mut Environment, link: &m
 }
 
 // A link is told an event that it selects, or is dropped where too much would wait to be sent to it then.
-fn tell_selected(number: u8, event: Event, environment: &mut Environment, link: &mut ServedLink)
+fn tell_selected(number: u8, event: Event, environment: &mut SharedState, link: &mut ServedLink)
     requires settled { IsSettled (has_waiting environment.old.waits number) link.old }
     ensures step { StepsLink (tell_selected number event) environment.old link.old environment.new link.new }
     ensures settled { IsSettled (has_waiting environment.new.waits number) link.new }
@@ -40,7 +40,7 @@ fn tell_selected(number: u8, event: Event, environment: &mut Environment, link: 
 }
 
 /// A link is told an event, if it selects it.
-pub fn tell_link(number: u8, event: Event, environment: &mut Environment, link: &mut ServedLink)
+pub fn tell_link(number: u8, event: Event, environment: &mut SharedState, link: &mut ServedLink)
     requires settled { IsSettled (has_waiting environment.old.waits number) link.old }
     ensures step { StepsLink (tell_link number event) environment.old link.old environment.new link.new }
     ensures settled { IsSettled (has_waiting environment.new.waits number) link.new }
@@ -52,7 +52,7 @@ pub fn tell_link(number: u8, event: Event, environment: &mut Environment, link: 
 }
 
 /// An event is told to all links that select it, by rising number.
-pub fn tell(event: Event, environment: &mut Environment, slots: &mut [Slot])
+pub fn tell(event: Event, environment: &mut SharedState, slots: &mut [Slot])
     requires kept { AreOrderly environment.old.waits slots.old }
     ensures step { StepsAll (tell event) (kept_of environment.old slots.old) (kept_of environment.new slots.new) }
     ensures kept { AreOrderly environment.new.waits slots.new }
@@ -69,7 +69,7 @@ pub fn become_line(
     number: u8,
     line: Option<Line>,
     change: (EventKind, u32),
-    environment: &mut Environment,
+    environment: &mut SharedState,
     slots: &mut [Slot],
 )
     requires there { number < length environment.old.devices }

@@ -2,7 +2,6 @@
 #![tactic(auto)]
 
 mod advance;
-mod bounds;
 mod complete;
 mod events;
 mod lines;
@@ -10,5 +9,6 @@ mod serve;
 mod server;
 mod slot;
 mod tick;
+mod wanting_span;
 
 pub use server::Core;

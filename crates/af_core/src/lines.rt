@@ -7,7 +7,7 @@ ghost use Rattle.af_world.specs.declared.happening.Wake.TheVariants as wake;
 ghost use Rattle.af_io.specs.Observed.{Appended};
 ghost use Rattle.af_world.specs.Log.{Log};
 ghost use Rattle.af_phone.specs.Lines.{changed, flag_value, hook_due, hooked, is_change};
-ghost use Rattle.af_model.specs.Turn.{parsed, hook_all, hook_at, wake_phase};
+ghost use Rattle.af_model.specs.Turn.{accept, hook_all, hook_at, wake_phase};
 ghost use Rattle.af_state.specs.Kept.{KeptDevice};
 ghost use Rattle.af_core.specs.Simulates.{Simulates};
 ghost use Rattle.af_core.specs.Stands.{IsBetweenPhases, StandsFor, kept_of};
@@ -16,7 +16,7 @@ use crate::events::become_line;
 use crate::slot::Slot;
 use af_io::Put;
 use af_phone::{Line, LineChange};
-use af_state::{Device, Environment};
+use af_state::{Device, SharedState};
 use af_wire::EventKind;
 use af_world::World;
 
@@ -34,14 +34,14 @@ fn changed(change: LineChange, line: Option<Line>) -> Option<Line>
 pub fn change_line(
     number: u8,
     change: LineChange,
-    environment: &mut Environment,
+    environment: &mut SharedState,
     slots: &mut [Slot],
 )
     requires there { number < length environment.old.devices }
     requires change { IsTrue (is_change change) }
     requires kept { IsBetweenPhases (kept_of environment.old slots.old) }
     ensures simulates { (t : Option Log) → Simulates t t (StandsFor (kept_of environment.old slots.old))
-        (StandsFor (kept_of environment.new slots.new)) (wake_phase (wake.Line number change)) parsed }
+        (StandsFor (kept_of environment.new slots.new)) (wake_phase (wake.Line number change)) accept }
     ensures kept { IsBetweenPhases (kept_of environment.new slots.new) }
 {
     let line = changed(change, environment.devices[number as usize].line());
@@ -86,7 +86,7 @@ fn hook<W: World>(number: u8, off: bool, world: &mut W) -> bool
 fn give_wanted<W: World>(
     number: u8,
     off: bool,
-    environment: &mut Environment,
+    environment: &mut SharedState,
     slots: &mut [Slot],
     world: &mut W,
 )
@@ -95,7 +95,7 @@ fn give_wanted<W: World>(
         option_and_then hook_due d.line ≡ Some off }
     requires kept { IsBetweenPhases (kept_of environment.old slots.old) }
     ensures simulates { Simulates (W.log world.old) (W.log world.new) (StandsFor (kept_of environment.old slots.old))
-        (StandsFor (kept_of environment.new slots.new)) (λ s log. hook_at number (slice_get s.devices number) s log) parsed }
+        (StandsFor (kept_of environment.new slots.new)) (λ s log. hook_at number (slice_get s.devices number) s log) accept }
     ensures kept { IsBetweenPhases (kept_of environment.new slots.new) }
     ensures count { length environment.new.devices ≡ length environment.old.devices }
     ensures leads { W.leads_to world.old world.new }
@@ -113,14 +113,14 @@ fn give_wanted<W: World>(
 // The hook of a device's line is given, if it is live and wanted to have another than it was given. The answer is whether it was.
 fn give_hook<W: World>(
     number: u8,
-    environment: &mut Environment,
+    environment: &mut SharedState,
     slots: &mut [Slot],
     world: &mut W,
 ) -> bool
     requires there { number < length environment.old.devices }
     requires kept { IsBetweenPhases (kept_of environment.old slots.old) }
     ensures simulates { Simulates (W.log world.old) (W.log world.new) (StandsFor (kept_of environment.old slots.old))
-        (StandsFor (kept_of environment.new slots.new)) (λ s log. hook_at number (slice_get s.devices number) s log) parsed }
+        (StandsFor (kept_of environment.new slots.new)) (λ s log. hook_at number (slice_get s.devices number) s log) accept }
     ensures kept { IsBetweenPhases (kept_of environment.new slots.new) }
     ensures count { length environment.new.devices ≡ length environment.old.devices }
     ensures same { IsFalse result → (environment.new ≡ environment.old) × (slots.new ≡ slots.old) }
@@ -135,13 +135,13 @@ fn give_hook<W: World>(
 
 /// The hooks of all devices, by rising number. The answer is whether any was to be given, of which links may be told.
 pub fn give_hooks<W: World>(
-    environment: &mut Environment,
+    environment: &mut SharedState,
     slots: &mut [Slot],
     world: &mut W,
 ) -> bool
     requires kept { IsBetweenPhases (kept_of environment.old slots.old) }
     ensures simulates { Simulates (W.log world.old) (W.log world.new) (StandsFor (kept_of environment.old slots.old))
-        (StandsFor (kept_of environment.new slots.new)) hook_all parsed }
+        (StandsFor (kept_of environment.new slots.new)) hook_all accept }
     ensures kept { IsBetweenPhases (kept_of environment.new slots.new) }
     ensures same { IsFalse result → (environment.new ≡ environment.old) × (slots.new ≡ slots.old) }
     ensures leads { W.leads_to world.old world.new }

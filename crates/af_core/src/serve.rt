@@ -5,28 +5,28 @@ ghost use Rattle.af_limits.specs.Limits.{output_room};
 ghost use Rattle.af_io.specs.Observed.{Appended};
 ghost use Rattle.af_world.specs.World.{took_of, TookFits};
 ghost use Rattle.af_world.specs.declared.happening.Happening.TheVariants.{Wrote};
-ghost use Rattle.af_model.specs.Turn.{parsed, wants_write, read_phase, write_phase, close_phase, serve_link};
-ghost use Rattle.af_state.specs.Environment.{StandsForLink, KeptEnvironment};
+ghost use Rattle.af_model.specs.Turn.{accept, wants_write, read_phase, write_phase, close_phase, serve_link};
+ghost use Rattle.af_state.specs.SharedState.{StandsForLink, KeptSharedState};
 ghost use Rattle.af_core.specs.Simulates.{Simulates};
 ghost use Rattle.af_core.specs.Stands.{StandsForSlot, IsInTurn, LinkServed, writes_left};
 
 use crate::advance::advance;
 use crate::events::drop_link;
 use af_limits::LONGEST_READ;
-use af_state::{Environment, Scratch, ServedLink};
+use af_state::{Scratch, ServedLink, SharedState};
 use af_world::{LinkGot, LinkTook, Why, World};
 
 // One read, if the link is to be read.
 fn read_link<W: World>(
     number: u8,
-    environment: &mut Environment,
+    environment: &mut SharedState,
     link: &mut ServedLink,
     scratch: &mut Scratch,
     world: &mut W,
 )
     requires link { IsInTurn number environment.old.waits link.old }
     ensures simulates { Simulates (W.log world.old) (W.log world.new) (StandsForLink environment.old link.old)
-        (StandsForLink environment.new link.new) (read_phase number) parsed }
+        (StandsForLink environment.new link.new) (read_phase number) accept }
     ensures link { LinkServed number environment.old.waits environment.new.waits link.new }
     ensures leads { W.leads_to world.old world.new }
 {
@@ -67,7 +67,7 @@ fn offer<W: World>(number: u8, link: &mut ServedLink, world: &mut W) -> LinkTook
 // One write of all that waits to be sent.
 fn write_once<W: World>(
     number: u8,
-    environment: &mut Environment,
+    environment: &mut SharedState,
     link: &mut ServedLink,
     scratch: &mut Scratch,
     world: &mut W,
@@ -92,14 +92,14 @@ fn write_once<W: World>(
 // Writes until nothing waits to be sent, or the link is stuck.
 fn write_link<W: World>(
     number: u8,
-    environment: &mut Environment,
+    environment: &mut SharedState,
     link: &mut ServedLink,
     scratch: &mut Scratch,
     world: &mut W,
 )
     requires link { IsInTurn number environment.old.waits link.old }
     ensures simulates { Simulates (W.log world.old) (W.log world.new) (StandsForLink environment.old link.old)
-        (StandsForLink environment.new link.new) (write_phase number) parsed }
+        (StandsForLink environment.new link.new) (write_phase number) accept }
     ensures link { LinkServed number environment.old.waits environment.new.waits link.new }
     ensures leads { W.leads_to world.old world.new }
 {
@@ -110,8 +110,8 @@ fn write_link<W: World>(
 
 // Closes the link, if it is closing and nothing waits to be sent. The answer is whether it was closed.
 fn close_link<W: World>(number: u8, link: &ServedLink, world: &mut W) -> bool
-    ensures simulates { (e : KeptEnvironment) → Simulates (W.log world.old) (W.log world.new) (StandsForLink e link.now)
-        (StandsForSlot e (if result then None else Some link.now)) (close_phase number) parsed }
+    ensures simulates { (e : KeptSharedState) → Simulates (W.log world.old) (W.log world.new) (StandsForLink e link.now)
+        (StandsForSlot e (if result then None else Some link.now)) (close_phase number) accept }
     ensures leads { W.leads_to world.old world.new }
 {
     match link.close_due() {
@@ -126,14 +126,14 @@ fn close_link<W: World>(number: u8, link: &ServedLink, world: &mut W) -> bool
 /// A link's part of a turn. The answer is whether it was closed.
 pub fn serve_link<W: World>(
     number: u8,
-    environment: &mut Environment,
+    environment: &mut SharedState,
     link: &mut ServedLink,
     scratch: &mut Scratch,
     world: &mut W,
 ) -> bool
     requires link { IsInTurn number environment.old.waits link.old }
     ensures simulates { Simulates (W.log world.old) (W.log world.new) (StandsForLink environment.old link.old)
-        (StandsForSlot environment.new (if result then None else Some link.new)) (serve_link number) parsed }
+        (StandsForSlot environment.new (if result then None else Some link.new)) (serve_link number) accept }
     ensures link { LinkServed number environment.old.waits environment.new.waits link.new }
     ensures leads { W.leads_to world.old world.new }
 {

@@ -4,26 +4,26 @@ ghost use Rattle.std.specs.declared.option.Option.TheVariants.{None, Some};
 ghost use Rattle.af_limits.specs.Limits.{most_links};
 ghost use Rattle.af_sample.specs.Channels.{IsChannelCount};
 ghost use Rattle.af_sample.specs.Rates.{IsListedRate};
-ghost use Rattle.af_buffers.specs.PlayBuffer.{Next, Hears};
-ghost use Rattle.af_buffers.specs.RecordBuffer.{Last, Keeps};
+ghost use Rattle.af_buffers.specs.PlayBuffer.{PlayWindow, Hears};
+ghost use Rattle.af_buffers.specs.RecordBuffer.{RecordWindow, Keeps};
 ghost use Rattle.af_model.specs.State.{State, LinkState, opening, outline, outline_with, slot_at};
 ghost use Rattle.af_model.specs.More.{any_wants, has_more};
-ghost use Rattle.af_model.specs.Turn.{parsed, fits, wake_phase};
+ghost use Rattle.af_model.specs.Turn.{accept, fits, wake_phase};
 ghost use Rattle.af_core.specs.Simulates.{Simulates};
 ghost use Rattle.af_state.specs.Deferrals.{has_waiting, waits_of};
 ghost use Rattle.af_state.specs.Kept.{IsBounded, StandForDevices};
 ghost use Rattle.af_core.specs.Stands.{AreBounds, AreExact, IsBetweenPhases, Stands, StandsFor, StandForWaiting, Turns, WakesOnly, kept_lines, kept_of, link_kept, outline_of};
 
-use crate::bounds::{Bounds, NO_LINKS};
 use crate::lines::{change_line, give_hooks};
 use crate::slot::{Slot, serve_slots};
 use crate::tick::{DeviceTick, tick};
+use crate::wanting_span::{NO_LINKS, WantingSpan};
 use af_buffers::{PlayBuffer, RecordBuffer};
 use af_context::Contexts;
 use af_limits::{LONGEST_TICK, MOST_LINKS};
 use af_phone::Line;
 use af_session::Session;
-use af_state::{DeferredRequests, Device, Environment, Scratch};
+use af_state::{DeferredRequests, Device, Scratch, SharedState};
 use af_time::OutOfMemory;
 use af_wait::Waiting;
 use af_world::{Config, DeviceSpec, Wake, World};
@@ -33,9 +33,9 @@ use std::marker::Model;
 /// What the server keeps of its devices and links. It takes all its memory when it is made, and no turn takes any.
 #[derive(Drop)]
 pub struct Core {
-    environment: Environment,
+    environment: SharedState,
     slots: Vec<Slot>,
-    bounds: Bounds,
+    bounds: WantingSpan,
     scratch: Scratch,
 }
 
@@ -105,7 +105,7 @@ fn fits_now(devices: &[Device], slots: &[Slot], wake: &Wake) -> bool
 // What a wake does.
 fn wake_up<W: World>(
     wake: Wake,
-    environment: &mut Environment,
+    environment: &mut SharedState,
     slots: &mut [Slot],
     scratch: &mut Scratch,
     world: &mut W,
@@ -113,7 +113,7 @@ fn wake_up<W: World>(
     requires fits { IsTrue (fits (outline_of (kept_of environment.old slots.old)) wake) }
     requires kept { IsBetweenPhases (kept_of environment.old slots.old) }
     ensures simulates { Simulates (W.log world.old) (W.log world.new) (StandsFor (kept_of environment.old slots.old))
-        (StandsFor (kept_of environment.new slots.new)) (wake_phase wake) parsed }
+        (StandsFor (kept_of environment.new slots.new)) (wake_phase wake) accept }
     ensures kept { IsBetweenPhases (kept_of environment.new slots.new) }
     ensures only { WakesOnly wake environment.old.waits slots.old environment.new.waits slots.new }
     ensures leads { W.leads_to world.old world.new }
@@ -134,8 +134,8 @@ fn wake_up<W: World>(
 // A turn, over the parts of a core.
 fn turn_parts<W: World>(
     wake: Wake,
-    bounds: &mut Bounds,
-    environment: &mut Environment,
+    bounds: &mut WantingSpan,
+    environment: &mut SharedState,
     slots: &mut [Slot],
     scratch: &mut Scratch,
     world: &mut W,
@@ -173,7 +173,7 @@ impl Core {
         let slots = make_slots(alloc)?;
         let scratch = Scratch::new(alloc)?;
         Ok(Core {
-            environment: Environment { devices, waits },
+            environment: SharedState { devices, waits },
             slots,
             bounds: NO_LINKS,
             scratch,
@@ -211,7 +211,7 @@ impl Core {
     /// The frames next of a device, which is there: what is heard of all accepted plays from its time on.
     pub fn play_buffer(&self, device: u8) -> &PlayBuffer
         requires { device < length self.now.devices }
-        ensures kept { slice_get (map {B = Next} (λ d. d.next) self.now.devices) device ≡ Some result.now }
+        ensures kept { slice_get (map {B = PlayWindow} (λ d. d.next) self.now.devices) device ≡ Some result.now }
         ensures hears { (s : State) → Stands self.now s →
             IsSomeAnd (slice_get s.devices device) (λ d. Hears result.now d.channels d.accepted d.now) }
     {
@@ -221,7 +221,7 @@ impl Core {
     /// The last frames of a device, which is there: what was captured up to its time.
     pub fn record_buffer(&self, device: u8) -> &RecordBuffer
         requires { device < length self.now.devices }
-        ensures kept { slice_get (map {B = Last} (λ d. d.last) self.now.devices) device ≡ Some result.now }
+        ensures kept { slice_get (map {B = RecordWindow} (λ d. d.last) self.now.devices) device ≡ Some result.now }
         ensures keeps { (s : State) → Stands self.now s →
             IsSomeAnd (slice_get s.devices device) (λ d. Keeps result.now d.channels d.captured d.begin d.now) }
     {

@@ -7,19 +7,19 @@ ghost use Rattle.af_model.specs.State.{EnvironmentState, LinkState, opened};
 ghost use Rattle.af_model.specs.Tick.{complete_at};
 ghost use Rattle.af_model.specs.Events.{tell_open};
 ghost use Rattle.af_model.specs.More.{open_wants};
-ghost use Rattle.af_model.specs.Turn.{parsed, serve_slot_link, serve_all, is_open_at, ready, writable, in_open};
+ghost use Rattle.af_model.specs.Turn.{accept, serve_slot_link, serve_all, is_open_at, ready, writable, in_open};
 ghost use Rattle.af_state.specs.Deferrals.{has_waiting, kept_due, OnlyQueues, LeavesOthers};
-ghost use Rattle.af_state.specs.Environment.{StandsForEnvironment};
+ghost use Rattle.af_state.specs.SharedState.{StandsForSharedState};
 ghost use Rattle.af_core.specs.Simulates.{Simulates};
 ghost use Rattle.af_core.specs.Stands.{AreBounds, StandsForSlot, IsBetweenPhases, IsSettledSlot, NoneOpenFrom, OfFirstDue, OnlyDrops, StandsFor, WantsWithin, kept_of, wants_at};
 
-use crate::bounds::Bounds;
 use crate::complete::complete_link;
 use crate::events::tell_link;
 use crate::serve::serve_link;
+use crate::wanting_span::WantingSpan;
 use af_context::Contexts;
 use af_session::Session;
-use af_state::{DeferredRequests, Environment, Scratch, ServedLink};
+use af_state::{DeferredRequests, Scratch, ServedLink, SharedState};
 use af_time::OutOfMemory;
 use af_wire::Event;
 use af_world::World;
@@ -113,13 +113,13 @@ impl Slot {
         &mut self,
         number: u8,
         device: u8,
-        environment: &mut Environment,
+        environment: &mut SharedState,
         scratch: &mut Scratch,
     )
         requires number { number < most_links }
         requires due { option_map (λ k. k.wait.link) (find (kept_due device) environment.old.waits) ≡ Some number }
         requires settled { IsSettledSlot (has_waiting environment.old.waits number) self.old }
-        requires stands { (a : EnvironmentState) × StandsForEnvironment environment.old a }
+        requires stands { (a : EnvironmentState) × StandsForSharedState environment.old a }
         ensures step { OfFirstDue device environment.old (λ w a. StandsForSlot environment.new self.new (complete_at w a self.old)) }
         ensures settled { IsSettledSlot (has_waiting environment.new.waits number) self.new }
         ensures only_queues { OnlyQueues number (without_first (kept_due device) environment.old.waits) environment.new.waits }
@@ -132,9 +132,9 @@ impl Slot {
     }
 
     /// The link that is open here is told an event, if it selects it.
-    pub fn tell(&mut self, number: u8, event: Event, environment: &mut Environment)
+    pub fn tell(&mut self, number: u8, event: Event, environment: &mut SharedState)
         requires { IsSettledSlot (has_waiting environment.old.waits number) self.old }
-        ensures step { (a : EnvironmentState) → StandsForEnvironment environment.old a →
+        ensures step { (a : EnvironmentState) → StandsForSharedState environment.old a →
             StandsForSlot environment.new self.new (tell_open number event a self.old) }
         ensures settled { IsSettledSlot (has_waiting environment.new.waits number) self.new }
         ensures only_drops { OnlyDrops number environment.old environment.new }
@@ -148,14 +148,14 @@ impl Slot {
     pub fn serve<W: World>(
         &mut self,
         number: u8,
-        environment: &mut Environment,
+        environment: &mut SharedState,
         scratch: &mut Scratch,
         world: &mut W,
     )
         requires number { number < most_links }
         requires settled { IsSettledSlot (has_waiting environment.old.waits number) self.old }
         ensures simulates { Simulates (W.log world.old) (W.log world.new) (StandsForSlot environment.old self.old)
-            (StandsForSlot environment.new self.new) (serve_slot_link number) parsed }
+            (StandsForSlot environment.new self.new) (serve_slot_link number) accept }
         ensures settled { IsSettledSlot (has_waiting environment.new.waits number) self.new }
         ensures leaves_others { LeavesOthers number environment.old.waits environment.new.waits }
         ensures leads { W.leads_to world.old world.new }
@@ -217,8 +217,8 @@ pub fn last_wanting(waits: &DeferredRequests, slots: &[Slot], from: usize, below
 
 /// The part of a turn of all links, by rising number: of those between which all are that want any.
 pub fn serve_slots<W: World>(
-    bounds: &Bounds,
-    environment: &mut Environment,
+    bounds: &WantingSpan,
+    environment: &mut SharedState,
     slots: &mut [Slot],
     scratch: &mut Scratch,
     world: &mut W,
@@ -226,7 +226,7 @@ pub fn serve_slots<W: World>(
     requires kept { IsBetweenPhases (kept_of environment.old slots.old) }
     requires bounds { AreBounds bounds.now environment.old.waits slots.old }
     ensures simulates { Simulates (W.log world.old) (W.log world.new) (StandsFor (kept_of environment.old slots.old))
-        (StandsFor (kept_of environment.new slots.new)) serve_all parsed }
+        (StandsFor (kept_of environment.new slots.new)) serve_all accept }
     ensures kept { IsBetweenPhases (kept_of environment.new slots.new) }
     ensures none_open { NoneOpenFrom bounds.now.open_below slots.new }
     ensures wants { WantsWithin bounds.now.wants_from bounds.now.wants_below environment.new.waits slots.new }

@@ -7,7 +7,7 @@ ghost use Rattle.af_sample.specs.Samples.{samples as samples_of};
 ghost use Rattle.af_world.specs.declared.happening.Happening.TheVariants.{Captured, Emitted};
 ghost use Rattle.af_world.specs.declared.happening.Wake.TheVariants.{Ticked};
 ghost use Rattle.af_io.specs.Observed.{Appended};
-ghost use Rattle.af_model.specs.Turn.{parsed, wake_phase};
+ghost use Rattle.af_model.specs.Turn.{accept, wake_phase};
 ghost use Rattle.af_core.specs.Simulates.{Simulates};
 ghost use Rattle.af_core.specs.Live.{IsTick, Passes, Ticks, TicksLive};
 ghost use Rattle.af_core.specs.Stands.{IsBetweenPhases, StandsFor, kept_of};
@@ -17,7 +17,7 @@ use crate::slot::Slot;
 use af_io::Put;
 use af_limits::MOST_TICK_SAMPLES;
 use af_sample::{SampleType, convert_in, convert_out};
-use af_state::{Device, Environment, Scratch, Work, silence};
+use af_state::{Device, Scratch, SharedState, Work, silence};
 use af_world::World;
 
 /// A tick of a device, by its number: so many sample periods go by.
@@ -133,7 +133,7 @@ fn tick_device<W: World>(
 #[inline(never)]
 pub fn tick<W: World>(
     tick: DeviceTick,
-    environment: &mut Environment,
+    environment: &mut SharedState,
     slots: &mut [Slot],
     scratch: &mut Scratch,
     world: &mut W,
@@ -142,7 +142,7 @@ pub fn tick<W: World>(
     requires tick { IsTick tick }
     requires kept { IsBetweenPhases (kept_of environment.old slots.old) }
     ensures simulates { Simulates (W.log world.old) (W.log world.new) (StandsFor (kept_of environment.old slots.old))
-        (StandsFor (kept_of environment.new slots.new)) (wake_phase (Ticked tick.device tick.frames)) parsed }
+        (StandsFor (kept_of environment.new slots.new)) (wake_phase (Ticked tick.device tick.frames)) accept }
     ensures kept { IsBetweenPhases (kept_of environment.new slots.new) }
     ensures leads { W.leads_to world.old world.new }
 {

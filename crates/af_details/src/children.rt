@@ -3,10 +3,10 @@ ghost use Rattle.std.specs.Prelude.{◌≡◌, ◌≤◌, ◌^◌, ◌-◌, ℕ}
 ghost use Rattle.std.specs.declared.option.Option.TheVariants.{None};
 ghost use Rattle.arrayvec.specs.ArrayVec.{array_vec_len};
 ghost use Rattle.af_io.specs.Observed.{CountsOneFault};
-ghost use Rattle.af_child.specs.Acts.{started_after};
+ghost use Rattle.af_process.specs.Acts.{started_after};
 
-use af_child::{Finished, Spawner, Started, StdSpawner, Words};
 use af_io::Put;
+use af_process::{Finished, Spawner, Started, StdSpawner, Words};
 use std::alloc::Global;
 use std::fmt;
 use std::fmt::{Formatter, Write};

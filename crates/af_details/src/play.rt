@@ -4,7 +4,7 @@ use crate::file::{Unplayable, ending};
 use crate::shown::Counted;
 use crate::source::WatchedSource;
 use crate::talk::Talk;
-use af_options::PlayJob;
+use af_cli::PlayJob;
 use af_sound::SoundForm;
 use af_tool::ToolEnd;
 use std::io::Read;

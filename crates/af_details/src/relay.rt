@@ -2,7 +2,7 @@
 use crate::links::tell_no_device;
 use crate::shown::Counted;
 use crate::talk::Talk;
-use af_options::PassJob;
+use af_cli::PassJob;
 use af_tool::ToolEnd;
 
 /// Tells which of the devices of a relay is not there, or how the two differ.

@@ -2,9 +2,9 @@
 use crate::help::{tell_manual, tell_options, tell_tools, tell_version};
 use crate::options::{Command, OptionRow};
 use crate::shown::Shown;
+use af_cli::{Argument, ArgumentKind, matches_for, number_at, text_of};
 use af_io::Args;
 use af_limits::LONGEST_ADDRESS;
-use af_options::{ArgumentKind, Word, matches_for, number_at, text_of};
 use clap::error::ErrorKind;
 use clap::{ArgMatches, Error};
 use std::alloc::{AllocError, Global};
@@ -58,13 +58,13 @@ fn tell_mistake(rt: &impl Eprint, alloc: Global, command: Command, words: &Args)
 }
 
 // The words of a tool's command.
-fn command_words<'a>(alloc: Global, command: Command) -> Result<Vec<Word<'a>>, AllocError> {
+fn command_words<'a>(alloc: Global, command: Command) -> Result<Vec<Argument<'a>>, AllocError> {
     let mut table = Vec::new(alloc);
     for place in command.places() {
-        table.push(Word(*place, ArgumentKind::Place))?;
+        table.push(Argument(*place, ArgumentKind::Place))?;
     }
     for row in command.options() {
-        table.push(Word(row.name, kind_of(row)))?;
+        table.push(Argument(row.name, kind_of(row)))?;
     }
     Ok(table)
 }

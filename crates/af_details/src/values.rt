@@ -1,5 +1,5 @@
 // What the value of an option may be.
-use af_options::number_in;
+use af_cli::number_in;
 use std::fmt;
 use std::fmt::{Formatter, Write};
 

@@ -5,7 +5,7 @@ ghost use Rattle.std.specs.declared.option.Option.TheVariants.{None, Some};
 ghost use Rattle.arrayvec.specs.ArrayVec.{array_vec_len};
 ghost use Rattle.af_io.specs.Observed.{Appended};
 ghost use Rattle.af_program.specs.Acts.{ToldAct, launched};
-ghost use Rattle.af_child.specs.Acts.{words_of};
+ghost use Rattle.af_process.specs.Acts.{words_of};
 ghost use Rattle.af_world.specs.Kinds.{most_card_restarts};
 ghost use Rattle.af_exchange.specs.Lines.{text_of, hook_text};
 ghost use Rattle.af_exchange.specs.Fronts.{FrontOf, NoComment};
@@ -14,8 +14,8 @@ ghost use Rattle.af_exchange.specs.Dialogue.{new_dialogue, is_open, is_over, Acc
 
 use crate::line::{Front, front_of, hook_text, note_change};
 use crate::running::Running;
-use af_child::Words;
 use af_phone::LineChange;
+use af_process::Words;
 use af_program::{Launched, Program, Queue, Starts, give_from, take_into};
 use af_time::OutOfMemory;
 use std::alloc::Global;

@@ -3,7 +3,7 @@ ghost use Rattle.std.specs.Prelude.{◌≡◌, ◌↔◌, ◌≤◌, ◌+◌, �
 ghost use Rattle.std.specs.declared.option.Option.TheVariants.{None, Some};
 ghost use Rattle.arrayvec.specs.ArrayVec.{array_vec_len};
 ghost use Rattle.af_io.specs.Observed.{Appended};
-ghost use Rattle.af_child.specs.Acts.{words_of};
+ghost use Rattle.af_process.specs.Acts.{words_of};
 ghost use Rattle.af_phone.specs.Lines.{is_change};
 ghost use Rattle.af_program.specs.Acts.{TellsNothing};
 ghost use Rattle.af_program.specs.Waits.{next_start};
@@ -16,9 +16,9 @@ ghost use Rattle.af_exchange.specs.Exchange.{new_exchange, IsToldWhereTold, IsDr
 
 use crate::dialogue::Dialogue;
 use crate::line::Front;
-use af_child::{Words, copied_words};
 use af_io::Put;
 use af_phone::LineChange;
+use af_process::{Words, copied_words};
 use af_program::{Launched, Program};
 use af_time::OutOfMemory;
 use std::alloc::Global;
@@ -37,7 +37,7 @@ pub struct Exchange<P: Program + Drop> {
 impl<P: Program + Drop> Model for Exchange<P> {
     ghost use Rattle.std.specs.Prelude.{◌≤◌};
     ghost use Rattle.arrayvec.specs.ArrayVec.{array_vec_len};
-    ghost use Rattle.af_child.specs.Acts.{words_of};
+    ghost use Rattle.af_process.specs.Acts.{words_of};
     ghost use Rattle.af_exchange.specs.Dialogue.{Accounts};
     ghost use Rattle.af_exchange.specs.Exchange.{ExchangeState};
 

@@ -37,7 +37,7 @@ fn or_bad<T>(value: Option<T>, bytes: &[u8]) -> Result<T, ConnFault>
 }
 
 /// A value that the reply to a request states.
-pub trait Stated: Sized {
+pub trait FromReply: Sized {
     ghost value_of: { Answer → Option Self };
 
     /// The value, if the reply is of its kind.
@@ -46,7 +46,7 @@ pub trait Stated: Sized {
 }
 
 /// That the request was performed, which is all that its reply says.
-impl Stated for () {
+impl FromReply for () {
     ghost value_of = { as_done };
 
     fn stated_in(reply: &Reply<'_>) -> Option<()> {
@@ -58,7 +58,7 @@ impl Stated for () {
 }
 
 /// The device's time, after GetTime and Play.
-impl Stated for DevTime {
+impl FromReply for DevTime {
     ghost value_of = { as_time };
 
     fn stated_in(reply: &Reply<'_>) -> Option<DevTime> {
@@ -69,7 +69,7 @@ impl Stated for DevTime {
     }
 }
 
-impl Stated for Controls {
+impl FromReply for Controls {
     ghost value_of = { as_controls };
 
     fn stated_in(reply: &Reply<'_>) -> Option<Controls> {
@@ -80,7 +80,7 @@ impl Stated for Controls {
     }
 }
 
-impl Stated for Phone {
+impl FromReply for Phone {
     ghost value_of = { as_phone };
 
     fn stated_in(reply: &Reply<'_>) -> Option<Phone> {
@@ -92,7 +92,7 @@ impl Stated for Phone {
 }
 
 // The value of a message that is a reply, or the fault of one whose body states none.
-fn value_in<T: Stated>(order: Order, opcode: u8, bytes: &[u8]) -> Result<T, ConnFault>
+fn value_in<T: FromReply>(order: Order, opcode: u8, bytes: &[u8]) -> Result<T, ConnFault>
     requires { 8 ≤ length bytes.now }
     ensures value { result ≡ value_in order T.value_of opcode bytes.now }
     ensures fresh { IsFresh result }
@@ -105,7 +105,7 @@ fn value_in<T: Stated>(order: Order, opcode: u8, bytes: &[u8]) -> Result<T, Conn
 }
 
 /// Sends a request, and takes its answer: a value that the reply states.
-pub fn ask_value<T: Stated, L: Link + Drop>(
+pub fn ask_value<T: FromReply, L: Link + Drop>(
     order: Order,
     exchange: &mut Exchange<L>,
     request: &Request<'_>,

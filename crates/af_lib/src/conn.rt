@@ -8,7 +8,7 @@ ghost use Rattle.af_request.specs.Requests.{FitsFrame};
 ghost use Rattle.af_request.specs.Replies.{IsDeviceInfo};
 ghost use Rattle.af_lib.specs.Calls.{as_controls, as_done, as_phone, as_recorded, as_time, bit_if, controls_changed, device_channels, flag_or_zero, gain_or_zero, recorded_in, settings_changed, Called, Connects, KeepsTail, EventAwaited};
 
-use crate::asks::{Stated, ask_recorded, ask_value, set_up};
+use crate::asks::{FromReply, ask_recorded, ask_value, set_up};
 use crate::exchange::{Exchange, cause_of};
 use crate::fault::{Cause, ConnFault};
 use crate::receive::take_event;
@@ -319,7 +319,7 @@ impl<L: Link + Drop> Conn<L> {
     }
 
     // Sends a request, and takes its answer: a value that the reply states.
-    fn ask<T: Stated>(&mut self, request: &Request<'_>) -> Result<T, ConnFault>
+    fn ask<T: FromReply>(&mut self, request: &Request<'_>) -> Result<T, ConnFault>
         requires { FitsFrame (request_meaning request.now) }
         ensures { Called L.left L.sent L.faults (request_meaning request.now) T.value_of self.old self.new result }
     {

@@ -66,8 +66,8 @@ abbrev pub most_unread : ℕ
 most_unread = longest_frame + longest_read
 
 -- with no more than this to be sent, requests of the link are performed
-abbrev pub most_to_send : ℕ
-most_to_send = 16384
+abbrev pub perform_limit : ℕ
+perform_limit = 16384
 
 -- with no more than this to be sent, an event among it, a link is told the event; beyond, it is dropped
 abbrev pub event_limit : ℕ

@@ -1,6 +1,6 @@
 //! The constants are the limits that contracts name. Each law is the contract of a function that does nothing.
 ghost use Rattle.std.specs.Prelude.{◌≡◌};
-ghost use Rattle.af_limits.specs.Limits.{most_links, most_devices, most_contexts, longest_tick, most_tick_samples, longest_capture, most_words, longest_frame, longest_play, longest_record, longest_message, longest_read, longest_send, most_unread, most_to_send, event_limit, output_room, longest_script, longest_config, longest_address, longest_source, most_events, most_kept_events};
+ghost use Rattle.af_limits.specs.Limits.{most_links, most_devices, most_contexts, longest_tick, most_tick_samples, longest_capture, most_words, longest_frame, longest_play, longest_record, longest_message, longest_read, longest_send, most_unread, perform_limit, event_limit, output_room, longest_script, longest_config, longest_address, longest_source, most_events, most_kept_events};
 
 use crate::*;
 
@@ -28,7 +28,7 @@ pub fn buffers_agree()
     ensures read { LONGEST_READ ≡ longest_read }
     ensures send { LONGEST_SEND ≡ longest_send }
     ensures unread { MOST_UNREAD ≡ most_unread }
-    ensures to_send { MOST_TO_SEND ≡ most_to_send }
+    ensures to_send { PERFORM_LIMIT ≡ perform_limit }
     ensures event { EVENT_LIMIT ≡ event_limit }
     ensures output { OUTPUT_ROOM ≡ output_room }
 {}

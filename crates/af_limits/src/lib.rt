@@ -47,7 +47,7 @@ pub const LONGEST_SEND: usize = LONGEST_READ;
 pub const MOST_UNREAD: usize = LONGEST_FRAME + LONGEST_READ;
 
 /// The most bytes that wait to be sent to a link while its requests are performed.
-pub const MOST_TO_SEND: usize = 16384;
+pub const PERFORM_LIMIT: usize = 16384;
 
 /// The most bytes that wait to be sent to a link, together with an event that it is told.
 pub const EVENT_LIMIT: usize = 49152;

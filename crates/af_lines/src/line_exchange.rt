@@ -1,6 +1,6 @@
 // The program that stands for the exchange of a line.
 ghost use Rattle.std.specs.Prelude.{IfOk, IfSome};
-ghost use Rattle.af_child.specs.Acts.{words_of};
+ghost use Rattle.af_process.specs.Acts.{words_of};
 ghost use Rattle.af_lines.specs.ExchangeUse.{AsksExchange, CallsExchange, IsBegun};
 
 use af_config::is_command_line;

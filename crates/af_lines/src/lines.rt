@@ -2,7 +2,7 @@
 ghost use Rattle.std.specs.Prelude.{◌≡◌, ◌≤◌, ◌<◌, true, if◌then◌else◌};
 ghost use Rattle.std.specs.declared.option.Option.TheVariants.{None, Some};
 ghost use Rattle.af_limits.specs.Limits.{most_devices};
-ghost use Rattle.af_child.specs.Acts.{words_of};
+ghost use Rattle.af_process.specs.Acts.{words_of};
 ghost use Rattle.af_lines.specs.HeldLines.{no_lines, quiet, lines_after, lines_begun, line_at, is_quiet, AsksUpTo, AttachesLine, GoesOverLines, HooksAt, HooksBy, HooksLine, IsAskedOf};
 
 use crate::held_line::HeldLine;

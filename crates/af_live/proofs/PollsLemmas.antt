@@ -6,7 +6,7 @@ use Rattle.std.specs.declared.option.Option.TheVariants.{None, Some}
 use Rattle.af_world.specs.declared.happening.Wake.{Wake}
 use Rattle.af_world.specs.declared.happening.Wake.TheVariants as wake
 use Rattle.af_live.specs.declared.link_table.LinkEntry.{LinkEntry}
-use Rattle.af_live.specs.declared.link_table.Told.{Told}
+use Rattle.af_live.specs.declared.link_table.Readiness.{Readiness}
 use Rattle.af_live.specs.LinkTable.{is_free, is_open, link_at, new_link, noted, without_first_ready, TakesIn, KeepsOpen, GivesFirst}
 use Rattle.af_live.specs.Polls.{PollsTo, nothing, notes_one, takes_one, ready_of, PolledGives, LeadsLinks, TakesLeast}
 
@@ -38,11 +38,11 @@ set_taken (x ∷ xs) zero (suc j) link f t = absurd (false≢true (sym t ∙ f))
 set_taken (x ∷ xs) (suc i) zero link f t = absurd (false≢true (sym t ∙ f))
 set_taken (x ∷ xs) (suc i) (suc j) link f t = ap suc (set_taken xs i j link f t)
 
-noted_open : (told : Told) (link : Option LinkEntry) → is_open (noted told link) ≡ is_open link
+noted_open : (told : Readiness) (link : Option LinkEntry) → is_open (noted told link) ≡ is_open link
 noted_open told None = refl
 noted_open told (Some link) = refl
 
-noted_free : (told : Told) (link : Option LinkEntry) → is_free (noted told link) ≡ is_free link
+noted_free : (told : Readiness) (link : Option LinkEntry) → is_free (noted told link) ≡ is_free link
 noted_free told None = refl
 noted_free told (Some link) = refl
 

@@ -6,7 +6,7 @@ use Rattle.std.proofs.Math.Nat.{le_refl}
 use Rattle.af_limits.specs.Limits.{longest_tick}
 use Rattle.af_world.specs.declared.happening.Wake.{Wake}
 use Rattle.af_world.specs.declared.happening.Wake.TheVariants as wake
-use Rattle.af_pace.specs.Pacing.{PaceState, due_at, after_due}
+use Rattle.af_clock.specs.Pacing.{PaceState, due_at, after_due}
 use Rattle.af_backend.specs.declared.source.Source.{Source}
 use Rattle.af_backend.specs.declared.source.Source.TheVariants as source
 use Rattle.af_backend.specs.Rounds.{RoundState, source_at, source_in, due_of, read_at, SourcesRead, RoundTicks, round_begun}

@@ -10,7 +10,7 @@ use Rattle.af_world.specs.declared.world.LinkGot.TheVariants as got
 use Rattle.af_world.specs.declared.world.LinkTook.{LinkTook}
 use Rattle.af_world.specs.declared.world.LinkTook.TheVariants as took
 use Rattle.af_live.specs.declared.link_table.LinkEntry.{LinkEntry}
-use Rattle.af_live.specs.declared.link_table.Told.{Told}
+use Rattle.af_live.specs.declared.link_table.Readiness.{Readiness}
 
 -- no link has the number
 abbrev pub free_entry : Option LinkEntry
@@ -96,7 +96,7 @@ TakesIn old new = (new ≡ old) ⊎ ((n : ℕ) × (key : ℕ) × IsLeastFree old
 
 -- What an event tells of a link is noted: it may be read or written from now on, or may hide more. It is drained no longer if it may
 -- be read. Whether its opening was given stays.
-abbrev pub noted : Told → Option LinkEntry → Option LinkEntry
+abbrev pub noted : Readiness → Option LinkEntry → Option LinkEntry
 noted told None = None
 noted told (Some link) = Some (record link {
   readable = link.readable || told.may_read;

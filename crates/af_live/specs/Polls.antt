@@ -7,7 +7,7 @@ use Rattle.mio.specs.Event.{event_token, is_readable, is_writable, is_error, is_
 use Rattle.af_world.specs.declared.happening.Wake.{Wake}
 use Rattle.af_world.specs.declared.happening.Wake.TheVariants as wake
 use Rattle.af_live.specs.declared.link_table.LinkEntry.{LinkEntry}
-use Rattle.af_live.specs.declared.link_table.Told.{Told}
+use Rattle.af_live.specs.declared.link_table.Readiness.{Readiness}
 use Rattle.af_live.specs.LinkTable.{is_free, link_at, noted, GivesFirst, TakesIn}
 
 -- the event tells of the end of its link or of a fault, both of which come after the last bytes
@@ -15,7 +15,7 @@ abbrev pub tells_end : Event → Bool
 tells_end e = is_read_closed e || is_error e
 
 -- What an event tells of its link. A read stops at an urgent byte, too, and may hide what comes after it.
-abbrev pub told_by : Event → Told
+abbrev pub told_by : Event → Readiness
 told_by e = record {
   may_read = is_readable e || tells_end e;
   may_write = is_writable e || is_write_closed e || is_error e;
@@ -23,7 +23,7 @@ told_by e = record {
 }
 
 -- an event is noted of the link with this number, and nothing else changes
-abbrev pub NotesAt : ℕ → Told → List (Option LinkEntry) → List (Option LinkEntry) → Type 0
+abbrev pub NotesAt : ℕ → Readiness → List (Option LinkEntry) → List (Option LinkEntry) → Type 0
 NotesAt k told old new = new ≡ slice_set old k (noted told (link_at old k))
 
 -- an event is noted of the link that it is about

@@ -7,7 +7,7 @@ ghost use Rattle.af_live.specs.LinkTable.{free_entry, link_at, new_link, to_drai
 ghost use Rattle.af_live.specs.Polls.{NotesAt};
 
 use crate::link_table::{
-    LinkEntry, Told, first_ready, free_number, held_at, least_free, note_told, take_first,
+    LinkEntry, Readiness, first_ready, free_number, held_at, least_free, note_told, take_first,
 };
 use af_limits::MOST_LINKS;
 use af_world::Wake;
@@ -102,7 +102,7 @@ impl HeldLinks {
     }
 
     /// Notes what an event tells of a link.
-    pub fn note(&mut self, number: usize, told: Told)
+    pub fn note(&mut self, number: usize, told: Readiness)
         ensures { NotesAt number told self.old self.new }
     {
         if number < self.entries.len() {

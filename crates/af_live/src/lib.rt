@@ -11,7 +11,7 @@ mod sockets;
 mod turned_away;
 mod waking;
 
+pub use af_clock::Pace;
 pub use af_config::{ConfigFault, Setting, read_config};
-pub use af_pace::Pace;
 pub use mio_world::MioWorld;
 pub use sockets::Sockets;

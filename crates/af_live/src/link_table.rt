@@ -115,14 +115,14 @@ pub(crate) fn take_first(link: &mut Option<LinkEntry>, number: u8) -> Wake
 /// What an event tells of a link: that it may have something to read, that it may take something, and that a read that gives little
 /// may hide more from now on.
 #[derive(Clone, Copy)]
-pub(crate) struct Told {
+pub(crate) struct Readiness {
     pub may_read: bool,
     pub may_write: bool,
     pub hides: bool,
 }
 
 /// Notes what an event tells of a link that is held.
-pub(crate) fn note_told(link: &mut Option<LinkEntry>, told: Told)
+pub(crate) fn note_told(link: &mut Option<LinkEntry>, told: Readiness)
     ensures { link.new ≡ noted told link.old }
 {
     if let Some(held) = link {

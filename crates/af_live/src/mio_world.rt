@@ -16,7 +16,7 @@ ghost use Rattle.af_codec.specs.Codec.{TellsThese};
 ghost use Rattle.af_backend.specs.Backends.{may_be_refused, round_after, CapturesAt, EmitsAt, AttachesAt};
 ghost use Rattle.af_backend.specs.CodecUse.{codec_allows, codec_behind};
 ghost use Rattle.af_backend.specs.Rounds.{is_attached};
-ghost use Rattle.af_child.specs.Acts.{words_of};
+ghost use Rattle.af_process.specs.Acts.{words_of};
 ghost use Rattle.af_lines.specs.HeldLines.{is_quiet, line_at, lines_after, AttachesLine, HooksAt};
 ghost use Rattle.af_live.specs.Polls.{LeadsLinks, TakesLeast};
 ghost use Rattle.af_live.specs.RealWorld.{RealLeadsTo, begun_world, given, listens_behind, GivesKept, LeadsLines, LeadsRound, LosesNoFrame, WakeFits};
@@ -28,11 +28,11 @@ use crate::sockets::Sockets;
 use crate::waking::{Step, answer, next_wake, time_of};
 use af_backend::{Devices, NewDevice, refusal};
 use af_card::Card;
-use af_child::Spawner;
 use af_codec::Codec;
 use af_exchange::Exchange;
 use af_io::Put;
 use af_lines::Lines;
+use af_process::Spawner;
 use af_program::{NoPrograms, Programs};
 use af_world::{
     DeviceSpec, Kind, LineProgram, LinkGot, LinkTook, Live, Ready, Waited, Wake, Why, World,

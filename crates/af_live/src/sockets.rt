@@ -5,7 +5,7 @@ ghost use Rattle.af_live.specs.LinkTable.{TakesIn};
 ghost use Rattle.af_live.specs.Polls.{told_by, PollsTo};
 
 use crate::held_links::HeldLinks;
-use crate::link_table::Told;
+use crate::link_table::Readiness;
 use crate::turned_away::TurnedAway;
 use af_io::keep_alive;
 use af_limits::{MOST_DEVICES, MOST_LINKS};
@@ -204,11 +204,11 @@ fn bind<R: Net>(rt: &R, address: &str) -> io::Result<TcpListener> {
 }
 
 /// What an event tells of its link.
-fn told_by(event: &Event) -> Told
+fn told_by(event: &Event) -> Readiness
     ensures { result ≡ told_by event.now }
 {
     let ends = event.is_read_closed() || event.is_error();
-    Told {
+    Readiness {
         may_read: event.is_readable() || ends,
         may_write: event.is_writable() || event.is_write_closed() || event.is_error(),
         // the end and a fault come behind the last bytes, and a read stops at an urgent byte

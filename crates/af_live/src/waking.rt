@@ -14,9 +14,9 @@ ghost use Rattle.af_live.specs.RealWorld.{given, GivesKept, LeadsLines, LeadsRou
 use crate::held_links::HeldLinks;
 use crate::sockets::Sockets;
 use af_backend::{Devices, LONGEST_STEP_NANOS, Round};
-use af_child::Spawner;
 use af_limits::MOST_DEVICES;
 use af_lines::Lines;
+use af_process::Spawner;
 use af_program::Program;
 use af_world::{Waited, Wake};
 use std::io::{Read, Write};

@@ -15,7 +15,7 @@ use Rattle.af_model.specs.Advance.{advance, advance_step, after_frame, after_fro
 use Rattle.af_model.specs.Tick.{answer_deferred, complete_for, completing}
 use Rattle.af_model.specs.Play.{in_devices}
 use Rattle.af_model.specs.Causes.{AreServed}
-use Rattle.af_limits.specs.Limits.{most_to_send}
+use Rattle.af_limits.specs.Limits.{perform_limit}
 use Rattle.af_model.proofs.AdvanceLemmas.{advance_ends}
 use Rattle.af_model.proofs.BoolTestLemmas.{both-true, none_some}
 use Rattle.af_model.proofs.InputLemmas.{IsInput}
@@ -61,17 +61,17 @@ pub advanced_closing : (k : ℕ) (l : LinkState) (waiting : List Deferral) (caus
 advanced_closing k l waiting cause closes more = absurd (none_some (sym (takes_more_open (has_deferral waiting k) l more) ∙ closes))
 
 -- nor more of one to which more is said
-less_room : (m n : ℕ) → nat_le (m + n) most_to_send ≡ true → nat_le m most_to_send ≡ true
+less_room : (m n : ℕ) → nat_le (m + n) perform_limit ≡ true → nat_le m perform_limit ≡ true
 less_room m n e = grind arith
 
 pub advanced_says : (k : ℕ) (p : OpenLink) (bytes : List ℕ) → IsAdvanced k p.link p.environment.waiting → IsAdvanced k (say p bytes).link (say p bytes).environment.waiting
 advanced_says k p bytes h more =
     let open_to = is_none p.link.closing in
-    let long = nat_le (length (say p bytes).link.pending) most_to_send in
+    let long = nat_le (length (say p bytes).link.pending) perform_limit in
     let a = both-true (not (has_deferral p.environment.waiting k)) (open_to && long) more in
     let b = both-true open_to long a.1 in
-    let room : nat_le (length p.link.pending) most_to_send ≡ true = less_room (length p.link.pending) (length bytes) (sym (ap (λ n. nat_le n most_to_send) (length-append p.link.pending bytes)) ∙ b.1) in
-    h (ap (λ t. t && (open_to && nat_le (length p.link.pending) most_to_send)) a.0 ∙ ap (λ t. t && nat_le (length p.link.pending) most_to_send) b.0 ∙ room)
+    let room : nat_le (length p.link.pending) perform_limit ≡ true = less_room (length p.link.pending) (length bytes) (sym (ap (λ n. nat_le n perform_limit) (length-append p.link.pending bytes)) ∙ b.1) in
+    h (ap (λ t. t && (open_to && nat_le (length p.link.pending) perform_limit)) a.0 ∙ ap (λ t. t && nat_le (length p.link.pending) perform_limit) b.0 ∙ room)
 
 -- all that such a link gave is served
 pub are_served : (is_set_up : Bool) (order : Order) (gave rest : List ℕ) → IsInput is_set_up order gave rest → NoneAtFront is_set_up order rest → AreServed gave

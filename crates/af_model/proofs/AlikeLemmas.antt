@@ -8,7 +8,7 @@ use Rattle.af_world.specs.declared.happening.Happening.TheVariants.{Woke, Read, 
 use Rattle.af_world.specs.declared.script.Step.{Step}
 use Rattle.af_world.specs.Log.{Log}
 use Rattle.af_world.specs.Outside.{Outside, answered_as_stated}
-use Rattle.af_model.specs.Turn.{Parsed, parsed, parse_then, then_go, parse_one}
+use Rattle.af_model.specs.Turn.{Parsed, accept, parse_then, and_then, parse_one}
 use Rattle.af_model.specs.Script.{AnswersTo}
 use Rattle.af_model.proofs.BoolTestLemmas.{none_some}
 use Rattle.af_model.proofs.PhasePartLemmas.{then_inv}
@@ -45,7 +45,7 @@ module _ {T : Type 0} where
 
 module _ {S T : Type 0} where
   -- a phase that takes nothing off
-  pub alike_nothing : (n : S → T) (P : S → Outside → Type 0) (Q : T → Outside → Type 0) → ((s : S) (o : Outside) → P s o → Q (n s) o) → GoesAlike (λ s log. parsed (n s) log) P Q
+  pub alike_nothing : (n : S → T) (P : S → Outside → Type 0) (Q : T → Outside → Type 0) → ((s : S) (o : Outside) → P s o → Q (n s) o) → GoesAlike (λ s log. accept (n s) log) P Q
   alike_nothing n P Q stands steps s o log1 log2 b1 b2 e1 e2 p f1 f2 r1 r2 =
       let x1 : record { state = n s; log = log1 } ≡ b1 = cc in
       let x2 : record { state = n s; log = log2 } ≡ b2 = cc in
@@ -86,7 +86,7 @@ pub record TakesOne {S T : Type 0} (f : S → Happening → Option T) (P : S →
   pub stands : (t : T) (o' : Outside) → P s o → f s h ≡ Some t → answered_as_stated o h ≡ Some o' → Q t o'
 
 module _ {S T : Type 0} where
-  pub go_inv : (x : Option S) (g : S → Option T) (b : T) → then_go x g ≡ Some b → (c : S) × (x ≡ Some c) × (g c ≡ Some b)
+  pub go_inv : (x : Option S) (g : S → Option T) (b : T) → and_then x g ≡ Some b → (c : S) × (x ≡ Some c) × (g c ≡ Some b)
   go_inv None g b e = absurd cc
   go_inv (Some c) g b e = (c, refl, e)
 
@@ -127,8 +127,8 @@ module _ {S T : Type 0} where
   alike_one f P Q want one steps s o [] log2 b1 b2 e1 e2 p f1 f2 r1 r2 = absurd (none_some f1)
   alike_one f P Q want one steps s o (h1 ∷ rest1) [] b1 b2 e1 e2 p f1 f2 r1 r2 = absurd (none_some f2)
   alike_one f P Q want one steps s o (h1 ∷ rest1) (h2 ∷ rest2) b1 b2 e1 e2 p f1 f2 r1 r2 =
-      let i1 = go_inv (f s h1) (λ t. parsed t rest1) b1 f1 in
-      let i2 = go_inv (f s h2) (λ t. parsed t rest2) b2 f2 in
+      let i1 = go_inv (f s h1) (λ t. accept t rest1) b1 f1 in
+      let i2 = go_inv (f s h2) (λ t. accept t rest2) b2 f2 in
       let g1 = i1.2 in
       let g2 = i2.2 in
       let x1 : record { state = i1.0; log = rest1 } ≡ b1 = cc in

@@ -3,7 +3,7 @@ use Rattle.std.proofs.Common.{◌≡◌, ℕ, zero, suc, ◌+◌, ◌*◌, ◌�
 use Rattle.std.proofs.lemmas.List.{take-append-le, drop-append-le}
 use Rattle.std.specs.declared.option.Option.{Option}
 use Rattle.std.specs.declared.option.Option.TheVariants.{None, Some}
-use Rattle.af_limits.specs.Limits.{most_words, most_to_send}
+use Rattle.af_limits.specs.Limits.{most_words, perform_limit}
 use Rattle.af_wire.specs.declared.order.Order.{Order}
 use Rattle.af_wire.specs.declared.order.Order.TheVariants.{Big}
 use Rattle.af_wire.specs.declared.front.Front.{Front}
@@ -132,7 +132,7 @@ step_more k p b e =
 
 closed_step : (k : ℕ) (p : OpenLink) → is_none p.link.closing ≡ false → advance_step k p ≡ None
 closed_step k p e =
-    elim (has_deferral p.environment.waiting k) as (λ w. cond (takes_more w p.link) (after_front k p) None ≡ None) [ true ↦ refl | false ↦ ap (λ c. cond (c && nat_le (length p.link.pending) most_to_send) (after_front k p) None) e ]
+    elim (has_deferral p.environment.waiting k) as (λ w. cond (takes_more w p.link) (after_front k p) None ≡ None) [ true ↦ refl | false ↦ ap (λ c. cond (c && nat_le (length p.link.pending) perform_limit) (after_front k p) None) e ]
 
 cut_none : (k : ℕ) (p : OpenLink) (b : List ℕ) → is_none p.link.closing ≡ true → advance_step k p ≡ None → absorb k b (advance k p) ≡ advance k (more_bytes p b)
 cut_none k p b e s = ap (absorb k b) (advance-none k p s) ∙ ap (λ t. cond t (advance k (more_bytes p b)) p) e

@@ -13,7 +13,7 @@ use Rattle.af_world.specs.Outside.{Outside, ScriptedDevice, answered_as_stated, 
 use Rattle.af_sample.specs.SampleTypes.{frame_bytes}
 use Rattle.af_model.specs.State.{State, DeviceState, opened, slot_at, with_slot}
 use Rattle.af_model.specs.Tick.{sound, captured_samples, tick}
-use Rattle.af_model.specs.Turn.{Parsed, parsed, parse_then, parse_one, serve_all, ready, writable, in_slot, is_capture, capture_by, emit_by, after_capture, tick_phase, line_phase, wake_phase, same_flag, hook_wanted, hook_by, hook_for, hook_at, hook_from, hook_all, serve_and_hook}
+use Rattle.af_model.specs.Turn.{Parsed, accept, parse_then, parse_one, serve_all, ready, writable, in_slot, is_capture, capture_by, emit_by, after_capture, tick_phase, line_phase, wake_phase, same_flag, hook_wanted, hook_by, hook_for, hook_at, hook_from, hook_all, serve_and_hook}
 use Rattle.af_wire.specs.declared.event.EventKind.TheVariants as kind
 use Rattle.af_phone.specs.declared.line.LineChange.{LineChange}
 use Rattle.af_phone.specs.Lines.{changed, flag_value, hooked, event_kind_of, value_of}
@@ -139,8 +139,8 @@ tick_alike : (d n : ℕ) (device : Option DeviceState) (steps : List Step) (s : 
     Agree s o → tick_phase d n device s log1 ≡ Some b1 → tick_phase d n device s log2 ≡ Some b2 → AnswersTo o log1 steps e1 → AnswersTo o log2 steps e2 → Agreed steps Agree log1 log2 e1 e2 b1 b2
 tick_alike d n None steps s o log1 log2 b1 b2 e1 e2 at f1 f2 r1 r2 = absurd (none_some f1)
 tick_alike d n (Some device) steps s o log1 log2 b1 b2 e1 e2 at f1 f2 r1 r2 =
-    elim device.is_dead as (λ t. cond t (parsed (tick d n (captured_samples device n None) true s) log1) (parse_then (parse_one (capture_by d n device) log1) (after_capture d n device s)) ≡ Some b1 →
-    cond t (parsed (tick d n (captured_samples device n None) true s) log2) (parse_then (parse_one (capture_by d n device) log2) (after_capture d n device s)) ≡ Some b2 → Agreed steps Agree log1 log2 e1 e2 b1 b2) [
+    elim device.is_dead as (λ t. cond t (accept (tick d n (captured_samples device n None) true s) log1) (parse_then (parse_one (capture_by d n device) log1) (after_capture d n device s)) ≡ Some b1 →
+    cond t (accept (tick d n (captured_samples device n None) true s) log2) (parse_then (parse_one (capture_by d n device) log2) (after_capture d n device s)) ≡ Some b2 → Agreed steps Agree log1 log2 e1 e2 b1 b2) [
       | true ↦ λ f1 f2. alike_nothing (λ s. tick d n (captured_samples device n None) true s) Agree Agree (λ s o at. at ∙ sym (tick-opens d n (captured_samples device n None) true s)) steps s o log1 log2 b1 b2 e1 e2 at f1 f2 r1 r2
       | false ↦ λ f1 f2. live_alike d n device steps s o log1 log2 b1 b2 e1 e2 at f1 f2 r1 r2
     ] f1 f2

@@ -13,7 +13,7 @@ use Rattle.af_world.specs.Log.{Log}
 use Rattle.af_world.specs.Outside.{Outside, ScriptedClient, answered_as_stated, client_answered, read_from, given_from, failed_from, written_to, room_taken_of, fresh_client, client_at, with_client, same_bytes}
 use Rattle.af_model.specs.State.{State, EnvironmentState, OpenLink, SlotLink, LinkState, link_in_slot, slot_link_at, with_slot_link, open_link}
 use Rattle.af_model.specs.Waiting.{has_deferral}
-use Rattle.af_model.specs.Turn.{Parsed, parsed, parse_then, then_go, parse_one, wants_read, is_read, read_by, read_phase, after_read, wants_write, write_by, write_offered, write_taken, write_phase, after_write, same_why, close_due, close_by, close_for, close_phase, serve_link, serve_open, serve_slot_link, serve_at, serve_from, serve_all}
+use Rattle.af_model.specs.Turn.{Parsed, accept, parse_then, and_then, parse_one, wants_read, is_read, read_by, read_phase, after_read, wants_write, write_by, write_offered, write_taken, write_phase, after_write, same_why, close_due, close_by, close_for, close_phase, serve_link, serve_open, serve_slot_link, serve_at, serve_from, serve_all}
 use Rattle.af_model.specs.Script.{AnswersTo}
 use Rattle.af_model.proofs.BoolTestLemmas.{cond-some, cond-true, both-true, not_true, none_some, same_bytes-true, same_why-true}
 use Rattle.af_model.proofs.AlikeLemmas.{GoesAlike, Agreed, TakesOne, headed, go_inv, alike_then, alike_one, alike_nothing}
@@ -116,7 +116,7 @@ read_one w k p o (Read j got) t e =
 read_alike : (w : List Bool) (k : ℕ) → GoesAlike (read_phase k) (AtPlace w k) (AtPlace w k)
 unfolding read_phase
 read_alike w k steps p o log1 log2 b1 b2 e1 e2 at f1 f2 r1 r2 =
-    elim (wants_read (has_deferral p.environment.waiting k) p.link) as (λ t. cond t (parse_one (read_by k p) log1) (parsed p log1) ≡ Some b1 → cond t (parse_one (read_by k p) log2) (parsed p log2) ≡ Some b2 → Agreed steps (AtPlace w k) log1 log2 e1 e2 b1 b2) [
+    elim (wants_read (has_deferral p.environment.waiting k) p.link) as (λ t. cond t (parse_one (read_by k p) log1) (accept p log1) ≡ Some b1 → cond t (parse_one (read_by k p) log2) (accept p log2) ≡ Some b2 → Agreed steps (AtPlace w k) log1 log2 e1 e2 b1 b2) [
       | true ↦ λ f1 f2. alike_one (read_by k) (AtPlace w k) (AtPlace w k) (λ p o. Read k (expected (client_or (client_at o k)))) (read_one w k) steps p o log1 log2 b1 b2 e1 e2 at f1 f2 r1 r2
       | false ↦ λ f1 f2. alike_nothing (λ (p : OpenLink). p) (AtPlace w k) (AtPlace w k) (λ p o at. at) steps p o log1 log2 b1 b2 e1 e2 at f1 f2 r1 r2
     ] f1 f2
@@ -177,16 +177,16 @@ write_idle : (w : List Bool) (k : ℕ) (steps : List Step) (p : OpenLink) (o : O
 write_idle w k steps p o log1 log2 b1 b2 e1 e2 idle at f1 f2 r1 r2 =
     alike_nothing (λ (p : OpenLink). p) (AtPlace w k) (AtPlace w k) (λ p o at. at) steps p o log1 log2 b1 b2 e1 e2 at (sym (nothing log1) ∙ f1) (sym (nothing log2) ∙ f2) r1 r2
   where
-    nothing : (log : Log) → write_phase k p log ≡ parsed p log
+    nothing : (log : Log) → write_phase k p log ≡ accept p log
     nothing [] = rw idle
     nothing (h ∷ log) = rw idle
 
 write_none : (k : ℕ) (p : OpenLink) (b : Parsed OpenLink) → wants_write p.link ≡ true → write_phase k p [] ≡ Some b → ⊥
-write_none k p b wants e = none_some (cond-true (wants_write p.link) None (parsed p []) (Some b) wants e)
+write_none k p b wants e = none_some (cond-true (wants_write p.link) None (accept p []) (Some b) wants e)
 
 write_inv : (k : ℕ) (p : OpenLink) (h : Happening) (log : Log) (b : Parsed OpenLink) → wants_write p.link ≡ true → write_phase k p (h ∷ log) ≡ Some b →
     (q : OpenLink) × (write_by k p h ≡ Some q) × (write_phase k q log ≡ Some b)
-write_inv k p h log b wants e = go_inv (write_by k p h) (λ q. write_phase k q log) b (cond-true (wants_write p.link) (then_go (write_by k p h) (λ q. write_phase k q log)) (parsed p (h ∷ log)) (Some b) wants e)
+write_inv k p h log b wants e = go_inv (write_by k p h) (λ q. write_phase k q log) b (cond-true (wants_write p.link) (and_then (write_by k p h) (λ q. write_phase k q log)) (accept p (h ∷ log)) (Some b) wants e)
 
 write_alike : (w : List Bool) (k : ℕ) (steps : List Step) (p : OpenLink) (o : Outside) (log1 log2 : Log) (b1 b2 : Parsed OpenLink) (e1 e2 : Outside) →
     AtPlace w k p o → write_phase k p log1 ≡ Some b1 → write_phase k p log2 ≡ Some b2 → AnswersTo o log1 steps e1 → AnswersTo o log2 steps e2 → Agreed steps (AtPlace w k) log1 log2 e1 e2 b1 b2
@@ -264,7 +264,7 @@ door_alike w k steps d o log1 log2 b1 b2 e1 e2 at f1 f2 r1 r2 = open_alike w k s
 
 at_alike : (k : ℕ) → GoesAlike (serve_at k) Agree Agree
 at_alike k steps s o log1 log2 b1 b2 e1 e2 at f1 f2 r1 r2 =
-    alike_then (λ (u : State) log. serve_slot_link k (slot_link_at k s) log) (λ d log. parsed (with_slot_link k s d) log) (λ u o. Agree s o) (StandsForSlot (open_links s.slots) k) Agree
+    alike_then (λ (u : State) log. serve_slot_link k (slot_link_at k s) log) (λ d log. accept (with_slot_link k s d) log) (λ u o. Agree s o) (StandsForSlot (open_links s.slots) k) Agree
     (λ steps u o log1 log2 b1 b2 e1 e2 at f1 f2 r1 r2. door_alike (open_links s.slots) k steps (slot_link_at k s) o log1 log2 b1 b2 e1 e2 (at ∙ sym (open_links-same s.slots k)) f1 f2 r1 r2)
     (alike_nothing (with_slot_link k s) (StandsForSlot (open_links s.slots) k) Agree (λ d o at. at ∙ sym (open_links-set s.slots k (record { link = d.link; said = d.environment.said }))))
     steps s o log1 log2 b1 b2 e1 e2 at f1 f2 r1 r2

@@ -2,7 +2,7 @@
 use Rattle.std.proofs.Common.{◌≡◌, ◌≤◌, ℕ, zero, suc, Bool, true, false, not, cond, ◌&&◌, nat_le, List, length, take, is_none, is_some, slice_get, refl, ap, ◌∙◌, IfSome}
 use Rattle.std.specs.declared.option.Option.{Option}
 use Rattle.std.specs.declared.option.Option.TheVariants.{None, Some}
-use Rattle.af_limits.specs.Limits.{longest_frame, most_to_send}
+use Rattle.af_limits.specs.Limits.{longest_frame, perform_limit}
 use Rattle.af_world.specs.declared.happening.Why.{Why}
 use Rattle.af_world.specs.declared.happening.Why.TheVariants as why
 use Rattle.af_wire.specs.declared.front.Front.{Front}
@@ -50,7 +50,7 @@ open_undropped closing e = ap is_dropped e
 
 pub takes_more_open : (waits : Bool) (l : LinkState) → takes_more waits l ≡ true → l.closing ≡ None
 takes_more_open waits l e =
-    none-true l.closing (both-true (is_none l.closing) (nat_le (length l.pending) most_to_send) (both-true (not waits) (is_none l.closing && nat_le (length l.pending) most_to_send) e).1).0
+    none-true l.closing (both-true (is_none l.closing) (nat_le (length l.pending) perform_limit) (both-true (not waits) (is_none l.closing && nat_le (length l.pending) perform_limit) e).1).0
 
 module _ (k : ℕ) (May : Option Why → Type 0) (I : OpenLink → Type 0) (kept : Keeps k May I) where
   request_keeps : (request : Asked) (p : OpenLink) → most_asked request ≤ longest_frame → p.link.closing ≡ None → I p → I (perform k request p)

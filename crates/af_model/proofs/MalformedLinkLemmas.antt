@@ -2,7 +2,7 @@
 use Rattle.std.proofs.Common.{◌≡◌, ◌≢◌, ℕ, Bool, true, false, not, cond, ◌&&◌, nat_le, [], length, take, is_none, refl, sym, ap, ◌∙◌, subst}
 use Rattle.std.specs.declared.option.Option.{Option}
 use Rattle.std.specs.declared.option.Option.TheVariants.{None, Some}
-use Rattle.af_limits.specs.Limits.{most_to_send}
+use Rattle.af_limits.specs.Limits.{perform_limit}
 use Rattle.af_world.specs.declared.happening.Why.TheVariants as why
 use Rattle.af_world.specs.Log.{Log}
 use Rattle.af_wire.specs.declared.front.Front.{Front}
@@ -20,7 +20,7 @@ use Rattle.af_model.specs.Waiting.{has_deferral}
 use Rattle.af_model.specs.Reply.{infos_of, reply_message}
 use Rattle.af_model.specs.Advance.{advance_step, after_front, after_frame, after_setup, requested, takes_more, without_front}
 use Rattle.af_model.specs.Events.{without_waiter}
-use Rattle.af_model.specs.Turn.{Parsed, parsed, parse_then, serve_at, serve_open, serve_slot_link}
+use Rattle.af_model.specs.Turn.{Parsed, accept, parse_then, serve_at, serve_open, serve_slot_link}
 use Rattle.af_model.proofs.ListLemmas.{get-set_other}
 use Rattle.af_model.proofs.BoolTestLemmas.{both-true, cond-some, none-true, none_some, some_is}
 use Rattle.af_model.proofs.PhasePartLemmas.{then_inv}
@@ -65,13 +65,13 @@ pub closes_alone : (k : ℕ) (p q : OpenLink) → advance_step k p ≡ Some q �
 closes_alone k p q e =
     let waits = has_deferral p.environment.waiting k in
     let i = cond-some (takes_more waits p.link) (after_front k p) q e in
-    let open_to = (both-true (not waits) (is_none p.link.closing && nat_le (length p.link.pending) most_to_send) i.0).1 in
-    let none = none-true p.link.closing (both-true (is_none p.link.closing) (nat_le (length p.link.pending) most_to_send) open_to).0 in
+    let open_to = (both-true (not waits) (is_none p.link.closing && nat_le (length p.link.pending) perform_limit) i.0).1 in
+    let none = none-true p.link.closing (both-true (is_none p.link.closing) (nat_le (length p.link.pending) perform_limit) open_to).0 in
     front_alone p.link.is_set_up k p q none i.1
 
 -- Serving a link changes no other
 
-served : (k j : ℕ) (s : State) (b : Parsed State) (o : Option (Parsed SlotLink)) → j ≢ k → parse_then o (λ d log. parsed (with_slot_link k s d) log) ≡ Some b → slot_at j b.state ≡ slot_at j s
+served : (k j : ℕ) (s : State) (b : Parsed State) (o : Option (Parsed SlotLink)) → j ≢ k → parse_then o (λ d log. accept (with_slot_link k s d) log) ≡ Some b → slot_at j b.state ≡ slot_at j s
 served k j s b None apart e = absurd (none_some e)
 served k j s b (Some d) apart e =
     let same : with_slot_link k s d.state ≡ b.state = cc in
@@ -85,7 +85,7 @@ others_stay k j s log b e apart = served k j s b (serve_slot_link k (slot_link_a
 pub order_stays : (k : ℕ) (s : State) (log : Log) (b : Parsed State) → serve_at k s log ≡ Some b → without_waiter k b.state.waiting ≡ without_waiter k s.waiting
 order_stays k s log b e =
     let a = (slot_link_at k s).environment in
-    let i = then_inv (serve_slot_link k (slot_link_at k s) log) (λ d log. parsed (with_slot_link k s d) log) b e in
+    let i = then_inv (serve_slot_link k (slot_link_at k s) log) (λ d log. accept (with_slot_link k s d) log) b e in
     let same : with_slot_link k s i.0.state ≡ b.state = ap (λ (c : Parsed State). c.state) (some_is i.2) in
     ap (λ (t : State). without_waiter k t.waiting) (sym same) ∙ served_order (slot_at k s).link i.0 i.1
   where

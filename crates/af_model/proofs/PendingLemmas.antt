@@ -6,7 +6,7 @@ use Rattle.std.proofs.lemmas.List.Elements.{All-filter, All-push, All-weaker, le
 use Rattle.std.specs.List.{All}
 use Rattle.std.specs.declared.option.Option.{Option}
 use Rattle.std.specs.declared.option.Option.TheVariants.{None, Some}
-use Rattle.af_limits.specs.Limits.{most_devices, longest_frame, longest_record, longest_message, most_to_send, event_limit, most_pending}
+use Rattle.af_limits.specs.Limits.{most_devices, longest_frame, longest_record, longest_message, perform_limit, event_limit, most_pending}
 use Rattle.af_wire.specs.declared.event.Event.{Event}
 use Rattle.af_wire.specs.declared.front.Front.{Front}
 use Rattle.af_wire.specs.declared.front.Front.TheVariants.{NeedMore, Frame, Malformed}
@@ -178,10 +178,10 @@ room_dropped k cause p h =
 -- Requests
 
 -- a link of which no request waits is answered, or begins to wait
-pends : (n waits : ℕ) → waits ≡ 0 → n ≤ most_to_send → n + longest_message * waits ≤ most_pending
+pends : (n waits : ℕ) → waits ≡ 0 → n ≤ perform_limit → n + longest_message * waits ≤ most_pending
 pends n waits none low = omega (arith, none, low)
 
-pends_more : (pending bytes : List ℕ) (waits : ℕ) → waits ≡ 0 → length pending ≤ most_to_send → length bytes ≤ longest_message → length (pending ++ bytes) + longest_message * waits ≤ most_pending
+pends_more : (pending bytes : List ℕ) (waits : ℕ) → waits ≡ 0 → length pending ≤ perform_limit → length bytes ≤ longest_message → length (pending ++ bytes) + longest_message * waits ≤ most_pending
 pends_more pending bytes waits none low few = omega (arith, none, low, few, length-append pending bytes)
 
 room_waits : (k d : ℕ) (deferred : Deferred) (ds : List DeviceState) (ws : List Deferral) (device : DeviceState) → slice_get ds d ≡ Some device → IsToWait longest_frame device deferred → waiters k ws ≡ 0 → HasRoom ds ws →
@@ -197,13 +197,13 @@ room_waits k d deferred ds ws device there w none h =
       ] refl);
     }
 
-pends_waiting : (k d n : ℕ) (deferred : Deferred) (ws : List Deferral) → waiters k ws ≡ 0 → n ≤ most_to_send → n + longest_message * waiters k (ws ++ record { link = k; device = d; deferred = deferred } ∷ []) ≤ most_pending
+pends_waiting : (k d n : ℕ) (deferred : Deferred) (ws : List Deferral) → waiters k ws ≡ 0 → n ≤ perform_limit → n + longest_message * waiters k (ws ++ record { link = k; device = d; deferred = deferred } ∷ []) ≤ most_pending
 pends_waiting k d n deferred ws none low =
     let own : Deferral = record { link = k; device = d; deferred = deferred } in
     let one : waiters k (ws ++ own ∷ []) ≡ 1 = waiters_wait ws own k ∙ ap (λ t. cond t 1 0 + waiters k ws) (same_number k) ∙ ap (λ m. 1 + m) none in
     omega (arith, one, low)
 
-request_room : (k : ℕ) (request : Asked) (p : OpenLink) → most_asked request ≤ longest_frame → has_deferral p.environment.waiting k ≡ false → length p.link.pending ≤ most_to_send → RoomOf k p → RoomOf k (perform k request p)
+request_room : (k : ℕ) (request : Asked) (p : OpenLink) → most_asked request ≤ longest_frame → has_deferral p.environment.waiting k ≡ false → length p.link.pending ≤ perform_limit → RoomOf k p → RoomOf k (perform k request p)
 request_room k request p short idle low h =
     let q = open_link p.environment (request_counted p.link) in
     let ds = p.environment.devices in
@@ -217,7 +217,7 @@ request_room k request p short idle low h =
 
 -- What stands at the front of a link's input
 
-module _ (k : ℕ) (p : OpenLink) (idle : has_deferral p.environment.waiting k ≡ false) (low : length p.link.pending ≤ most_to_send) (h : RoomOf k p) where
+module _ (k : ℕ) (p : OpenLink) (idle : has_deferral p.environment.waiting k ≡ false) (low : length p.link.pending ≤ perform_limit) (h : RoomOf k p) where
   asked_room : (o : Option Asked) (n : ℕ) → asked_in p.link.order (take n p.link.rest) ≡ o → frame_front p.link.order p.link.rest ≡ Frame n → RoomOf k (requested k o (open_link p.environment (without_front n p.link)))
   asked_room None n asked e = h
   asked_room (Some request) n asked e = request_room k request (open_link p.environment (without_front n p.link)) (frame_asks p.link.order p.link.rest n request e asked) idle low h
@@ -242,13 +242,13 @@ module _ (k : ℕ) (p : OpenLink) (idle : has_deferral p.environment.waiting k �
     | false ↦ setup_room (setup_front p.link.rest)
   ]
 
-low_of : (n : ℕ) → nat_le n most_to_send ≡ true → n ≤ most_to_send
+low_of : (n : ℕ) → nat_le n perform_limit ≡ true → n ≤ perform_limit
 low_of n e = grind arith
 
 step_room : (k : ℕ) (p : OpenLink) → RoomOf k p → IfSome (advance_step k p) (λ q. RoomOf k q)
 step_room k p h =
     let waits = has_deferral p.environment.waiting k in
-    let room = nat_le (length p.link.pending) most_to_send in
+    let room = nat_le (length p.link.pending) perform_limit in
     elim (takes_more waits p.link) as (λ t. takes_more waits p.link ≡ t → IfSome (cond t (after_front k p) None) (λ q. RoomOf k q)) [
       | true ↦ λ more.
           let a = both-true (not waits) (is_none p.link.closing && room) more in

@@ -13,14 +13,14 @@ use Rattle.af_model.specs.State.{State, DeviceState, OpenLink, SlotLink, link_in
 use Rattle.af_model.specs.Waiting.{has_deferral}
 use Rattle.af_model.specs.Tick.{captured_samples, sound, tick}
 use Rattle.af_model.specs.Events.{hook_given, hook_refused}
-use Rattle.af_model.specs.Turn.{Parsed, parsed, parse_then, then_go, parse_one, wants_read, is_read, read_by, read_phase, after_read, wants_write, write_by, write_phase, close_due, close_by, close_for, close_phase, same_flag, same_why, is_capture, capture_by, emit_by, after_capture, hook_wanted, hook_by, hook_for}
+use Rattle.af_model.specs.Turn.{Parsed, accept, parse_then, and_then, parse_one, wants_read, is_read, read_by, read_phase, after_read, wants_write, write_by, write_phase, close_due, close_by, close_for, close_phase, same_flag, same_why, is_capture, capture_by, emit_by, after_capture, hook_wanted, hook_by, hook_for}
 use Rattle.af_model.proofs.BoolTestLemmas.{both-true, cond-some, none_some, some_is, same_bytes-true, same_why-true}
 
 -- the part, which is taken whatever follows it, and what holds of it and of what is behind it
 pub record Taken {T : Type 0} (f : Log → Option (Parsed T)) (M : Log → T → Type 0) (log : Log) (b : Parsed T) : Type 0 where
   pub part : Log
   pub whole : log ≡ part ++ b.log
-  pub again : (more : Log) → f (part ++ more) ≡ parsed b.state more
+  pub again : (more : Log) → f (part ++ more) ≡ accept b.state more
   pub holds : M part b.state
 
 abbrev pub Takes : {T : Type 0} → (Log → Option (Parsed T)) → (Log → T → Type 0) → Type 0
@@ -33,17 +33,17 @@ module _ {S T : Type 0} where
 
 module _ {T : Type 0} where
   -- a phase that takes nothing off
-  pub takes_nothing : (t : T) (M : Log → T → Type 0) → M [] t → Takes (λ log. parsed t log) M
-  takes_nothing t M h log b e = subst (λ (c : Parsed T). Taken (λ log. parsed t log) M log c) (some_is e) (record { part = []; whole = refl; again = λ more. refl; holds = h })
+  pub takes_nothing : (t : T) (M : Log → T → Type 0) → M [] t → Takes (λ log. accept t log) M
+  takes_nothing t M h log b e = subst (λ (c : Parsed T). Taken (λ log. accept t log) M log c) (some_is e) (record { part = []; whole = refl; again = λ more. refl; holds = h })
 
   -- a phase that takes one happening off
   pub takes_one : (f : Happening → Option T) (M : Log → T → Type 0) → ((h : Happening) (t : T) → f h ≡ Some t → M (h ∷ []) t) → Takes (parse_one f) M
   takes_one f M one [] b e = absurd (none_some e)
   takes_one f M one (h ∷ log) b e =
-      elim (f h) as (λ x. f h ≡ x → then_go x (λ t. parsed t log) ≡ Some b → Taken (parse_one f) M (h ∷ log) b) [
+      elim (f h) as (λ x. f h ≡ x → and_then x (λ t. accept t log) ≡ Some b → Taken (parse_one f) M (h ∷ log) b) [
         | None ↦ λ i e. absurd (none_some e)
         | Some t ↦ λ i e. subst (λ (c : Parsed T). Taken (parse_one f) M (h ∷ log) c) (some_is e)
-            (record { part = h ∷ []; whole = refl; again = λ more. ap (λ x. then_go x (λ t. parsed t more)) i; holds = one h t i })
+            (record { part = h ∷ []; whole = refl; again = λ more. ap (λ x. and_then x (λ t. accept t more)) i; holds = one h t i })
       ] refl e
 
   pub takes_map : (f : Log → Option (Parsed T)) (M N : Log → T → Type 0) → ((part : Log) (t : T) → M part t → N part t) → Takes f M → Takes f N
@@ -87,34 +87,34 @@ module _ (k : ℕ) (p : OpenLink) (M : Log → OpenLink → Type 0) where
   pub read_takes : (wants_read (has_deferral p.environment.waiting k) p.link ≡ false → M [] p) → (wants_read (has_deferral p.environment.waiting k) p.link ≡ true → (got : ReadGot) → is_read got ≡ true → M (Read k got ∷ []) (after_read k got p)) → Takes (read_phase k p) M
   unfolding read_phase
   read_takes idle read =
-      elim (wants_read (has_deferral p.environment.waiting k) p.link) as (λ t. (t ≡ false → M [] p) → (t ≡ true → (got : ReadGot) → is_read got ≡ true → M (Read k got ∷ []) (after_read k got p)) → Takes (λ log. cond t (parse_one (read_by k p) log) (parsed p log)) M) [
+      elim (wants_read (has_deferral p.environment.waiting k) p.link) as (λ t. (t ≡ false → M [] p) → (t ≡ true → (got : ReadGot) → is_read got ≡ true → M (Read k got ∷ []) (after_read k got p)) → Takes (λ log. cond t (parse_one (read_by k p) log) (accept p log)) M) [
         | true ↦ λ idle read. takes_one (read_by k p) M (read_one (read refl))
         | false ↦ λ idle read. takes_nothing p M (idle refl)
       ] idle read
 
 -- Writes
 
-write_rests : (k : ℕ) (p : OpenLink) → wants_write p.link ≡ false → (more : Log) → write_phase k p more ≡ parsed p more
-write_rests k p w [] = ap (λ t. cond t None (parsed p [])) w
-write_rests k p w (h ∷ log) = ap (λ t. cond t (then_go (write_by k p h) (λ q. write_phase k q log)) (parsed p (h ∷ log))) w
+write_rests : (k : ℕ) (p : OpenLink) → wants_write p.link ≡ false → (more : Log) → write_phase k p more ≡ accept p more
+write_rests k p w [] = ap (λ t. cond t None (accept p [])) w
+write_rests k p w (h ∷ log) = ap (λ t. cond t (and_then (write_by k p h) (λ q. write_phase k q log)) (accept p (h ∷ log))) w
 
 write_goes : (k : ℕ) (p q : OpenLink) (h : Happening) → wants_write p.link ≡ true → write_by k p h ≡ Some q → (more : Log) → write_phase k p (h ∷ more) ≡ write_phase k q more
-write_goes k p q h w e more = ap (λ t. cond t (then_go (write_by k p h) (λ q. write_phase k q more)) (parsed p (h ∷ more))) w ∙ ap (λ x. then_go x (λ q. write_phase k q more)) e
+write_goes k p q h w e more = ap (λ t. cond t (and_then (write_by k p h) (λ q. write_phase k q more)) (accept p (h ∷ more))) w ∙ ap (λ x. and_then x (λ q. write_phase k q more)) e
 
 module _ (k : ℕ) (R : OpenLink → Log → OpenLink → Type 0) (rests : (p : OpenLink) → R p [] p)
     (goes : (p q : OpenLink) (h : Happening) → wants_write p.link ≡ true → write_by k p h ≡ Some q → (part : Log) (r : OpenLink) → R q part r → R p (h ∷ part) r) where
-  write_done : (p : OpenLink) (log : Log) (b : Parsed OpenLink) → wants_write p.link ≡ false → parsed p log ≡ Some b → Taken (write_phase k p) (R p) log b
+  write_done : (p : OpenLink) (log : Log) (b : Parsed OpenLink) → wants_write p.link ≡ false → accept p log ≡ Some b → Taken (write_phase k p) (R p) log b
   write_done p log b w e = subst (λ (c : Parsed OpenLink). Taken (write_phase k p) (R p) log c) (some_is e) (record { part = []; whole = refl; again = write_rests k p w; holds = rests p })
 
   pub write_takes : (log : Log) (p : OpenLink) (b : Parsed OpenLink) → write_phase k p log ≡ Some b → Taken (write_phase k p) (R p) log b
   write_takes [] p b e =
-      elim (wants_write p.link) as (λ t. wants_write p.link ≡ t → cond t None (parsed p []) ≡ Some b → Taken (write_phase k p) (R p) [] b) [
+      elim (wants_write p.link) as (λ t. wants_write p.link ≡ t → cond t None (accept p []) ≡ Some b → Taken (write_phase k p) (R p) [] b) [
         | true ↦ λ w e. absurd (none_some e)
         | false ↦ λ w e. write_done p [] b w e
       ] refl e
   write_takes (h ∷ log) p b e =
-      elim (wants_write p.link) as (λ t. wants_write p.link ≡ t → cond t (then_go (write_by k p h) (λ q. write_phase k q log)) (parsed p (h ∷ log)) ≡ Some b → Taken (write_phase k p) (R p) (h ∷ log) b) [
-        | true ↦ λ w e. elim (write_by k p h) as (λ x. write_by k p h ≡ x → then_go x (λ q. write_phase k q log) ≡ Some b → Taken (write_phase k p) (R p) (h ∷ log) b) [
+      elim (wants_write p.link) as (λ t. wants_write p.link ≡ t → cond t (and_then (write_by k p h) (λ q. write_phase k q log)) (accept p (h ∷ log)) ≡ Some b → Taken (write_phase k p) (R p) (h ∷ log) b) [
+        | true ↦ λ w e. elim (write_by k p h) as (λ x. write_by k p h ≡ x → and_then x (λ q. write_phase k q log) ≡ Some b → Taken (write_phase k p) (R p) (h ∷ log) b) [
           | None ↦ λ i e. absurd (none_some e)
           | Some q ↦ λ i e.
               let a = write_takes log q b e in

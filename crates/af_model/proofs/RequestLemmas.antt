@@ -20,7 +20,7 @@ use Rattle.af_model.specs.DeviceRequests.{controlling, controls_refusal, on_line
 use Rattle.af_model.specs.Waiting.{wait}
 use Rattle.af_model.specs.Play.{play, play_refusal, start_play, tell_played, accepting, entry_now, in_devices, frames_of, frames_within_horizon, sent_sound}
 use Rattle.af_model.specs.Record.{record_sound, record_refusal, recorded_bytes, start_record, give_record, given_frames, is_to_wait}
-use Rattle.af_model.specs.Perform.{channels_at, done, tell_time, in_context}
+use Rattle.af_model.specs.Perform.{channels_at, performed, tell_time, in_context}
 use Rattle.af_model.proofs.DeviceHistoryLemmas.{Requested, acts_accepting, later_same, lives_accepting, lives_wanting, now_acted, still_acted}
 use Rattle.af_model.proofs.DueLemmas.{IsToWait, most_asked, play_waits, record_few, record_waits}
 use Rattle.af_model.proofs.ReplySizeLemmas.{IsShortAnswer, error_short, given_short, reply_short}
@@ -97,7 +97,7 @@ module _ (k : ℕ) (p : OpenLink) (r : List ℕ) (most : ℕ) (M : OpenLink → 
       (λ given. answers _ (short_reply opcodes.record (recorded (device.now % 2 ^ 32) (recorded_bytes c device (unwrap device.now time) (given_frames blocking device time (frames_of device.channels c bytes))))
       (given_short blocking c device time bytes (unwrap device.now time) (record_few device.channels c bytes allowed)))))
 
-  pub done_both : (request : Asked) → most_asked request ≤ most → Both (done k request)
+  pub done_both : (request : Asked) → most_asked request ≤ most → Both (performed k request)
   done_both no_op short = stays
   done_both (get_time d) short = device_both opcodes.get_time d tell_time (slice_get p.environment.devices d) refl (λ device there. answers _ (short_reply opcodes.get_time (told_time (device.now % 2 ^ 32)) tt))
   done_both (create_ac d ac ty channels preempt play_gain record_gain) short =

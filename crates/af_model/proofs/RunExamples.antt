@@ -27,7 +27,7 @@ use Rattle.af_model.specs.Advance.{advance}
 use Rattle.af_model.specs.Tick.{complete_due, sound, tick}
 use Rattle.af_model.specs.DeviceRequests.{controls_refusal}
 use Rattle.af_model.specs.Events.{tell}
-use Rattle.af_model.specs.Turn.{close_phase, hook_from, parsed, read_phase, serve_from, serve_link, then_go, tick_phase, turn, wake_phase}
+use Rattle.af_model.specs.Turn.{close_phase, hook_from, accept, read_phase, serve_from, serve_link, and_then, tick_phase, turn, wake_phase}
 use Rattle.af_world.specs.Outside.{same_bytes}
 use Rattle.af_model.specs.Run.{end_state, IsRun}
 use Rattle.af_model.specs.LinkHistory.{history}
@@ -92,11 +92,11 @@ stereo_sound = subst (λ m. bytes_of Lin16 (map (scaled m) (heard_from 2 (stereo
 -- a tick of two frames captures four samples and hands out eight bytes
 stereo_tick : (s : State) (more : Log) →
     tick_phase 0 2 (Some (stereo_device 1024)) s (Captured 0 2 (Some (0 ∷ 3 ∷ 0 ∷ 4 ∷ 0 ∷ 5 ∷ 0 ∷ 6 ∷ [])) ∷ Emitted 0 (0 ∷ 7 ∷ 0 ∷ 9 ∷ 0 ∷ 11 ∷ 0 ∷ 19 ∷ []) true ∷ more)
-    ≡ parsed (tick 0 2 (pos 3 ∷ pos 4 ∷ pos 5 ∷ pos 6 ∷ []) false s) more
+    ≡ accept (tick 0 2 (pos 3 ∷ pos 4 ∷ pos 5 ∷ pos 6 ∷ []) false s) more
 unfolding samples
 stereo_tick s more =
     let captured : List ℤ = pos 3 ∷ pos 4 ∷ pos 5 ∷ pos 6 ∷ [] in
-    subst (λ out. then_go (cond (same_bytes (0 ∷ 7 ∷ 0 ∷ 9 ∷ 0 ∷ 11 ∷ 0 ∷ 19 ∷ []) out) (Some (tick 0 2 captured false s)) None) (λ t. parsed t more) ≡ parsed (tick 0 2 captured false s) more)
+    subst (λ out. and_then (cond (same_bytes (0 ∷ 7 ∷ 0 ∷ 9 ∷ 0 ∷ 11 ∷ 0 ∷ 19 ∷ []) out) (Some (tick 0 2 captured false s)) None) (λ t. accept t more) ≡ accept (tick 0 2 captured false s) more)
     (sym stereo_sound) refl
 
 -- the second frame of the right channel is the last of them

@@ -20,7 +20,7 @@ use Rattle.af_model.specs.Waiting.{has_deferral}
 use Rattle.af_model.specs.Advance.{advance, absorb, takes_more}
 use Rattle.af_model.specs.Tick.{enter}
 use Rattle.af_model.specs.Events.{dropped}
-use Rattle.af_model.specs.Turn.{parsed, parse_then, wants_read, read_phase, after_read, wants_write, sent, write_by, write_offered, write_taken, write_phase, after_write, close_phase, serve_link, serve_open, serve_at, serve_from}
+use Rattle.af_model.specs.Turn.{accept, parse_then, wants_read, read_phase, after_read, wants_write, sent, write_by, write_offered, write_taken, write_phase, after_write, close_phase, serve_link, serve_open, serve_at, serve_from}
 use Rattle.af_model.specs.LinkHistory.{LinkHistory, noted, read_noted, write_noted}
 use Rattle.af_model.specs.Dead.{fails_device, fails_line}
 use Rattle.af_model.specs.Offers.{IsOfferWithin}
@@ -355,14 +355,14 @@ within_trans s p t q u a b = record { inside = inner-append p q a.inside b.insid
 served_at : (k : ℕ) (s : State) → Takes (serve_at k s) (Within s)
 served_at k s =
     let a = (slot_link_at k s).environment in
-    elim (slot_at k s).link as (λ o. (slot_at k s).link ≡ o → Takes (λ log. parse_then (serve_open k a o log) (λ d log. parsed (with_slot_link k s d) log)) (Within s)) [
+    elim (slot_at k s).link as (λ o. (slot_at k s).link ≡ o → Takes (λ log. parse_then (serve_open k a o log) (λ d log. accept (with_slot_link k s d) log)) (Within s)) [
       | None ↦ λ is.
-          takes_then (λ log. parsed (link_in_slot a None) log) (λ d log. parsed (with_slot_link k s d) log) (λ part d. (part ≡ []) × (d ≡ link_in_slot a None)) (Within s) (takes_nothing (link_in_slot a None) (λ part d. (part ≡ []) × (d ≡ link_in_slot a None)) (refl, refl))
+          takes_then (λ log. accept (link_in_slot a None) log) (λ d log. accept (with_slot_link k s d) log) (λ part d. (part ≡ []) × (d ≡ link_in_slot a None)) (Within s) (takes_nothing (link_in_slot a None) (λ part d. (part ≡ []) × (d ≡ link_in_slot a None)) (refl, refl))
           (λ part d h. takes_nothing (with_slot_link k s d) (λ more t. Within s (part ++ more) t)
           (let back : with_slot_link k s d ≡ s = ap (with_slot_link k s) (h.1 ∙ ap (link_in_slot a) (sym is)) ∙ same_door k s in
           subst (λ l. Within s (l ++ []) (with_slot_link k s d)) (sym h.0) (subst (Within s []) (sym back) (within_refl s))))
       | Some l ↦ λ is.
-          takes_then (serve_link k (open_link a l)) (λ d log. parsed (with_slot_link k s d) log) (λ part d. Served k (enter (open_link a l)) part d) (Within s) (served_link k (open_link a l))
+          takes_then (serve_link k (open_link a l)) (λ d log. accept (with_slot_link k s d) log) (λ part d. Served k (enter (open_link a l)) part d) (Within s) (served_link k (open_link a l))
           (λ part d h. takes_nothing (with_slot_link k s d) (λ more t. Within s (part ++ more) t)
           (within_trans s part (with_slot_link k s d) [] (with_slot_link k s d)
           (record {

@@ -23,7 +23,7 @@ use Rattle.af_model.specs.Reply.{horizon_of}
 use Rattle.af_model.specs.Advance.{or_else}
 use Rattle.af_model.specs.Tick.{captured_samples, complete, complete_at, complete_by, complete_due, complete_first, complete_for, complete_step, completing, enter, later, sound, tick}
 use Rattle.af_model.specs.Events.{dropped, event_at, hook_given, hook_refused, line_becomes, line_changes, mask_of, tell, tell_at, tell_from, tell_link, tell_open, tell_selected}
-use Rattle.af_model.specs.Turn.{Parsed, parsed, parse_then, parse_one, capture_by, after_capture, tick_phase, line_phase, wake_phase, ready, writable, in_open, in_slot, is_closed_at, fits, hook_at, hook_from, hook_all, serve_all, serve_and_hook, turn}
+use Rattle.af_model.specs.Turn.{Parsed, accept, parse_then, parse_one, capture_by, after_capture, tick_phase, line_phase, wake_phase, ready, writable, in_open, in_slot, is_closed_at, fits, hook_at, hook_from, hook_all, serve_all, serve_and_hook, turn}
 use Rattle.af_model.specs.LinkHistory.{LinkHistory, no_history, noted}
 use Rattle.af_model.specs.Prefix.{is_dropped}
 use Rattle.af_model.proofs.BoolTestLemmas.{both-true, cond-some, none_some, some_is}
@@ -329,7 +329,7 @@ sounded_goes d n device s bytes sent done few there alive =
 woken_ticked : (d n : ℕ) (o : Option DeviceState) (s : State) → n ≤ longest_tick → slice_get s.devices d ≡ o → Takes (tick_phase d n o s) (Woken s (Ticked d n))
 woken_ticked d n None s few there = λ log b e. absurd (none_some e)
 woken_ticked d n (Some device) s few there =
-    elim device.is_dead as (λ t. device.is_dead ≡ t → Takes (λ log. cond t (parsed (tick d n (captured_samples device n None) true s) log) (parse_then (parse_one (capture_by d n device) log) (after_capture d n device s))) (Woken s (Ticked d n))) [
+    elim device.is_dead as (λ t. device.is_dead ≡ t → Takes (λ log. cond t (accept (tick d n (captured_samples device n None) true s) log) (parse_then (parse_one (capture_by d n device) log) (after_capture d n device s))) (Woken s (Ticked d n))) [
       | true ↦ λ dead. takes_nothing (tick d n (captured_samples device n None) true s) (Woken s (Ticked d n)) (record { goes = dead_goes d n device s few there dead; emits = inl refl })
       | false ↦ λ alive. live_takes d n device s (Woken s (Ticked d n)) (record { goes = failed_goes d n device s few there; emits = inl refl })
           (λ bytes done size. record {
@@ -396,7 +396,7 @@ opens_goes f k s queued advanced room =
     ] refl
 
 -- a wake that no link is opened by, and that takes nothing off
-woken_quiet : (w : Wake) (s t : State) → ((k : ℕ) (g : LinkHistory) → noted k g (Woke w) ≡ g) → Goes s [] t → Takes (λ log. parsed t log) (Woken s w)
+woken_quiet : (w : Wake) (s t : State) → ((k : ℕ) (g : LinkHistory) → noted k g (Woke w) ≡ g) → Goes s [] t → Takes (λ log. accept t log) (Woken s w)
 woken_quiet w s t still g =
     takes_nothing t (Woken s w) (record { goes = record { devices = g.devices; deaths = g.deaths; queued = λ k f h. subst (λ x. OwingAt k x t) (sym (still k f)) (g.queued k f h); safe = g.safe; room = λ h. ((g.room h).0, All-from_recursion IsOfferWithin (Woke w ∷ []) (tt, tt)) }; emits = inl refl })
 

@@ -2,7 +2,7 @@
 use Rattle.std.specs.Prelude.{ℕ, zero, suc, Bool, not, true, List, ◌++◌, length, take, drop, if◌then◌else◌, ◌&&◌, nat_le, is_none}
 use Rattle.std.specs.declared.option.Option.{Option}
 use Rattle.std.specs.declared.option.Option.TheVariants.{None, Some}
-use Rattle.af_limits.specs.Limits.{most_to_send}
+use Rattle.af_limits.specs.Limits.{perform_limit}
 use Rattle.af_world.specs.declared.happening.Why.TheVariants as why
 use Rattle.af_wire.specs.declared.front.Front.{Front}
 use Rattle.af_wire.specs.declared.front.Front.TheVariants.{NeedMore, Frame, Malformed}
@@ -46,7 +46,7 @@ after_setup (front.BadSetup order value) p =
 
 -- nothing is taken off while a link waits or is closing, or while more than 16384 bytes wait to be sent to it
 abbrev pub takes_more : Bool → LinkState → Bool
-takes_more waits l = not waits && (is_none l.closing && nat_le (length l.pending) most_to_send)
+takes_more waits l = not waits && (is_none l.closing && nat_le (length l.pending) perform_limit)
 
 abbrev pub after_front : ℕ → OpenLink → Option OpenLink
 after_front k p =

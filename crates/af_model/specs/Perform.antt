@@ -34,35 +34,35 @@ abbrev pub channels_at : List DeviceState → ℕ → Option ℕ
 channels_at devices d = option_map (λ device. device.channels) (slice_get devices d)
 
 -- what a request of link k does
-abbrev pub done : ℕ → Asked → OpenLink → OpenLink
-done k no_op p = p
-done k (get_time d) p = in_device opcodes.get_time d tell_time (slice_get p.environment.devices d) p
-done k (create_ac d ac ty channels preempt play_gain record_gain) p =
+abbrev pub performed : ℕ → Asked → OpenLink → OpenLink
+performed k no_op p = p
+performed k (get_time d) p = in_device opcodes.get_time d tell_time (slice_get p.environment.devices d) p
+performed k (create_ac d ac ty channels preempt play_gain record_gain) p =
     refused_or opcodes.create_ac
     (creation_refusal (channels_at p.environment.devices d) d ty channels preempt play_gain record_gain)
     (create (described d ac ty preempt play_gain record_gain)) p
-done k (change_ac mask ac preempt play_gain record_gain) p =
+performed k (change_ac mask ac preempt play_gain record_gain) p =
     refused_or opcodes.change_ac (change_refusal p.link.contexts mask ac preempt play_gain record_gain)
     (change mask ac preempt play_gain record_gain) p
-done k (free_ac ac) p = free ac p
-done k (play_run quiet ac start bytes) p =
+performed k (free_ac ac) p = free ac p
+performed k (play_run quiet ac start bytes) p =
     in_context opcodes.play ac (λ c. play k quiet c start bytes) (context_of p.link.contexts ac) p
-done k (record_run blocking ac start bytes) p =
+performed k (record_run blocking ac start bytes) p =
     in_context opcodes.record ac (λ c. record_sound k blocking c start bytes) (context_of p.link.contexts ac) p
-done k (select_events d mask) p =
+performed k (select_events d mask) p =
     in_device opcodes.select_events d (λ device. on_line opcodes.select_events d (λ line. select d mask) device.line)
     (slice_get p.environment.devices d) p
-done k (set_controls d mask input_on output_on input_gain output_gain) p =
+performed k (set_controls d mask input_on output_on input_gain output_gain) p =
     in_device opcodes.set_controls d (set_device_controls k d mask input_on output_on input_gain output_gain)
     (slice_get p.environment.devices d) p
-done k (query_controls d) p = in_device opcodes.query_controls d tell_controls (slice_get p.environment.devices d) p
-done k (hook_switch d off) p =
+performed k (query_controls d) p = in_device opcodes.query_controls d tell_controls (slice_get p.environment.devices d) p
+performed k (hook_switch d off) p =
     in_device opcodes.hook_switch d (λ device. on_line opcodes.hook_switch d (switch_hook k d off) device.line)
     (slice_get p.environment.devices d) p
-done k (query_phone d) p =
+performed k (query_phone d) p =
     in_device opcodes.query_phone d (λ device. on_line opcodes.query_phone d tell_phone device.line)
     (slice_get p.environment.devices d) p
 
 -- link k makes a request
 abbrev pub perform : ℕ → Asked → OpenLink → OpenLink
-perform k request p = done k request (open_link p.environment (request_counted p.link))
+perform k request p = performed k request (open_link p.environment (request_counted p.link))

@@ -29,22 +29,22 @@ pub record Parsed (S : Type 0) : Type 0 where
   pub state : S
   pub log : Log
 
-abbrev pub parsed : {S : Type 0} → S → Log → Option (Parsed S)
-parsed s log = Some (record { state = s; log = log })
+abbrev pub accept : {S : Type 0} → S → Log → Option (Parsed S)
+accept s log = Some (record { state = s; log = log })
 
 -- one phase after another
 abbrev pub parse_then : {S T : Type 0} → Option (Parsed S) → (S → Log → Option (Parsed T)) → Option (Parsed T)
 parse_then None f = None
 parse_then (Some b) f = f b.state b.log
 
-abbrev pub then_go : {S T : Type 0} → Option S → (S → Option T) → Option T
-then_go None f = None
-then_go (Some s) f = f s
+abbrev pub and_then : {S T : Type 0} → Option S → (S → Option T) → Option T
+and_then None f = None
+and_then (Some s) f = f s
 
 -- one happening, which leads to a state where it is the one that must come
 abbrev pub parse_one : {S : Type 0} → (Happening → Option S) → Log → Option (Parsed S)
 parse_one f [] = None
-parse_one f (h ∷ log) = then_go (f h) (λ s. parsed s log)
+parse_one f (h ∷ log) = and_then (f h) (λ s. accept s log)
 
 -- Reads: one, if the link may have something to read, does not wait, is not closing, and at most 16384 bytes wait to be sent
 -- to it
@@ -71,7 +71,7 @@ read_by k p (Read link got) = if link == k && is_read got then Some (after_read 
 read_by k p _ = None
 
 unfoldable pub read_phase : ℕ → OpenLink → Log → Option (Parsed OpenLink)
-read_phase k p log = if wants_read (has_deferral p.environment.waiting k) p.link then parse_one (read_by k p) log else parsed p log
+read_phase k p log = if wants_read (has_deferral p.environment.waiting k) p.link then parse_one (read_by k p) log else accept p log
 
 -- Writes: of all that waits to be sent, as long as anything does and the link is not stuck
 
@@ -101,9 +101,9 @@ write_by k p (Wrote link offered took) = if link == k then write_offered k offer
 write_by k p _ = None
 
 abbrev pub write_phase : ℕ → OpenLink → Log → Option (Parsed OpenLink)
-write_phase k p [] = if wants_write p.link then None else parsed p []
+write_phase k p [] = if wants_write p.link then None else accept p []
 write_phase k p (h ∷ log) =
-    if wants_write p.link then then_go (write_by k p h) (λ q. write_phase k q log) else parsed p (h ∷ log)
+    if wants_write p.link then and_then (write_by k p h) (λ q. write_phase k q log) else accept p (h ∷ log)
 
 -- Closes: one, if the link is closing and nothing waits to be sent to it
 
@@ -127,7 +127,7 @@ close_by k a cause (Closed link why) = if link == k && same_why why cause then S
 close_by k a cause _ = None
 
 abbrev pub close_for : ℕ → OpenLink → Option Why → Log → Option (Parsed SlotLink)
-close_for k p None log = parsed (link_in_slot p.environment (Some p.link)) log
+close_for k p None log = accept (link_in_slot p.environment (Some p.link)) log
 close_for k p (Some cause) log = parse_one (close_by k p.environment cause) log
 
 unfoldable pub close_phase : ℕ → OpenLink → Log → Option (Parsed SlotLink)
@@ -139,18 +139,18 @@ unfoldable pub serve_link : ℕ → OpenLink → Log → Option (Parsed SlotLink
 serve_link k p log = parse_then (read_phase k p log) (λ p log. parse_then (write_phase k p log) (close_phase k))
 
 abbrev pub serve_open : ℕ → EnvironmentState → Option LinkState → Log → Option (Parsed SlotLink)
-serve_open k a None log = parsed (link_in_slot a None) log
+serve_open k a None log = accept (link_in_slot a None) log
 serve_open k a (Some l) log = serve_link k (open_link a l) log
 
 abbrev pub serve_slot_link : ℕ → SlotLink → Log → Option (Parsed SlotLink)
 serve_slot_link k d log = serve_open k d.environment d.link log
 
 abbrev pub serve_at : ℕ → State → Log → Option (Parsed State)
-serve_at k s log = parse_then (serve_slot_link k (slot_link_at k s) log) (λ d log. parsed (with_slot_link k s d) log)
+serve_at k s log = parse_then (serve_slot_link k (slot_link_at k s) log) (λ d log. accept (with_slot_link k s d) log)
 
 -- n links from number k on
 unfoldable pub serve_from : ℕ → ℕ → State → Log → Option (Parsed State)
-serve_from zero k s log = parsed s log
+serve_from zero k s log = accept s log
 serve_from (suc n) k s log = parse_then (serve_at k s log) (serve_from n (k + 1))
 
 abbrev pub serve_all : State → Log → Option (Parsed State)
@@ -221,30 +221,30 @@ emit_by d n device captured s (Emitted e bytes done) =
 emit_by d n device captured s _ = None
 
 abbrev pub after_capture : ℕ → ℕ → DeviceState → State → Option (List ℕ) → Log → Option (Parsed State)
-after_capture d n device s None log = parsed (tick d n (captured_samples device n None) true s) log
+after_capture d n device s None log = accept (tick d n (captured_samples device n None) true s) log
 after_capture d n device s (Some bytes) log = parse_one (emit_by d n device (captured_samples device n (Some bytes)) s) log
 
 abbrev pub tick_phase : ℕ → ℕ → Option DeviceState → State → Log → Option (Parsed State)
 tick_phase d n None s log = None
 tick_phase d n (Some device) s log =
-    if device.is_dead then parsed (tick d n (captured_samples device n None) true s) log
+    if device.is_dead then accept (tick d n (captured_samples device n None) true s) log
     else parse_then (parse_one (capture_by d n device) log) (after_capture d n device s)
 
 -- A line changes, and the links that select it are told
 
 abbrev pub line_phase : LineChange → ℕ → Option DeviceState → State → Log → Option (Parsed State)
 line_phase change d None s log = None
-line_phase change d (Some device) s log = parsed (line_changes change d device s) log
+line_phase change d (Some device) s log = accept (line_changes change d device s) log
 
 -- what a wake does
 unfoldable pub wake_phase : Wake → State → Log → Option (Parsed State)
-wake_phase (Opened k) s log = parsed (with_slot k (record { link = Some opened; said = [] }) s) log
-wake_phase (Readable k) s log = parsed (with_slot k (in_slot ready (slot_at k s)) s) log
-wake_phase (Writable k) s log = parsed (with_slot k (in_slot writable (slot_at k s)) s) log
+wake_phase (Opened k) s log = accept (with_slot k (record { link = Some opened; said = [] }) s) log
+wake_phase (Readable k) s log = accept (with_slot k (in_slot ready (slot_at k s)) s) log
+wake_phase (Writable k) s log = accept (with_slot k (in_slot writable (slot_at k s)) s) log
 wake_phase (Ticked d n) s log = tick_phase d n (slice_get s.devices d) s log
 wake_phase (Line d change) s log = line_phase change d (slice_get s.devices d) s log
-wake_phase Idle s log = parsed s log
-wake_phase Stop s log = parsed s log
+wake_phase Idle s log = accept s log
+wake_phase Stop s log = accept s log
 
 -- whether two flags are the same
 abbrev pub same_flag : Bool → Bool → Bool
@@ -262,16 +262,16 @@ hook_by d off device s (Hooked e wanted done) =
 hook_by d off device s _ = None
 
 abbrev pub hook_for : ℕ → DeviceState → Option Bool → State → Log → Option (Parsed State)
-hook_for d device None s log = parsed s log
+hook_for d device None s log = accept s log
 hook_for d device (Some off) s log = parse_one (hook_by d off device s) log
 
 abbrev pub hook_at : ℕ → Option DeviceState → State → Log → Option (Parsed State)
-hook_at d None s log = parsed s log
+hook_at d None s log = accept s log
 hook_at d (Some device) s log = hook_for d device (hook_wanted device) s log
 
 -- n devices from number d on
 unfoldable pub hook_from : ℕ → ℕ → State → Log → Option (Parsed State)
-hook_from zero d s log = parsed s log
+hook_from zero d s log = accept s log
 hook_from (suc n) d s log = parse_then (hook_at d (slice_get s.devices d) s log) (hook_from n (d + 1))
 
 abbrev pub hook_all : State → Log → Option (Parsed State)
@@ -289,4 +289,4 @@ turn s _ = None
 
 -- the part of a log is exactly one turn from the state, whatever follows it, and leads to the next state
 abbrev pub IsTurn : State → Log → State → Type 0
-IsTurn s part next = (more : Log) → turn s (part ++ more) ≡ parsed next more
+IsTurn s part next = (more : Log) → turn s (part ++ more) ≡ accept next more

@@ -15,10 +15,10 @@ use Rattle.af_world.specs.declared.happening.Wake.{Wake}
 use Rattle.af_world.specs.declared.script.DeviceSpec.{DeviceSpec}
 use Rattle.af_world.specs.declared.script.Step.{Step}
 use Rattle.af_outside.specs.declared.scripted_device.KeptScriptedDevice.{KeptScriptedDevice}
-use Rattle.af_outside.specs.declared.outer_faults.OuterFaults.{OuterFaults}
+use Rattle.af_outside.specs.declared.lifecycle_faults.LifecycleFaults.{LifecycleFaults}
 use Rattle.af_io.specs.Observed.{faults_after}
 use Rattle.af_world.specs.Log.{Log}
-use Rattle.af_outside.specs.OuterState.{OuterState, outer_start}
+use Rattle.af_outside.specs.LifecycleState.{LifecycleState, lifecycle_start}
 use Rattle.af_world.specs.Outside.{Outside, answered_as_stated, scripted_of, stepped, then_outside, wake_of}
 use Rattle.af_outside.specs.TapeState.{TapeState, TapeLeadsTo, TakesStep, Answered, made}
 use Rattle.af_outside.specs.Tape.{KeptClient, HasRoomForSteps, Noted, kept_scripted_of, outside_of, clients_of, sent_by, devices_of}
@@ -79,11 +79,11 @@ TakesStep-first old step left wake o first woken changed =
     (woken, ap (λ o. record old { left = left; outside = o }) changed)
 
 -- what makes up a tape of which nothing was asked yet
-pub fresh-parts : (config config' : List DeviceSpec) (steps steps' : List Step) (log : Option Log) (links : List KeptClient) (kept : List KeptScriptedDevice) (faults : OuterFaults) (outer : OuterState) → config' ≡ config → steps' ≡ steps →
-    log ≡ Some [] → clients_of links ≡ replicate most_links None → kept ≡ map (λ d. kept_scripted_of d.ty) config → outer ≡ outer_start faults →
+pub fresh-parts : (config config' : List DeviceSpec) (steps steps' : List Step) (log : Option Log) (links : List KeptClient) (kept : List KeptScriptedDevice) (faults : LifecycleFaults) (outer : LifecycleState) → config' ≡ config → steps' ≡ steps →
+    log ≡ Some [] → clients_of links ≡ replicate most_links None → kept ≡ map (λ d. kept_scripted_of d.ty) config → outer ≡ lifecycle_start faults →
     (let tape : TapeState = record { config = config'; left = steps'; log = log; outside = outside_of links (devices_of steps' kept); link_faults = 0; device_faults = 0; outer = outer } in tape) ≡ made config steps faults
 fresh-parts config config' steps steps' log links kept faults outer given left told closed start begun =
     let devices : devices_of steps kept ≡ map (λ d. scripted_of d.ty) config = ap (devices_of steps) start ∙ devices_of-start steps config in
     rw (given, left, told, begun)
-    (ap (λ clients. (let tape : TapeState = record { config = config; left = steps; log = Some []; outside = record { clients = clients; devices = devices_of steps kept }; link_faults = 0; device_faults = 0; outer = outer_start faults } in tape)) closed
-    ∙ ap (λ devices. (let tape : TapeState = record { config = config; left = steps; log = Some []; outside = record { clients = replicate most_links None; devices = devices }; link_faults = 0; device_faults = 0; outer = outer_start faults } in tape)) devices)
+    (ap (λ clients. (let tape : TapeState = record { config = config; left = steps; log = Some []; outside = record { clients = clients; devices = devices_of steps kept }; link_faults = 0; device_faults = 0; outer = lifecycle_start faults } in tape)) closed
+    ∙ ap (λ devices. (let tape : TapeState = record { config = config; left = steps; log = Some []; outside = record { clients = replicate most_links None; devices = devices }; link_faults = 0; device_faults = 0; outer = lifecycle_start faults } in tape)) devices)

@@ -1,4 +1,4 @@
 pub mod TapeState
 pub mod Tape
-pub mod OuterState
+pub mod LifecycleState
 pub mod TapeLaws

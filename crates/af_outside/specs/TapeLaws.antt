@@ -4,12 +4,12 @@ use Rattle.std.proofs.Math.Nat.{le_refl, le_trans}
 use Rattle.std.proofs.lemmas.List.{append-nil}
 use Rattle.std.specs.declared.option.Option.{Option}
 use Rattle.std.specs.declared.option.Option.TheVariants.{None, Some}
-use Rattle.af_world.specs.declared.outer.Outer.{Outer}
+use Rattle.af_world.specs.declared.lifecycle.Lifecycle.{Lifecycle}
 use Rattle.af_io.specs.Observed.{Unchanged}
 use Rattle.af_world.specs.Log.{Log}
-use Rattle.af_outside.specs.OuterState.{OuterState, told_beside}
+use Rattle.af_outside.specs.LifecycleState.{LifecycleState, told_beside}
 use Rattle.af_world.specs.Outside.{Outside, answered_as_stated, replayed, then_outside}
-use Rattle.af_outside.specs.TapeState.{TapeState, TapeLeadsTo, Answered, outer_told}
+use Rattle.af_outside.specs.TapeState.{TapeState, TapeLeadsTo, Answered, lifecycle_told}
 
 -- a log of two parts is replayed part by part
 pub replayed-append : (o : Outside) (front back : Log) → replayed o (front ++ back) ≡ then_outside (replayed o front) (λ o. replayed o back)
@@ -48,27 +48,27 @@ TapeLeadsTo-trans a b c p q = record {
 }
 
 -- calls leave the outer list as it is, if it is observed still
-stays_beside : (x y : Option Log) (a b : Outside) (entries : List Outer) → Answered x a y b → Unchanged (told_beside x entries) (told_beside y entries)
+stays_beside : (x y : Option Log) (a b : Outside) (entries : List Lifecycle) → Answered x a y b → Unchanged (told_beside x entries) (told_beside y entries)
 stays_beside x None a b entries p = tt
 stays_beside None (Some y) a b entries p = absurd p
 stays_beside (Some x) (Some y) a b entries p = refl
 
-pub TapeLeadsTo-outer : (a b : TapeState) → TapeLeadsTo a b → Unchanged (outer_told a) (outer_told b)
+pub TapeLeadsTo-outer : (a b : TapeState) → TapeLeadsTo a b → Unchanged (lifecycle_told a) (lifecycle_told b)
 TapeLeadsTo-outer a b p =
-    let e = ap (λ (o : OuterState). o.entries) p.outer in
-    subst (λ entries. Unchanged (outer_told a) (told_beside b.log entries)) (sym e) (stays_beside a.log b.log a.outside b.outside a.outer.entries p.answered)
+    let e = ap (λ (o : LifecycleState). o.entries) p.outer in
+    subst (λ entries. Unchanged (lifecycle_told a) (told_beside b.log entries)) (sym e) (stays_beside a.log b.log a.outside b.outside a.outer.entries p.answered)
 
 -- nor do they move the counts of listens and waits that failed
 pub TapeLeadsTo-listen_faults : (a b : TapeState) → TapeLeadsTo a b → b.outer.listen_faults ≡ a.outer.listen_faults
-TapeLeadsTo-listen_faults a b p = ap (λ (o : OuterState). o.listen_faults) p.outer
+TapeLeadsTo-listen_faults a b p = ap (λ (o : LifecycleState). o.listen_faults) p.outer
 
 pub TapeLeadsTo-wait_faults : (a b : TapeState) → TapeLeadsTo a b → b.outer.wait_faults ≡ a.outer.wait_faults
-TapeLeadsTo-wait_faults a b p = ap (λ (o : OuterState). o.wait_faults) p.outer
+TapeLeadsTo-wait_faults a b p = ap (λ (o : LifecycleState). o.wait_faults) p.outer
 
 -- a tape that tells its log tells its outer list
-tells_beside : (log : Option Log) (entries : List Outer) → IsSome log → IsSome (told_beside log entries)
+tells_beside : (log : Option Log) (entries : List Lifecycle) → IsSome log → IsSome (told_beside log entries)
 tells_beside None entries h = h
 tells_beside (Some log) entries h = h
 
-pub Tape-tells_both : (a : TapeState) → IsSome a.log → IsSome (outer_told a)
+pub Tape-tells_both : (a : TapeState) → IsSome a.log → IsSome (lifecycle_told a)
 Tape-tells_both a h = tells_beside a.log a.outer.entries h

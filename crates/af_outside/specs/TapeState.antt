@@ -8,11 +8,11 @@ use Rattle.af_world.specs.declared.script.DeviceSpec.{DeviceSpec}
 use Rattle.af_world.specs.declared.script.Step.{Step}
 use Rattle.af_world.specs.declared.live.Waited.{Waited}
 use Rattle.af_world.specs.declared.live.Waited.TheVariants as waited
-use Rattle.af_world.specs.declared.outer.Outer.{Outer}
-use Rattle.af_outside.specs.declared.outer_faults.OuterFaults.{OuterFaults}
+use Rattle.af_world.specs.declared.lifecycle.Lifecycle.{Lifecycle}
+use Rattle.af_outside.specs.declared.lifecycle_faults.LifecycleFaults.{LifecycleFaults}
 use Rattle.af_world.specs.Log.{Log}
 use Rattle.af_world.specs.Outside.{Outside, outside_start, stepped, wake_of, replayed}
-use Rattle.af_outside.specs.OuterState.{OuterState, outer_start, no_faults, told_beside, is_stated}
+use Rattle.af_outside.specs.LifecycleState.{LifecycleState, lifecycle_start, no_faults, told_beside, is_stated}
 
 -- what a tape is seen as: its devices, the steps that are left, its log where it tells it, the outside that it is, how
 -- often a link and a device have failed, and what it keeps of listens, attaches and waits
@@ -23,11 +23,11 @@ pub record TapeState : Type 0 where
   pub outside : Outside
   pub link_faults : ℕ
   pub device_faults : ℕ
-  pub outer : OuterState
+  pub outer : LifecycleState
 
 -- a tape as it is made
-abbrev pub made : List DeviceSpec → List Step → OuterFaults → TapeState
-made config steps faults = record { config = config; left = steps; log = Some []; outside = outside_start config; link_faults = 0; device_faults = 0; outer = outer_start faults }
+abbrev pub made : List DeviceSpec → List Step → LifecycleFaults → TapeState
+made config steps faults = record { config = config; left = steps; log = Some []; outside = outside_start config; link_faults = 0; device_faults = 0; outer = lifecycle_start faults }
 
 -- a tape as it is made, with no listen, attach or wait that is to fail
 abbrev pub fresh : List DeviceSpec → List Step → TapeState
@@ -64,8 +64,8 @@ pub record NoCountFalls (old new : TapeState) : Type 0 where
   pub wait_count : old.outer.wait_faults ≤ new.outer.wait_faults
 
 -- the outer list, which is observed if the log is
-abbrev pub outer_told : TapeState → Option (List Outer)
-outer_told tape = told_beside tape.log tape.outer.entries
+abbrev pub lifecycle_told : TapeState → Option (List Lifecycle)
+lifecycle_told tape = told_beside tape.log tape.outer.entries
 
 -- whether the next wait fails
 abbrev pub wait_fails : TapeState → Bool

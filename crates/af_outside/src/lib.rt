@@ -2,10 +2,10 @@
 #![tactic(auto)]
 
 mod happenings;
+mod lifecycle_faults;
+mod lifecycle_log;
 mod links;
 mod logbook;
-mod outer_book;
-mod outer_faults;
 mod scripted_device;
 mod scripted_link;
 mod tape;
@@ -15,8 +15,8 @@ pub use af_io::{
     StdSink, StdSource, TcpDial, TcpLink, TextFault, WordsFault, program_words, read_text,
 };
 pub use af_world::{
-    CardKind, Config, DeviceSpec, Happening, Kind, LineProgram, LinkGot, LinkTook, Live, Outer,
+    CardKind, Config, DeviceSpec, Happening, Kind, Lifecycle, LineProgram, LinkGot, LinkTook, Live,
     ReadGot, Ready, Step, ToldKind, Waited, Wake, Why, World, laws, silent_byte,
 };
-pub use outer_faults::OuterFaults;
+pub use lifecycle_faults::LifecycleFaults;
 pub use tape::Tape;

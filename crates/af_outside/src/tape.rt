@@ -6,22 +6,22 @@ ghost use Rattle.af_world.specs.declared.happening.Happening.TheVariants.{Read, 
 ghost use Rattle.af_world.specs.declared.script.Step.{Step};
 ghost use Rattle.af_io.specs.Observed.{counted, faults_after, Appended, FaultCounted, Unchanged};
 ghost use Rattle.af_world.specs.World.{got_of, took_of, captured_of, is_done, LinkGotFits, TookFits};
-ghost use Rattle.af_child.specs.Acts.{words_of};
+ghost use Rattle.af_process.specs.Acts.{words_of};
 ghost use Rattle.af_world.specs.Outside.{answered_as_stated, spec_has_line, stepped, wake_of, ScriptedDevice};
 ghost use Rattle.af_world.specs.Kinds.{told_kind};
-ghost use Rattle.af_world.specs.Outer.{attached, line_attached, listened, waited};
-ghost use Rattle.af_outside.specs.TapeState.{made, TakesStep, TapeLeadsTo, left_after, outer_told, NoCountFalls, wait_answer, wait_fails, waited_outside};
-ghost use Rattle.af_outside.specs.OuterState.{is_stated, was_refused};
+ghost use Rattle.af_world.specs.Lifecycle.{attached, line_attached, listened, waited};
+ghost use Rattle.af_outside.specs.TapeState.{made, TakesStep, TapeLeadsTo, left_after, lifecycle_told, NoCountFalls, wait_answer, wait_fails, waited_outside};
+ghost use Rattle.af_outside.specs.LifecycleState.{is_stated, was_refused};
 ghost use Rattle.af_outside.specs.Tape.{HasRoomForSteps, outside_of, devices_of, read_failed, write_failed};
 
 use crate::happenings::{capture_of, emit_of, hook_of, read_of, write_of};
+use crate::lifecycle_log::{LifecycleLog, attach_of, line_attach_of, listen_of, wait_of};
 use crate::logbook::Logbook;
-use crate::outer_book::{OuterBook, attach_of, line_attach_of, listen_of, wait_of};
 use crate::scripted_device::{self, DeviceCall, KeptScriptedDevice, new_devices};
 use crate::scripted_link::ScriptedLink;
 use crate::{
-    Bytes, Config, DeviceSpec, Happening, Kind, LineProgram, LinkGot, LinkTook, Live, Outer,
-    OuterFaults, Put, Ready, Step, Waited, Wake, Why, World, links,
+    Bytes, Config, DeviceSpec, Happening, Kind, Lifecycle, LifecycleFaults, LineProgram, LinkGot,
+    LinkTook, Live, Put, Ready, Step, Waited, Wake, Why, World, links,
 };
 use af_io::faults_after;
 use af_time::OutOfMemory;
@@ -43,7 +43,7 @@ pub struct Tape {
     devices: Vec<KeptScriptedDevice>,
     link_faults: u64,
     device_faults: u64,
-    outer: OuterBook,
+    outer: LifecycleLog,
 }
 
 impl Model for Tape {
@@ -51,8 +51,8 @@ impl Model for Tape {
     ghost use Rattle.af_outside.specs.TapeState.{TapeState};
     ghost use Rattle.af_world.specs.Kinds.{told_kind};
     ghost use Rattle.af_io.specs.Observed.{counted};
-    ghost use Rattle.af_world.specs.Outer.{attached, listened, waited};
-    ghost use Rattle.af_outside.specs.OuterState.{is_stated, was_refused};
+    ghost use Rattle.af_world.specs.Lifecycle.{attached, listened, waited};
+    ghost use Rattle.af_outside.specs.LifecycleState.{is_stated, was_refused};
     ghost use Rattle.af_outside.specs.Tape.{HasRoomForSteps, outside_of, devices_of};
 
     ghost Value = { TapeState };
@@ -77,7 +77,7 @@ impl Tape {
         alloc: Global,
         config: &Config,
         steps: &[Step],
-        outer: OuterFaults,
+        outer: LifecycleFaults,
     ) -> Result<Tape, OutOfMemory>
         ensures { IfOk result (λ tape. tape ≡ made config.now.items steps.now outer) }
     {
@@ -93,7 +93,7 @@ impl Tape {
             devices,
             link_faults: 0,
             device_faults: 0,
-            outer: OuterBook::new(alloc, outer),
+            outer: LifecycleLog::new(alloc, outer),
         })
     }
 
@@ -115,7 +115,7 @@ impl Tape {
     }
 
     /// All listens, attaches and waits that were done so far, in order, if the log is observed.
-    pub fn outer(&self) -> &[Outer]
+    pub fn outer(&self) -> &[Lifecycle]
         ensures { result.now ≡ self.now.outer.entries }
     {
         self.outer.entries()
@@ -371,7 +371,7 @@ impl Live for Tape {
 
     ghost wait_faults = { λ tape. tape.outer.wait_faults };
 
-    ghost outer = { outer_told };
+    ghost outer = { lifecycle_told };
 
     ghost listen_faults_apart = { TapeLeadsTo-listen_faults };
 
@@ -383,7 +383,7 @@ impl Live for Tape {
 
     fn listen(&mut self, alloc: Global, address: &str) -> Ready
         ensures log { Unchanged self.old.log self.new.log }
-        ensures outer { Appended (outer_told self.old) (listened result address.now) (outer_told self.new) }
+        ensures outer { Appended (lifecycle_told self.old) (listened result address.now) (lifecycle_told self.new) }
         ensures cause { result ≡ Ready.Failed → FaultCounted self.old.outer.listen_faults self.new.outer.listen_faults }
         ensures counts { NoCountFalls self.old self.new }
         ensures answer { result ≡ (if self.old.outer.faults.listen then Ready.Failed else Ready.Done) }
@@ -405,7 +405,7 @@ impl Live for Tape {
 
     fn attach(&mut self, alloc: Global, device: u8, spec: &DeviceSpec, kind: Kind<'_>) -> Ready
         ensures log { Unchanged self.old.log self.new.log }
-        ensures outer { Appended (outer_told self.old) (attached result device spec.now (told_kind kind.entry)) (outer_told self.new) }
+        ensures outer { Appended (lifecycle_told self.old) (attached result device spec.now (told_kind kind.entry)) (lifecycle_told self.new) }
         ensures cause { result ≡ Ready.Failed → FaultCounted self.old.device_faults self.new.device_faults }
         ensures counts { NoCountFalls self.old self.new }
         ensures answer { (result ≡ Ready.Done) ↔ ((slice_get self.old.config device ≡ Some spec.now) × (is_stated self.old.outer.faults.attach device ≡ false)) }
@@ -428,7 +428,7 @@ impl Live for Tape {
 
     fn attach_line(&mut self, _alloc: Global, device: u8, program: LineProgram<'_>) -> Ready
         ensures log { Unchanged self.old.log self.new.log }
-        ensures outer { Appended (outer_told self.old) (line_attached result device program.entry.restarts (words_of program.entry.words.now)) (outer_told self.new) }
+        ensures outer { Appended (lifecycle_told self.old) (line_attached result device program.entry.restarts (words_of program.entry.words.now)) (lifecycle_told self.new) }
         ensures cause { result ≡ Ready.Failed → FaultCounted self.old.device_faults self.new.device_faults }
         ensures counts { NoCountFalls self.old self.new }
         ensures answer { (result ≡ Ready.Done) ↔ (spec_has_line self.old.config device ≡ true) }
@@ -451,7 +451,7 @@ impl Live for Tape {
 
     fn wait(&mut self, more: bool) -> Waited
         ensures log { Unchanged self.old.log self.new.log }
-        ensures outer { Appended (outer_told self.old) (waited more result) (outer_told self.new) }
+        ensures outer { Appended (lifecycle_told self.old) (waited more result) (lifecycle_told self.new) }
         ensures cause { result ≡ Waited.Failed → FaultCounted self.old.outer.wait_faults self.new.outer.wait_faults }
         ensures counts { NoCountFalls self.old self.new }
         ensures answer { result ≡ wait_answer self.old }

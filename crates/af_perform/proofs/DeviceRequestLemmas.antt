@@ -18,12 +18,12 @@ use Rattle.af_model.proofs.SafeLemmas.{SameClock}
 use Rattle.af_state.specs.Kept.{KeptDevice, StandsForDevice}
 use Rattle.af_perform.specs.Lines.{device_line_or, line_at, line_or}
 use Rattle.af_state.specs.Deferrals.{KeptDeferral}
-use Rattle.af_state.specs.Environment.{StandsForEnvironment, StandsForLink, ChangesLink, kept}
+use Rattle.af_state.specs.SharedState.{StandsForSharedState, StandsForLink, ChangesLink, kept}
 use Rattle.af_state.proofs.DeviceLemmas.{Found, found, not_found}
 use Rattle.af_perform.proofs.LinkRequestLemmas.{device_changes, with_error}
 
 -- a device changes, but not its time, its rate and its channels, and the link is replied to
-pub changed_replied : (ds : List KeptDevice) (ks : List KeptDeferral) (i : ℕ) (x' : KeptDevice) (l l' : LinkState) (opcode d : ℕ) (answer : Answer) (f : DeviceState → DeviceState) (a : EnvironmentState) (s : DeviceState) → i ≡ d → StandsForEnvironment (kept ds ks) a →
+pub changed_replied : (ds : List KeptDevice) (ks : List KeptDeferral) (i : ℕ) (x' : KeptDevice) (l l' : LinkState) (opcode d : ℕ) (answer : Answer) (f : DeviceState → DeviceState) (a : EnvironmentState) (s : DeviceState) → i ≡ d → StandsForSharedState (kept ds ks) a →
     slice_get a.devices d ≡ Some s → StandsForDevice x' (f s) → SameClock s (f s) → l' ≡ record l { pending = l.pending ++ reply_message l.order opcode answer l.sequence } →
     StandsForLink (kept (slice_set ds i x') ks) l' (replied opcode answer (in_devices d f (open_link a l)))
 changed_replied ds ks i x' l l' opcode d answer f a s number h there stands same e =
@@ -119,8 +119,8 @@ pub line_there : (ds : List KeptDevice) (d : ℕ) (phone : Phone) → line_at ds
 line_there ds d phone e = let r = lined ds d phone e in below ds d r.device r.here
 
 pub line_found : (ds ds' : List KeptDevice) (ks ks' : List KeptDeferral) (l l' : LinkState) (opcode d : ℕ) (phone : Phone) (f : Phone → OpenLink → OpenLink) → line_at ds d ≡ Ok phone →
-    ((a : EnvironmentState) (s : DeviceState) → StandsForEnvironment (kept ds ks) a → slice_get a.devices d ≡ Some s → StandsForLink (kept ds' ks') l' (f phone (open_link a l))) →
-    (a : EnvironmentState) → StandsForEnvironment (kept ds ks) a → StandsForLink (kept ds' ks') l' (in_device opcode d (λ device. on_line opcode d f device.line) (slice_get a.devices d) (open_link a l))
+    ((a : EnvironmentState) (s : DeviceState) → StandsForSharedState (kept ds ks) a → slice_get a.devices d ≡ Some s → StandsForLink (kept ds' ks') l' (f phone (open_link a l))) →
+    (a : EnvironmentState) → StandsForSharedState (kept ds ks) a → StandsForLink (kept ds' ks') l' (in_device opcode d (λ device. on_line opcode d f device.line) (slice_get a.devices d) (open_link a l))
 line_found ds ds' ks ks' l l' opcode d phone f is step a h =
     let k = lined ds d phone is in
     let r : Found a.devices d k.device = found ds a.devices d k.device k.here h.0 in
@@ -129,7 +129,7 @@ line_found ds ds' ks ks' l l' opcode d phone f is step a h =
     (subst (λ o. StandsForLink (kept ds' ks') l' (on_line opcode d f o (open_link a l))) (sym line) (step a r.state h r.here))
 
 pub line_missing : (ds : List KeptDevice) (ks : List KeptDeferral) (l l' : LinkState) (opcode d : ℕ) (r : Refusal) (f : Phone → OpenLink → OpenLink) → line_at ds d ≡ Err r → l' ≡ with_error opcode r l →
-    (a : EnvironmentState) → StandsForEnvironment (kept ds ks) a → StandsForLink (kept ds ks) l' (in_device opcode d (λ device. on_line opcode d f device.line) (slice_get a.devices d) (open_link a l))
+    (a : EnvironmentState) → StandsForSharedState (kept ds ks) a → StandsForLink (kept ds ks) l' (in_device opcode d (λ device. on_line opcode d f device.line) (slice_get a.devices d) (open_link a l))
 line_missing ds ks l l' opcode d r f is e a h =
     elim (slice_get ds d) as (λ o. slice_get ds d ≡ o → device_line_or d o ≡ Err r → StandsForLink (kept ds ks) l' (in_device opcode d (λ device. on_line opcode d f device.line) (slice_get a.devices d) (open_link a l))) [
       | None ↦ λ i g.

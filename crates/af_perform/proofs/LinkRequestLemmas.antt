@@ -32,7 +32,7 @@ use Rattle.af_model.proofs.SafeLemmas.{SameClock}
 use Rattle.af_model.proofs.BoolTestLemmas.{both-true}
 use Rattle.af_state.specs.Kept.{KeptDevice, StandsForDevice, StandForDevices, kept_channels_at}
 use Rattle.af_state.specs.Deferrals.{KeptDeferral, IsNear, StandsForDeferral, StandForDeferrals, worded}
-use Rattle.af_state.specs.Environment.{KeptEnvironment, StandsForEnvironment, StandsForLink, ChangesLinkIn, ChangesLink, kept}
+use Rattle.af_state.specs.SharedState.{KeptSharedState, StandsForSharedState, StandsForLink, ChangesLinkIn, ChangesLink, kept}
 use Rattle.af_state.proofs.DeviceLemmas.{Found, device_at, found, not_found, same_channels, same_set, state_there, stands_set}
 use Rattle.af_state.proofs.PlayLemmas.{before-same, within-same, play_beyond-same, record_beyond-same, near_start, start_meant, horizon_bounds, completes}
 use Rattle.af_state.proofs.DeferredRequestLemmas.{play_is, record_is}
@@ -40,7 +40,7 @@ use Rattle.af_state.proofs.DeferralLemmas.{waits_push, waits_set}
 use Rattle.af_perform.proofs.CheckLemmas.{frames_fit, pass_first, not_false}
 
 -- what leads a link, leads it at each place
-pub leads_at : (ds : List KeptDevice) (ks : List KeptDeferral) (l l' : LinkState) (f : OpenLink → OpenLink) (a : EnvironmentState) → ChangesLinkIn a f l l' → StandsForEnvironment (kept ds ks) a → StandsForLink (kept ds ks) l' (f (open_link a l))
+pub leads_at : (ds : List KeptDevice) (ks : List KeptDeferral) (l l' : LinkState) (f : OpenLink → OpenLink) (a : EnvironmentState) → ChangesLinkIn a f l l' → StandsForSharedState (kept ds ks) a → StandsForLink (kept ds ks) l' (f (open_link a l))
 leads_at ds ks l l' f a leads h =
     ((subst (StandForDevices ds) (sym leads.1) h.0, subst (λ ws. StandForDeferrals (f (open_link a l)).environment.devices ks ws) (sym leads.2) (subst (λ devices. StandForDeferrals devices ks a.waiting) (sym leads.1) h.1)), leads.0)
 
@@ -56,43 +56,43 @@ leads_passed l l' opcode o f is leads = subst (λ o. ChangesLink (refused_or opc
 
 -- the same of checks that look at the channels of a device
 pub matches_refused : (ds : List KeptDevice) (ks : List KeptDeferral) (l l' : LinkState) (opcode d : ℕ) (check : Option ℕ → Option Refusal) (r : Refusal) (f : OpenLink → OpenLink) → check (kept_channels_at ds d) ≡ Some r → l' ≡ with_error opcode r l →
-    (a : EnvironmentState) → StandsForEnvironment (kept ds ks) a → StandsForLink (kept ds ks) l' (refused_or opcode (check (channels_at a.devices d)) f (open_link a l))
+    (a : EnvironmentState) → StandsForSharedState (kept ds ks) a → StandsForLink (kept ds ks) l' (refused_or opcode (check (channels_at a.devices d)) f (open_link a l))
 matches_refused ds ks l l' opcode d check r f is e a h =
     leads_at ds ks l l' (refused_or opcode (check (channels_at a.devices d)) f) a (leads_refused l l' opcode (check (channels_at a.devices d)) r f (ap check (sym (same_channels ds a.devices d h.0)) ∙ is) e a) h
 
 pub matches_passed : (ds : List KeptDevice) (ks : List KeptDeferral) (l l' : LinkState) (opcode d : ℕ) (check : Option ℕ → Option Refusal) (f : OpenLink → OpenLink) → check (kept_channels_at ds d) ≡ None → ChangesLink f l l' →
-    (a : EnvironmentState) → StandsForEnvironment (kept ds ks) a → StandsForLink (kept ds ks) l' (refused_or opcode (check (channels_at a.devices d)) f (open_link a l))
+    (a : EnvironmentState) → StandsForSharedState (kept ds ks) a → StandsForLink (kept ds ks) l' (refused_or opcode (check (channels_at a.devices d)) f (open_link a l))
 matches_passed ds ks l l' opcode d check f is leads a h =
     leads_at ds ks l l' (refused_or opcode (check (channels_at a.devices d)) f) a (leads_passed l l' opcode (check (channels_at a.devices d)) f (ap check (sym (same_channels ds a.devices d h.0)) ∙ is) leads a) h
 
 -- a request that names a device
 
 pub device_missing : (ds : List KeptDevice) (ks : List KeptDeferral) (l l' : LinkState) (opcode d value : ℕ) (f : DeviceState → OpenLink → OpenLink) → length ds ≤ d → value ≡ d → l' ≡ record l { pending = l.pending ++ error l.order 3 value opcode l.sequence } →
-    (a : EnvironmentState) → StandsForEnvironment (kept ds ks) a → StandsForLink (kept ds ks) l' (in_device opcode d f (slice_get a.devices d) (open_link a l))
+    (a : EnvironmentState) → StandsForSharedState (kept ds ks) a → StandsForLink (kept ds ks) l' (in_device opcode d f (slice_get a.devices d) (open_link a l))
 device_missing ds ks l l' opcode d value f past v e a h =
     let refused : ℕ → LinkState = λ t. record l { pending = l.pending ++ error l.order 3 t opcode l.sequence } in
     subst (λ o. StandsForLink (kept ds ks) l' (in_device opcode d f o (open_link a l))) (sym (not_found ds a.devices d past h.0)) (h, ap refused (sym v) ∙ sym e)
 
 pub device_found : (ds ds' : List KeptDevice) (ks ks' : List KeptDeferral) (l l' : LinkState) (opcode d : ℕ) (x : KeptDevice) (f : DeviceState → OpenLink → OpenLink) → slice_get ds d ≡ Some x →
-    ((a : EnvironmentState) (s : DeviceState) → StandsForEnvironment (kept ds ks) a → slice_get a.devices d ≡ Some s → StandsForDevice x s → StandsForLink (kept ds' ks') l' (f s (open_link a l))) →
-    (a : EnvironmentState) → StandsForEnvironment (kept ds ks) a → StandsForLink (kept ds' ks') l' (in_device opcode d f (slice_get a.devices d) (open_link a l))
+    ((a : EnvironmentState) (s : DeviceState) → StandsForSharedState (kept ds ks) a → slice_get a.devices d ≡ Some s → StandsForDevice x s → StandsForLink (kept ds' ks') l' (f s (open_link a l))) →
+    (a : EnvironmentState) → StandsForSharedState (kept ds ks) a → StandsForLink (kept ds' ks') l' (in_device opcode d f (slice_get a.devices d) (open_link a l))
 device_found ds ds' ks ks' l l' opcode d x f here step a h =
     let r : Found a.devices d x = found ds a.devices d x here h.0 in
     subst (λ o. StandsForLink (kept ds' ks') l' (in_device opcode d f o (open_link a l))) (sym r.here) (step a r.state h r.here r.stands)
 
 -- what a device at a number stands for
-pub stands_here : (ds : List KeptDevice) (ks : List KeptDeferral) (a : EnvironmentState) (d : ℕ) (x : KeptDevice) (s : DeviceState) → StandsForEnvironment (kept ds ks) a → slice_get ds d ≡ Some x → slice_get a.devices d ≡ Some s → StandsForDevice x s
+pub stands_here : (ds : List KeptDevice) (ks : List KeptDeferral) (a : EnvironmentState) (d : ℕ) (x : KeptDevice) (s : DeviceState) → StandsForSharedState (kept ds ks) a → slice_get ds d ≡ Some x → slice_get a.devices d ≡ Some s → StandsForDevice x s
 stands_here ds ks a d x s h here there =
     let r : Found a.devices d x = found ds a.devices d x here h.0 in
     let same : r.state ≡ s = let both : Some r.state ≡ Some s = sym r.here ∙ there in cc in
     subst (StandsForDevice x) same r.stands
 
 -- what is kept at the number of a device stands for the device
-pub device_here : (e : KeptEnvironment) (ds : List KeptDevice) (ks : List KeptDeferral) (a : EnvironmentState) (i d : ℕ) (x : KeptDevice) (s : DeviceState) → kept ds ks ≡ e → i ≡ d → d < length e.devices → x ≡ get_or ds i x →
-    StandsForEnvironment e a → slice_get a.devices d ≡ Some s → StandsForEnvironment (kept ds ks) a × StandsForDevice x s
+pub device_here : (e : KeptSharedState) (ds : List KeptDevice) (ks : List KeptDeferral) (a : EnvironmentState) (i d : ℕ) (x : KeptDevice) (s : DeviceState) → kept ds ks ≡ e → i ≡ d → d < length e.devices → x ≡ get_or ds i x →
+    StandsForSharedState e a → slice_get a.devices d ≡ Some s → StandsForSharedState (kept ds ks) a × StandsForDevice x s
 device_here e ds ks a i d x s view number there at h known =
-    let environment = subst (λ (e : KeptEnvironment). StandsForEnvironment e a) (sym view) h in
-    let low = subst (λ (e : KeptEnvironment). d < length e.devices) (sym view) there in
+    let environment = subst (λ (e : KeptSharedState). StandsForSharedState e a) (sym view) h in
+    let low = subst (λ (e : KeptSharedState). d < length e.devices) (sym view) there in
     let here = device_at ds i d x number (omega (arith, low, number)) ∙ ap (λ x. Some x) (sym at) in
     (environment, stands_here ds ks a d x s environment here known)
 
@@ -103,19 +103,19 @@ kept_there (x ∷ ds) zero low = (x, refl)
 kept_there (x ∷ ds) (suc d) low = kept_there ds d (omega arith)
 
 -- it is there in its environment
-pub device_there : (e : KeptEnvironment) (ds : List KeptDevice) (ks : List KeptDeferral) (i d : ℕ) (x : KeptDevice) → kept ds ks ≡ e → i ≡ d → d < length e.devices → x ≡ get_or ds i x → slice_get e.devices d ≡ Some x
+pub device_there : (e : KeptSharedState) (ds : List KeptDevice) (ks : List KeptDeferral) (i d : ℕ) (x : KeptDevice) → kept ds ks ≡ e → i ≡ d → d < length e.devices → x ≡ get_or ds i x → slice_get e.devices d ≡ Some x
 device_there e ds ks i d x view number there at =
-    let low = subst (λ (e : KeptEnvironment). d < length e.devices) (sym view) there in
-    subst (λ (e : KeptEnvironment). slice_get e.devices d ≡ Some x) view (device_at ds i d x number (omega (arith, low, number)) ∙ ap (λ x. Some x) (sym at))
+    let low = subst (λ (e : KeptSharedState). d < length e.devices) (sym view) there in
+    subst (λ (e : KeptSharedState). slice_get e.devices d ≡ Some x) view (device_at ds i d x number (omega (arith, low, number)) ∙ ap (λ x. Some x) (sym at))
 
 -- and what is kept of it is one
-pub device_kept : (e : KeptEnvironment) (ds : List KeptDevice) (ks : List KeptDeferral) (i d : ℕ) (x y : KeptDevice) → kept ds ks ≡ e → i ≡ d → d < length e.devices → x ≡ get_or ds i x → slice_get e.devices d ≡ Some y → x ≡ y
+pub device_kept : (e : KeptSharedState) (ds : List KeptDevice) (ks : List KeptDeferral) (i d : ℕ) (x y : KeptDevice) → kept ds ks ≡ e → i ≡ d → d < length e.devices → x ≡ get_or ds i x → slice_get e.devices d ≡ Some y → x ≡ y
 device_kept e ds ks i d x y view number there at known = let both : Some x ≡ Some y = sym (device_there e ds ks i d x view number there at) ∙ known in cc
 
 -- a device that is there
 pub any_device : (ds ds' : List KeptDevice) (ks ks' : List KeptDeferral) (l l' : LinkState) (opcode d : ℕ) (f : DeviceState → OpenLink → OpenLink) → d < length ds →
-    ((a : EnvironmentState) (s : DeviceState) → StandsForEnvironment (kept ds ks) a → slice_get a.devices d ≡ Some s → StandsForLink (kept ds' ks') l' (f s (open_link a l))) →
-    (a : EnvironmentState) → StandsForEnvironment (kept ds ks) a → StandsForLink (kept ds' ks') l' (in_device opcode d f (slice_get a.devices d) (open_link a l))
+    ((a : EnvironmentState) (s : DeviceState) → StandsForSharedState (kept ds ks) a → slice_get a.devices d ≡ Some s → StandsForLink (kept ds' ks') l' (f s (open_link a l))) →
+    (a : EnvironmentState) → StandsForSharedState (kept ds ks) a → StandsForLink (kept ds' ks') l' (in_device opcode d f (slice_get a.devices d) (open_link a l))
 any_device ds ds' ks ks' l l' opcode d f there step a h =
     let r = state_there ds a.devices d there h.0 in
     subst (λ o. StandsForLink (kept ds' ks') l' (in_device opcode d f o (open_link a l))) (sym r.1) (step a r.0 h r.1)
@@ -146,7 +146,7 @@ change_in_use contexts mask ac preempt play_gain record_gain e =
 
 -- A request that is refused, or is done where its checks pass
 
-pub at_refused : (ds : List KeptDevice) (ks : List KeptDeferral) (l l' : LinkState) (opcode : ℕ) (o : Option Refusal) (r : Refusal) (f : OpenLink → OpenLink) (a : EnvironmentState) → o ≡ Some r → l' ≡ with_error opcode r l → StandsForEnvironment (kept ds ks) a →
+pub at_refused : (ds : List KeptDevice) (ks : List KeptDeferral) (l l' : LinkState) (opcode : ℕ) (o : Option Refusal) (r : Refusal) (f : OpenLink → OpenLink) (a : EnvironmentState) → o ≡ Some r → l' ≡ with_error opcode r l → StandsForSharedState (kept ds ks) a →
     StandsForLink (kept ds ks) l' (refused_or opcode o f (open_link a l))
 at_refused ds ks l l' opcode o r f a is e h = leads_at ds ks l l' (refused_or opcode o f) a (leads_refused l l' opcode o r f is e a) h
 
@@ -159,20 +159,20 @@ either_at ds ks l test b p q is at = subst (λ t. StandsForLink (kept ds ks) l (
 -- Plays
 
 -- what a play that is accepted is told
-told_at : (ds : List KeptDevice) (ks : List KeptDeferral) (a : EnvironmentState) (l l' : LinkState) (quiet : Bool) (s : DeviceState) (t : ℕ) → StandsForEnvironment (kept ds ks) a → t ≡ s.now % 2 ^ 32 →
+told_at : (ds : List KeptDevice) (ks : List KeptDeferral) (a : EnvironmentState) (l l' : LinkState) (quiet : Bool) (s : DeviceState) (t : ℕ) → StandsForSharedState (kept ds ks) a → t ≡ s.now % 2 ^ 32 →
     l' ≡ cond quiet l (record l { pending = l.pending ++ reply_message l.order opcodes.play (played t) l.sequence }) → StandsForLink (kept ds ks) l' (tell_played quiet s (open_link a l))
 told_at ds ks a l l' true s t h is e = (h, sym e)
 told_at ds ks a l l' false s t h is e = (h, ap (λ t. record l { pending = l.pending ++ reply_message l.order opcodes.play (played t) l.sequence }) (sym is) ∙ sym e)
 
 -- one device changes, but not its time, its rate and its channels
-pub device_changes : (ds : List KeptDevice) (ks : List KeptDeferral) (d : ℕ) (x' : KeptDevice) (a : EnvironmentState) (s : DeviceState) (f : DeviceState → DeviceState) → StandsForEnvironment (kept ds ks) a → slice_get a.devices d ≡ Some s →
+pub device_changes : (ds : List KeptDevice) (ks : List KeptDeferral) (d : ℕ) (x' : KeptDevice) (a : EnvironmentState) (s : DeviceState) (f : DeviceState → DeviceState) → StandsForSharedState (kept ds ks) a → slice_get a.devices d ≡ Some s →
     StandsForDevice x' (f s) → SameClock s (f s) → StandForDevices (slice_set ds d x') (with_device d f a.devices) × StandForDeferrals (with_device d f a.devices) ks a.waiting
 device_changes ds ks d x' a s f h there stands same =
     subst (λ o. StandForDevices (slice_set ds d x') (device_set d f a.devices o) × StandForDeferrals (device_set d f a.devices o) ks a.waiting) (sym there)
     (stands_set ds a.devices d x' (f s) h.0 stands, waits_set a.devices d s (f s) ks a.waiting there same.0 same.1 same.2 h.1)
 
 -- a device that changed in answer to a play, of which the link is told
-pub play_told : (ds : List KeptDevice) (ks : List KeptDeferral) (i : ℕ) (x' : KeptDevice) (l l' : LinkState) (quiet : Bool) (d t : ℕ) (f : DeviceState → DeviceState) (a : EnvironmentState) (s : DeviceState) → i ≡ d → StandsForEnvironment (kept ds ks) a →
+pub play_told : (ds : List KeptDevice) (ks : List KeptDeferral) (i : ℕ) (x' : KeptDevice) (l l' : LinkState) (quiet : Bool) (d t : ℕ) (f : DeviceState → DeviceState) (a : EnvironmentState) (s : DeviceState) → i ≡ d → StandsForSharedState (kept ds ks) a →
     slice_get a.devices d ≡ Some s → StandsForDevice x' (f s) → SameClock s (f s) → t ≡ x'.next.time → l' ≡ cond quiet l (record l { pending = l.pending ++ reply_message l.order opcodes.play (played t) l.sequence }) →
     StandsForLink (kept (slice_set ds i x') ks) l' (tell_played quiet s (in_devices d f (open_link a l)))
 play_told ds ks i x' l l' quiet d t f a s number h there stands same is e =
@@ -197,7 +197,7 @@ play_started ds ds' ks x l l' k quiet c start bytes sound a s word h is within a
     (subst (λ xs. StandsForLink (kept ds' ks) l' (tell_played quiet s (in_devices c.device (accepting k (accepted_at s.now start xs c.preempt)) (open_link a l)))) is at)
 
 -- and any other waits
-pub play_waits : (ds : List KeptDevice) (ks ks' : List KeptDeferral) (x : KeptDevice) (l : LinkState) (k : ℕ) (quiet : Bool) (c : Context) (start : ℕ) (bytes : List ℕ) (sound : List ℤ) (left : ℕ) (a : EnvironmentState) (s : DeviceState) → start < 2 ^ 32 → StandsForEnvironment (kept ds ks) a →
+pub play_waits : (ds : List KeptDevice) (ks ks' : List KeptDeferral) (x : KeptDevice) (l : LinkState) (k : ℕ) (quiet : Bool) (c : Context) (start : ℕ) (bytes : List ℕ) (sound : List ℤ) (left : ℕ) (a : EnvironmentState) (s : DeviceState) → start < 2 ^ 32 → StandsForSharedState (kept ds ks) a →
     slice_get a.devices c.device ≡ Some s → StandsForDevice x s → sound ≡ sent_sound c bytes → length sound ≤ longest_play → AreWholeFrames x.next.channels sound → frames_within x.next start < frame_count x.next.channels sound →
     left ≡ play_beyond x.next start (frame_count x.next.channels sound) →
     ks' ≡ ks ++ record { wait = record { link = k; device = c.device; left = left }; deferred = deferred_play quiet start sound c.preempt } ∷ [] → StandsForLink (kept ds ks') l (start_play k quiet c start bytes s (open_link a l))
@@ -229,7 +229,7 @@ play_waits ds ks ks' x l k quiet c start bytes sound left a s word h there stand
     ((h.0, waits_push a.devices ks a.waiting (record { wait = record { link = k; device = c.device; left = left }; deferred = deferred_play quiet start sound c.preempt }) (record { link = k; device = c.device; deferred = deferred_play quiet (unwrap s.now start) sound c.preempt }) h.1 one), refl)))
 
 -- a play that had waited
-play_completed : (k : ℕ) (ds : List KeptDevice) (ks : List KeptDeferral) (i : ℕ) (x' : KeptDevice) (x : KeptDevice) (l l' : LinkState) (quiet : Bool) (d start t : ℕ) (sound : List ℤ) (preempt : Bool) (a : EnvironmentState) (s : DeviceState) (whole : ℕ) → i ≡ d → StandsForEnvironment (kept ds ks) a →
+play_completed : (k : ℕ) (ds : List KeptDevice) (ks : List KeptDeferral) (i : ℕ) (x' : KeptDevice) (x : KeptDevice) (l l' : LinkState) (quiet : Bool) (d start t : ℕ) (sound : List ℤ) (preempt : Bool) (a : EnvironmentState) (s : DeviceState) (whole : ℕ) → i ≡ d → StandsForSharedState (kept ds ks) a →
     slice_get a.devices d ≡ Some s → StandsForDevice x s → start ≡ whole % 2 ^ 32 → IsNear (s.rate * 4) s.now (deferred_play quiet whole sound preempt) → StandsForDevice x' (accepting k (accepted_at s.now start sound preempt) s) → t ≡ x'.next.time →
     l' ≡ cond quiet l (record l { pending = l.pending ++ reply_message l.order opcodes.play (played t) l.sequence }) → StandsForLink (kept (slice_set ds i x') ks) l' (answer_deferred (deferred_play quiet whole sound preempt) s (in_devices d (completing k (deferred_play quiet whole sound preempt)) (open_link a l)))
 play_completed k ds ks i x' x l l' quiet d start t sound preempt a s whole number h there stands word near accepted is e =
@@ -240,7 +240,7 @@ play_completed k ds ks i x' x l l' quiet d start t sound preempt a s whole numbe
     play_told ds ks i x' l l' quiet d t (completing k deferred) a s number h there
     (completes k x' s deferred (subst (λ w. StandsForDevice x' (accepting k (entry w) s)) means accepted) early) (refl, refl, refl) is e
 
-pub play_completes : (k : ℕ) (ds : List KeptDevice) (ks : List KeptDeferral) (i : ℕ) (x' : KeptDevice) (x : KeptDevice) (l l' : LinkState) (quiet : Bool) (d start t : ℕ) (sound : List ℤ) (preempt : Bool) (a : EnvironmentState) (s : DeviceState) (deferred : Deferred) → i ≡ d → StandsForEnvironment (kept ds ks) a →
+pub play_completes : (k : ℕ) (ds : List KeptDevice) (ks : List KeptDeferral) (i : ℕ) (x' : KeptDevice) (x : KeptDevice) (l l' : LinkState) (quiet : Bool) (d start t : ℕ) (sound : List ℤ) (preempt : Bool) (a : EnvironmentState) (s : DeviceState) (deferred : Deferred) → i ≡ d → StandsForSharedState (kept ds ks) a →
     slice_get a.devices d ≡ Some s → StandsForDevice x s → deferred_play quiet start sound preempt ≡ worded deferred → IsNear (s.rate * 4) s.now deferred → StandsForDevice x' (accepting k (accepted_at s.now start sound preempt) s) → t ≡ x'.next.time →
     l' ≡ cond quiet l (record l { pending = l.pending ++ reply_message l.order opcodes.play (played t) l.sequence }) → StandsForLink (kept (slice_set ds i x') ks) l' (answer_deferred deferred s (in_devices d (completing k deferred) (open_link a l)))
 play_completes k ds ks i x' x l l' quiet d start t sound preempt a s deferred number h there stands word near accepted is e =
@@ -263,7 +263,7 @@ record_given l l' blocking c start frames x n word few leads s h =
     subst (λ m. ChangesLink (give_record c (unwrap s.now start) m s) l l') count (leads s h)
 
 -- a record that is answered now
-pub record_started : (ds : List KeptDevice) (ks : List KeptDeferral) (x : KeptDevice) (l l' : LinkState) (k : ℕ) (blocking : Bool) (c : Context) (start bytes frames : ℕ) (a : EnvironmentState) (s : DeviceState) → start < 2 ^ 32 → StandsForEnvironment (kept ds ks) a → StandsForDevice x s →
+pub record_started : (ds : List KeptDevice) (ks : List KeptDeferral) (x : KeptDevice) (l l' : LinkState) (k : ℕ) (blocking : Bool) (c : Context) (start bytes frames : ℕ) (a : EnvironmentState) (s : DeviceState) → start < 2 ^ 32 → StandsForSharedState (kept ds ks) a → StandsForDevice x s →
     frames ≡ frames_of x.next.channels c bytes → (blocking && nat_lt (frames_before x.last start) frames) ≡ false → ChangesLink (give_record c (unwrap s.now start) (given_frames blocking s start (frames_of s.channels c bytes)) s) l l' →
     StandsForLink (kept ds ks) l' (start_record k blocking c start bytes s (open_link a l))
 record_started ds ks x l l' k blocking c start bytes frames a s word h stands asked now leads =
@@ -275,7 +275,7 @@ record_started ds ks x l l' k blocking c start bytes frames a s word h stands as
     (leads_at ds ks l l' (give_record c (unwrap s.now start) (given_frames blocking s start (frames_of s.channels c bytes)) s) a (leads a) h)
 
 -- and one that waits
-pub record_waits : (ds : List KeptDevice) (ks ks' : List KeptDeferral) (x : KeptDevice) (l : LinkState) (k : ℕ) (blocking : Bool) (c : Context) (start bytes frames left : ℕ) (a : EnvironmentState) (s : DeviceState) → start < 2 ^ 32 → StandsForEnvironment (kept ds ks) a →
+pub record_waits : (ds : List KeptDevice) (ks ks' : List KeptDeferral) (x : KeptDevice) (l : LinkState) (k : ℕ) (blocking : Bool) (c : Context) (start bytes frames left : ℕ) (a : EnvironmentState) (s : DeviceState) → start < 2 ^ 32 → StandsForSharedState (kept ds ks) a →
     slice_get a.devices c.device ≡ Some s → StandsForDevice x s → frames ≡ frames_of x.next.channels c bytes → frames * frame_bytes c.ty x.next.channels ≤ longest_record → (blocking && nat_lt (frames_before x.last start) frames) ≡ true → left ≡ record_beyond x.last start frames →
     ks' ≡ ks ++ record { wait = record { link = k; device = c.device; left = left }; deferred = deferred_record c start frames } ∷ [] → StandsForLink (kept ds ks') l (start_record k blocking c start bytes s (open_link a l))
 record_waits ds ks ks' x l k blocking c start bytes frames left a s word h there stands asked few waits count e =
@@ -308,7 +308,7 @@ record_waits ds ks ks' x l k blocking c start bytes frames left a s word h there
     ((h.0, waits_push a.devices ks a.waiting (record { wait = record { link = k; device = c.device; left = left }; deferred = deferred_record c start frames }) (record { link = k; device = c.device; deferred = deferred_record c (unwrap s.now start) frames }) h.1 one), refl)))
 
 -- a record that had waited
-record_completed : (k : ℕ) (ds : List KeptDevice) (ks : List KeptDeferral) (x : KeptDevice) (l l' : LinkState) (c : Context) (d start frames : ℕ) (a : EnvironmentState) (s : DeviceState) (whole : ℕ) → slice_get ds d ≡ Some x → StandsForEnvironment (kept ds ks) a →
+record_completed : (k : ℕ) (ds : List KeptDevice) (ks : List KeptDeferral) (x : KeptDevice) (l l' : LinkState) (c : Context) (d start frames : ℕ) (a : EnvironmentState) (s : DeviceState) (whole : ℕ) → slice_get ds d ≡ Some x → StandsForSharedState (kept ds ks) a →
     slice_get a.devices d ≡ Some s → StandsForDevice x s → start ≡ whole % 2 ^ 32 → IsNear (s.rate * 4) s.now (deferred_record c whole frames) → ChangesLink (give_record c (unwrap s.now start) frames s) l l' →
     StandsForLink (kept ds ks) l' (answer_deferred (deferred_record c whole frames) s (in_devices d (completing k (deferred_record c whole frames)) (open_link a l)))
 record_completed k ds ks x l l' c d start frames a s whole here h there stands word near leads =
@@ -323,7 +323,7 @@ record_completed k ds ks x l l' c d start frames a s whole here h there stands w
     leads_at ds ks l l' (give_record c whole frames s) environment (gives environment)
     (subst (λ xs. StandForDevices xs environment.devices × StandForDeferrals environment.devices ks a.waiting) (same_set ds d x here) changed)
 
-pub record_completes : (k : ℕ) (ds : List KeptDevice) (ks : List KeptDeferral) (x : KeptDevice) (l l' : LinkState) (c : Context) (d start frames : ℕ) (a : EnvironmentState) (s : DeviceState) (deferred : Deferred) → slice_get ds d ≡ Some x → StandsForEnvironment (kept ds ks) a →
+pub record_completes : (k : ℕ) (ds : List KeptDevice) (ks : List KeptDeferral) (x : KeptDevice) (l l' : LinkState) (c : Context) (d start frames : ℕ) (a : EnvironmentState) (s : DeviceState) (deferred : Deferred) → slice_get ds d ≡ Some x → StandsForSharedState (kept ds ks) a →
     slice_get a.devices d ≡ Some s → StandsForDevice x s → deferred_record c start frames ≡ worded deferred → IsNear (s.rate * 4) s.now deferred → ChangesLink (give_record c (unwrap s.now start) frames s) l l' →
     StandsForLink (kept ds ks) l' (answer_deferred deferred s (in_devices d (completing k deferred) (open_link a l)))
 record_completes k ds ks x l l' c d start frames a s deferred here h there stands word near leads =

@@ -17,7 +17,7 @@ use Rattle.af_state.specs.Kept.{KeptDevice}
 use Rattle.af_state.specs.Deferrals.{IsNear, KeptDeferral, worded}
 use Rattle.af_perform.specs.declared.play.ContextPlay.{ContextPlay}
 use Rattle.af_perform.specs.declared.record.ContextRecord.{ContextRecord}
-use Rattle.af_state.specs.Environment.{StandsForLink, StepsLinkFor, StandsForEnvironment, kept}
+use Rattle.af_state.specs.SharedState.{StandsForLink, StepsLinkFor, StandsForSharedState, kept}
 
 -- a play is the sound that a client sends by a context in these bytes
 pub record IsSoundOf (p : Play) (c : Context) (bytes : List ℕ) : Type 0 where
@@ -59,6 +59,6 @@ AcceptsPlay play ds l ds' l' = (k : ℕ) (ks : List KeptDeferral) → StepsLinkF
 -- a request of a link that waited for a device completes, whatever whole start its word means
 abbrev pub CompletesDeferred : Deferred → ℕ → List KeptDevice → LinkState → List KeptDevice → LinkState → Type 0
 CompletesDeferred word d ds l ds' l' =
-    (k : ℕ) (ks : List KeptDeferral) (a : EnvironmentState) (s : DeviceState) (deferred : Deferred) → StandsForEnvironment (kept ds ks) a →
+    (k : ℕ) (ks : List KeptDeferral) (a : EnvironmentState) (s : DeviceState) (deferred : Deferred) → StandsForSharedState (kept ds ks) a →
     slice_get a.devices d ≡ Some s → word ≡ worded deferred → IsNear (horizon_of s) s.now deferred →
     StandsForLink (kept ds' ks) l' (answer_deferred deferred s (in_devices d (completing k deferred) (open_link a l)))

@@ -1,13 +1,13 @@
 // CreateAC, ChangeAC and FreeAC: the link's contexts are created, changed and freed.
 ghost use Rattle.std.specs.Prelude.{◌≡◌, ℕ, ◌≤◌, length, pos, unwrap_or};
 ghost use Rattle.std.specs.declared.option.Option.TheVariants.{None};
-ghost use Rattle.af_limits.specs.Limits.{most_to_send};
+ghost use Rattle.af_limits.specs.Limits.{perform_limit};
 ghost use Rattle.af_sample.specs.Gains.{gain_of};
 ghost use Rattle.af_request.specs.Asked.{free_ac};
 ghost use Rattle.af_model.specs.ContextRequests.{creation_refusal, described, create, change_refusal, change, is_match, named_preempt};
-ghost use Rattle.af_model.specs.Perform.{done};
+ghost use Rattle.af_model.specs.Perform.{performed};
 ghost use Rattle.af_state.specs.Kept.{kept_channels_at};
-ghost use Rattle.af_state.specs.Environment.{StepsDevices, ChangesLink};
+ghost use Rattle.af_state.specs.SharedState.{StepsDevices, ChangesLink};
 ghost use Rattle.af_perform.specs.Asked.{new_context, new_settings};
 
 use crate::checks::{
@@ -109,7 +109,7 @@ fn described(asked: NewContext) -> Context
 
 // One context more, if the number is free and there is room.
 fn create(context: Context, link: &mut ServedLink, work: &mut Work)
-    requires room { length link.old.pending ≤ most_to_send }
+    requires room { length link.old.pending ≤ perform_limit }
     ensures step { ChangesLink (create context) link.old link.new }
     ensures rest { link.new.rest ≡ link.old.rest }
 {
@@ -122,8 +122,8 @@ fn create(context: Context, link: &mut ServedLink, work: &mut Work)
 
 /// CreateAC.
 pub fn create_ac(asked: NewContext, devices: &[Device], link: &mut ServedLink, work: &mut Work)
-    requires room { length link.old.pending ≤ most_to_send }
-    ensures step { (k : ℕ) → StepsDevices (done k (new_context asked)) devices.now link.old devices.now link.new }
+    requires room { length link.old.pending ≤ perform_limit }
+    ensures step { (k : ℕ) → StepsDevices (performed k (new_context asked)) devices.now link.old devices.now link.new }
     ensures rest { link.new.rest ≡ link.old.rest }
 {
     match creation_refusal(channels_at(asked.device, devices), asked) {
@@ -161,7 +161,7 @@ fn named_preempt(mask: u8, preempt: u8) -> Option<bool>
 
 // The fields that the mask names are changed.
 fn change(asked: NewSettings, link: &mut ServedLink, work: &mut Work)
-    requires room { length link.old.pending ≤ most_to_send }
+    requires room { length link.old.pending ≤ perform_limit }
     requires passes { change_refusal link.old.contexts asked.mask asked.ac asked.preempt asked.play_gain asked.record_gain
         ≡ None }
     ensures step { ChangesLink (change asked.mask asked.ac asked.preempt asked.play_gain asked.record_gain) link.old link.new }
@@ -178,8 +178,8 @@ fn change(asked: NewSettings, link: &mut ServedLink, work: &mut Work)
 
 /// ChangeAC.
 pub fn change_ac(asked: NewSettings, link: &mut ServedLink, work: &mut Work)
-    requires room { length link.old.pending ≤ most_to_send }
-    ensures step { (k : ℕ) → ChangesLink (done k (new_settings asked)) link.old link.new }
+    requires room { length link.old.pending ≤ perform_limit }
+    ensures step { (k : ℕ) → ChangesLink (performed k (new_settings asked)) link.old link.new }
     ensures rest { link.new.rest ≡ link.old.rest }
 {
     match change_refusal(link, asked) {
@@ -190,8 +190,8 @@ pub fn change_ac(asked: NewSettings, link: &mut ServedLink, work: &mut Work)
 
 /// FreeAC.
 pub fn free_ac(ac: u32, link: &mut ServedLink, work: &mut Work)
-    requires room { length link.old.pending ≤ most_to_send }
-    ensures step { (k : ℕ) → ChangesLink (done k (free_ac ac)) link.old link.new }
+    requires room { length link.old.pending ≤ perform_limit }
+    ensures step { (k : ℕ) → ChangesLink (performed k (free_ac ac)) link.old link.new }
     ensures rest { link.new.rest ≡ link.old.rest }
 {
     match link.free(ac) {

@@ -1,7 +1,7 @@
 // SelectEvents, SetControls, QueryControls, HookSwitch and QueryPhone: the controls of a device, and its telephone line.
 ghost use Rattle.std.specs.Prelude.{◌≡◌, ℕ, ◌≤◌, ◌<◌, List, length, slice_get, option_map, ◌==◌, if◌then◌else◌};
 ghost use Rattle.std.specs.declared.option.Option.TheVariants.{None, Some};
-ghost use Rattle.af_limits.specs.Limits.{most_to_send};
+ghost use Rattle.af_limits.specs.Limits.{perform_limit};
 ghost use Rattle.af_phone.specs.Lines.{wanting};
 ghost use Rattle.af_request.specs.Answer.{plain};
 ghost use Rattle.af_request.specs.Asked.{select_events, query_controls, hook_switch, query_phone};
@@ -11,11 +11,11 @@ ghost use Rattle.af_model.specs.Reply.{replied};
 ghost use Rattle.af_model.specs.Checks.{names};
 ghost use Rattle.af_model.specs.Play.{in_devices};
 ghost use Rattle.af_model.specs.DeviceRequests.{controls_refusal, select, set_device_controls, switch_refusal, wanting_hook, with_named};
-ghost use Rattle.af_model.specs.Perform.{done};
+ghost use Rattle.af_model.specs.Perform.{performed};
 ghost use Rattle.af_perform.specs.Asked.{new_controls};
 ghost use Rattle.af_perform.specs.Lines.{line_at};
 ghost use Rattle.af_state.specs.Deferrals.{KeptDeferral};
-ghost use Rattle.af_state.specs.Environment.{kept, StepsDevices, StepsLinkFor, ChangesLink};
+ghost use Rattle.af_state.specs.SharedState.{kept, StepsDevices, StepsLinkFor, ChangesLink};
 
 use crate::checks::{
     check, check_gain, first_refusal, is_missing, named_gain, names, no_device, no_line,
@@ -52,7 +52,7 @@ fn line_at(device: u8, devices: &[Device]) -> Result<Phone, Refusal>
 
 // The mask of the events of a device is replaced.
 fn select(device: u8, mask: u32, link: &mut ServedLink, work: &mut Work)
-    requires room { length link.old.pending ≤ most_to_send }
+    requires room { length link.old.pending ≤ perform_limit }
     ensures step { ChangesLink (select device mask) link.old link.new }
     ensures rest { link.new.rest ≡ link.old.rest }
 {
@@ -68,8 +68,8 @@ pub fn select_events(
     link: &mut ServedLink,
     work: &mut Work,
 )
-    requires room { length link.old.pending ≤ most_to_send }
-    ensures step { (k : ℕ) → StepsDevices (done k (select_events device mask)) devices.now link.old devices.now link.new }
+    requires room { length link.old.pending ≤ perform_limit }
+    ensures step { (k : ℕ) → StepsDevices (performed k (select_events device mask)) devices.now link.old devices.now link.new }
     ensures rest { link.new.rest ≡ link.old.rest }
 {
     match line_at(device, devices) {
@@ -127,7 +127,7 @@ fn with_named(asked: NewControls, old: Controls) -> Controls
 
 // The controls of a device that is there are changed.
 fn control(asked: NewControls, devices: &mut [Device], link: &mut ServedLink, work: &mut Work)
-    requires room { length link.old.pending ≤ most_to_send }
+    requires room { length link.old.pending ≤ perform_limit }
     requires there { asked.device < length devices.old }
     requires passes { controls_refusal asked.mask asked.input_on asked.output_on asked.input_gain asked.output_gain ≡ None }
     ensures step { (k : ℕ) (ks : List KeptDeferral) → StepsLinkFor asked.device
@@ -148,8 +148,8 @@ pub fn set_controls(
     link: &mut ServedLink,
     work: &mut Work,
 )
-    requires room { length link.old.pending ≤ most_to_send }
-    ensures step { (k : ℕ) → StepsDevices (done k (new_controls asked)) devices.old link.old devices.new link.new }
+    requires room { length link.old.pending ≤ perform_limit }
+    ensures step { (k : ℕ) → StepsDevices (performed k (new_controls asked)) devices.old link.old devices.new link.new }
     ensures rest { link.new.rest ≡ link.old.rest }
 {
     if is_missing(asked.device, devices) {
@@ -164,8 +164,8 @@ pub fn set_controls(
 
 /// QueryControls.
 pub fn query_controls(device: u8, devices: &[Device], link: &mut ServedLink, work: &mut Work)
-    requires room { length link.old.pending ≤ most_to_send }
-    ensures step { (k : ℕ) → StepsDevices (done k (query_controls device)) devices.now link.old devices.now link.new }
+    requires room { length link.old.pending ≤ perform_limit }
+    ensures step { (k : ℕ) → StepsDevices (performed k (query_controls device)) devices.now link.old devices.now link.new }
     ensures rest { link.new.rest ≡ link.old.rest }
 {
     if is_missing(device, devices) {
@@ -201,7 +201,7 @@ fn wanting(off: bool, line: Option<Line>) -> Option<Line>
 
 // The hook of a device that is there, and has a line, is wanted off or on.
 fn want_hook(device: u8, off: bool, devices: &mut [Device], link: &mut ServedLink, work: &mut Work)
-    requires room { length link.old.pending ≤ most_to_send }
+    requires room { length link.old.pending ≤ perform_limit }
     requires there { device < length devices.old }
     ensures step { (k : ℕ) (ks : List KeptDeferral) → StepsLinkFor device (λ s p. replied opcodes.hook_switch plain
         (in_devices device (wanting_hook k off) p)) (kept devices.old ks) link.old (kept devices.new ks) link.new }
@@ -220,8 +220,8 @@ pub fn hook_switch(
     link: &mut ServedLink,
     work: &mut Work,
 )
-    requires room { length link.old.pending ≤ most_to_send }
-    ensures step { (k : ℕ) → StepsDevices (done k (hook_switch device off)) devices.old link.old devices.new link.new }
+    requires room { length link.old.pending ≤ perform_limit }
+    ensures step { (k : ℕ) → StepsDevices (performed k (hook_switch device off)) devices.old link.old devices.new link.new }
     ensures rest { link.new.rest ≡ link.old.rest }
 {
     match line_at(device, devices) {
@@ -235,8 +235,8 @@ pub fn hook_switch(
 
 /// QueryPhone.
 pub fn query_phone(device: u8, devices: &[Device], link: &mut ServedLink, work: &mut Work)
-    requires room { length link.old.pending ≤ most_to_send }
-    ensures step { (k : ℕ) → StepsDevices (done k (query_phone device)) devices.now link.old devices.now link.new }
+    requires room { length link.old.pending ≤ perform_limit }
+    ensures step { (k : ℕ) → StepsDevices (performed k (query_phone device)) devices.now link.old devices.now link.new }
     ensures rest { link.new.rest ≡ link.old.rest }
 {
     match line_at(device, devices) {

@@ -1,10 +1,10 @@
 // Performing a request: one function for each opcode.
 ghost use Rattle.std.specs.Prelude.{◌≡◌, ℕ, ◌≤◌, IsTrue, length};
-ghost use Rattle.af_limits.specs.Limits.{most_to_send};
+ghost use Rattle.af_limits.specs.Limits.{perform_limit};
 ghost use Rattle.af_request.specs.Asked.{get_time, request_meaning};
 ghost use Rattle.af_request.specs.Requests.{FitsFrame};
-ghost use Rattle.af_model.specs.Perform.{done, perform};
-ghost use Rattle.af_state.specs.Environment.{StepsLink, StepsDevices, Leaves, MayAsk};
+ghost use Rattle.af_model.specs.Perform.{performed, perform};
+ghost use Rattle.af_state.specs.SharedState.{StepsLink, StepsDevices, Leaves, MayAsk};
 ghost use Rattle.af_perform.specs.Asked.{is_done_at_once};
 
 use crate::checks::{is_missing, no_device};
@@ -15,12 +15,12 @@ use crate::device_requests::{
 use crate::play::{NewPlay, perform_play};
 use crate::record::{NewRecord, perform_record};
 use af_request::{Reply, Request, opcode};
-use af_state::{Device, Environment, ServedLink, Work};
+use af_state::{Device, ServedLink, SharedState, Work};
 
 // The time of a device is replied, or the device is not there.
 fn get_time(device: u8, devices: &[Device], link: &mut ServedLink, work: &mut Work)
-    requires room { length link.old.pending ≤ most_to_send }
-    ensures step { (k : ℕ) → StepsDevices (done k (get_time device)) devices.now link.old devices.now link.new }
+    requires room { length link.old.pending ≤ perform_limit }
+    ensures step { (k : ℕ) → StepsDevices (performed k (get_time device)) devices.now link.old devices.now link.new }
     ensures rest { link.new.rest ≡ link.old.rest }
 {
     if is_missing(device, devices) {
@@ -33,9 +33,9 @@ fn get_time(device: u8, devices: &[Device], link: &mut ServedLink, work: &mut Wo
 
 // What a request does that leaves all but its link as it is.
 fn done_at_once(request: &Request<'_>, devices: &[Device], link: &mut ServedLink, work: &mut Work)
-    requires room { length link.old.pending ≤ most_to_send }
+    requires room { length link.old.pending ≤ perform_limit }
     ensures step { (k : ℕ) → IsTrue (is_done_at_once (request_meaning request.now)) →
-        StepsDevices (done k (request_meaning request.now)) devices.now link.old devices.now link.new }
+        StepsDevices (performed k (request_meaning request.now)) devices.now link.old devices.now link.new }
     ensures rest { link.new.rest ≡ link.old.rest }
 {
     match *request {
@@ -93,13 +93,13 @@ fn done_at_once(request: &Request<'_>, devices: &[Device], link: &mut ServedLink
 fn done(
     number: u8,
     request: &Request<'_>,
-    environment: &mut Environment,
+    environment: &mut SharedState,
     link: &mut ServedLink,
     work: &mut Work,
 )
     requires asks { MayAsk number environment.old link.old }
     requires samples { FitsFrame (request_meaning request.now) }
-    ensures step { StepsLink (done number (request_meaning request.now)) environment.old link.old environment.new link.new }
+    ensures step { StepsLink (performed number (request_meaning request.now)) environment.old link.old environment.new link.new }
     ensures leaves { Leaves number environment.old link.old environment.new link.new }
 {
     match *request {
@@ -160,7 +160,7 @@ fn done(
 pub fn perform(
     number: u8,
     request: &Request<'_>,
-    environment: &mut Environment,
+    environment: &mut SharedState,
     link: &mut ServedLink,
     work: &mut Work,
 )

@@ -8,11 +8,11 @@ ghost use Rattle.af_request.specs.Answer.{played};
 ghost use Rattle.af_request.specs.Opcodes as opcodes;
 ghost use Rattle.af_model.specs.Reply.{reply_message};
 ghost use Rattle.af_model.specs.Play.{play_refusal, sent_sound, start_play};
-ghost use Rattle.af_model.specs.Perform.{done};
+ghost use Rattle.af_model.specs.Perform.{performed};
 ghost use Rattle.af_state.specs.Deferred.{deferred_of_play};
 ghost use Rattle.af_state.specs.Kept.{OfDeviceAt};
 ghost use Rattle.af_state.specs.Deferrals.{CanComplete};
-ghost use Rattle.af_state.specs.Environment.{StepsLink, StepsLinkFor, Leaves, MayAsk};
+ghost use Rattle.af_state.specs.SharedState.{StepsLink, StepsLinkFor, Leaves, MayAsk};
 ghost use Rattle.af_perform.specs.Asked.{new_play};
 ghost use Rattle.af_perform.specs.Sounds.{play_by_context, start_play_of, with_named_device, AcceptsPlay, CompletesDeferred, IsSoundOf, WholeBytes};
 
@@ -21,7 +21,7 @@ use af_context::Context;
 use af_model::{Refusal, RefusalCause};
 use af_request::{Reply, opcode};
 use af_sample::{convert_in, gain_run};
-use af_state::{Device, Environment, Play, ServedLink, Work};
+use af_state::{Device, Play, ServedLink, SharedState, Work};
 use af_time::DevTime;
 
 /// What Play asks, as it came.
@@ -101,7 +101,7 @@ pub fn accept(play: &Play<'_>, devices: &mut [Device], link: &mut ServedLink, me
 fn accept_or_defer(
     number: u8,
     play: &Play<'_>,
-    environment: &mut Environment,
+    environment: &mut SharedState,
     link: &mut ServedLink,
     message: &mut [u8],
 )
@@ -129,7 +129,7 @@ fn accept_or_defer(
 fn convert_play(
     number: u8,
     asked: &ContextPlay<'_>,
-    environment: &mut Environment,
+    environment: &mut SharedState,
     link: &mut ServedLink,
     work: &mut Work,
 )
@@ -158,7 +158,7 @@ fn convert_play(
 fn check_play(
     number: u8,
     asked: &ContextPlay<'_>,
-    environment: &mut Environment,
+    environment: &mut SharedState,
     link: &mut ServedLink,
     work: &mut Work,
 )
@@ -183,13 +183,13 @@ fn check_play(
 pub fn perform_play(
     number: u8,
     asked: &NewPlay<'_>,
-    environment: &mut Environment,
+    environment: &mut SharedState,
     link: &mut ServedLink,
     work: &mut Work,
 )
     requires asks { MayAsk number environment.old link.old }
     requires few { length asked.now.bytes.now ≤ longest_play }
-    ensures step { StepsLink (done number (new_play asked.now)) environment.old link.old environment.new link.new }
+    ensures step { StepsLink (performed number (new_play asked.now)) environment.old link.old environment.new link.new }
     ensures leaves { Leaves number environment.old link.old environment.new link.new }
 {
     match link.context(asked.ac) {

@@ -1,15 +1,15 @@
 // Record: sound of a device from a time on.
 ghost use Rattle.std.specs.Prelude.{◌≡◌, ℕ, ◌≤◌, ◌<◌, ◌*◌, ◌&&◌, nat_lt, drop, length, min, take, if◌then◌else◌};
-ghost use Rattle.af_limits.specs.Limits.{longest_frame, longest_record, longest_message, most_to_send, event_limit};
+ghost use Rattle.af_limits.specs.Limits.{longest_frame, longest_record, longest_message, perform_limit, event_limit};
 ghost use Rattle.af_request.specs.Opcodes as opcodes;
 ghost use Rattle.af_time.specs.DeviceTime.{unwrap};
 ghost use Rattle.af_sample.specs.Channels.{IsChannelCount};
 ghost use Rattle.af_sample.specs.SampleTypes.{frame_bytes};
 ghost use Rattle.af_model.specs.State.{DeviceState};
 ghost use Rattle.af_model.specs.Record.{give_record, given_frames, record_refusal, recorded_bytes, start_record};
-ghost use Rattle.af_model.specs.Perform.{done};
+ghost use Rattle.af_model.specs.Perform.{performed};
 ghost use Rattle.af_state.specs.Kept.{OfDeviceAt, StandsForDevice};
-ghost use Rattle.af_state.specs.Environment.{StepsLink, StepsLinkFor, ChangesLink, Leaves, MayAsk};
+ghost use Rattle.af_state.specs.SharedState.{StepsLink, StepsLinkFor, ChangesLink, Leaves, MayAsk};
 ghost use Rattle.af_perform.specs.Asked.{new_record};
 ghost use Rattle.af_perform.specs.Sounds.{record_by_context, with_named_device, IsRecordOn};
 
@@ -18,7 +18,7 @@ use af_context::Context;
 use af_limits::LONGEST_RECORD;
 use af_model::{Refusal, RefusalCause};
 use af_request::{RECORDED_AT, opcode};
-use af_state::{Device, Environment, Record, ServedLink, Work};
+use af_state::{Device, Record, ServedLink, SharedState, Work};
 use af_time::DevTime;
 
 /// What Record asks, as it came.
@@ -91,7 +91,7 @@ pub fn answer_record(asked: Record, device: &Device, link: &mut ServedLink, work
 
 // A record is answered with all of its frames, or, if it does not block, with those before now.
 fn answer_available(asked: Record, device: &Device, link: &mut ServedLink, work: &mut Work)
-    requires room { length link.old.pending ≤ most_to_send }
+    requires room { length link.old.pending ≤ perform_limit }
     requires fits { asked.frames * frame_bytes asked.context.ty device.now.next.channels ≤ longest_record }
     ensures step { (s : DeviceState) → StandsForDevice device.now s → ChangesLink
         (give_record asked.context (unwrap s.now asked.start.0) (given_frames asked.blocking s asked.start.0 asked.frames) s)
@@ -114,7 +114,7 @@ fn is_to_wait(blocking: bool, before: u32, frames: u32) -> bool
 fn answer_or_defer(
     number: u8,
     asked: Record,
-    environment: &mut Environment,
+    environment: &mut SharedState,
     link: &mut ServedLink,
     work: &mut Work,
 )
@@ -145,7 +145,7 @@ fn answer_or_defer(
 fn check_record(
     number: u8,
     asked: ContextRecord,
-    environment: &mut Environment,
+    environment: &mut SharedState,
     link: &mut ServedLink,
     work: &mut Work,
 )
@@ -178,12 +178,12 @@ fn check_record(
 pub fn perform_record(
     number: u8,
     asked: NewRecord,
-    environment: &mut Environment,
+    environment: &mut SharedState,
     link: &mut ServedLink,
     work: &mut Work,
 )
     requires asks { MayAsk number environment.old link.old }
-    ensures step { StepsLink (done number (new_record asked)) environment.old link.old environment.new link.new }
+    ensures step { StepsLink (performed number (new_record asked)) environment.old link.old environment.new link.new }
     ensures leaves { Leaves number environment.old link.old environment.new link.new }
 {
     match link.context(asked.ac) {

@@ -6,7 +6,7 @@ use Rattle.std.specs.declared.result.Result.{Result}
 use Rattle.std.specs.declared.result.Result.TheVariants.{Ok, Err}
 use Rattle.af_io.specs.Observed.{Appended}
 use Rattle.af_time.specs.declared.OutOfMemory.{OutOfMemory}
-use Rattle.af_child.specs.Acts.{words_of}
+use Rattle.af_process.specs.Acts.{words_of}
 use Rattle.af_program.specs.declared.act.Act.{Act}
 use Rattle.af_program.specs.declared.act.Act.TheVariants as act
 use Rattle.af_program.specs.Acts.{ToldAct, launched, gave, took, ended, captured, emitted}

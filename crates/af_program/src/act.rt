@@ -1,7 +1,7 @@
 // What was done with a program in memory.
 use crate::Launched;
-use af_child::Words;
 use af_io::Bytes;
+use af_process::Words;
 
 /// A call of a program with what came of it, or a sound of the device before it. Moments are nanoseconds.
 #[derive(Drop)]

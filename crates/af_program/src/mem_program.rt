@@ -3,14 +3,14 @@ ghost use Rattle.std.specs.Prelude.{◌≡◌, ◌≢◌, ◌↔◌, ◌≤◌, 
 ghost use Rattle.std.specs.declared.option.Option.TheVariants.{Some};
 ghost use Rattle.arrayvec.specs.ArrayVec.{array_vec_len};
 ghost use Rattle.af_io.specs.Observed.{Appended, counted};
-ghost use Rattle.af_child.specs.Acts.{words_of};
+ghost use Rattle.af_process.specs.Acts.{words_of};
 ghost use Rattle.af_program.specs.Acts.{launched, ended, captured, emitted, gave_acts, took_acts, runs_after, GaveFits, TookFits, IdlesWhereTold, RunsWhereTold};
 ghost use Rattle.af_program.specs.Memory.{gave_count, gave_of, took_of};
 ghost use Rattle.af_program.specs.Notes.{told};
 
 use crate::notes::{self, Notes};
 use crate::{Act, Gave, Launched, Program, ProgramSockets, Took};
-use af_child::Words;
+use af_process::Words;
 use af_time::OutOfMemory;
 use std::alloc::Global;
 use std::marker::Model;

@@ -3,11 +3,11 @@ ghost use Rattle.std.specs.Prelude.{◌≡◌, [], map, is_some, IfOk, IfSome};
 ghost use Rattle.std.specs.declared.option.Option.TheVariants.{None, Some};
 ghost use Rattle.af_program.specs.Acts.{launched, gave, took, captured, emitted};
 ghost use Rattle.af_program.specs.Notes.{told, ActNoted};
-ghost use Rattle.af_child.specs.Acts.{words_of};
+ghost use Rattle.af_process.specs.Acts.{words_of};
 
 use crate::{Act, Launched};
-use af_child::{Words, copied_words};
 use af_io::Bytes;
+use af_process::{Words, copied_words};
 use af_time::OutOfMemory;
 use std::alloc::Global;
 use std::marker::Model;

@@ -4,7 +4,7 @@ ghost use Rattle.std.specs.declared.option.Option.{Option};
 ghost use Rattle.arrayvec.specs.ArrayVec.{array_vec_len};
 ghost use Rattle.af_program.specs.Acts.{ToldAct};
 
-use af_child::Words;
+use af_process::Words;
 use std::alloc::Global;
 use std::os::fd::RawFd;
 
@@ -53,7 +53,7 @@ impl ProgramSockets {
 /// Beside what the program does its user notes what a device captured and emitted, so that both can be compared.
 pub trait Program {
     ghost use Rattle.af_io.specs.Observed.{Appended, Unchanged};
-    ghost use Rattle.af_child.specs.Acts.{words_of};
+    ghost use Rattle.af_process.specs.Acts.{words_of};
     ghost use Rattle.af_program.specs.Acts.{launched, ended, captured, emitted, gave_acts, took_acts, GaveFits, TookFits, IdlesWhereTold, RunsWhereTold};
 
     /// All acts so far, in order, if they are observable.

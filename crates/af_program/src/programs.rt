@@ -4,7 +4,7 @@ ghost use Rattle.std.specs.declared.option.Option.TheVariants.{None};
 ghost use Rattle.af_program.specs.Acts.{TellsNothing};
 
 use crate::{Gave, Launched, MemProgram, Plan, Program, ProgramSockets, SocketProgram, Took, Ways};
-use af_child::Words;
+use af_process::Words;
 use af_time::OutOfMemory;
 use std::alloc::Global;
 use std::net::Net;

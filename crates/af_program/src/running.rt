@@ -2,14 +2,14 @@
 ghost use Rattle.std.specs.Prelude.{◌≡◌, ◌≤◌, ◌<◌, ◌∷◌, false, is_some, length, IfOk};
 ghost use Rattle.std.specs.Process.{command_args, command_program};
 ghost use Rattle.arrayvec.specs.ArrayVec.{array_vec_len};
-ghost use Rattle.af_child.specs.Acts.{words_of};
+ghost use Rattle.af_process.specs.Acts.{words_of};
 ghost use Rattle.af_program.specs.Acts.{GaveFits, TookFits};
 ghost use Rattle.af_program.specs.Sockets.{is_given, is_giving, GivesWhere, TakesWhere};
 
 use crate::pieces::{give_to, take_from};
 use crate::sockets::{way_in, way_out};
 use crate::{Gave, Took, Ways};
-use af_child::Words;
+use af_process::Words;
 use std::alloc::{AllocError, Global};
 use std::io;
 use std::marker::Model;

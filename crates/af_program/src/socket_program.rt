@@ -2,15 +2,15 @@
 ghost use Rattle.std.specs.Prelude.{◌≡◌, ◌≢◌, ◌≤◌, ◌<◌, ◌+◌, ◌&&◌, true, false, is_some, length, IfOk, IsTrue, IsFalse, IsSome};
 ghost use Rattle.std.specs.declared.option.Option.TheVariants.{None, Some};
 ghost use Rattle.arrayvec.specs.ArrayVec.{array_vec_len};
-ghost use Rattle.af_child.specs.Acts.{words_of};
+ghost use Rattle.af_process.specs.Acts.{words_of};
 ghost use Rattle.af_program.specs.Acts.{launched, runs_after, GaveFits, TookFits};
 ghost use Rattle.af_program.specs.Sockets.{is_given, is_giving};
 
 use crate::ending::{Ending, keep, tend};
 use crate::running::{Running, give, start, take};
 use crate::{Gave, Launched, Program, ProgramSockets, Took, Ways};
-use af_child::Words;
 use af_io::Reason;
+use af_process::Words;
 use af_time::OutOfMemory;
 use std::alloc::Global;
 use std::io::{Error, ErrorKind};

@@ -10,7 +10,7 @@ use Rattle.af_io.specs.Observed.{Appended}
 use Rattle.af_request.specs.Asked.{free_ac, get_time, play_run}
 use Rattle.af_lib.specs.Calls.{as_done, as_time, Recorded}
 use Rattle.af_tool.specs.declared.end.ToolEnd.{ToolEnd}
-use Rattle.af_options.specs.declared.job.PassJob.{PassJob}
+use Rattle.af_cli.specs.declared.job.PassJob.{PassJob}
 use Rattle.af_relay.specs.declared.pass.RelayPace.{RelayPace}
 use Rattle.af_relay.specs.declared.pass.RelayProgress.{RelayProgress}
 use Rattle.af_tool.specs.Trace.{ClientState}

@@ -13,7 +13,7 @@ use Rattle.af_lib.specs.Calls.{channels_or_one}
 use Rattle.af_lib.specs.declared.fault.ConnFault.{ConnFault}
 use Rattle.af_tool.specs.declared.end.ToolEnd.{ToolEnd}
 use Rattle.af_tool.specs.declared.end.ToolEnd.TheVariants as end
-use Rattle.af_options.specs.declared.job.PassJob.{PassJob}
+use Rattle.af_cli.specs.declared.job.PassJob.{PassJob}
 use Rattle.af_relay.specs.declared.pass.RelayPace.{RelayPace}
 use Rattle.af_relay.specs.declared.pass.RelayProgress.{RelayProgress}
 use Rattle.af_tool.specs.Trace.{Trace, Finish, ClientState, answer_on, after_reply, channel_mismatch, done, tool_end, ends, mismatch, no_device, writing}
@@ -21,7 +21,7 @@ use Rattle.af_relay.specs.RelayParts.{RelayPart, ObservedRelayTrace, ObservedRel
 use Rattle.af_tool.specs.Ends.{MatchesTrace, ObservedTrace}
 use Rattle.af_relay.specs.Pair.{pair_of, pair_or_end, HaveChannels}
 use Rattle.af_relay.specs.Pass.{RelayTrace, apass_trace, asks_by, asks_from, asks_to, of_one_shape, begins_both, ends_both, ends_contexts, on_from, on_one, on_to, passed_between, passed_text, passes, passes_block, relay_writing, relayed_by}
-use Rattle.af_relay.specs.Ran.{ApassRan}
+use Rattle.af_relay.specs.Results.{ApassRan}
 use Rattle.af_relay.specs.Relayed.{IsRelayed}
 use Rattle.af_io.proofs.AppendedLemmas.{appended_none, appended_on}
 use Rattle.af_tool.proofs.TracePartLemmas.{ended_at_once, ended_behind}

@@ -21,7 +21,7 @@ use Rattle.af_lib.specs.declared.fault.ConnFault.{ConnFault}
 use Rattle.af_lib.specs.Calls.{as_done, as_recorded, as_time, Recorded}
 use Rattle.af_tool.specs.declared.end.ToolEnd.{ToolEnd}
 use Rattle.af_tool.specs.declared.end.ToolEnd.TheVariants as end
-use Rattle.af_options.specs.declared.job.PassJob.{PassJob}
+use Rattle.af_cli.specs.declared.job.PassJob.{PassJob}
 use Rattle.af_relay.specs.RelayParts.{ObservedRelayTrace}
 use Rattle.af_tool.specs.Ends.{is_outer}
 use Rattle.af_relay.specs.declared.pass.RelayPace.{RelayPace}
@@ -29,11 +29,11 @@ use Rattle.af_relay.specs.declared.pass.RelayProgress.{RelayProgress}
 use Rattle.af_relay.specs.declared.pass.PlayMoment.{PlayMoment}
 use Rattle.af_tool.proofs.ToolEndLemmas.{finish_done}
 use Rattle.af_tool.specs.Trace.{ClientState, answer_on, after_reply, channel_mismatch, done, mismatch}
-use Rattle.af_options.specs.Ranges.{IsPaced}
+use Rattle.af_cli.specs.Ranges.{IsPaced}
 use Rattle.af_relay.specs.Pass.{RelayTrace, after, apass_trace, as_word, asks_by, asks_from, asks_to, of_one_shape, begins_both, ends_both, ends_contexts, from_context, has_drifted, in_step, none_passed, on_one, passed_between, after_block, passed_text, passes, passes_block, moment_of, relayed_by, sending_from, sending_to, to_context}
 use Rattle.af_relay.specs.Relayed.{AreTold, IsRelayed, PassedBlock, Relayed, is_moved, is_same_time, moves, pace_from, play_requests, record_replies, record_requests, reply_then, samples_of, type_from}
 use Rattle.af_relay.specs.Pair.{pair_of}
-use Rattle.af_relay.specs.Ran.{ApassRan}
+use Rattle.af_relay.specs.Results.{ApassRan}
 use Rattle.af_relay.proofs.RelayEndLemmas.{pair_stated, pass_ran, reports}
 use Rattle.af_relay.proofs.TimeWordLemmas.{told_low}
 

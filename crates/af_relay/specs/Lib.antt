@@ -2,4 +2,4 @@ pub mod Pass
 pub mod RelayParts
 pub mod Relayed
 pub mod Pair
-pub mod Ran
+pub mod Results

@@ -14,8 +14,8 @@ use Rattle.af_request.specs.Answer.{Answer}
 use Rattle.af_request.specs.Requests.{request_bytes}
 use Rattle.af_lib.specs.declared.fault.ConnFault.{ConnFault}
 use Rattle.af_lib.specs.Calls.{as_done, as_recorded, as_time}
-use Rattle.af_options.specs.declared.job.PassJob.{PassJob}
-use Rattle.af_options.specs.Sizes.{block_frames}
+use Rattle.af_cli.specs.declared.job.PassJob.{PassJob}
+use Rattle.af_cli.specs.Sizes.{block_frames}
 use Rattle.af_tool.specs.Trace.{Trace, Finish, ClientState, answer_on, after_reply}
 use Rattle.af_tool.specs.Trace.{channel_mismatch, done, mismatch, no_device, refused}
 use Rattle.af_relay.specs.declared.pass.RelayPace.{RelayPace}

@@ -13,7 +13,7 @@ use Rattle.af_request.specs.Asked.{free_ac, get_time, play_run, record_run}
 use Rattle.af_request.specs.Requests.{request_bytes}
 use Rattle.af_lib.specs.declared.fault.ConnFault.{ConnFault}
 use Rattle.af_lib.specs.Calls.{Recorded, as_recorded, as_time}
-use Rattle.af_options.specs.declared.job.PassJob.{PassJob}
+use Rattle.af_cli.specs.declared.job.PassJob.{PassJob}
 use Rattle.af_tool.specs.Trace.{ClientState, answer_on, after_reply}
 use Rattle.af_relay.specs.declared.pass.RelayPace.{RelayPace}
 use Rattle.af_relay.specs.Pass.{after, as_word, from_context, pace_of, passed_text, to_context}

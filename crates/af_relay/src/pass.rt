@@ -4,11 +4,11 @@ ghost use Rattle.std.specs.declared.option.Option.TheVariants.{None};
 ghost use Rattle.af_tool.specs.Ends.{is_of_link};
 ghost use Rattle.af_relay.specs.Pass.{has_drifted, in_step, none_passed, after_block, passes, passes_block, moment_of};
 ghost use Rattle.af_relay.specs.RelayParts.{ObservedRelayPartOver, KeepsConnections};
-ghost use Rattle.af_options.specs.Sizes.{greatest_block};
+ghost use Rattle.af_cli.specs.Sizes.{greatest_block};
 
+use af_cli::PassJob;
 use af_io::Link;
 use af_lib::Conn;
-use af_options::PassJob;
 use af_time::DevTime;
 use af_tool::{CONTEXT, ToolEnd, time_behind};
 

@@ -12,7 +12,7 @@ use Rattle.af_world.specs.Log.{Log}
 use Rattle.af_world.specs.Outside.{Outside, ScriptedClient, outside_start, IsStep, stepped, wake_of, replayed}
 use Rattle.af_outside.specs.TapeState.{TapeState, fresh, TakesStep, TapeLeadsTo, Answered}
 use Rattle.af_model.specs.State.{State, LinkState, opening, opening_device, opening_line, lines_of, links_of, outline, outline_with}
-use Rattle.af_model.specs.Turn.{parsed, turn, fits}
+use Rattle.af_model.specs.Turn.{accept, turn, fits}
 use Rattle.af_model.specs.Run.{wakes}
 use Rattle.af_model.specs.NoLoss.{RunLosesNone, StateLosesNone}
 use Rattle.af_model.specs.Script.{AnswersTo, ScriptLog, OneLog}
@@ -20,7 +20,7 @@ use Rattle.af_model.proofs.NoLossLemmas.{opening_loses_none}
 use Rattle.af_model.proofs.RunLemmas.{TurnsTo, turns_end_state, joined, joined-more, turns_more, turns_run, answers_more, replayed_answers}
 use Rattle.af_model.proofs.OpenLinkLemmas.{Agree}
 use Rattle.af_model.proofs.WakeLemmas.{turn_lines}
-use Rattle.af_laws.proofs.LawsLemmas.{keeps_laws}
+use Rattle.af_isolation.proofs.LawsLemmas.{keeps_laws}
 use Rattle.af_model.proofs.StepLemmas.{agree_start, line_of, step_fits}
 use Rattle.af_model.proofs.OneLogLemmas.{turn_alike, one_log}
 use Rattle.af_core.specs.Stands.{Kept, Stands, Turns, kept_lines, outline_of}
@@ -124,9 +124,9 @@ part_answered o o' step part rest e w r =
     subst (λ p. AnswersTo o p (step ∷ []) o') (sym e) (refl, replayed_answers (stepped o step) o' rest w behind_wake)
 
 -- behind a turn the same links are open inside and outside
-agree_turn : (s next : State) (o o' : Outside) (step : Step) (part : Log) → Agree s o → ((more : Log) → turn s (part ++ more) ≡ parsed next more) → AnswersTo o part (step ∷ []) o' → Agree next o'
+agree_turn : (s next : State) (o o' : Outside) (step : Step) (part : Log) → Agree s o → ((more : Log) → turn s (part ++ more) ≡ accept next more) → AnswersTo o part (step ∷ []) o' → Agree next o'
 agree_turn s next o o' step part at is answers =
-    let goes : turn s part ≡ parsed next [] = subst (λ p. turn s p ≡ parsed next []) (append-nil part) (is []) in
+    let goes : turn s part ≡ accept next [] = subst (λ p. turn s p ≡ accept next []) (append-nil part) (is []) in
     let a = turn_alike s o step [] part part (record { state = next; log = [] }) (record { state = next; log = [] }) o' o' at goes goes answers answers in
     subst (λ x. Agree next x) (sym a.first) a.stands
 

@@ -5,7 +5,7 @@ use Rattle.std.specs.Prelude.{List}
 use Rattle.af_world.specs.declared.script.DeviceSpec.{DeviceSpec}
 use Rattle.af_world.specs.declared.script.Step.{Step}
 use Rattle.af_world.specs.Log.{Log}
-use Rattle.af_laws.specs.Laws.{KeepsLaws}
+use Rattle.af_isolation.specs.Laws.{KeepsLaws}
 use Rattle.af_model.specs.Script.{OneLog}
 
 -- The one log that a script has, of which the laws of whole runs hold.

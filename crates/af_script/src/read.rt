@@ -13,7 +13,7 @@ ghost use Rattle.af_script.specs.Reading.{with_line, can_take_device};
 use crate::statement::{LineKind, device_stated, kind_named, step_stated};
 use crate::{ScriptFault, Steps};
 use af_limits::MOST_DEVICES;
-use af_text::{ByLine, LineFault, next_word, passes_over, read_lines};
+use af_text::{LineFault, LineParser, next_word, passes_over, read_lines};
 use af_time::OutOfMemory;
 use af_world::{Config, DeviceSpec, Step};
 use arrayvec::ArrayVec;
@@ -69,7 +69,7 @@ impl Model for Draft {
     ghost view = { λ d. record { config = d.config.items; steps = d.steps.items } };
 }
 
-impl ByLine for Draft {
+impl LineParser for Draft {
     ghost use Rattle.std.specs.Prelude.{⊤};
     ghost use Rattle.af_script.specs.Reading.{with_line, wants_device};
 

@@ -14,8 +14,8 @@ use Rattle.af_sample.specs.Window.{window}
 use Rattle.af_context.specs.declared.Context.{Context}
 use Rattle.af_world.specs.declared.script.DeviceSpec.{DeviceSpec}
 use Rattle.af_sample.specs.Rates.{IsListedRate}
-use Rattle.af_buffers.specs.PlayBuffer.{Next, accepted_at, accepted_by, frames_beyond as play_beyond, frames_within, HandsOut, Hears, Plays}
-use Rattle.af_buffers.specs.RecordBuffer.{Last, Captures, Keeps, frames_before, frames_until_past as record_beyond, samples_from}
+use Rattle.af_buffers.specs.PlayBuffer.{PlayWindow, accepted_at, accepted_by, frames_beyond as play_beyond, frames_within, HandsOut, Hears, Plays}
+use Rattle.af_buffers.specs.RecordBuffer.{RecordWindow, Captures, Keeps, frames_before, frames_until_past as record_beyond, samples_from}
 use Rattle.af_buffers.proofs.HorizonLemmas.{horizon_of_rate, horizon_within}
 use Rattle.af_buffers.proofs.PlayBufferLemmas.{hears_silence, hears_play, hears_hand_out, gives_heard_from, frames_beyond-same as play_later, frames_within-same}
 use Rattle.af_buffers.proofs.RecordBufferLemmas.{keeps_silence, keeps_capture, reads_window, frames_before-same, frames_beyond-same as record_later}
@@ -30,20 +30,20 @@ use Rattle.af_model.specs.NoLoss.{IsWholeAt}
 use Rattle.af_state.specs.Kept.{KeptDevice, StandsForDevice}
 
 -- the buffers of a device at its start
-pub record Silent (next : Next) (spec : DeviceSpec) : Type 0 where
+pub record Silent (next : PlayWindow) (spec : DeviceSpec) : Type 0 where
   pub time : next.time ≡ spec.start
   pub channels : next.channels ≡ spec.channels
   pub horizon : next.horizon ≡ spec.rate * 4
   pub silence : next.next ≡ replicate (spec.channels * (spec.rate * 4)) (pos 0)
 
-pub record SilentLast (last : Last) (spec : DeviceSpec) : Type 0 where
+pub record SilentLast (last : RecordWindow) (spec : DeviceSpec) : Type 0 where
   pub time : last.time ≡ spec.start
   pub channels : last.channels ≡ spec.channels
   pub horizon : last.horizon ≡ spec.rate * 4
   pub silence : last.last ≡ replicate (spec.channels * (spec.rate * 4)) (pos 0)
 
 -- a device at its start
-pub starts : (spec : DeviceSpec) (next : Next) (last : Last) (controls : Controls) (line : Option Phone) → controls ≡ opening_controls → line ≡ opening_line spec.line → IsListedRate spec.rate → IsChannelCount spec.channels → spec.start < 2 ^ 32 →
+pub starts : (spec : DeviceSpec) (next : PlayWindow) (last : RecordWindow) (controls : Controls) (line : Option Phone) → controls ≡ opening_controls → line ≡ opening_line spec.line → IsListedRate spec.rate → IsChannelCount spec.channels → spec.start < 2 ^ 32 →
     Silent next spec → SilentLast last spec → StandsForDevice (record { ty = spec.ty; rate = spec.rate; next = next; last = last; controls = controls; line = line; is_dead = false }) (opening_device spec)
 starts spec next last controls line same_controls same_line listed count word ahead back =
     let horizon : (32000 ≤ spec.rate * 4) × (spec.rate * 4 ≤ 192000) = horizon_within (spec.rate * 4) (horizon_of_rate spec.rate listed) in
@@ -101,7 +101,7 @@ some_frame channels sound count some whole = elim (one_or_two channels count) [
 ]
 
 -- a play
-pub accepts : (k : ℕ) (d : KeptDevice) (next : Next) (start : ℕ) (sound : List ℤ) (preempt : Bool) → start < 2 ^ 32 → 0 < length sound → AreWholeFrames d.next.channels sound → frame_count d.next.channels sound ≤ frames_within d.next start →
+pub accepts : (k : ℕ) (d : KeptDevice) (next : PlayWindow) (start : ℕ) (sound : List ℤ) (preempt : Bool) → start < 2 ^ 32 → 0 < length sound → AreWholeFrames d.next.channels sound → frame_count d.next.channels sound ≤ frames_within d.next start →
     Plays d.next next (accepted_by d.next start sound preempt) → (s : DeviceState) → StandsForDevice d s → StandsForDevice (record d { next = next }) (accepting k (accepted_at s.now start sound preempt) s)
 accepts k d next start sound preempt word some whole few p s h =
     let same : d.next.channels ≡ s.channels = h.hears.channels in
@@ -152,7 +152,7 @@ records d c start n s word h =
     (reads_window d.last s.channels s.captured s.begin s.now start n h.keeps word ∙ ap (λ m. window s.channels s.captured s.begin s.now m (unwrap s.now start) n) h.back)
 
 -- sample periods go by
-pub passes : (d : KeptDevice) (next : Next) (last : Last) (captured taken given : List ℤ) → taken ≡ through_input_control d.controls captured → length given ≡ length captured → AreWholeFrames d.next.channels captured →
+pub passes : (d : KeptDevice) (next : PlayWindow) (last : RecordWindow) (captured taken given : List ℤ) → taken ≡ through_input_control d.controls captured → length given ≡ length captured → AreWholeFrames d.next.channels captured →
     HandsOut d.next next given → Captures d.last last taken → (s : DeviceState) → StandsForDevice d s → StandsForDevice (record d { next = next; last = last }) (later (frame_count s.channels captured) captured s.is_dead s)
 passes d next last captured taken given is same whole o more s h =
     let ch : d.next.channels ≡ s.channels = h.hears.channels in
@@ -176,7 +176,7 @@ passes d next last captured taken given is same whole o more s h =
       dead = h.dead;
     }
 
-pub hands_out : (d : KeptDevice) (next : Next) (given out : List ℤ) (n : ℕ) → length given ≡ n → AreWholeFrames d.next.channels given → out ≡ through_output_control d.controls given → HandsOut d.next next given →
+pub hands_out : (d : KeptDevice) (next : PlayWindow) (given out : List ℤ) (n : ℕ) → length given ≡ n → AreWholeFrames d.next.channels given → out ≡ through_output_control d.controls given → HandsOut d.next next given →
     (s : DeviceState) → StandsForDevice d s → out ≡ through_output_control s.controls (next_sound s (n / s.channels))
 hands_out d next given out n same whole is o s h =
     let whole' : AreWholeFrames s.channels given = subst (λ c. AreWholeFrames c given) h.hears.channels whole in

@@ -5,8 +5,8 @@ use Rattle.std.specs.declared.option.Option.TheVariants.{Some}
 use Rattle.af_limits.specs.Limits.{longest_message, most_unread, event_limit}
 use Rattle.af_sample.specs.declared.sample_type.SampleType.{SampleType}
 use Rattle.af_sample.specs.Rates.{IsListedRate}
-use Rattle.af_buffers.specs.PlayBuffer.{Next, Hears}
-use Rattle.af_buffers.specs.RecordBuffer.{Last, Keeps}
+use Rattle.af_buffers.specs.PlayBuffer.{PlayWindow, Hears}
+use Rattle.af_buffers.specs.RecordBuffer.{RecordWindow, Keeps}
 use Rattle.af_request.specs.declared.reply.Controls.{Controls}
 use Rattle.af_request.specs.declared.reply.DeviceInfo.{DeviceInfo}
 use Rattle.af_request.specs.declared.reply.Phone.{Phone}
@@ -18,8 +18,8 @@ use Rattle.af_model.specs.NoLoss.{LosesNone}
 pub record KeptDevice : Type 0 where
   pub ty : SampleType
   pub rate : ℕ
-  pub next : Next
-  pub last : Last
+  pub next : PlayWindow
+  pub last : RecordWindow
   pub controls : Controls
   pub line : Option Phone
   pub is_dead : Bool

@@ -1,5 +1,5 @@
 pub mod Deferred
 pub mod Kept
-pub mod Environment
+pub mod SharedState
 pub mod Deferrals
 pub mod Lending

@@ -4,15 +4,15 @@
 mod deferred_request;
 mod deferred_requests;
 mod device;
-mod environment;
 mod level;
 mod link;
 mod scratch;
+mod shared_state;
 
 pub use deferred_request::{DeferredRequest, DeferredWork, Play, Record};
 pub use deferred_requests::DeferredRequests;
 pub use device::Device;
-pub use environment::Environment;
 pub use level::silence;
 pub use link::ServedLink;
 pub use scratch::{Scratch, Work};
+pub use shared_state::SharedState;

@@ -26,7 +26,7 @@ ghost use Rattle.af_state.specs.Kept.{IsBounded};
 
 use crate::DeferredRequests;
 use af_context::{Context, ContextFault, Contexts};
-use af_limits::{EVENT_LIMIT, MOST_DEVICES, MOST_TO_SEND};
+use af_limits::{EVENT_LIMIT, MOST_DEVICES, PERFORM_LIMIT};
 use af_model::Refusal;
 use af_phone::event_for;
 use af_request::{Reply, write_recorded, write_reply};
@@ -136,7 +136,7 @@ impl ServedLink {
         ensures bounds { IsBounded self.now }
     {
         let pending = self.session.pending_len();
-        !waits && self.closing.is_none() && pending <= MOST_TO_SEND
+        !waits && self.closing.is_none() && pending <= PERFORM_LIMIT
     }
 
     /// The cause of a link that is to be closed now.

@@ -9,5 +9,5 @@ mod sound;
 
 pub use lines::{is_word, next_line, next_word, one_word, passes_over, two_words};
 pub use numbers::{long_number_between, number, number_between};
-pub use reading::{ByLine, LineFault, read_lines};
+pub use reading::{LineFault, LineParser, read_lines};
 pub use sound::{channel_count, listed_rate, sample_type};

@@ -18,7 +18,7 @@ pub enum LineFault {
 }
 
 /// What is read of a text so far, to which each line adds.
-pub trait ByLine {
+pub trait LineParser {
     ghost use Rattle.std.specs.Prelude.{List, ℕ, Bool};
     ghost use Rattle.std.specs.declared.option.Option.{Option};
     ghost use Rattle.af_text.specs.Words.{then_some};
@@ -44,7 +44,7 @@ pub trait ByLine {
 
 /// Reads a text, line by line. Where a line is not allowed, the fault has the number of the first such line; OutOfMemory can
 /// come in the place of any answer. The text has at most `LONGEST_SCRIPT` bytes.
-pub fn read_lines<R: ByLine>(alloc: Global, text: &[u8], read: &mut R) -> Result<(), LineFault>
+pub fn read_lines<R: LineParser>(alloc: Global, text: &[u8], read: &mut R) -> Result<(), LineFault>
     requires { length text.now ≤ longest_script }
     ensures whole { IfOk result (λ done. read_on R.with_line R.wants read.old 1 (lines text.now) ≡ Ok read.new) }
     ensures done { IfOk result (λ done. R.wants read.new ≡ false) }

@@ -8,14 +8,14 @@ use Rattle.af_request.specs.declared.reply.DeviceInfo.{DeviceInfo}
 use Rattle.af_request.specs.Replies.{IsDeviceInfo}
 use Rattle.af_tool.specs.declared.end.ToolEnd.{ToolEnd}
 use Rattle.af_tool.specs.declared.end.ToolEnd.TheVariants as end
-use Rattle.af_options.specs.declared.job.PlayJob.{PlayJob}
+use Rattle.af_cli.specs.declared.job.PlayJob.{PlayJob}
 use Rattle.af_tool.specs.Trace.{Trace, ClientState, done, ends, no_device, on_device, writing}
 use Rattle.af_tool.specs.Device.{device_or_end}
 use Rattle.af_tools.specs.Play.{aplay_trace, played, played_on}
 use Rattle.af_tool.specs.Ends.{ObservedTrace, is_of_link, is_of_report}
 use Rattle.af_tools.specs.Sounds.{reads_sound}
 use Rattle.af_tools.specs.SoundReads.{is_of_sound}
-use Rattle.af_tools.specs.Ways.{is_of_blocks, is_of_records}
+use Rattle.af_tools.specs.Outcomes.{is_of_blocks, is_of_records}
 use Rattle.af_io.proofs.AppendedLemmas.{appended_none}
 use Rattle.af_tool.proofs.TracePartLemmas.{ended_at_once}
 

@@ -15,16 +15,16 @@ use Rattle.af_wire.specs.Front.{setup_bytes}
 use Rattle.af_lib.specs.Calls.{IsFresh, IsSetUp}
 use Rattle.af_tool.specs.declared.end.ToolEnd.{ToolEnd}
 use Rattle.af_tool.specs.declared.end.ToolEnd.TheVariants as end
-use Rattle.af_options.specs.declared.job.PassJob.{PassJob}
-use Rattle.af_options.specs.declared.job.Task.{Task}
+use Rattle.af_cli.specs.declared.job.PassJob.{PassJob}
+use Rattle.af_cli.specs.declared.job.Task.{Task}
 use Rattle.af_tool.specs.Trace.{Trace, ClientState, begun, channel_mismatch, fault_end, mismatch, set_up, setup_answer}
 use Rattle.af_relay.specs.RelayParts.{ObservedRelayTrace}
 use Rattle.af_tools.specs.Dialled.{RelayedOver, alone, connects_by, dials_to, relay_trace}
 use Rattle.af_tool.specs.Ends.{MatchesTrace, is_outer}
 use Rattle.af_relay.specs.Pass.{RelayTrace, apass_trace, of_one_shape, ends_both, on_from, on_one, on_to, passed_between, relayed_by, sending_from, sending_to}
-use Rattle.af_tools.specs.Most.{most_bytes}
+use Rattle.af_tools.specs.Limits.{most_bytes}
 use Rattle.af_tools.specs.Run.{IsEarly, IsServed, JobRan, RanOne, RelayRanTo, one_trace, run_trace}
-use Rattle.af_options.specs.Words.{Job, one, relay}
+use Rattle.af_cli.specs.Words.{Job, one, relay}
 use Rattle.af_io.proofs.AppendedLemmas.{appended_none, appended_on}
 use Rattle.af_tool.proofs.TracePartLemmas.{ended_behind, ended_early}
 use Rattle.af_tool.proofs.ToolEndLemmas.{done_unless_outer}

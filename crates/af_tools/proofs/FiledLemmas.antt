@@ -22,8 +22,8 @@ use Rattle.af_request.specs.Requests.{request_bytes}
 use Rattle.af_lib.specs.declared.fault.ConnFault.{ConnFault}
 use Rattle.af_lib.specs.Answers.{and_then, answer_to, value_or_bad}
 use Rattle.af_lib.specs.Calls.{answered, as_done, as_recorded, as_time, following, opcode_of, value_in, Recorded}
-use Rattle.af_options.specs.Sizes.{block_frames}
-use Rattle.af_options.specs.declared.job.RecordJob.{RecordJob}
+use Rattle.af_cli.specs.Sizes.{block_frames}
+use Rattle.af_cli.specs.declared.job.RecordJob.{RecordJob}
 use Rattle.af_tool.specs.declared.end.ToolEnd.{ToolEnd}
 use Rattle.af_tool.specs.declared.end.ToolEnd.TheVariants as end
 use Rattle.af_tool.specs.Trace.{Trace, ClientState, after_reply, answer_on, answered_by, asks, done, ends, next_message, on_device, writing}

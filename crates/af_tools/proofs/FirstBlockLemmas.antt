@@ -9,7 +9,7 @@ use Rattle.af_io.specs.Observed.{Consumed}
 use Rattle.af_request.specs.Asked.{Asked, get_time}
 use Rattle.af_request.specs.declared.reply.DeviceInfo.{DeviceInfo}
 use Rattle.af_lib.specs.Calls.{as_done, as_time}
-use Rattle.af_options.specs.declared.job.PlayJob.{PlayJob}
+use Rattle.af_cli.specs.declared.job.PlayJob.{PlayJob}
 use Rattle.af_tool.specs.declared.end.ToolEnd.{ToolEnd}
 use Rattle.af_tool.specs.declared.end.ToolEnd.TheVariants as end
 use Rattle.af_tool.specs.Trace.{ClientState, asks}
@@ -18,7 +18,7 @@ use Rattle.af_io.proofs.ConsumedLemmas.{consumed_known, consumed_none, consumed_
 use Rattle.af_tool.proofs.TracePartLemmas.{goes_on, goes_stop}
 use Rattle.af_tools.specs.declared.player.Played.{Played}
 use Rattle.af_tools.specs.declared.sound.SourceSound.{SourceSound}
-use Rattle.af_tools.specs.Most.{most_bytes}
+use Rattle.af_tools.specs.Limits.{most_bytes}
 use Rattle.af_tools.specs.Fill.{left_before, ConsumedAbove, ConsumedUpTo, IsEarlyBlock}
 use Rattle.af_tools.specs.Sounds.{block_bytes, source_width, stated_room}
 use Rattle.af_tools.specs.Play.{play_context, played_frames, played_on, plays_sound, start_at, IsBlock}

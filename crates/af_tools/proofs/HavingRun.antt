@@ -10,23 +10,23 @@ use Rattle.af_tool.specs.declared.end.ToolEnd.{ToolEnd}
 use Rattle.af_tool.specs.Trace.{Trace, ClientState, done, ends, on_device, too_long, with_job_device, writing}
 use Rattle.af_tool.specs.Ends.{ObservedTrace}
 use Rattle.af_tool.proofs.ToolEndLemmas.{IsDoneOrRefused, done_where_answered, ends_by_reply}
-use Rattle.af_options.specs.declared.job.PlayJob.{PlayJob}
-use Rattle.af_options.specs.declared.job.RecordJob.{RecordJob}
-use Rattle.af_options.specs.declared.job.SetJob.{SetJob}
+use Rattle.af_cli.specs.declared.job.PlayJob.{PlayJob}
+use Rattle.af_cli.specs.declared.job.RecordJob.{RecordJob}
+use Rattle.af_cli.specs.declared.job.SetJob.{SetJob}
 use Rattle.af_sound.specs.declared.head.HeadStep.TheVariants as step
 use Rattle.af_sound.specs.declared.head.SoundForm.{SoundForm}
 use Rattle.af_sound.specs.Fronts.{front_of, Front}
 use Rattle.af_sound.proofs.FrontLemmas.{front, front_head}
 use Rattle.af_sample.specs.declared.sample_type.SampleType.{SampleType}
 use Rattle.af_tools.specs.declared.sound.SourceSound.{SourceSound}
-use Rattle.af_tools.specs.Most.{most_bytes}
+use Rattle.af_tools.specs.Limits.{most_bytes}
 use Rattle.af_tools.specs.Sounds.{at_one_shape, file_sound, raw_sound, reads_front, reads_sound, GivesSamples, IsFileSound, IsPlayable}
 use Rattle.af_tools.specs.Play.{aplay_trace, played, played_on}
 use Rattle.af_tools.proofs.SoundEndLemmas.{ends_by_sound}
 use Rattle.af_tools.specs.Record.{arecord_trace, recorded_on}
 use Rattle.af_standing.specs.Standing.{standing_text}
 use Rattle.af_tools.specs.Set.{aset_trace, set_on}
-use Rattle.af_tools.specs.Ran.{AplayRan, ToolRan}
+use Rattle.af_tools.specs.Results.{AplayRan, ToolRan}
 use Rattle.af_tools.proofs.TraceEndLemmas.{played_finish, recorded_finish, set_finish}
 use Rattle.af_tools.proofs.PlayedBlockLemmas.{is_played}
 use Rattle.af_tools.proofs.DeviceChoiceLemmas.{IsMissing, IsThere, aplay_there, followed_missing, followed_same}

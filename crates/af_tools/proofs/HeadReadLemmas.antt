@@ -21,7 +21,7 @@ use Rattle.af_sound.proofs.FrontLemmas.{front, front_beyond, front_fault, front_
 use Rattle.af_tool.specs.declared.end.ToolEnd.TheVariants as end
 use Rattle.af_tool.specs.Trace.{Trace, bad_sound, ends, sound_cut, too_long}
 use Rattle.af_tools.specs.declared.sound.FileHead.{FileHead}
-use Rattle.af_tools.specs.Most.{most_bytes}
+use Rattle.af_tools.specs.Limits.{most_bytes}
 use Rattle.af_tools.specs.Fill.{ConsumedBeyondMost, ConsumedCut, ConsumedFault, ConsumedHead, ConsumedWithinMost}
 use Rattle.af_tools.specs.Sounds.{behind_front, reads_front}
 use Rattle.af_tools.specs.SoundReads.{HeadCame}

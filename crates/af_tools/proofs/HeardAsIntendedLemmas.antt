@@ -17,7 +17,7 @@ use Rattle.af_sample.specs.Gains.{gained}
 use Rattle.af_sample.specs.Heard.{blended, covers, heard, AcceptedPlay}
 use Rattle.af_tools.specs.Play.{blocks}
 use Rattle.af_tools.specs.Blocks.{gained_samples, sample_in, sent_blocks, AreAccepted, Block, HeardAsIntended, IsEntryOf}
-use Rattle.af_options.proofs.FrameSizeLemmas.{frame_size}
+use Rattle.af_cli.proofs.FrameSizeLemmas.{frame_size}
 use Rattle.af_tools.proofs.SentBlockLemmas.{drop_twice, find_block, frame, one_block, range_within, IsAt}
 use Rattle.af_sample.proofs.FrameLemmas.{one_or_two, place_before}
 use Rattle.af_sample.proofs.SinglePlayLemmas.{blended_with_silence, covers_its, heard_alone}

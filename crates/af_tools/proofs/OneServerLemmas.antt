@@ -11,8 +11,8 @@ use Rattle.af_request.specs.declared.reply.DeviceInfo.{DeviceInfo}
 use Rattle.af_lib.specs.declared.fault.ConnFault.{ConnFault}
 use Rattle.af_tool.specs.declared.end.ToolEnd.{ToolEnd}
 use Rattle.af_tool.specs.declared.end.ToolEnd.TheVariants as end
-use Rattle.af_options.specs.declared.job.Task.{Task}
-use Rattle.af_options.specs.declared.job.Task.TheVariants as task
+use Rattle.af_cli.specs.declared.job.Task.{Task}
+use Rattle.af_cli.specs.declared.job.Task.TheVariants as task
 use Rattle.af_tool.specs.Trace.{Trace, Finish, ClientState, answered_by, bad_sound, channel_mismatch, connects, dials, done, ends, mismatch, no_device, not_dialled, on_device, refused, set_up, setup_answer, sound_cut, too_long, writing}
 use Rattle.af_sound.specs.declared.head.HeadStep.{HeadStep}
 use Rattle.af_sound.specs.declared.head.HeadStep.TheVariants as step
@@ -21,9 +21,9 @@ use Rattle.af_sound.specs.declared.head.SoundForm.{SoundForm}
 use Rattle.af_sound.specs.declared.head.SoundHead.{SoundHead}
 use Rattle.af_sound.specs.Fronts.{front_of}
 use Rattle.af_sound.proofs.FrontLemmas.{front, front_has_fault, front_is_head, front_is_whole}
-use Rattle.af_options.specs.declared.job.PlayJob.{PlayJob}
+use Rattle.af_cli.specs.declared.job.PlayJob.{PlayJob}
 use Rattle.af_tools.specs.declared.sound.SourceSound.{SourceSound}
-use Rattle.af_tools.specs.Most.{most_bytes}
+use Rattle.af_tools.specs.Limits.{most_bytes}
 use Rattle.af_tools.specs.Sounds.{at_one_shape, behind_front, file_sound, raw_sound, reads_sound}
 use Rattle.af_tools.specs.Play.{aplay_trace, played}
 use Rattle.af_tools.specs.Record.{arecord_trace}

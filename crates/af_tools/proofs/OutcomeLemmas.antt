@@ -17,16 +17,16 @@ use Rattle.af_lib.specs.Calls.{answered, as_devices}
 use Rattle.af_lib.proofs.ExchangeLemmas.{answered_stated}
 use Rattle.af_tool.specs.declared.end.ToolEnd.{ToolEnd}
 use Rattle.af_tool.specs.declared.end.ToolEnd.TheVariants as end
-use Rattle.af_options.specs.declared.job.PassJob.{PassJob}
-use Rattle.af_options.specs.declared.job.PlayJob.{PlayJob}
-use Rattle.af_options.specs.declared.job.RecordJob.{RecordJob}
-use Rattle.af_options.specs.declared.job.Task.{Task}
-use Rattle.af_options.specs.declared.job.Task.TheVariants as task
-use Rattle.af_options.specs.declared.call.Call.{Call}
-use Rattle.af_options.specs.declared.call.Call.TheVariants as call
+use Rattle.af_cli.specs.declared.job.PassJob.{PassJob}
+use Rattle.af_cli.specs.declared.job.PlayJob.{PlayJob}
+use Rattle.af_cli.specs.declared.job.RecordJob.{RecordJob}
+use Rattle.af_cli.specs.declared.job.Task.{Task}
+use Rattle.af_cli.specs.declared.job.Task.TheVariants as task
+use Rattle.af_cli.specs.declared.call.Call.{Call}
+use Rattle.af_cli.specs.declared.call.Call.TheVariants as call
 use Rattle.af_tool.specs.Trace.{Trace, ClientState, connects, done, tool_end, next_message, sending, set_up, setup_answer, unused}
-use Rattle.af_options.specs.Call.{IsCall, job_of_call}
-use Rattle.af_options.specs.Ranges.{IsPaced, IsRanged}
+use Rattle.af_cli.specs.Call.{IsCall, job_of_call}
+use Rattle.af_cli.specs.Ranges.{IsPaced, IsRanged}
 use Rattle.af_relay.specs.Pass.{RelayTrace, apass_trace, sending_from, sending_to}
 use Rattle.af_tools.specs.Dialled.{connects_by, dials_to, relay_trace}
 use Rattle.af_tools.specs.Play.{aplay_trace}
@@ -34,7 +34,7 @@ use Rattle.af_tools.specs.Record.{arecord_trace}
 use Rattle.af_tool.specs.Ends.{ObservedTrace, is_outer}
 use Rattle.af_relay.specs.Relayed.{IsRelayed}
 use Rattle.af_tools.specs.Run.{JobDone, ReturnedLinks, PlayRan, JobRan, RecordRan, RelayRan, one_trace, task_trace}
-use Rattle.af_options.specs.Words.{Job, one, relay}
+use Rattle.af_cli.specs.Words.{Job, one, relay}
 use Rattle.af_tool.proofs.ToolEndLemmas.{finish_done, reply_of}
 use Rattle.af_relay.proofs.RelayedLemmas.{answered_from, answered_to, trace_relayed}
 use Rattle.af_tools.proofs.PlayedBlockLemmas.{answered_done, is_played}

@@ -11,7 +11,7 @@ use Rattle.af_request.specs.Asked.{play_run}
 use Rattle.af_lib.specs.Calls.{as_time}
 use Rattle.af_tool.specs.Trace.{Trace, ClientState, asks, ends, too_long}
 use Rattle.af_sound.specs.declared.head.Coding.{Coding}
-use Rattle.af_tools.specs.Most.{most_bytes}
+use Rattle.af_tools.specs.Limits.{most_bytes}
 use Rattle.af_tools.specs.Sounds.{as_served, stated_part}
 use Rattle.af_tools.specs.Play.{block_time, blocks, cut, frames_in, plays, whole_frames}
 use Rattle.af_tool.proofs.PartProgressLemmas.{Reaches}

@@ -14,7 +14,7 @@ use Rattle.af_tool.specs.declared.end.ToolEnd.{ToolEnd}
 use Rattle.af_tool.specs.declared.end.ToolEnd.TheVariants as end
 use Rattle.af_tool.specs.Trace.{Trace, ClientState, asks, too_long}
 use Rattle.af_sound.specs.declared.head.Coding.{Coding}
-use Rattle.af_tools.specs.Most.{most_bytes}
+use Rattle.af_tools.specs.Limits.{most_bytes}
 use Rattle.af_tools.specs.Sounds.{as_served, stated_behind, stated_part, stated_room, FitsStated}
 use Rattle.af_tools.specs.Play.{block_time, blocks, frames_in, plays, whole_frames}
 use Rattle.af_tools.specs.Fill.{left_before, ConsumedAbove}

@@ -12,7 +12,7 @@ use Rattle.af_time.specs.declared.DevTime.{DevTime}
 use Rattle.af_sample.specs.Channels.{IsChannelCount}
 use Rattle.af_sample.specs.SampleTypes.{frame_bytes}
 use Rattle.af_request.specs.Replies.{IsDeviceInfo}
-use Rattle.af_options.proofs.FrameSizeLemmas.{frame_size, some_frames}
+use Rattle.af_cli.proofs.FrameSizeLemmas.{frame_size, some_frames}
 use Rattle.af_io.specs.Observed.{Appended}
 use Rattle.af_request.specs.declared.reply.DeviceInfo.{DeviceInfo}
 use Rattle.af_request.specs.Asked.{Asked, free_ac, get_time, play_run}
@@ -23,7 +23,7 @@ use Rattle.af_lib.specs.declared.fault.ConnFault.{ConnFault}
 use Rattle.af_lib.specs.Calls.{as_done, as_time}
 use Rattle.af_tool.specs.declared.end.ToolEnd.{ToolEnd}
 use Rattle.af_tool.specs.declared.end.ToolEnd.TheVariants as end
-use Rattle.af_options.specs.declared.job.PlayJob.{PlayJob}
+use Rattle.af_cli.specs.declared.job.PlayJob.{PlayJob}
 use Rattle.af_tool.proofs.ToolEndLemmas.{finish_done}
 use Rattle.af_tool.specs.Trace.{Trace, Finish, ClientState, answer_on, answered_by, asks, after_reply, channel_mismatch, done, ends, mismatch, on_device, sending, too_long, writing}
 use Rattle.af_sound.specs.declared.head.Coding.{Coding}
@@ -34,7 +34,7 @@ use Rattle.af_sound.specs.declared.head.SoundHead.{SoundHead}
 use Rattle.af_sound.specs.Fronts.{front_of}
 use Rattle.af_sound.proofs.FrontLemmas.{front, front_is_head}
 use Rattle.af_tools.specs.declared.sound.SourceSound.{SourceSound}
-use Rattle.af_tools.specs.Most.{most_bytes}
+use Rattle.af_tools.specs.Limits.{most_bytes}
 use Rattle.af_tools.specs.Sounds.{as_served, at_one_shape, behind_front, file_sound, raw_sound, reads_sound, source_width, stated_part, GivesSamples, IsServedAs}
 use Rattle.af_tools.specs.Play.{aplay_trace, blocks, frames_in, play_context, played, played_frames, played_on, plays, plays_sound, start_at, whole_frames}
 use Rattle.af_tool.specs.Ends.{ObservedTrace, is_outer}

@@ -14,15 +14,15 @@ use Rattle.af_sample.specs.declared.sample_type.SampleType.TheVariants as ty
 use Rattle.af_sample.specs.SampleTypes.{frame_bytes, width_of}
 use Rattle.af_sample.specs.Samples.{decoded, piece, samples}
 use Rattle.af_tool.specs.declared.end.ToolEnd.{ToolEnd}
-use Rattle.af_options.specs.declared.job.RecordJob.{RecordJob}
+use Rattle.af_cli.specs.declared.job.RecordJob.{RecordJob}
 use Rattle.af_tool.specs.Trace.{Trace, ClientState}
 use Rattle.af_tool.specs.Ends.{ObservedPart, TracePart}
 use Rattle.af_tool.proofs.TracePartLemmas.{doing, goes_stop}
 use Rattle.af_sound.specs.declared.head.Coding.{Coding}
 use Rattle.af_sound.specs.declared.head.Coding.TheVariants as coding
 use Rattle.af_sample.specs.Channels.{IsChannelCount}
-use Rattle.af_options.specs.Sizes.{block_frames}
-use Rattle.af_options.proofs.FrameSizeLemmas.{frame_size, some_frames}
+use Rattle.af_cli.specs.Sizes.{block_frames}
+use Rattle.af_cli.proofs.FrameSizeLemmas.{frame_size, some_frames}
 use Rattle.af_tools.specs.declared.record.RecordedSound.{RecordedSound}
 use Rattle.af_tools.specs.Files.{IsFiledAs}
 use Rattle.af_tools.specs.Sounds.{AreWhole}

@@ -7,7 +7,7 @@ use Rattle.af_request.specs.Asked.{free_ac}
 use Rattle.af_request.specs.declared.reply.DeviceInfo.{DeviceInfo}
 use Rattle.af_lib.specs.Calls.{as_done}
 use Rattle.af_tool.specs.declared.end.ToolEnd.{ToolEnd}
-use Rattle.af_options.specs.declared.job.RecordJob.{RecordJob}
+use Rattle.af_cli.specs.declared.job.RecordJob.{RecordJob}
 use Rattle.af_tool.specs.Trace.{Trace, ClientState, asks, writing}
 use Rattle.af_tool.specs.Ends.{ObservedPart, TracePart}
 use Rattle.af_tool.proofs.TracePartLemmas.{goes_on, goes_stop}

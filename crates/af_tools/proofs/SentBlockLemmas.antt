@@ -7,7 +7,7 @@ use Rattle.std.proofs.Math.Seq.{drop-nil}
 use Rattle.std.specs.declared.option.Option.{Option}
 use Rattle.std.specs.declared.option.Option.TheVariants.{None, Some}
 use Rattle.std.specs.Prelude.{min}
-use Rattle.af_options.proofs.FrameSizeLemmas.{by_size, IsFrameSize}
+use Rattle.af_cli.proofs.FrameSizeLemmas.{by_size, IsFrameSize}
 use Rattle.af_tools.specs.Play.{blocks, cut, frames_in, whole_frames}
 use Rattle.af_tools.specs.Blocks.{sent_behind, Block}
 

@@ -15,7 +15,7 @@ use Rattle.af_sound.specs.declared.head.Coding.{Coding}
 use Rattle.af_sound.specs.declared.head.Coding.TheVariants as coding
 use Rattle.af_sound.specs.Served.{sample_of, swapped}
 use Rattle.af_sound.specs.Written.{sample_size}
-use Rattle.af_options.proofs.FrameSizeLemmas.{by_size, frame_size, IsFrameSize}
+use Rattle.af_cli.proofs.FrameSizeLemmas.{by_size, frame_size, IsFrameSize}
 use Rattle.af_tools.specs.Blocks.{sent_behind, sent_blocks, Block}
 use Rattle.af_tools.specs.Play.{blocks, frames_in, whole_frames}
 use Rattle.af_tools.specs.Sounds.{as_served, served_type, source_sample, source_width, IsServedAs}

@@ -6,7 +6,7 @@ use Rattle.std.specs.declared.option.Option.TheVariants.{Some}
 use Rattle.af_request.specs.declared.reply.DeviceInfo.{DeviceInfo}
 use Rattle.af_request.specs.Asked.{Asked}
 use Rattle.af_lib.specs.Calls.{as_done}
-use Rattle.af_options.specs.declared.job.SetJob.{SetJob}
+use Rattle.af_cli.specs.declared.job.SetJob.{SetJob}
 use Rattle.af_tool.specs.declared.end.ToolEnd.{ToolEnd}
 use Rattle.af_tool.specs.Trace.{Trace, ClientState, asks}
 use Rattle.af_tool.specs.Ends.{ObservedPart, TracePart}

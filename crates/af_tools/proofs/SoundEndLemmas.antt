@@ -4,7 +4,7 @@ use Rattle.af_tool.specs.declared.end.ToolEnd.{ToolEnd}
 use Rattle.af_tool.specs.Trace.{Trace, Finish, bad_sound, channel_mismatch, done, tool_end, mismatch, no_device, not_dialled, refused, sound_cut, too_long}
 use Rattle.af_tool.specs.Ends.{MatchesTrace, is_outer}
 use Rattle.af_tool.proofs.ToolEndLemmas.{ends_as, finish_is}
-use Rattle.af_tools.specs.Ran.{is_of_sound_finish, EndsBySound}
+use Rattle.af_tools.specs.Results.{is_of_sound_finish, EndsBySound}
 
 -- such an end is not from outside
 sound_inner : (finish : Finish) → is_of_sound_finish finish ≡ true → is_outer (tool_end finish) ≡ false

@@ -10,7 +10,7 @@ use Rattle.af_sound.specs.declared.head.SoundHead.{SoundHead}
 use Rattle.af_sound.specs.Fronts.{front_of, Front}
 use Rattle.af_sound.proofs.FrontLemmas.{front}
 use Rattle.af_request.specs.declared.reply.DeviceInfo.{DeviceInfo}
-use Rattle.af_options.specs.declared.job.PlayJob.{PlayJob}
+use Rattle.af_cli.specs.declared.job.PlayJob.{PlayJob}
 use Rattle.af_tool.specs.declared.end.ToolEnd.{ToolEnd}
 use Rattle.af_tool.specs.Trace.{Trace, Finish, channel_mismatch, ends, mismatch, tool_end, too_long}
 use Rattle.af_tool.specs.Ends.{ObservedTrace}
@@ -19,7 +19,7 @@ use Rattle.af_tool.proofs.TracePartLemmas.{ended_at_once}
 use Rattle.af_tools.specs.declared.sound.SourceSound.{SourceSound}
 use Rattle.af_tool.proofs.FollowedLemmas.{followed_early}
 use Rattle.af_tools.proofs.DeviceChoiceLemmas.{followed_same}
-use Rattle.af_tools.specs.Most.{most_bytes}
+use Rattle.af_tools.specs.Limits.{most_bytes}
 use Rattle.af_tools.specs.Sounds.{at_one_shape, file_sound, reads_front, reads_sound}
 use Rattle.af_tools.specs.SoundReads.{ends_shape, SoundCame}
 

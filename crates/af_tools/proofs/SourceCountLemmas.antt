@@ -11,7 +11,7 @@ use Rattle.af_tools.specs.declared.fill.FillFault.{FillFault}
 use Rattle.af_tools.specs.declared.fill.FillFault.TheVariants as fill
 use Rattle.af_sound.specs.declared.head.SoundForm.{SoundForm}
 use Rattle.af_io.specs.Flow.{IsSpent}
-use Rattle.af_tools.specs.Most.{most_bytes}
+use Rattle.af_tools.specs.Limits.{most_bytes}
 use Rattle.af_tools.specs.Fill.{fill_end, left_before, ConsumedAbove, ConsumedBeyond, ConsumedBeyondMost, ConsumedHead, ConsumedSound, ConsumedStated, ConsumedUpTo, ConsumedWithinMost, HeadIs}
 use Rattle.af_tools.specs.Sounds.{stated_behind, FitsStated}
 use Rattle.af_io.proofs.ConsumedLemmas.{consumed_on, consumed_told}

@@ -11,9 +11,9 @@ use Rattle.af_sound.specs.declared.head.Coding.{Coding}
 use Rattle.af_sound.specs.declared.head.Coding.TheVariants as coding
 use Rattle.af_sound.specs.Served.{served_length}
 use Rattle.af_sound.specs.Written.{sample_size}
-use Rattle.af_options.specs.Sizes.{greatest_block}
-use Rattle.af_options.proofs.FrameSizeLemmas.{some_bytes}
-use Rattle.af_tools.specs.Most.{most_bytes}
+use Rattle.af_cli.specs.Sizes.{greatest_block}
+use Rattle.af_cli.proofs.FrameSizeLemmas.{some_bytes}
+use Rattle.af_tools.specs.Limits.{most_bytes}
 use Rattle.af_tools.specs.Play.{IsBlock}
 use Rattle.af_tools.specs.Sounds.{served_room, served_type, source_sample, source_width, AreWhole, IsServedAs}
 use Rattle.af_tools.proofs.ServedBlockLemmas.{some_size, source_size}

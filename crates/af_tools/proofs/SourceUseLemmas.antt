@@ -9,11 +9,11 @@ use Rattle.af_sound.specs.declared.head.SoundForm.{SoundForm}
 use Rattle.af_tool.specs.declared.end.ToolEnd.{ToolEnd}
 use Rattle.af_tool.specs.declared.end.ToolEnd.TheVariants as end
 use Rattle.af_tool.specs.Ends.{is_of_report}
-use Rattle.af_tools.specs.Most.{most_bytes}
+use Rattle.af_tools.specs.Limits.{most_bytes}
 use Rattle.af_tools.specs.Fill.{ConsumedBeyond, ConsumedBeyondMost, ConsumedCut, ConsumedFault, ConsumedHead, ConsumedStated, ConsumedUpTo, ConsumedWithinMost}
 use Rattle.af_tools.specs.Reading.{UsesSource}
 use Rattle.af_tools.specs.SoundReads.{is_of_sound}
-use Rattle.af_tools.specs.Ways.{is_of_blocks}
+use Rattle.af_tools.specs.Outcomes.{is_of_blocks}
 use Rattle.af_tools.proofs.SourceCountLemmas.{head_beyond, head_within, sound_spent}
 
 -- an end of a result

@@ -6,16 +6,16 @@ use Rattle.std.specs.declared.option.Option.TheVariants.{None, Some}
 use Rattle.af_request.specs.declared.reply.DeviceInfo.{DeviceInfo}
 use Rattle.af_request.specs.Asked.{Asked, free_ac, get_time, play_run}
 use Rattle.af_lib.specs.Calls.{as_done, as_time}
-use Rattle.af_options.specs.declared.job.PlayJob.{PlayJob}
-use Rattle.af_options.specs.declared.job.RecordJob.{RecordJob}
-use Rattle.af_options.specs.declared.job.SetJob.{SetJob}
+use Rattle.af_cli.specs.declared.job.PlayJob.{PlayJob}
+use Rattle.af_cli.specs.declared.job.RecordJob.{RecordJob}
+use Rattle.af_cli.specs.declared.job.SetJob.{SetJob}
 use Rattle.af_tool.specs.Trace.{Trace, ClientState}
 use Rattle.af_tool.proofs.ToolEndLemmas.{IsDoneOrRefused, asked_finish}
 use Rattle.af_standing.specs.declared.standing.Standing.{Standing}
 use Rattle.af_standing.proofs.StandingLemmas.{standing_finish}
 use Rattle.af_sound.specs.declared.head.Coding.{Coding}
 use Rattle.af_tools.specs.declared.sound.SourceSound.{SourceSound}
-use Rattle.af_tools.specs.Most.{most_bytes}
+use Rattle.af_tools.specs.Limits.{most_bytes}
 use Rattle.af_tools.specs.Sounds.{as_served, stated_part}
 use Rattle.af_tools.specs.Play.{block_time, blocks, cut, play_context, played_on, plays, plays_sound}
 use Rattle.af_tools.specs.declared.record.RecordedSound.{RecordedSound}

@@ -17,7 +17,7 @@ use Rattle.af_tool.specs.Ends.{PartCompletes, client_of}
 use Rattle.af_tool.specs.Talk.{creates}
 use Rattle.af_tool.specs.declared.talk.ToolContext.{ToolContext}
 use Rattle.af_tool.proofs.TracePartLemmas.{client_begun}
-use Rattle.af_options.specs.declared.job.PlayJob.{PlayJob}
+use Rattle.af_cli.specs.declared.job.PlayJob.{PlayJob}
 use Rattle.af_tools.specs.Unread.{DialGivesContext, GivesContext, GivesReply, LinkGivesContext}
 use Rattle.af_tools.proofs.SetupTraceLemmas.{setup_known}
 

@@ -14,7 +14,7 @@ use Rattle.af_sound.specs.Fields.{unknown_length}
 use Rattle.af_sound.specs.Served.{filed}
 use Rattle.af_sound.specs.Written.{written}
 use Rattle.af_request.specs.declared.reply.DeviceInfo.{DeviceInfo}
-use Rattle.af_options.specs.declared.job.RecordJob.{RecordJob}
+use Rattle.af_cli.specs.declared.job.RecordJob.{RecordJob}
 use Rattle.af_tools.specs.declared.record.RecordedSound.{RecordedSound}
 use Rattle.af_tools.specs.Sounds.{served_type}
 

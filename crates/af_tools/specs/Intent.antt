@@ -14,7 +14,7 @@ use Rattle.af_request.specs.declared.reply.DeviceInfo.{DeviceInfo}
 use Rattle.af_request.specs.Asked.{free_ac, get_time, play_run}
 use Rattle.af_request.specs.Requests.{request_bytes}
 use Rattle.af_lib.specs.Calls.{as_time}
-use Rattle.af_options.specs.declared.job.PlayJob.{PlayJob}
+use Rattle.af_cli.specs.declared.job.PlayJob.{PlayJob}
 use Rattle.af_tool.specs.Trace.{ClientState, answer_on, after_reply}
 use Rattle.af_tools.specs.Play.{play_context, played, played_frames, start_at}
 use Rattle.af_tools.specs.Sounds.{GivesSamples}

@@ -1,4 +1,4 @@
-pub mod Most
+pub mod Limits
 pub mod Sounds
 pub mod Play
 pub mod Blocks
@@ -7,11 +7,11 @@ pub mod Files
 pub mod Record
 pub mod Recorded
 pub mod Set
-pub mod Ways
+pub mod Outcomes
 pub mod Fill
 pub mod SoundReads
 pub mod Reading
 pub mod Unread
-pub mod Ran
+pub mod Results
 pub mod Dialled
 pub mod Run

@@ -12,11 +12,11 @@ use Rattle.af_request.specs.declared.reply.DeviceInfo.{DeviceInfo}
 use Rattle.af_request.specs.Asked.{Asked, create_ac, free_ac, play_run}
 use Rattle.af_request.specs.Fields.{flag_byte}
 use Rattle.af_lib.specs.Calls.{as_done, as_time}
-use Rattle.af_options.specs.declared.job.PlayJob.{PlayJob}
-use Rattle.af_options.specs.Sizes.{block_frames, greatest_block}
+use Rattle.af_cli.specs.declared.job.PlayJob.{PlayJob}
+use Rattle.af_cli.specs.Sizes.{block_frames, greatest_block}
 use Rattle.af_tool.specs.Trace.{Trace, ClientState, asks, begins, done, ends, too_long, with_job_device, writing}
 use Rattle.af_tools.specs.declared.sound.SourceSound.{SourceSound}
-use Rattle.af_tools.specs.Most.{most_bytes}
+use Rattle.af_tools.specs.Limits.{most_bytes}
 use Rattle.af_tools.specs.Sounds.{as_served, reads_sound, source_width, stated_part}
 
 -- a list cut into blocks of n bytes, the last of what is left

@@ -7,8 +7,8 @@ use Rattle.af_sample.specs.Samples.{samples}
 use Rattle.af_request.specs.declared.reply.DeviceInfo.{DeviceInfo}
 use Rattle.af_request.specs.Asked.{Asked, create_ac, free_ac, record_run}
 use Rattle.af_lib.specs.Calls.{as_done, as_recorded}
-use Rattle.af_options.specs.declared.job.RecordJob.{RecordJob}
-use Rattle.af_options.specs.Sizes.{block_frames}
+use Rattle.af_cli.specs.declared.job.RecordJob.{RecordJob}
+use Rattle.af_cli.specs.Sizes.{block_frames}
 use Rattle.af_tool.specs.Trace.{Trace, ClientState, asks, begins, done, ends, with_job_device, writing}
 use Rattle.af_tools.specs.declared.record.RecordedSound.{RecordedSound}
 use Rattle.af_tools.specs.Files.{as_filed, front_of_recording, pad_behind, recorded_sound}

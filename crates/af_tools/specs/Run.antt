@@ -8,19 +8,19 @@ use Rattle.af_io.specs.Dial.{AppendedBack, ToldLink}
 use Rattle.af_request.specs.declared.reply.DeviceInfo.{DeviceInfo}
 use Rattle.af_tool.specs.declared.end.ToolEnd.{ToolEnd}
 use Rattle.af_tool.specs.declared.end.ToolEnd.TheVariants as end
-use Rattle.af_options.specs.declared.job.Task.{Task}
-use Rattle.af_options.specs.declared.job.Task.TheVariants as task
+use Rattle.af_cli.specs.declared.job.Task.{Task}
+use Rattle.af_cli.specs.declared.job.Task.TheVariants as task
 use Rattle.af_tool.specs.Trace.{Trace, ClientState, bad_sound, channel_mismatch, dials}
 use Rattle.af_tool.specs.Trace.{mismatch, no_device, set_up, setup_answer, sound_cut}
-use Rattle.af_tools.specs.Most.{most_bytes}
+use Rattle.af_tools.specs.Limits.{most_bytes}
 use Rattle.af_tools.specs.Play.{aplay_trace}
 use Rattle.af_tools.specs.Record.{arecord_trace}
 use Rattle.af_tools.specs.Set.{aset_trace}
 use Rattle.af_standing.specs.List.{list_trace}
-use Rattle.af_options.specs.declared.job.PassJob.{PassJob}
-use Rattle.af_options.specs.declared.job.PlayJob.{PlayJob}
+use Rattle.af_cli.specs.declared.job.PassJob.{PassJob}
+use Rattle.af_cli.specs.declared.job.PlayJob.{PlayJob}
 use Rattle.af_wire.specs.declared.order.Order.{Order}
-use Rattle.af_options.specs.declared.job.RecordJob.{RecordJob}
+use Rattle.af_cli.specs.declared.job.RecordJob.{RecordJob}
 use Rattle.af_wire.specs.Front.{setup_bytes}
 use Rattle.af_lib.specs.Calls.{ConnState}
 use Rattle.af_relay.specs.Pass.{RelayTrace, apass_trace, on_from, on_to}
@@ -28,13 +28,13 @@ use Rattle.af_tools.specs.Dialled.{alone, dials_to, relay_trace}
 use Rattle.af_relay.specs.Relayed.{IsRelayed}
 use Rattle.af_tools.specs.Intent.{IsPlayed}
 use Rattle.af_tools.specs.Recorded.{IsRecorded}
-use Rattle.af_options.specs.Words.{Job, one, relay}
+use Rattle.af_cli.specs.Words.{Job, one, relay}
 use Rattle.af_relay.specs.Pair.{is_of_pass}
 use Rattle.af_tool.specs.Ends.{MatchesTrace, EndsByReply, IsAnswered, is_outer, client_of}
-use Rattle.af_tools.specs.Ways.{is_of_tool}
+use Rattle.af_tools.specs.Outcomes.{is_of_tool}
 use Rattle.af_sound.specs.declared.head.SoundFault.{SoundFault}
 use Rattle.af_sound.specs.declared.head.SoundForm.{SoundForm}
-use Rattle.af_tools.specs.Ran.{EndsBySound}
+use Rattle.af_tools.specs.Results.{EndsBySound}
 use Rattle.af_tools.specs.Reading.{TellsIfRead}
 
 -- the trace of a task on a server that was set up

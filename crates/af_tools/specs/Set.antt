@@ -6,7 +6,7 @@ use Rattle.af_request.specs.declared.reply.DeviceInfo.{DeviceInfo}
 use Rattle.af_request.specs.Asked.{Asked, hook_switch}
 use Rattle.af_request.specs.Fields.{flag_byte}
 use Rattle.af_lib.specs.Calls.{as_done, controls_changed}
-use Rattle.af_options.specs.declared.job.SetJob.{SetJob}
+use Rattle.af_cli.specs.declared.job.SetJob.{SetJob}
 use Rattle.af_tool.specs.Trace.{Trace, ClientState, asks, done, ends, with_job_device, writing}
 use Rattle.af_standing.specs.declared.standing.Standing.{Standing}
 use Rattle.af_standing.specs.Standing.{asks_standing, standing_text}

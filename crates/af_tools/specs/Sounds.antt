@@ -16,10 +16,10 @@ use Rattle.af_sound.specs.Heads.{IsHead}
 use Rattle.af_sound.specs.Served.{served, served_length, HasWholePairs}
 use Rattle.af_sound.specs.Written.{sample_size}
 use Rattle.af_request.specs.declared.reply.DeviceInfo.{DeviceInfo}
-use Rattle.af_options.specs.declared.job.PlayJob.{PlayJob}
+use Rattle.af_cli.specs.declared.job.PlayJob.{PlayJob}
 use Rattle.af_tool.specs.Trace.{Trace, bad_sound, channel_mismatch, ends, mismatch, sound_cut, too_long}
 use Rattle.af_tools.specs.declared.sound.SourceSound.{SourceSound}
-use Rattle.af_tools.specs.Most.{most_bytes}
+use Rattle.af_tools.specs.Limits.{most_bytes}
 
 -- the type that a server takes the samples of a file as
 abbrev pub served_type : Coding → SampleType

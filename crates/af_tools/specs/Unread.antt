@@ -10,10 +10,10 @@ use Rattle.af_request.specs.declared.reply.DeviceInfo.{DeviceInfo}
 use Rattle.af_lib.specs.Calls.{ConnState, as_done}
 use Rattle.af_tool.specs.Trace.{ClientState, answer_on, set_up, setup_answer}
 use Rattle.af_tool.specs.Ends.{client_of}
-use Rattle.af_options.specs.declared.job.PlayJob.{PlayJob}
-use Rattle.af_options.specs.declared.job.Task.{Task}
-use Rattle.af_options.specs.declared.job.Task.TheVariants as task
-use Rattle.af_options.specs.Words.{Job, one}
+use Rattle.af_cli.specs.declared.job.PlayJob.{PlayJob}
+use Rattle.af_cli.specs.declared.job.Task.{Task}
+use Rattle.af_cli.specs.declared.job.Task.TheVariants as task
+use Rattle.af_cli.specs.Words.{Job, one}
 use Rattle.af_tools.specs.Play.{play_context}
 
 -- the link gives the reply that a context was made

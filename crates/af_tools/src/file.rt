@@ -9,8 +9,8 @@ ghost use Rattle.af_tool.specs.Ends.{Writes};
 ghost use Rattle.af_tools.specs.Sounds.{AreWhole};
 
 use crate::record::RecordedSound;
+use af_cli::RecordJob;
 use af_io::Sink;
-use af_options::RecordJob;
 use af_request::DeviceInfo;
 use af_sample::SampleType;
 use af_sound::{Coding, SoundForm, SoundHead, to_file, write_sound_head};

@@ -16,7 +16,7 @@ mod set;
 mod setter;
 mod sound;
 
-pub use af_options::{PassJob, PlayJob, RecordJob, SetJob};
+pub use af_cli::{PassJob, PlayJob, RecordJob, SetJob};
 pub use af_relay::apass;
 pub use af_standing::list;
 pub use af_tool::ToolEnd;

@@ -1,8 +1,8 @@
 // The memory of a run.
 ghost use Rattle.std.specs.Prelude.{◌≡◌, length, IfOk};
-ghost use Rattle.af_options.specs.Sizes.{greatest_block};
+ghost use Rattle.af_cli.specs.Sizes.{greatest_block};
 
-use af_options::GREATEST_BLOCK;
+use af_cli::GREATEST_BLOCK;
 use af_time::OutOfMemory;
 use std::alloc::Global;
 

@@ -7,14 +7,14 @@ ghost use Rattle.af_sample.specs.Channels.{IsChannelCount};
 ghost use Rattle.af_tool.specs.Ends.{KeepsConnection, ObservedPartWriting};
 ghost use Rattle.af_tools.specs.Files.{IsFiledAs};
 ghost use Rattle.af_tools.specs.Record.{peak, recorded_frame, records_all, takes_block};
-ghost use Rattle.af_tools.specs.Ways.{is_of_records};
+ghost use Rattle.af_tools.specs.Outcomes.{is_of_records};
 ghost use Rattle.af_tools.specs.Sounds.{AreWhole};
-ghost use Rattle.af_options.specs.Sizes.{greatest_block};
+ghost use Rattle.af_cli.specs.Sizes.{greatest_block};
 
 use crate::file::file_samples;
+use af_cli::{RecordJob, block_frames};
 use af_io::{Link, Put, Sink};
 use af_lib::Conn;
-use af_options::{RecordJob, block_frames};
 use af_sample::{SampleType, decode};
 use af_sound::Coding;
 use af_time::DevTime;

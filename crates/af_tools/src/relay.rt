@@ -3,16 +3,16 @@ ghost use Rattle.std.specs.Prelude.{◌≡◌, ◌≤◌, ◌⊎◌, ◌∷◌, 
 ghost use Rattle.std.specs.declared.option.Option.TheVariants.{None, Some};
 ghost use Rattle.af_io.specs.Observed.{CountsFault, Appended, FaultCounted};
 ghost use Rattle.af_io.specs.Dial.{ToldLink};
-ghost use Rattle.af_options.specs.Ranges.{IsAddress, IsPaced};
-ghost use Rattle.af_options.specs.Words.{relay};
+ghost use Rattle.af_cli.specs.Ranges.{IsAddress, IsPaced};
+ghost use Rattle.af_cli.specs.Words.{relay};
 ghost use Rattle.af_tools.specs.Dialled.{RelaysOver};
 ghost use Rattle.af_tools.specs.Run.{is_of_over, is_of_relay, AskedFor, JobRan, RunsRelayTo};
-ghost use Rattle.af_options.specs.Sizes.{greatest_block};
+ghost use Rattle.af_cli.specs.Sizes.{greatest_block};
 
 use crate::memory::Memory;
+use af_cli::{PassJob, RelayCall};
 use af_io::{Dial, Dialed, Link, Sink};
 use af_lib::Conn;
-use af_options::{PassJob, RelayCall};
 use af_relay::apass;
 use af_tool::ToolEnd;
 use af_wire::Order;

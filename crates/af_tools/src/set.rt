@@ -4,9 +4,9 @@ ghost use Rattle.std.specs.declared.option.Option.TheVariants.{None};
 ghost use Rattle.af_tool.specs.Ends.{is_of_link, ObservedPartOver, KeepsConnection};
 ghost use Rattle.af_tools.specs.Set.{asks_where, control_request, hooks, set_on, states_controls};
 
+use af_cli::SetJob;
 use af_io::Link;
 use af_lib::Conn;
-use af_options::SetJob;
 use af_request::DeviceInfo;
 use af_standing::{Standing, standing_of};
 use af_tool::ToolEnd;

@@ -6,13 +6,13 @@ ghost use Rattle.af_io.specs.Observed.{CountsFault};
 ghost use Rattle.af_tool.specs.Ends.{is_of_report, Reports};
 ghost use Rattle.af_standing.specs.Standing.{standing_text};
 ghost use Rattle.af_tools.specs.Set.{aset_trace};
-ghost use Rattle.af_tools.specs.Ways.{is_of_writer};
-ghost use Rattle.af_tools.specs.Ran.{LacksDevice, RunsTool};
+ghost use Rattle.af_tools.specs.Outcomes.{is_of_writer};
+ghost use Rattle.af_tools.specs.Results.{LacksDevice, RunsTool};
 
 use crate::set::set_on;
+use af_cli::SetJob;
 use af_io::{Link, Sink};
 use af_lib::Conn;
-use af_options::SetJob;
 use af_standing::{Standing, write_standing};
 use af_tool::{ToolEnd, device_with, write_text};
 

@@ -8,8 +8,8 @@ ghost use Rattle.af_tools.specs.SoundReads.{ends_shape, is_of_front, is_of_sound
 ghost use Rattle.af_tools.specs.Fill.{ConsumedBeyondMost, ConsumedCut, ConsumedFault, ConsumedHead, ConsumedWithinMost};
 
 use crate::play::MOST_BYTES;
+use af_cli::PlayJob;
 use af_io::{Got, Source};
-use af_options::PlayJob;
 use af_request::DeviceInfo;
 use af_sample::SampleType;
 use af_sound::{Coding, HeadReader, HeadStep, SoundForm, SoundHead};

@@ -1,11 +1,11 @@
 -- What stands behind a device.
 use Rattle.std.specs.Prelude.{ℕ, List}
-use Rattle.af_child.specs.Acts.{words_of}
+use Rattle.af_process.specs.Acts.{words_of}
 use Rattle.af_world.specs.declared.card_kind.CardKind.{CardKind}
 use Rattle.af_world.specs.declared.live.Kind.{Kind}
 use Rattle.af_world.specs.declared.live.Kind.TheVariants as kind
-use Rattle.af_world.specs.declared.outer.ToldKind.{ToldKind}
-use Rattle.af_world.specs.declared.outer.ToldKind.TheVariants as told
+use Rattle.af_world.specs.declared.lifecycle.ToldKind.{ToldKind}
+use Rattle.af_world.specs.declared.lifecycle.ToldKind.TheVariants as told
 
 -- silence, or the names of the two files that the device captures from and hands its sound out to
 abbrev pub silence : ToldKind

@@ -2,4 +2,4 @@ pub mod Log
 pub mod World
 pub mod Outside
 pub mod Kinds
-pub mod Outer
+pub mod Lifecycle

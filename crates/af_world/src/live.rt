@@ -1,14 +1,14 @@
 // The outside of a server on real time: it accepts connections, opens devices and reports wakes.
 ghost use Rattle.std.specs.Prelude.{◌≡◌, ◌≤◌, ℕ, List, [], IsSome};
 ghost use Rattle.std.specs.declared.option.Option.{Option};
-ghost use Rattle.af_world.specs.declared.outer.Outer.{Outer};
+ghost use Rattle.af_world.specs.declared.lifecycle.Lifecycle.{Lifecycle};
 ghost use Rattle.af_io.specs.Observed.{Appended, FaultCounted, Unchanged};
 ghost use Rattle.af_world.specs.Kinds.{told_kind};
-ghost use Rattle.af_child.specs.Acts.{words_of};
-ghost use Rattle.af_world.specs.Outer.{listened, attached, line_attached, waited};
+ghost use Rattle.af_process.specs.Acts.{words_of};
+ghost use Rattle.af_world.specs.Lifecycle.{listened, attached, line_attached, waited};
 
 use crate::{CardKind, DeviceSpec, Wake, World};
-use af_child::Words;
+use af_process::Words;
 use std::alloc::Global;
 
 /// What a device captures from and hands its sound out to.
@@ -67,7 +67,7 @@ pub trait Live: World {
     ghost wait_faults: { Self → ℕ };
 
     /// The listens, attaches and waits that were done so far, in order, if they are observable.
-    ghost outer: { Self → Option (List Outer) };
+    ghost outer: { Self → Option (List Lifecycle) };
 
     /// Begins to take links at an address.
     fn listen(&mut self, alloc: Global, address: &str) -> Ready

@@ -1,5 +1,5 @@
 // What a device is, in words.
-use af_child::Words;
+use af_process::Words;
 use af_sample::SampleType;
 use af_world::{CardKind, DeviceSpec, Kind};
 use afd_details::Shown;

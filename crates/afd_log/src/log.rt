@@ -1,8 +1,8 @@
 // The lines of the log: at most 50 in a second, and none that standard error does not take at once.
 use crate::gate::Gate;
 use crate::refusal::Refusal;
-use af_child::{Finished, Started};
 use af_io::Reason;
+use af_process::{Finished, Started};
 use af_world::Kind;
 use afd_details::Shown;
 use std::cell::{Cell, RefCell};

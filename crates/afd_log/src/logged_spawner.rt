@@ -1,7 +1,7 @@
 // A spawner that tells which programs began and ended.
 use crate::Log;
-use af_child::{Finished, Spawner, Started, Words};
 use af_io::Put;
+use af_process::{Finished, Spawner, Started, Words};
 use std::alloc::Global;
 
 /// A spawner that tells in a log which program was started, which could not be, and which ended.

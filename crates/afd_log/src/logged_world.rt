@@ -7,11 +7,11 @@ use crate::line_words::{LineWords, tell_change, tell_hook};
 use crate::listening::{ListenRefusal, listen_refusal};
 use crate::program_lines::ProgramLines;
 use crate::{Log, LoggedSpawner, WatchedPrograms, WatchedRuntime};
-use af_child::{StdSpawner, Words};
 use af_deadline::DeadlineRuntime;
 use af_io::Put;
 use af_limits::MOST_DEVICES;
 use af_live::MioWorld;
+use af_process::{StdSpawner, Words};
 use af_world::{
     DeviceSpec, Kind, LineProgram, LinkGot, LinkTook, Live, Ready, Waited, Wake, Why, World,
 };

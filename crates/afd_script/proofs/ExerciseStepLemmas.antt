@@ -4,7 +4,7 @@ use Rattle.rand_pcg.specs.Lcg.{Lcg}
 use Rattle.af_world.specs.declared.script.DeviceSpec.{DeviceSpec}
 use Rattle.af_world.specs.declared.script.Step.{Step}
 use Rattle.af_script.specs.Script.{StatedScript}
-use Rattle.af_exercise.specs.Exercise.{first_steps, steps_drawn, seeded, start_time, generated}
+use Rattle.af_random.specs.Exercise.{first_steps, steps_drawn, seeded, start_time, generated}
 
 drawn_length : (turns : ℕ) (g : Lcg) (time : ℕ) → length (steps_drawn turns g time) ≡ turns
 drawn_length zero g time = refl

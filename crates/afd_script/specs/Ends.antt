@@ -12,7 +12,7 @@ use Rattle.af_script.specs.Script.{StatedScript, script_of}
 use Rattle.af_script.specs.Transcript.{transcript}
 use Rattle.af_script.specs.Summary.{summary}
 use Rattle.af_script.specs.Run.{RanTo}
-use Rattle.af_exercise.specs.Exercise.{generated}
+use Rattle.af_random.specs.Exercise.{generated}
 use Rattle.afd_script.specs.declared.job.ScriptJob.{ScriptJob}
 use Rattle.afd_script.specs.declared.job.ScriptJob.TheVariants as job
 use Rattle.afd_script.specs.declared.script.ScriptEnd.{ScriptEnd}

@@ -16,10 +16,10 @@ ghost use Rattle.afd_script.specs.Run.{TellsLogOf};
 ghost use Rattle.afd_script.specs.Words.{job_of};
 
 use crate::job::{ScriptJob, job_of};
-use af_exercise::make_script;
 use af_io::{Args, Put, Sink, Source, TextFault, read_text};
 use af_limits::LONGEST_SCRIPT;
-use af_outside::{OuterFaults, Tape};
+use af_outside::{LifecycleFaults, Tape};
+use af_random::make_script;
 use af_script::{Script, ScriptFault, print_log, print_summary, read_script, run_tape};
 use af_time::OutOfMemory;
 use std::alloc::Global;
@@ -167,7 +167,7 @@ fn run_script(alloc: Global, script: &Script) -> Result<Tape, OutOfMemory>
         alloc,
         &script.config,
         script.steps.as_slice(),
-        OuterFaults::default(),
+        LifecycleFaults::default(),
     )?;
     run_tape(alloc, &script.config, &mut tape)?;
     Ok(tape)

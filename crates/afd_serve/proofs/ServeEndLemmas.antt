@@ -4,7 +4,7 @@ use Rattle.std.specs.declared.option.Option.{Option}
 use Rattle.std.specs.declared.option.Option.TheVariants.{None, Some}
 use Rattle.std.specs.declared.result.Result.{Result}
 use Rattle.af_limits.specs.Limits.{longest_config}
-use Rattle.af_world.specs.declared.outer.Outer.{Outer}
+use Rattle.af_world.specs.declared.lifecycle.Lifecycle.{Lifecycle}
 use Rattle.af_io.specs.Observed.{Appended, Unchanged}
 use Rattle.af_world.specs.Log.{Log}
 use Rattle.af_io.specs.Flow.{ConsumedTooMuch, ConsumedWhole}
@@ -67,7 +67,7 @@ module _ (words : List (List ℕ)) (left left' : Option (List ℕ)) (job : Serve
   abbrev is_told : IsTold words left left'
   is_told = record { job = job; asks = sym asks; text = read.text; read = read.read; settings = settings; states = read.states }
 
-  module _ (outer outer' : Option (List Outer)) where
+  module _ (outer outer' : Option (List Lifecycle)) where
     pub unheard : (ended : LiveEnd) → StartedUntil ended job.address settings outer outer' → ended ≡ end.ListenFault → Unheard words left left' outer outer'
     unheard ended s e = record { told = is_told; appended = subst (λ x. StartedUntil x job.address settings outer outer') e s }
 
@@ -81,7 +81,7 @@ module _ (words : List (List ℕ)) (left left' : Option (List ℕ)) (job : Serve
         let part = subst (λ x. StartedUntil x job.address settings outer outer') e s in
         record { told = is_told; front = part.front; rest = part.rest; whole = part.whole; appended = part.appended }
 
-  pub ran : (ended : LiveEnd) (log log1 log2 : Option Log) (outer outer1 outer2 : Option (List Outer)) → Unchanged log log1 → Appended outer (started job.address settings) outer1 → ServedUntil settings.config ended job.waits log1 log2 outer1 outer2 →
+  pub ran : (ended : LiveEnd) (log log1 log2 : Option Log) (outer outer1 outer2 : Option (List Lifecycle)) → Unchanged log log1 → Appended outer (started job.address settings) outer1 → ServedUntil settings.config ended job.waits log1 log2 outer1 outer2 →
       ServerRan ended words left left' log log2 outer outer2
   ran ended log log1 log2 outer outer1 outer2 quiet appended s = record {
     told = is_told;

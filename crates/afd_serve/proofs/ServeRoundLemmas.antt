@@ -4,8 +4,8 @@ use Rattle.std.specs.declared.option.Option.{Option}
 use Rattle.af_world.specs.declared.happening.Happening.TheVariants.{Woke}
 use Rattle.af_world.specs.declared.happening.Wake.{Wake}
 use Rattle.af_world.specs.declared.happening.Wake.TheVariants as wake
-use Rattle.af_world.specs.declared.outer.Outer.{Outer}
-use Rattle.af_world.specs.declared.outer.Outer.TheVariants as noted
+use Rattle.af_world.specs.declared.lifecycle.Lifecycle.{Lifecycle}
+use Rattle.af_world.specs.declared.lifecycle.Lifecycle.TheVariants as noted
 use Rattle.af_world.specs.declared.script.DeviceSpec.{DeviceSpec}
 use Rattle.af_io.specs.Observed.{Appended, Unchanged}
 use Rattle.af_world.specs.Log.{Log}
@@ -15,7 +15,7 @@ use Rattle.af_model.specs.Run.{wakes}
 use Rattle.af_model.specs.More.{has_more}
 use Rattle.af_model.specs.NoLoss.{StateLosesNone}
 use Rattle.af_model.proofs.RunLemmas.{TurnsTo, joined, joined-more, turns_end_state, turns_more, turns_run}
-use Rattle.af_laws.proofs.LawsLemmas.{keeps_laws}
+use Rattle.af_isolation.proofs.LawsLemmas.{keeps_laws}
 use Rattle.af_core.specs.Stands.{Kept, Stands, Turns, kept_lines, outline_of}
 use Rattle.af_core.proofs.TurnLemmas.{same_lines}
 use Rattle.af_model.proofs.NoLossLemmas.{opening_loses_none}
@@ -79,7 +79,7 @@ same_outline kept s stands =
 -- Rounds
 
 -- So many waits had their turns.
-pub record Runs (config : List DeviceSpec) (kept : Kept) (n : ℕ) (log log' : Option Log) (outer outer' : Option (List Outer)) : Type 0 where
+pub record Runs (config : List DeviceSpec) (kept : Kept) (n : ℕ) (log log' : Option Log) (outer outer' : Option (List Lifecycle)) : Type 0 where
   pub waits : List WaitMade
   pub count : length waits ≡ n
   pub parts : List Log
@@ -92,7 +92,7 @@ pub record Runs (config : List DeviceSpec) (kept : Kept) (n : ℕ) (log log' : O
   pub lossless : StateLosesNone state
 
 module _ (config : List DeviceSpec) where
-  pub runs_start : (kept : Kept) (log : Option Log) (outer : Option (List Outer)) → Stands kept (opening config) → Runs config kept 0 log log outer outer
+  pub runs_start : (kept : Kept) (log : Option Log) (outer : Option (List Lifecycle)) → Stands kept (opening config) → Runs config kept 0 log log outer outer
   runs_start kept log outer stands = record {
     waits = [];
     count = refl;
@@ -107,7 +107,7 @@ module _ (config : List DeviceSpec) where
   }
 
   -- a wait and its turn behind so many
-  pub runs_more : (kept kept' : Kept) (n : ℕ) (log log1 log2 log3 : Option Log) (outer outer1 outer2 outer3 : Option (List Outer)) (more : Bool) (w : Wake) → Runs config kept n log log1 outer outer1 →
+  pub runs_more : (kept kept' : Kept) (n : ℕ) (log log1 log2 log3 : Option Log) (outer outer1 outer2 outer3 : Option (List Lifecycle)) (more : Bool) (w : Wake) → Runs config kept n log log1 outer outer1 →
       ((s : State) → Stands kept s → more ≡ has_more s) → w ≢ wake.Stop → Unchanged log1 log2 → Appended outer1 (noted.Waited more w ∷ []) outer2 →
       Turns log2 log3 (if fits (outline_of kept) w then w else wake.Idle) kept kept' → Unchanged outer2 outer3 → Runs config kept' (n + 1) log log3 outer outer3
   runs_more kept kept' n log log1 log2 log3 outer outer1 outer2 outer3 more w r asks goes_on quiet entry turns apart =
@@ -139,7 +139,7 @@ module _ (config : List DeviceSpec) where
       }
 
   -- the end of it all, behind a last entry or none
-  runs_end : (kept : Kept) (n most : ℕ) (end : LiveEnd) (log log1 log2 : Option Log) (outer outer1 outer2 : Option (List Outer)) (r : Runs config kept n log log1 outer outer1) → comes_to_wait end ≡ true → IsCount end (length r.waits) most →
+  runs_end : (kept : Kept) (n most : ℕ) (end : LiveEnd) (log log1 log2 : Option Log) (outer outer1 outer2 : Option (List Lifecycle)) (r : Runs config kept n log log1 outer outer1) → comes_to_wait end ≡ true → IsCount end (length r.waits) most →
       Unchanged log1 log2 → Appended outer1 (last_entry end r.state) outer2 → ServedUntil config end most log log2 outer outer2
   runs_end kept n most end log log1 log2 outer outer1 outer2 r is_end count quiet last = record {
     is_end = is_end;
@@ -157,27 +157,27 @@ module _ (config : List DeviceSpec) where
   }
 
   -- a wait gave Stop
-  pub runs_done : (kept : Kept) (n most : ℕ) (log log1 log2 : Option Log) (outer outer1 outer2 : Option (List Outer)) (more : Bool) (w : Wake) → Runs config kept n log log1 outer outer1 → n < most →
+  pub runs_done : (kept : Kept) (n most : ℕ) (log log1 log2 : Option Log) (outer outer1 outer2 : Option (List Lifecycle)) (more : Bool) (w : Wake) → Runs config kept n log log1 outer outer1 → n < most →
       ((s : State) → Stands kept s → more ≡ has_more s) → w ≡ wake.Stop → Unchanged log1 log2 → Appended outer1 (noted.Waited more w ∷ []) outer2 → ServedUntil config end.Done most log log2 outer outer2
   runs_done kept n most log log1 log2 outer outer1 outer2 more w r fewer asks stops quiet last =
-      let entry : Outer = noted.Waited (has_more r.state) wake.Stop in
+      let entry : Lifecycle = noted.Waited (has_more r.state) wake.Stop in
       let same : noted.Waited more w ≡ entry = ap (λ b. noted.Waited b w) (asks r.state r.stands) ∙ ap (λ x. noted.Waited (has_more r.state) x) stops in
       runs_end kept n most end.Done log log1 log2 outer outer1 outer2 r refl (subst (λ m. m < most) (sym r.count) fewer) quiet
       (subst (λ e. Appended outer1 (e ∷ []) outer2) same last)
 
   -- a wait failed
-  pub runs_failed : (kept : Kept) (n most : ℕ) (log log1 log2 : Option Log) (outer outer1 outer2 : Option (List Outer)) → Runs config kept n log log1 outer outer1 → n < most →
+  pub runs_failed : (kept : Kept) (n most : ℕ) (log log1 log2 : Option Log) (outer outer1 outer2 : Option (List Lifecycle)) → Runs config kept n log log1 outer outer1 → n < most →
       Unchanged log1 log2 → Appended outer1 [] outer2 → ServedUntil config end.WaitFault most log log2 outer outer2
   runs_failed kept n most log log1 log2 outer outer1 outer2 r fewer quiet last =
       runs_end kept n most end.WaitFault log log1 log2 outer outer1 outer2 r refl (subst (λ m. m < most) (sym r.count) fewer) quiet last
 
   -- all waits had their turns
-  pub runs_spent : (kept : Kept) (n most : ℕ) (log log1 : Option Log) (outer outer1 : Option (List Outer)) → Runs config kept n log log1 outer outer1 → n ≡ most → ServedUntil config end.WaitsSpent most log log1 outer outer1
+  pub runs_spent : (kept : Kept) (n most : ℕ) (log log1 : Option Log) (outer outer1 : Option (List Lifecycle)) → Runs config kept n log log1 outer outer1 → n ≡ most → ServedUntil config end.WaitsSpent most log log1 outer outer1
   runs_spent kept n most log log1 outer outer1 r all =
       runs_end kept n most end.WaitsSpent log log1 log1 outer outer1 outer1 r refl (r.count ∙ all) (stays_same log1) (appended_none outer1)
 
 -- the same behind a start
-pub served_behind : (config : List DeviceSpec) (front : List Outer) (last : State → List Outer) (waits : List WaitMade) (log log1 log2 : Option Log) (outer outer1 outer2 : Option (List Outer)) →
+pub served_behind : (config : List DeviceSpec) (front : List Lifecycle) (last : State → List Lifecycle) (waits : List WaitMade) (log log1 log2 : Option Log) (outer outer1 outer2 : Option (List Lifecycle)) →
     Unchanged log log1 → Appended outer front outer1 → Served config [] last waits log1 log2 outer1 outer2 → Served config front last waits log log2 outer outer2
 served_behind config front last waits log log1 log2 outer outer1 outer2 quiet appended s = record {
   added = s.added;

@@ -6,10 +6,10 @@ use Rattle.std.proofs.lemmas.Option.{slice_get-get_or}
 use Rattle.std.specs.declared.option.Option.{Option}
 use Rattle.std.specs.declared.option.Option.TheVariants.{Some}
 use Rattle.std.specs.declared.result.Result.{Result}
-use Rattle.af_world.specs.declared.outer.Outer.{Outer}
-use Rattle.af_world.specs.declared.outer.Outer.TheVariants as noted
+use Rattle.af_world.specs.declared.lifecycle.Lifecycle.{Lifecycle}
+use Rattle.af_world.specs.declared.lifecycle.Lifecycle.TheVariants as noted
 use Rattle.af_world.specs.declared.script.DeviceSpec.{DeviceSpec}
-use Rattle.af_world.specs.declared.outer.ToldKind.{ToldKind}
+use Rattle.af_world.specs.declared.lifecycle.ToldKind.{ToldKind}
 use Rattle.af_io.specs.Observed.{Appended}
 use Rattle.af_io.proofs.AppendedLemmas.{appended_on, appended_by_none}
 use Rattle.af_world.specs.Outside.{spec_has_line}
@@ -45,9 +45,9 @@ attached_fewer d [] kinds = omega arith
 attached_fewer d (c ∷ config) [] = omega arith
 attached_fewer d (c ∷ config) (b ∷ kinds) = let fewer = attached_fewer (suc d) config kinds in omega arith
 
-module _ (settings : Settings) (outer outer1 : Option (List Outer)) (n : ℕ) (below : Appended outer (take n (all_attached settings)) outer1) where
+module _ (settings : Settings) (outer outer1 : Option (List Lifecycle)) (n : ℕ) (below : Appended outer (take n (all_attached settings)) outer1) where
   -- one device more
-  pub attached_more : (spec : DeviceSpec) (kind : ToldKind) (outer2 : Option (List Outer)) → slice_get settings.config n ≡ Some spec → slice_get settings.kinds n ≡ Some kind →
+  pub attached_more : (spec : DeviceSpec) (kind : ToldKind) (outer2 : Option (List Lifecycle)) → slice_get settings.config n ≡ Some spec → slice_get settings.kinds n ≡ Some kind →
       Appended outer1 (noted.Attached n spec kind ∷ []) outer2 → Appended outer (take (n + 1) (all_attached settings)) outer2
   attached_more spec kind outer2 at behind entry =
       let from_none : 0 + n ≡ n = omega arith in
@@ -77,9 +77,9 @@ entries_count : (programs : List LineProgram) → length (map line_entry program
 entries_count [] = refl
 entries_count (p ∷ programs) = ap suc (entries_count programs)
 
-module _ (settings : Settings) (outer outer1 : Option (List Outer)) (n : ℕ) (below : Appended outer (take n (all_lines settings)) outer1) where
+module _ (settings : Settings) (outer outer1 : Option (List Lifecycle)) (n : ℕ) (below : Appended outer (take n (all_lines settings)) outer1) where
   -- one program of a line more
-  pub lines_more : (p : LineProgram) (outer2 : Option (List Outer)) → slice_get settings.phones n ≡ Some p →
+  pub lines_more : (p : LineProgram) (outer2 : Option (List Lifecycle)) → slice_get settings.phones n ≡ Some p →
       Appended outer1 (line_entry p ∷ []) outer2 → Appended outer (take (n + 1) (all_lines settings)) outer2
   lines_more p outer2 stated entry =
       let one_more : suc n ≡ n + 1 = omega arith in
@@ -114,7 +114,7 @@ has_line_below (c ∷ config) zero h = omega arith
 has_line_below (c ∷ config) (suc d) h = let below = has_line_below config d h in omega (arith, below)
 
 -- the program of a line that is stated could not be put there
-pub line_failed : (settings : Settings) (outer outer1 outer2 : Option (List Outer)) (n : ℕ) (p : LineProgram) →
+pub line_failed : (settings : Settings) (outer outer1 outer2 : Option (List Lifecycle)) (n : ℕ) (p : LineProgram) →
     All (λ program. IsTrue (spec_has_line settings.config program.device)) settings.phones → slice_get settings.phones n ≡ Some p →
     Appended outer (take n (all_lines settings)) outer1 → Appended outer1 [] outer2 → LineFailed p.device settings outer outer2
 line_failed settings outer outer1 outer2 n p all stated below none = record {
@@ -127,7 +127,7 @@ line_failed settings outer outer1 outer2 n p all stated below none = record {
 }
 
 -- the attaches of devices ended early
-pub devices_until : (ended : LiveEnd) (settings : Settings) (outer outer1 : Option (List Outer)) → DevicesUntil ended settings outer outer1 → AttachedUntil ended settings outer outer1
+pub devices_until : (ended : LiveEnd) (settings : Settings) (outer outer1 : Option (List Lifecycle)) → DevicesUntil ended settings outer outer1 → AttachedUntil ended settings outer outer1
 devices_until (end.AttachFault d) settings outer outer1 s = record { is_device = s.0; before = take d (all_attached settings); cause = inl refl; appended = s.1 }
 devices_until end.OutOfMemory settings outer outer1 s = record {
   front = s.front;
@@ -145,7 +145,7 @@ devices_until end.WaitFault settings outer outer1 s = absurd s
 devices_until end.WaitsSpent settings outer outer1 s = absurd s
 
 -- the attaches of programs of lines ended early, after those of all devices
-pub lines_until : (ended : LiveEnd) (settings : Settings) (outer outer1 outer2 : Option (List Outer)) → Appended outer (all_attached settings) outer1 →
+pub lines_until : (ended : LiveEnd) (settings : Settings) (outer outer1 outer2 : Option (List Lifecycle)) → Appended outer (all_attached settings) outer1 →
     LinesUntil ended settings outer1 outer2 → AttachedUntil ended settings outer outer2
 lines_until (end.AttachFault d) settings outer outer1 outer2 all s = record {
   is_device = s.is_device;
@@ -168,18 +168,18 @@ lines_until end.ListenFault settings outer outer1 outer2 all s = absurd s
 lines_until end.WaitFault settings outer outer1 outer2 all s = absurd s
 lines_until end.WaitsSpent settings outer outer1 outer2 all s = absurd s
 
-pub lines_ended : {A : Type 0} (r : Result A LiveEnd) (settings : Settings) (outer outer1 outer2 : Option (List Outer)) → Appended outer (all_attached settings) outer1 →
+pub lines_ended : {A : Type 0} (r : Result A LiveEnd) (settings : Settings) (outer outer1 outer2 : Option (List Lifecycle)) → Appended outer (all_attached settings) outer1 →
     IfErr r (λ ended. LinesUntil ended settings outer1 outer2) → IfErr r (λ ended. AttachedUntil ended settings outer outer2)
 lines_ended (Ok x) settings outer outer1 outer2 all h = tt
 lines_ended (Err ended) settings outer outer1 outer2 all h = lines_until ended settings outer outer1 outer2 all h
 
-module _ (address : List ℕ) (settings : Settings) (outer outer1 : Option (List Outer)) (heard : Appended outer (noted.Listened address ∷ []) outer1) where
+module _ (address : List ℕ) (settings : Settings) (outer outer1 : Option (List Lifecycle)) (heard : Appended outer (noted.Listened address ∷ []) outer1) where
   -- memory ran out behind the listen
   pub listened_alone : AppendedInPart (started address settings) outer outer1
   listened_alone = record { front = noted.Listened address ∷ []; rest = all_attached settings ++ all_lines settings; whole = refl; appended = heard }
 
   -- the attaches ended behind the listen
-  pub started_until : (ended : LiveEnd) (outer2 : Option (List Outer)) → AttachedUntil ended settings outer1 outer2 → StartedUntil ended address settings outer outer2
+  pub started_until : (ended : LiveEnd) (outer2 : Option (List Lifecycle)) → AttachedUntil ended settings outer1 outer2 → StartedUntil ended address settings outer outer2
   started_until (end.AttachFault d) outer2 s = record {
     is_device = s.is_device;
     before = s.before;

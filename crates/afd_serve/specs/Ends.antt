@@ -4,8 +4,8 @@ use Rattle.std.specs.declared.option.Option.{Option}
 use Rattle.std.specs.declared.option.Option.TheVariants.{None, Some}
 use Rattle.af_limits.specs.Limits.{longest_config}
 use Rattle.af_world.specs.declared.happening.Wake.TheVariants as wake
-use Rattle.af_world.specs.declared.outer.Outer.{Outer}
-use Rattle.af_world.specs.declared.outer.Outer.TheVariants as noted
+use Rattle.af_world.specs.declared.lifecycle.Lifecycle.{Lifecycle}
+use Rattle.af_world.specs.declared.lifecycle.Lifecycle.TheVariants as noted
 use Rattle.af_io.specs.Observed.{CountsFault, Appended, FaultCounted, Unchanged}
 use Rattle.af_world.specs.Log.{Log}
 use Rattle.af_io.specs.Flow.{ConsumedWhole, ConsumedWithin, ConsumedTooMuch}
@@ -79,40 +79,40 @@ IsCount end.WaitsSpent n most = n ≡ most
 IsCount _ n most = ⊤
 
 -- the entry of a last wait that gave Stop, and had no turn
-abbrev pub last_entry : LiveEnd → State → List Outer
+abbrev pub last_entry : LiveEnd → State → List Lifecycle
 last_entry end.Done s = noted.Waited (has_more s) wake.Stop ∷ []
 last_entry _ s = []
 
 -- A server that came to its first wait: it listened where the words say, attached each device that the source states, and
 -- then waited and took turns, as often as this end says.
-pub record ServerRan (end : LiveEnd) (words : List (List ℕ)) (left left' : Option (List ℕ)) (log log' : Option Log) (outer outer' : Option (List Outer)) : Type 0 where
+pub record ServerRan (end : LiveEnd) (words : List (List ℕ)) (left left' : Option (List ℕ)) (log log' : Option Log) (outer outer' : Option (List Lifecycle)) : Type 0 where
   pub told : IsTold words left left'
   pub waits : List WaitMade
   pub count : IsCount end (length waits) told.job.waits
   pub served : Served told.settings.config (started told.job.address told.settings) (last_entry end) waits log log' outer outer'
 
 -- nothing was done: the listen where the words say failed
-pub record Unheard (words : List (List ℕ)) (left left' : Option (List ℕ)) (outer outer' : Option (List Outer)) : Type 0 where
+pub record Unheard (words : List (List ℕ)) (left left' : Option (List ℕ)) (outer outer' : Option (List Lifecycle)) : Type 0 where
   pub told : IsTold words left left'
   pub appended : Appended outer [] outer'
 
 -- The attach of this device, or that of the program of its line, failed: after a listen and exactly the attaches that come before it, which
 -- are those of the devices below it, or of all devices and of the programs of lines that are stated before.
-pub record FailedAt (d : ℕ) (words : List (List ℕ)) (left left' : Option (List ℕ)) (outer outer' : Option (List Outer)) : Type 0 where
+pub record FailedAt (d : ℕ) (words : List (List ℕ)) (left left' : Option (List ℕ)) (outer outer' : Option (List Lifecycle)) : Type 0 where
   pub told : IsTold words left left'
   pub failed : AttachFailed d (noted.Listened told.job.address ∷ []) told.settings outer outer'
 
 -- a prefix of a whole start was made
-pub record StartedInPart (words : List (List ℕ)) (left left' : Option (List ℕ)) (outer outer' : Option (List Outer)) : Type 0 where
+pub record StartedInPart (words : List (List ℕ)) (left left' : Option (List ℕ)) (outer outer' : Option (List Lifecycle)) : Type 0 where
   pub told : IsTold words left left'
-  pub front : List Outer
-  pub rest : List Outer
+  pub front : List Lifecycle
+  pub rest : List Lifecycle
   pub whole : started told.job.address told.settings ≡ front ++ rest
   pub appended : Appended outer front outer'
 
 -- What was asked of the world where no wait came: nothing where the listen failed, the listen and the attaches before the one that failed,
 -- and if memory ran out a part of the whole, unless the world was not called.
-pub record EndsBeforeWaits {W : Type 0} (outer : W → Option (List Outer)) (ended : LiveEnd) (words : List (List ℕ)) (left left' : Option (List ℕ)) (world world' : W) : Type 0 where
+pub record EndsBeforeWaits {W : Type 0} (outer : W → Option (List Lifecycle)) (ended : LiveEnd) (words : List (List ℕ)) (left left' : Option (List ℕ)) (world world' : W) : Type 0 where
   pub unlistened : ended ≡ end.ListenFault → Unheard words left left' (outer world) (outer world')
   pub attached : (d : ℕ) → ended ≡ end.AttachFault d → FailedAt d words left left' (outer world) (outer world')
   pub memory : ended ≡ end.OutOfMemory → (world' ≡ world) ⊎ StartedInPart words left left' (outer world) (outer world')

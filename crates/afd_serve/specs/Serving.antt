@@ -4,10 +4,10 @@ use Rattle.std.specs.declared.option.Option.{Option}
 use Rattle.af_world.specs.declared.happening.Happening.TheVariants.{Woke}
 use Rattle.af_world.specs.declared.happening.Wake.{Wake}
 use Rattle.af_world.specs.declared.happening.Wake.TheVariants as wake
-use Rattle.af_world.specs.declared.outer.Outer.{Outer}
-use Rattle.af_world.specs.declared.outer.Outer.TheVariants as noted
+use Rattle.af_world.specs.declared.lifecycle.Lifecycle.{Lifecycle}
+use Rattle.af_world.specs.declared.lifecycle.Lifecycle.TheVariants as noted
 use Rattle.af_world.specs.declared.script.DeviceSpec.{DeviceSpec}
-use Rattle.af_world.specs.declared.outer.ToldKind.{ToldKind}
+use Rattle.af_world.specs.declared.lifecycle.ToldKind.{ToldKind}
 use Rattle.af_io.specs.Observed.{Appended}
 use Rattle.af_world.specs.Log.{Log}
 use Rattle.af_config.specs.Stating.{Settings, LineProgram}
@@ -15,7 +15,7 @@ use Rattle.af_model.specs.State.{State, opening, outline}
 use Rattle.af_model.specs.Turn.{IsTurn, fits}
 use Rattle.af_model.specs.Run.{wakes, IsRun}
 use Rattle.af_model.specs.More.{has_more}
-use Rattle.af_laws.specs.Laws.{KeepsLaws}
+use Rattle.af_isolation.specs.Laws.{KeepsLaws}
 
 -- a wait: whether it was asked with more to do, and the wake that it gave
 pub record WaitMade : Type 0 where
@@ -23,7 +23,7 @@ pub record WaitMade : Type 0 where
   pub wake : Wake
 
 -- its entry in the outer list
-abbrev pub entry_of : WaitMade → Outer
+abbrev pub entry_of : WaitMade → Lifecycle
 entry_of wait = noted.Waited wait.more wait.wake
 
 -- what is taken of a wake: one that does not fit the state is taken as Idle
@@ -50,29 +50,29 @@ Serves s [] log end = (log ≡ []) × (end ≡ s)
 Serves s (wait ∷ waits) log end = (turn : HasTurn s wait log) × Serves turn.next waits turn.rest end
 
 -- the entries of devices that are attached by rising number, the first of which is this
-abbrev pub attached_from : ℕ → List DeviceSpec → List ToldKind → List Outer
+abbrev pub attached_from : ℕ → List DeviceSpec → List ToldKind → List Lifecycle
 attached_from d [] kinds = []
 attached_from d (spec ∷ config) [] = []
 attached_from d (spec ∷ config) (kind ∷ kinds) = noted.Attached d spec kind ∷ attached_from (suc d) config kinds
 
-abbrev pub all_attached : Settings → List Outer
+abbrev pub all_attached : Settings → List Lifecycle
 all_attached settings = attached_from 0 settings.config settings.kinds
 
 -- the entries of the programs of telephone lines, in the order in which they are stated
-abbrev pub line_entry : LineProgram → Outer
+abbrev pub line_entry : LineProgram → Lifecycle
 line_entry program = noted.LineAttached program.device program.restarts program.words
 
-abbrev pub all_lines : Settings → List Outer
+abbrev pub all_lines : Settings → List Lifecycle
 all_lines settings = map line_entry settings.phones
 
 -- the entries of a whole start: the listen, each device, and the program of each telephone line
-abbrev pub started : List ℕ → Settings → List Outer
+abbrev pub started : List ℕ → Settings → List Lifecycle
 started address settings = noted.Listened address ∷ (all_attached settings ++ all_lines settings)
 
 -- What a server did with these devices from its opening state on: what was added to the log is a run, the outer list grew by what
 -- stood before, by the waits, each of which had its turn, and by what stands behind them in the last state. The laws of whole runs hold
 -- of the run.
-pub record Served (config : List DeviceSpec) (front : List Outer) (last : State → List Outer) (waits : List WaitMade) (log log' : Option Log) (outer outer' : Option (List Outer)) : Type 0 where
+pub record Served (config : List DeviceSpec) (front : List Lifecycle) (last : State → List Lifecycle) (waits : List WaitMade) (log log' : Option Log) (outer outer' : Option (List Lifecycle)) : Type 0 where
   pub added : Log
   pub appended : Appended log added log'
   pub end : State

@@ -4,8 +4,8 @@ use Rattle.std.specs.declared.option.Option.{Option}
 use Rattle.std.specs.declared.option.Option.TheVariants.{Some}
 use Rattle.std.specs.declared.result.Result.TheVariants.{Ok}
 use Rattle.af_limits.specs.Limits.{longest_config}
-use Rattle.af_world.specs.declared.outer.Outer.{Outer}
-use Rattle.af_world.specs.declared.outer.Outer.TheVariants as noted
+use Rattle.af_world.specs.declared.lifecycle.Lifecycle.{Lifecycle}
+use Rattle.af_world.specs.declared.lifecycle.Lifecycle.TheVariants as noted
 use Rattle.af_io.specs.Observed.{Appended}
 use Rattle.af_io.specs.Flow.{ConsumedWhole}
 use Rattle.af_config.specs.Stating.{Settings, LineProgram}
@@ -29,18 +29,18 @@ IsReadEnd end.OutOfMemory = Unit {0}
 IsReadEnd _ = ⊥
 
 -- a list grew by a prefix of what was to be added
-pub record AppendedInPart (all : List Outer) (before after : Option (List Outer)) : Type 0 where
-  pub front : List Outer
-  pub rest : List Outer
+pub record AppendedInPart (all : List Lifecycle) (before after : Option (List Lifecycle)) : Type 0 where
+  pub front : List Lifecycle
+  pub rest : List Lifecycle
   pub whole : all ≡ front ++ rest
   pub appended : Appended before front after
 
 -- the devices below this one were attached
-abbrev pub IsBelow : ℕ → Settings → List Outer → Type 0
+abbrev pub IsBelow : ℕ → Settings → List Lifecycle → Type 0
 IsBelow d settings entries = entries ≡ take d (all_attached settings)
 
 -- all devices were attached, and the programs of telephone lines that are stated before the one for the line of this device
-pub record IsBeforeLine (d : ℕ) (settings : Settings) (entries : List Outer) : Type 0 where
+pub record IsBeforeLine (d : ℕ) (settings : Settings) (entries : List Lifecycle) : Type 0 where
   pub number : ℕ
   pub program : LineProgram
   pub stated : slice_get settings.phones number ≡ Some program
@@ -48,20 +48,20 @@ pub record IsBeforeLine (d : ℕ) (settings : Settings) (entries : List Outer) :
   pub entries_are : entries ≡ all_attached settings ++ take number (all_lines settings)
 
 -- the attach of this device, or that of the program of its line, failed, after exactly those that come before it
-pub record AttachFailed (d : ℕ) (front : List Outer) (settings : Settings) (outer outer' : Option (List Outer)) : Type 0 where
+pub record AttachFailed (d : ℕ) (front : List Lifecycle) (settings : Settings) (outer outer' : Option (List Lifecycle)) : Type 0 where
   pub is_device : d < length settings.config
-  pub before : List Outer
+  pub before : List Lifecycle
   pub cause : IsBelow d settings before ⊎ IsBeforeLine d settings before
   pub appended : Appended outer (front ++ before) outer'
 
 -- exactly the devices below one of which the attach failed were attached, or some where memory ran out
-abbrev pub DevicesUntil : LiveEnd → Settings → Option (List Outer) → Option (List Outer) → Type 0
+abbrev pub DevicesUntil : LiveEnd → Settings → Option (List Lifecycle) → Option (List Lifecycle) → Type 0
 DevicesUntil (end.AttachFault d) settings outer outer' = (d < length settings.config) × Appended outer (take d (all_attached settings)) outer'
 DevicesUntil end.OutOfMemory settings outer outer' = AppendedInPart (all_attached settings) outer outer'
 DevicesUntil _ settings outer outer' = ⊥
 
 -- exactly the programs of lines before one that failed were put there, or some where memory ran out
-pub record LineFailed (d : ℕ) (settings : Settings) (outer outer' : Option (List Outer)) : Type 0 where
+pub record LineFailed (d : ℕ) (settings : Settings) (outer outer' : Option (List Lifecycle)) : Type 0 where
   pub is_device : d < length settings.config
   pub number : ℕ
   pub program : LineProgram
@@ -69,19 +69,19 @@ pub record LineFailed (d : ℕ) (settings : Settings) (outer outer' : Option (Li
   pub of_device : program.device ≡ d
   pub appended : Appended outer (take number (all_lines settings)) outer'
 
-abbrev pub LinesUntil : LiveEnd → Settings → Option (List Outer) → Option (List Outer) → Type 0
+abbrev pub LinesUntil : LiveEnd → Settings → Option (List Lifecycle) → Option (List Lifecycle) → Type 0
 LinesUntil (end.AttachFault d) settings outer outer' = LineFailed d settings outer outer'
 LinesUntil end.OutOfMemory settings outer outer' = AppendedInPart (all_lines settings) outer outer'
 LinesUntil _ settings outer outer' = ⊥
 
 -- the same of devices, and then of the programs of lines
-abbrev pub AttachedUntil : LiveEnd → Settings → Option (List Outer) → Option (List Outer) → Type 0
+abbrev pub AttachedUntil : LiveEnd → Settings → Option (List Lifecycle) → Option (List Lifecycle) → Type 0
 AttachedUntil (end.AttachFault d) settings outer outer' = AttachFailed d [] settings outer outer'
 AttachedUntil end.OutOfMemory settings outer outer' = AppendedInPart (all_attached settings ++ all_lines settings) outer outer'
 AttachedUntil _ settings outer outer' = ⊥
 
 -- the same behind a listen, which may have failed
-abbrev pub StartedUntil : LiveEnd → List ℕ → Settings → Option (List Outer) → Option (List Outer) → Type 0
+abbrev pub StartedUntil : LiveEnd → List ℕ → Settings → Option (List Lifecycle) → Option (List Lifecycle) → Type 0
 StartedUntil end.ListenFault address settings outer outer' = Appended outer [] outer'
 StartedUntil (end.AttachFault d) address settings outer outer' = AttachFailed d (noted.Listened address ∷ []) settings outer outer'
 StartedUntil end.OutOfMemory address settings outer outer' = AppendedInPart (started address settings) outer outer'

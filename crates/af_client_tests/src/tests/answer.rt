@@ -2,8 +2,8 @@
 // writes.
 use crate::tests::checks::{bytes_of, holds, same_bytes, words_of};
 use af_answer::{AnswerEnd, answer_run};
-use af_child::{Act, BeganGot, MemSpawner};
 use af_io::{MemDial, MemLink, MemSink};
+use af_process::{Act, BeganGot, MemSpawner};
 use std::alloc::Global;
 use std::process::Abort;
 use std::test::Fail;

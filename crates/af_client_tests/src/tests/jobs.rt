@@ -1,6 +1,6 @@
 // Words of the tools, and what they ask.
 use crate::tests::checks::{holds, words_of};
-use af_options::{
+use af_cli::{
     Call, OptionsFault, PassJob, PlayJob, RecordJob, RelayCall, SetJob, Task, TaskCall, call_of,
 };
 use af_sample::{Gain, SampleType};

@@ -3,8 +3,8 @@ ghost use Rattle.std.specs.Prelude.{◌≤◌};
 ghost use Rattle.arrayvec.specs.ArrayVec.{array_vec_len};
 
 use af_card::{Card, Shape};
-use af_child::Words;
 use af_io::Put;
+use af_process::Words;
 use af_program::{Act, Launched, MemProgram, Plan};
 use af_world::CardKind;
 use arrayvec::ArrayString;

@@ -2,9 +2,9 @@
 ghost use Rattle.std.specs.Prelude.{◌≡◌, ◌≤◌, false, length};
 ghost use Rattle.arrayvec.specs.ArrayVec.{array_vec_len};
 
-use af_child::{Act, BeganGot, MemSpawner, Words};
 use af_codec::Codec;
 use af_io::Put;
+use af_process::{Act, BeganGot, MemSpawner, Words};
 use arrayvec::ArrayString;
 use std::alloc::Global;
 use std::process::Abort;

@@ -2,10 +2,10 @@
 ghost use Rattle.std.specs.Prelude.{◌≤◌};
 ghost use Rattle.arrayvec.specs.ArrayVec.{array_vec_len};
 
-use af_child::Words;
 use af_exchange::Exchange;
 use af_io::Put;
 use af_phone::LineChange;
+use af_process::Words;
 use af_program::{Act, Launched, MemProgram, Plan};
 use arrayvec::ArrayString;
 use std::alloc::Global;

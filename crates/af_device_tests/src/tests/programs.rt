@@ -2,7 +2,7 @@
 ghost use Rattle.std.specs.Prelude.{◌≤◌};
 ghost use Rattle.arrayvec.specs.ArrayVec.{array_vec_len};
 
-use af_child::Words;
+use af_process::Words;
 use af_program::{Act, Gave, Launched, MemProgram, Plan, Program, Took};
 use arrayvec::ArrayString;
 use std::alloc::Global;

@@ -2,9 +2,9 @@
 ghost use Rattle.std.specs.Prelude.{◌≡◌, []};
 ghost use Rattle.af_codec.specs.Codec.{TellsThese};
 
-use af_child::{MemSpawner, Words};
 use af_io::Put;
 use af_live::MioWorld;
+use af_process::{MemSpawner, Words};
 use af_program::{Act, MemPrograms, Plan, SocketPrograms};
 use af_sample::SampleType;
 use af_world::{CardKind, DeviceSpec, Kind, Live, Ready, Waited, Wake, World};

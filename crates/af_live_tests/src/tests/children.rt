@@ -2,9 +2,9 @@
 ghost use Rattle.std.specs.Prelude.{◌≤◌};
 ghost use Rattle.arrayvec.specs.ArrayVec.{array_vec_len};
 
-use af_child::{Finished, Spawner, Started, StdSpawner, Words};
 use af_deadline::DeadlineRuntime;
 use af_io::Put;
+use af_process::{Finished, Spawner, Started, StdSpawner, Words};
 use arrayvec::ArrayString;
 use std::alloc::Global;
 use std::cell::Cell;

@@ -2,9 +2,9 @@
 ghost use Rattle.std.specs.Prelude.{◌≡◌, []};
 ghost use Rattle.af_codec.specs.Codec.{TellsThese};
 
-use af_child::{Act, MemSpawner, Words};
 use af_io::Put;
 use af_live::MioWorld;
+use af_process::{Act, MemSpawner, Words};
 use af_sample::SampleType;
 use af_world::{DeviceSpec, Kind, Live, Ready, World};
 use arrayvec::ArrayString;

@@ -1,7 +1,7 @@
 // Each call of the real world, on the loopback, with the system's clock and files.
-use af_child::StdSpawner;
 use af_io::Put;
 use af_live::MioWorld;
+use af_process::StdSpawner;
 use af_sample::SampleType;
 use af_world::{DeviceSpec, Kind, LinkGot, LinkTook, Live, Ready, Waited, Wake, Why};
 use std::alloc::{Alloc, Global};

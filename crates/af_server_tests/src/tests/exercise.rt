@@ -1,7 +1,7 @@
 // The script of an exercise, against steps that were drawn by another implementation of the generator.
-use af_exercise::make_script;
 use af_outside::{DeviceSpec, Step};
 use af_phone::LineChange;
+use af_random::make_script;
 use af_sample::SampleType;
 use std::process::Abort;
 use std::test::Fail;

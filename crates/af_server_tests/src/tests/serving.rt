@@ -1,7 +1,7 @@
 // The server over a tape: how it ends, what it asks of its world, and what has a turn, on examples worked by hand.
 use crate::tests::checks::holds;
 use af_io::{Args, MemSink, MemSource};
-use af_outside::{DeviceSpec, Happening, Outer, OuterFaults, Tape, ToldKind, Wake};
+use af_outside::{DeviceSpec, Happening, Lifecycle, LifecycleFaults, Tape, ToldKind, Wake};
 use af_script::{Script, print_log, read_script};
 use afd_serve::{LiveEnd, afd_live, status_of};
 use std::alloc::Global;
@@ -23,7 +23,7 @@ const TIME: &[u8] = b"device lin16 8000 0\nopen 0\nsend 0 4146420000010000020000
 const TWO: &[u8] =
     b"device lin16 8000 0\ndevice alaw 44100 7 stereo line\nopen 3\ntick 1 5\nidle\n";
 
-const NONE: OuterFaults = OuterFaults {
+const NONE: LifecycleFaults = LifecycleFaults {
     listen: false,
     attach: None,
     wait: None,
@@ -56,7 +56,7 @@ struct Ending<'a> {
     words: &'a [&'a str],
     config: &'a [u8],
     fails: &'a [u64],
-    faults: OuterFaults,
+    faults: LifecycleFaults,
     end: LiveEnd,
     status: u8,
 }
@@ -119,7 +119,7 @@ static OUTSIDE: [Ending<'static>; 6] = [
         words: NINE,
         config: DEVICE,
         fails: &[],
-        faults: OuterFaults {
+        faults: LifecycleFaults {
             listen: true,
             attach: None,
             wait: None,
@@ -132,7 +132,7 @@ static OUTSIDE: [Ending<'static>; 6] = [
         words: NINE,
         config: DEVICE,
         fails: &[],
-        faults: OuterFaults {
+        faults: LifecycleFaults {
             listen: false,
             attach: Some(0),
             wait: None,
@@ -145,7 +145,7 @@ static OUTSIDE: [Ending<'static>; 6] = [
         words: NINE,
         config: DEVICE,
         fails: &[],
-        faults: OuterFaults {
+        faults: LifecycleFaults {
             listen: false,
             attach: None,
             wait: Some(0),
@@ -271,20 +271,21 @@ fn is_attached(spec: &DeviceSpec, rate: u32, line: bool) -> bool {
     spec.rate == rate && spec.line == line
 }
 
-fn is_call(found: &Outer, wanted: &Called<'_>) -> bool {
+fn is_call(found: &Lifecycle, wanted: &Called<'_>) -> bool {
     match (found, wanted) {
-        (Outer::Listened(address), Called::Listen(name)) => address.as_slice() == name.as_bytes(),
-        (Outer::Attached { device, spec, kind }, Called::Attach(number, rate, line, files)) =>
+        (Lifecycle::Listened(address), Called::Listen(name)) => address.as_slice()
+            == name.as_bytes(),
+        (Lifecycle::Attached { device, spec, kind }, Called::Attach(number, rate, line, files)) =>
             *device == *number && is_attached(spec, *rate, *line) && is_backed(kind, *files),
         (
-            Outer::LineAttached {
+            Lifecycle::LineAttached {
                 device,
                 restarts,
                 words,
             },
             Called::AttachLine(number, times, count),
         ) => *device == *number && *restarts == *times && words.words().len() == *count,
-        (Outer::Waited { more, wake }, Called::Wait(asked, given)) => {
+        (Lifecycle::Waited { more, wake }, Called::Wait(asked, given)) => {
             *more == *asked && *wake == *given
         }
         _ => false,
@@ -292,7 +293,7 @@ fn is_call(found: &Outer, wanted: &Called<'_>) -> bool {
 }
 
 // These calls of the world were done.
-fn assert_calls(rt: &impl Abort, what: &str, calls: &[Outer], wanted: &[Called<'_>]) {
+fn assert_calls(rt: &impl Abort, what: &str, calls: &[Lifecycle], wanted: &[Called<'_>]) {
     holds(rt, what, calls.len() == wanted.len());
     for (found, call) in calls.iter().zip(wanted) {
         holds(rt, what, is_call(found, call));
@@ -324,7 +325,7 @@ struct Served<'a> {
     words: &'a [&'a str],
     config: &'a [u8],
     script: &'a [u8],
-    faults: OuterFaults,
+    faults: LifecycleFaults,
     end: LiveEnd,
     calls: &'a [Called<'a>],
     turns: &'a [Wake],
@@ -439,7 +440,7 @@ static SERVED: [Served<'static>; 7] = [
         words: NINE,
         config: TWO_DEVICES,
         script: TWO,
-        faults: OuterFaults {
+        faults: LifecycleFaults {
             listen: false,
             attach: Some(1),
             wait: None,
@@ -454,7 +455,7 @@ static SERVED: [Served<'static>; 7] = [
         words: NINE,
         config: TWO_DEVICES,
         script: TWO,
-        faults: OuterFaults {
+        faults: LifecycleFaults {
             listen: false,
             attach: None,
             wait: Some(3),

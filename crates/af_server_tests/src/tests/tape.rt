@@ -1,12 +1,12 @@
 // A tape as a world that gives its own wakes: what its calls answer, and what it tells of listens, attaches and waits.
 use crate::tests::checks::{holds, same_text};
-use af_child::Words;
 use af_io::{Bytes, Put};
 use af_outside::{
-    Config, DeviceSpec, Kind, LineProgram, LinkGot, LinkTook, Live, Outer, OuterFaults, Ready,
-    Step, Tape, Waited, Wake, Why, World,
+    Config, DeviceSpec, Kind, Lifecycle, LifecycleFaults, LineProgram, LinkGot, LinkTook, Live,
+    Ready, Step, Tape, Waited, Wake, Why, World,
 };
 use af_phone::LineChange;
+use af_process::Words;
 use af_sample::SampleType;
 use std::alloc::{AllocError, Global};
 use std::fmt::Write as _;
@@ -98,22 +98,22 @@ fn device_from(start: u32) -> DeviceSpec {
 }
 
 // A line of text for each listen, attach and wait that is told.
-fn lines_of(alloc: Global, outer: &[Outer]) -> Result<String, AllocError> {
+fn lines_of(alloc: Global, outer: &[Lifecycle]) -> Result<String, AllocError> {
     let mut text = String::new(alloc);
     for entry in outer {
         match entry {
-            Outer::Listened(address) => writeln!(text, "listened {:?}", address.as_slice())?,
-            Outer::Attached {
+            Lifecycle::Listened(address) => writeln!(text, "listened {:?}", address.as_slice())?,
+            Lifecycle::Attached {
                 device,
                 spec,
                 kind: _,
             } => writeln!(text, "attached {device} {}", spec.start)?,
-            Outer::LineAttached {
+            Lifecycle::LineAttached {
                 device,
                 restarts,
                 words: _,
             } => writeln!(text, "line {device} {restarts}")?,
-            Outer::Waited { more, wake } => writeln!(text, "waited {more} {wake:?}")?,
+            Lifecycle::Waited { more, wake } => writeln!(text, "waited {more} {wake:?}")?,
         }
     }
     Ok(text)
@@ -215,7 +215,7 @@ const TOLD: &str = "listened [104]\n\
 fn plays(
     rt: &impl Abort,
     alloc: Global,
-    faults: OuterFaults,
+    faults: LifecycleFaults,
     calls: &[Call],
     told: &str,
 ) -> Result<(), Fail> {
@@ -238,13 +238,13 @@ fn plays(
 
 #[test]
 fn a_tape_is_listened_in_and_attached_to_and_gives_its_wakes(rt: HostRuntime) -> Result<(), Fail> {
-    let faults = OuterFaults {
+    let faults = LifecycleFaults {
         listen: false,
         attach: Some(1),
         wait: Some(1),
     };
     plays(&rt, rt.alloc(), faults, &CALLS, TOLD)?;
-    let faults = OuterFaults {
+    let faults = LifecycleFaults {
         listen: true,
         attach: None,
         wait: None,

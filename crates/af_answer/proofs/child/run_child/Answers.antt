@@ -1,8 +1,8 @@
 use Rattle.std.proofs.Common.{◌∷◌, [], List, ℕ, sym, subst}
 use Rattle.af_io.specs.Observed.{Appended}
 use Rattle.af_io.proofs.AppendedLemmas.{appended_on}
-use Rattle.af_child.specs.declared.act.BeganGot.TheVariants as got
-use Rattle.af_child.specs.Acts.{began, status_of}
+use Rattle.af_process.specs.declared.act.BeganGot.TheVariants as got
+use Rattle.af_process.specs.Acts.{began, status_of}
 use Rattle.af_answer.specs.Children.{child_ran}
 use Rattle.af_answer.proofs.child.run_child.Goals as goal
 

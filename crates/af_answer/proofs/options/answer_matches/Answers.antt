@@ -2,7 +2,7 @@ use Rattle.std.proofs.Common.{◌∙◌, ◌≡◌, ap, map, refl, string_bytes,
 use Rattle.clap.specs.Words.{is_simple, found_of, rows_of, kind_of}
 use Rattle.clap.specs.declared.error.kind.ErrorKind.TheVariants.{OutOfMemory}
 use Rattle.clap.proofs.OnLiterals.{clap_on_literals}
-use Rattle.af_options.proofs.ParsedWordLemmas.{matches_along, passes_along}
+use Rattle.af_cli.proofs.ParsedWordLemmas.{matches_along, passes_along}
 use Rattle.af_answer.specs.AnswerWords.{answer_app}
 use Rattle.af_answer.proofs.options.answer_matches.Goals as goal
 

@@ -1,7 +1,7 @@
 use Rattle.std.proofs.Common.{rules, ◌≡◌, ◌∙◌, true, false, List, ap, sym}
 use Rattle.clap.specs.Words.{Row, Text, kind_of, matches_of, takes}
 use Rattle.clap.specs.declared.error.kind.ErrorKind.TheVariants as kinds
-use Rattle.af_options.proofs.ToolNameLemmas.{not_taken}
+use Rattle.af_cli.proofs.ToolNameLemmas.{not_taken}
 use Rattle.af_answer.specs.AnswerWords.{answer_app, words_in, names_answer}
 use Rattle.af_answer.proofs.AnswerWordLemmas.{asked_words, unnamed, unspelled, untaken_words}
 use Rattle.af_answer.proofs.options.call_of.Goals as goal

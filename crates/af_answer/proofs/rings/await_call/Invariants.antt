@@ -1,7 +1,7 @@
 use Rattle.std.proofs.Common.{◌≡◌, ◌≤◌, ◌<◌, ◌^◌, ◌+◌, ℕ, List, IsSome}
 use Rattle.std.specs.declared.option.Option.{Option}
 use Rattle.std.specs.declared.option.Option.TheVariants.{None, Some}
-use Rattle.af_child.specs.Acts.{Told}
+use Rattle.af_process.specs.Acts.{Told}
 use Rattle.af_tool.specs.Ends.{client_of}
 use Rattle.af_answer.specs.AnswerTrace.{awaits_call, most_for_a_call}
 use Rattle.af_answer.proofs.AnswerPartLemmas.{SoFar}

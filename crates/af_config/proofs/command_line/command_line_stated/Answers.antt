@@ -1,5 +1,5 @@
 use Rattle.std.proofs.Common.{rules, ◌++◌, sym, ap, ◌∙◌}
-use Rattle.af_child.specs.Acts.{words_of}
+use Rattle.af_process.specs.Acts.{words_of}
 use Rattle.af_config.proofs.CommandLineLemmas.{long_refused, many_refused, words_more, short_more, whole_more}
 use Rattle.af_config.proofs.command_line.command_line_stated.Goals as goal
 use Rattle.af_config.proofs.command_line.command_line_stated.Goals.{then-word-gt-LONGEST_WORD-via-then-word-gt-LONGEST_WORD, then-word-gt-LONGEST_WORD-via-else-word-gt-LONGEST_WORD+then-len-eq-MOST_WORDS}

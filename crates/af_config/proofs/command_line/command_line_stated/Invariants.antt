@@ -1,6 +1,6 @@
 use Rattle.std.proofs.Common.{◌≡◌, ◌++◌, length, true}
 use Rattle.std.specs.Str.{IsUtf8}
-use Rattle.af_child.specs.Acts.{words_of}
+use Rattle.af_process.specs.Acts.{words_of}
 use Rattle.af_text.specs.Lines.{words}
 use Rattle.af_config.specs.Stating.{are_short}
 use Rattle.af_config.proofs.command_line.command_line_stated.Given as goal

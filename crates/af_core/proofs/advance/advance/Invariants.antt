@@ -3,7 +3,7 @@ use Rattle.af_limits.specs.Limits.{most_links, event_limit}
 use Rattle.af_model.specs.State.{EnvironmentState, open_link}
 use Rattle.af_model.specs.Advance.{advance}
 use Rattle.af_state.specs.Deferrals.{has_waiting, OnlyQueues}
-use Rattle.af_state.specs.Environment.{StandsForEnvironment}
+use Rattle.af_state.specs.SharedState.{StandsForSharedState}
 use Rattle.af_core.proofs.advance.advance.Given as goal
 
 abbrev pub invariant-loop-environment : goal.invariant-loop-environment
@@ -12,8 +12,8 @@ invariant-loop-environment l = record {
   answered : (l.link ≡ l.initial.link) ⊎ (length l.link.rest < length l.initial.link.rest);
   room : IsTrue (has_waiting l.environment.waits l.number) → length l.link.pending ≤ event_limit;
   only_queues : OnlyQueues l.number l.initial.environment.waits l.environment.waits;
-  step : (a : EnvironmentState) → StandsForEnvironment l.initial.environment a →
-      (now : EnvironmentState) × StandsForEnvironment l.environment now × (advance l.number (open_link now l.link) ≡ advance l.number (open_link a l.initial.link));
+  step : (a : EnvironmentState) → StandsForSharedState l.initial.environment a →
+      (now : EnvironmentState) × StandsForSharedState l.environment now × (advance l.number (open_link now l.link) ≡ advance l.number (open_link a l.initial.link));
 }
 
 abbrev pub decreases-loop-environment : goal.decreases-loop-environment

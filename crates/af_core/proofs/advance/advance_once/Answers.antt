@@ -3,14 +3,14 @@ use Rattle.af_wire.specs.Front.{frame_front, setup_front}
 use Rattle.af_model.specs.State.{open_link}
 use Rattle.af_model.specs.Advance.{after_frame, after_setup, takes_more}
 use Rattle.af_state.specs.Deferrals.{has_waiting}
-use Rattle.af_state.specs.Environment.{KeptEnvironment}
+use Rattle.af_state.specs.SharedState.{KeptSharedState}
 use Rattle.af_core.proofs.AdvanceStepLemmas.{takes_none, takes_front}
 use Rattle.af_core.proofs.advance.advance_once.Goals.{After-takes_more}
 use Rattle.af_core.proofs.advance.advance_once.Goals as goal
 
 -- whether the link takes more, as it was asked
 takes_is : (c : After-takes_more) → takes_more (has_waiting c.args.environment.now.waits c.args.number) c.args.link.now ≡ c.takes_more.result
-takes_is c = ap (λ b. takes_more b c.args.link.now) (sym (ap (λ (e : KeptEnvironment). has_waiting e.waits c.args.number) c.environment.view_is) ∙ sym c.is_waiting.ensures) ∙ sym c.takes_more.ensures.takes
+takes_is c = ap (λ b. takes_more b c.args.link.now) (sym (ap (λ (e : KeptSharedState). has_waiting e.waits c.args.number) c.environment.view_is) ∙ sym c.is_waiting.ensures) ∙ sym c.takes_more.ensures.takes
 
 pub returns-then-not-takes_more-clause-step : goal.returns-then-not-takes_more-clause-step
 returns-then-not-takes_more-clause-step c = λ a h. takes_none c.args.environment.now c.args.number a c.args.link.now (takes_is (goal.at.returns-then-not-takes_more-clause-step c).After-takes_more ∙ c.if-not-takes_more.true) h

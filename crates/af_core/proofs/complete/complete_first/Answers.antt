@@ -3,7 +3,7 @@ use Rattle.std.specs.declared.option.Option.{Option}
 use Rattle.std.specs.declared.option.Option.TheVariants.{Some}
 use Rattle.af_wait.specs.Waits.{without_first}
 use Rattle.af_state.specs.Deferrals.{KeptDeferral, has_waiting, kept_due, OnlyQueues}
-use Rattle.af_state.specs.Environment.{KeptEnvironment}
+use Rattle.af_state.specs.SharedState.{KeptSharedState}
 use Rattle.af_state.proofs.DeferralLemmas.{only_queues_but, later_but}
 use Rattle.af_model.specs.State.{State}
 use Rattle.af_model.specs.Tick.{complete_step}
@@ -14,8 +14,8 @@ use Rattle.af_core.proofs.complete.complete_first.Goals.{After-complete}
 use Rattle.af_core.proofs.complete.complete_first.Goals as goal
 
 -- what is due, as the waits say that are kept
-due_is : (env : KeptEnvironment) (d : ℕ) (inside : KeptEnvironment) {o : Option ℕ} → o ≡ option_map (λ (k : KeptDeferral). k.wait.link) (find (kept_due d) inside.waits) → inside ≡ env → o ≡ option_map (λ (k : KeptDeferral). k.wait.link) (find (kept_due d) env.waits)
-due_is env d inside e is = e ∙ ap (λ (x : KeptEnvironment). option_map (λ (k : KeptDeferral). k.wait.link) (find (kept_due d) x.waits)) is
+due_is : (env : KeptSharedState) (d : ℕ) (inside : KeptSharedState) {o : Option ℕ} → o ≡ option_map (λ (k : KeptDeferral). k.wait.link) (find (kept_due d) inside.waits) → inside ≡ env → o ≡ option_map (λ (k : KeptDeferral). k.wait.link) (find (kept_due d) env.waits)
+due_is env d inside e is = e ∙ ap (λ (x : KeptSharedState). option_map (λ (k : KeptDeferral). k.wait.link) (find (kept_due d) x.waits)) is
 
 pub complete-requires-clause-stands : goal.complete-requires-clause-stands
 complete-requires-clause-stands c =

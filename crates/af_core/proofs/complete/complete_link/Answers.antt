@@ -3,7 +3,7 @@ use Rattle.std.proofs.lemmas.List.{with_items_is}
 use Rattle.std.specs.declared.option.Option.TheVariants.{Some}
 use Rattle.af_state.specs.Kept.{KeptDevice}
 use Rattle.af_perform.specs.Sounds.{CompletesDeferred}
-use Rattle.af_core.proofs.EnvironmentLemmas.{around_inside, due_inside}
+use Rattle.af_core.proofs.SharedStateLemmas.{around_inside, due_inside}
 use Rattle.af_core.proofs.CompletionLemmas.{completes_link, due_there, fits_now}
 use Rattle.af_core.proofs.complete.complete_link.Goals as goal
 

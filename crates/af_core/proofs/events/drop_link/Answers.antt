@@ -1,4 +1,4 @@
-use Rattle.af_core.proofs.EnvironmentLemmas.{around_inside}
+use Rattle.af_core.proofs.SharedStateLemmas.{around_inside}
 use Rattle.af_core.proofs.EventLemmas.{drops_at}
 use Rattle.af_core.proofs.events.drop_link.Goals as goal
 

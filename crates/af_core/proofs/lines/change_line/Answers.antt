@@ -3,7 +3,7 @@ use Rattle.std.specs.declared.option.Option.TheVariants.{None}
 use Rattle.af_phone.specs.Lines.{changed, value_of}
 use Rattle.af_model.specs.Events.{line_becomes}
 use Rattle.af_core.specs.Stands.{Kept, StandsFor, kept_of}
-use Rattle.af_core.proofs.EnvironmentLemmas.{device_kept}
+use Rattle.af_core.proofs.SharedStateLemmas.{device_kept}
 use Rattle.af_core.proofs.EventLemmas.{line_changed, line_is}
 use Rattle.af_core.proofs.TurnLemmas.{simulates_keep}
 use Rattle.af_core.proofs.lines.change_line.Goals as goal

@@ -3,7 +3,7 @@ use Rattle.std.specs.declared.option.Option.TheVariants.{Some}
 use Rattle.af_phone.specs.Lines.{hook_due}
 use Rattle.af_state.specs.Kept.{KeptDevice}
 use Rattle.af_core.specs.Stands.{kept_of}
-use Rattle.af_core.proofs.EnvironmentLemmas.{device_kept}
+use Rattle.af_core.proofs.SharedStateLemmas.{device_kept}
 use Rattle.af_core.proofs.EventLemmas.{hooks_nothing}
 use Rattle.af_core.proofs.lines.give_hook.Goals as goal
 

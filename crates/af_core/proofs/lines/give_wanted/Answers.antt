@@ -2,9 +2,9 @@ use Rattle.std.proofs.Common.{◌∙◌, ap, cond, true, false, length, length-s
 use Rattle.af_wire.specs.declared.event.EventKind.TheVariants as kind
 use Rattle.af_phone.specs.Lines.{hooked}
 use Rattle.af_model.specs.Events.{hook_given, hook_refused, line_becomes}
-use Rattle.af_state.specs.Environment.{KeptEnvironment}
+use Rattle.af_state.specs.SharedState.{KeptSharedState}
 use Rattle.af_core.specs.Stands.{AreOrderly, Kept, StandsFor, kept_of}
-use Rattle.af_core.proofs.EnvironmentLemmas.{device_inside, device_kept}
+use Rattle.af_core.proofs.SharedStateLemmas.{device_inside, device_kept}
 use Rattle.af_core.proofs.EventLemmas.{hooks_one, line_is, lines_set}
 use Rattle.af_core.proofs.TurnLemmas.{simulates_keep}
 use Rattle.af_core.proofs.lines.give_wanted.Goals as goal
@@ -39,11 +39,11 @@ returns-else-done-clause-simulates g c =
     (λ s device h there.
     let line = c.hooked-line.ensures ∙ ap (λ b. option_map (hooked b) c.line.result) c.if-done.false ∙ ap (option_map (hooked false)) (c.line.ensures ∙ line_is kept d x s device here there h) in
     subst (λ b. StandsFor (record inside { devices = slice_set ds d c.set_line.new.self }) (cond b (hook_given c.args.off d device s) (hook_refused d s))) (sym c.if-done.false)
-    (lines_set inside d z _ _ (hooked false) s device there_z c.set_line.ensures there line (subst (λ (e : KeptEnvironment). StandsFor (kept_of e c.args.slots.now) s) (sym c.environment.view_is) h)))
+    (lines_set inside d z _ _ (hooked false) s device there_z c.set_line.ensures there line (subst (λ (e : KeptSharedState). StandsFor (kept_of e c.args.slots.now) s) (sym c.environment.view_is) h)))
 
 pub returns-else-done-clause-kept : goal.returns-else-done-clause-kept
 returns-else-done-clause-kept g c =
-    simulates_keep _ _ (returns-else-done-clause-simulates g c) c.requires.kept (subst (λ (e : KeptEnvironment). AreOrderly e.waits c.args.slots.now) (sym c.environment.view_is) c.requires.kept.orderly)
+    simulates_keep _ _ (returns-else-done-clause-simulates g c) c.requires.kept (subst (λ (e : KeptSharedState). AreOrderly e.waits c.args.slots.now) (sym c.environment.view_is) c.requires.kept.orderly)
 
 pub returns-else-done-clause-count : goal.returns-else-done-clause-count
-returns-else-done-clause-count g c = length-set c.environment.inside.devices.items c.args.number c.set_line.new.self ∙ ap (λ (e : KeptEnvironment). length e.devices) c.environment.view_is
+returns-else-done-clause-count g c = length-set c.environment.inside.devices.items c.args.number c.set_line.new.self ∙ ap (λ (e : KeptSharedState). length e.devices) c.environment.view_is

@@ -8,7 +8,7 @@ use Rattle.af_model.specs.Events.{dropped}
 use Rattle.af_model.specs.Turn.{wants_read}
 use Rattle.af_model.proofs.BoolTestLemmas.{both-true}
 use Rattle.af_state.specs.Deferrals.{has_waiting}
-use Rattle.af_state.specs.Environment.{KeptEnvironment}
+use Rattle.af_state.specs.SharedState.{KeptSharedState}
 use Rattle.af_state.proofs.DeferralLemmas.{leaves_others_dropped, leaves_others_grown, leaves_others_nothing}
 use Rattle.af_core.proofs.LinkPhaseLemmas.{absorbed, reads, reads_nothing, at_open_link, at_update, given_fits}
 use Rattle.af_core.proofs.serve.read_link.Goals as goal
@@ -60,4 +60,4 @@ pub returns-in-Ended-clause-link : goal.returns-in-Ended-clause-link
 returns-in-Ended-clause-link g c = record { settled = search rules; leaves_others = leaves_others_nothing c.args.number c.args.environment.now.waits }
 
 pub returns-in-Failed-clause-link : goal.returns-in-Failed-clause-link
-returns-in-Failed-clause-link g c = record { settled = c.drop_link.ensures.settled; leaves_others = leaves_others_dropped _ _ _ (ap (λ (e : KeptEnvironment). e.waits) c.drop_link.ensures.without) }
+returns-in-Failed-clause-link g c = record { settled = c.drop_link.ensures.settled; leaves_others = leaves_others_dropped _ _ _ (ap (λ (e : KeptSharedState). e.waits) c.drop_link.ensures.without) }

@@ -1,7 +1,7 @@
 use Rattle.std.proofs.Common.{◌<◌}
 use Rattle.af_limits.specs.Limits.{most_links}
 use Rattle.af_model.specs.Turn.{write_phase}
-use Rattle.af_state.specs.Environment.{StandsForLink}
+use Rattle.af_state.specs.SharedState.{StandsForLink}
 use Rattle.af_core.specs.Stands.{LinkServed, writes_left}
 use Rattle.af_core.specs.Simulates.{Simulates}
 use Rattle.af_core.proofs.serve.write_link.Given as goal

@@ -5,7 +5,7 @@ use Rattle.af_model.specs.State.{LinkState, open_link}
 use Rattle.af_model.specs.Advance.{advance}
 use Rattle.af_model.specs.Events.{dropped}
 use Rattle.af_model.specs.Turn.{sent}
-use Rattle.af_state.specs.Environment.{StandsForLink, KeptEnvironment, StepsLink}
+use Rattle.af_state.specs.SharedState.{StandsForLink, KeptSharedState, StepsLink}
 use Rattle.af_state.proofs.DeferralLemmas.{leaves_others_dropped, leaves_others_grown}
 use Rattle.af_core.proofs.LinkPhaseLemmas.{fewer_writes, first_taken, writes, writes_some}
 use Rattle.af_core.proofs.serve.write_once.Goals as goal
@@ -32,7 +32,7 @@ pub returns-in-Took-clause-link : goal.returns-in-Took-clause-link
 returns-in-Took-clause-link g c = record { settled = c.advance.ensures.settled; leaves_others = leaves_others_grown _ _ _ c.advance.ensures.only_queues }
 
 pub returns-in-Failed-clause-link : goal.returns-in-Failed-clause-link
-returns-in-Failed-clause-link g c = record { settled = c.drop_link.ensures.settled; leaves_others = leaves_others_dropped _ _ _ (ap (λ (e : KeptEnvironment). e.waits) c.drop_link.ensures.without) }
+returns-in-Failed-clause-link g c = record { settled = c.drop_link.ensures.settled; leaves_others = leaves_others_dropped _ _ _ (ap (λ (e : KeptSharedState). e.waits) c.drop_link.ensures.without) }
 
 pub returns-in-Took-clause-fewer : goal.returns-in-Took-clause-fewer
 returns-in-Took-clause-fewer g c =

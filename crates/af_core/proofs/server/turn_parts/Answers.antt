@@ -2,8 +2,8 @@ use Rattle.std.proofs.Common.{arith, ap, subst, sym, List, ◌∙◌}
 use Rattle.std.specs.declared.option.Option.{Option}
 use Rattle.af_model.specs.State.{LinkState}
 use Rattle.af_model.specs.Turn.{hook_all}
-use Rattle.af_state.specs.Environment.{KeptEnvironment}
-use Rattle.af_core.specs.declared.bounds.Bounds.{Bounds}
+use Rattle.af_state.specs.SharedState.{KeptSharedState}
+use Rattle.af_core.specs.declared.wanting_span.WantingSpan.{WantingSpan}
 use Rattle.af_core.specs.Stands.{AreBounds, kept_of}
 use Rattle.af_core.proofs.OpenBelowLemmas.{hooks_open, kept_opens, none_open_same}
 use Rattle.af_core.proofs.SimulationLemmas.{simulates_more, simulates_then}
@@ -33,19 +33,19 @@ include_all-requires-clause-none_open g c =
 pub narrow-requires-clause-bounds : goal.narrow-requires-clause-bounds
 narrow-requires-clause-bounds g c =
     let woken = known_woken c.args.wake c.args.bounds.now c.wake.new.self (kept_of c.args.environment.now c.args.slots.now) (kept_of _ c.wake_up.new.slots) c.requires.fits c.requires.kept c.requires.bounds c.wake_up.ensures.only c.wake_up.ensures.kept c.wake_up.ensures.simulates c.wake.ensures in
-    let waits = ap (λ (e : KeptEnvironment). e.waits) c.environment.view_is in
+    let waits = ap (λ (e : KeptSharedState). e.waits) c.environment.view_is in
     subst (λ ks. AreBounds c.if-give_hooks.bounds ks c.give_hooks.new.slots) (sym waits)
     (elim c.if-give_hooks.branch [
       | then-give_hooks w ↦
           let fewer = w.include_all.ensures.bound in
           let most = woken.most in
-          subst (λ (b : Bounds). AreBounds b c.give_hooks.new.environment.waits c.give_hooks.new.slots) (sym (w.bounds-is ∙ w.include_all.ensures.all))
+          subst (λ (b : WantingSpan). AreBounds b c.give_hooks.new.environment.waits c.give_hooks.new.slots) (sym (w.bounds-is ∙ w.include_all.ensures.all))
           (all_bounds (record c.wake.new.self { open_below = w.include_all.new.self.open_below }) _ _ (omega (arith, fewer, most)) w.include_all.ensures.none_open)
       | else-give_hooks w ↦
           let same = c.give_hooks.ensures.same w.if-give_hooks.false in
           let served = served_bounds c.wake.new.self _ c.serve_slots.new.environment.waits _ c.serve_slots.new.slots woken c.serve_slots.ensures.none_open c.serve_slots.ensures.wants in
-          subst (λ (b : Bounds). AreBounds b c.give_hooks.new.environment.waits c.give_hooks.new.slots) (sym w.bounds-is)
-          (subst (λ (e : KeptEnvironment). AreBounds c.wake.new.self e.waits c.give_hooks.new.slots) (sym same.0)
+          subst (λ (b : WantingSpan). AreBounds b c.give_hooks.new.environment.waits c.give_hooks.new.slots) (sym w.bounds-is)
+          (subst (λ (e : KeptSharedState). AreBounds c.wake.new.self e.waits c.give_hooks.new.slots) (sym same.0)
           (subst (λ (xs : List (Option LinkState)). AreBounds c.wake.new.self c.serve_slots.new.environment.waits xs) (sym same.1) served))
     ])
 

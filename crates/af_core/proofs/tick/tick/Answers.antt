@@ -1,9 +1,9 @@
 use Rattle.std.proofs.Common.{slice_set, sym, subst, List}
 use Rattle.af_state.specs.Deferrals.{KeptDeferral}
-use Rattle.af_state.specs.Environment.{KeptEnvironment}
+use Rattle.af_state.specs.SharedState.{KeptSharedState}
 use Rattle.af_state.proofs.DeferralLemmas.{later_passed, passed_waiting}
 use Rattle.af_core.specs.Stands.{IsBetweenPhases, IsCompleting, IsSettled, StandsFor, kept_of}
-use Rattle.af_core.proofs.EnvironmentLemmas.{device_inside, device_kept}
+use Rattle.af_core.proofs.SharedStateLemmas.{device_inside, device_kept}
 use Rattle.af_core.proofs.TurnLemmas.{passed_kept, passed_state, ticks}
 use Rattle.af_core.proofs.tick.tick.Goals as goal
 
@@ -14,7 +14,7 @@ complete_due-requires g c =
     let ks = c.environment.inside.waits in
     let x = c.index_mut-device.result.now in
     let here = device_inside d x c.environment.view_is c.requires.there c.index_mut-device.ensures.value in
-    let old = subst (λ (e : KeptEnvironment). IsBetweenPhases (kept_of e c.args.slots.now)) (sym c.environment.view_is) c.requires.kept in
+    let old = subst (λ (e : KeptSharedState). IsBetweenPhases (kept_of e c.args.slots.now)) (sym c.environment.view_is) c.requires.kept in
     record {
       kept = subst (λ (qs : List KeptDeferral). IsCompleting d (kept_of (record { devices = slice_set ds d c.tick_device.new.device; waits = qs }) c.args.slots.now)) (sym c.pass.ensures)
           (record {
@@ -35,4 +35,4 @@ returns-clause-simulates g c =
     ticks _ _ d c.args.tick.frames (kept_of c.args.environment.now c.args.slots.now) _ x new c.requires.tick.1 c.requires.kept.orderly.later here c.tick_device.ensures.ticks
     (λ s h. c.complete_due.ensures.step s
     (subst (λ (qs : List KeptDeferral). StandsFor (kept_of (record { devices = slice_set ds d new; waits = qs }) c.args.slots.now) s) (sym c.pass.ensures)
-    (subst (λ (e : KeptEnvironment). StandsFor (passed_kept d c.args.tick.frames new (kept_of e c.args.slots.now)) s) (sym c.environment.view_is) h)))
+    (subst (λ (e : KeptSharedState). StandsFor (passed_kept d c.args.tick.frames new (kept_of e c.args.slots.now)) s) (sym c.environment.view_is) h)))

@@ -1,5 +1,5 @@
 use Rattle.std.proofs.Common.{◌∷◌, []}
-use Rattle.af_child.specs.Acts.{words_of}
+use Rattle.af_process.specs.Acts.{words_of}
 use Rattle.af_exchange.proofs.NoteLemmas.{notes-on}
 use Rattle.af_exchange.proofs.exchange.start.Goals as goal
 

@@ -2,7 +2,7 @@ use Rattle.std.proofs.Common.{◌∙◌, ap, sym, subst}
 use Rattle.af_request.specs.Opcodes as opcodes
 use Rattle.af_context.specs.declared.Context.{Context}
 use Rattle.af_model.specs.ContextRequests.{create, creation_refusal, described}
-use Rattle.af_state.specs.Environment.{ChangesLink}
+use Rattle.af_state.specs.SharedState.{ChangesLink}
 use Rattle.af_perform.proofs.LinkRequestLemmas.{matches_refused, matches_passed}
 use Rattle.af_perform.proofs.context_requests.create_ac.Goals as goal
 

@@ -6,7 +6,7 @@ use Rattle.af_sample.specs.Channels.{frame_count}
 use Rattle.af_buffers.specs.PlayBuffer.{accepted_at, frames_beyond}
 use Rattle.af_model.specs.State.{deferred_play, open_link}
 use Rattle.af_model.specs.Play.{accepting, in_devices, start_play, tell_played}
-use Rattle.af_state.specs.Environment.{StandsForLink, StandsForEnvironment, kept}
+use Rattle.af_state.specs.SharedState.{StandsForLink, StandsForSharedState, kept}
 use Rattle.af_perform.proofs.LinkRequestLemmas.{device_here, device_there, play_started, play_waits}
 use Rattle.af_perform.proofs.LeavesLemmas.{leaves_opened, leaves_waiting}
 use Rattle.af_perform.proofs.play.accept_or_defer.Goals as goal
@@ -19,7 +19,7 @@ returns-then-frames-frames_within-clause-step c = λ x bytes is a s h there.
     let word : p.start.0 < 2 ^ 32 = search rules in
     let known : slice_get a.devices p.device ≡ Some s = ap (λ d. slice_get a.devices d) is.device ∙ there in
     let here = device_here _ ds ks a _ p.device _ s c.environment.view_is c.from.ensures c.requires.there c.index-device.ensures h known in
-    let lent = subst (λ xs. StandsForEnvironment (kept xs ks) a) (sym c.deref_mut.ensures.value) here.0 in
+    let lent = subst (λ xs. StandsForSharedState (kept xs ks) a) (sym c.deref_mut.ensures.value) here.0 in
     subst (λ xs. StandsForLink (kept xs ks) c.accept.new.link (start_play c.args.number p.quiet x p.start.0 bytes s (open_link a c.args.link.now))) (sym (with_items_is c.environment.inside.devices c.accept.new.devices (search rules)))
     (play_started ds c.accept.new.devices ks _ c.args.link.now _ c.args.number p.quiet x p.start.0 bytes p.sound.now a s word here.1 is.sound
     (subst (λ n. frame_count c.index-device.result.now.next.channels p.sound.now ≤ n) c.frames_within.ensures (subst (λ n. length p.sound.now / n ≤ c.frames_within.result) (c.from-2.ensures ∙ c.channels.ensures.value) c.if-frames-frames_within.true))

@@ -2,7 +2,7 @@ use Rattle.std.proofs.Common.{◌<◌, ◌^◌, ◌∙◌, ◌&&◌, nat_lt, ap,
 use Rattle.af_time.specs.DeviceTime.{unwrap}
 use Rattle.af_model.specs.Play.{frames_of}
 use Rattle.af_model.specs.Record.{give_record, given_frames}
-use Rattle.af_state.specs.Environment.{ChangesLink}
+use Rattle.af_state.specs.SharedState.{ChangesLink}
 use Rattle.af_perform.proofs.LinkRequestLemmas.{device_here, device_there, record_started, record_waits}
 use Rattle.af_perform.proofs.LeavesLemmas.{leaves_same, leaves_waiting}
 use Rattle.af_perform.proofs.record.answer_or_defer.Goals as goal

@@ -1,7 +1,7 @@
 use Rattle.std.proofs.Common.{◌≡◌, ◌∷◌, ◌++◌, drop, map}
 use Rattle.std.specs.Process.{command_args, command_program}
 use Rattle.arrayvec.specs.ArrayString.{ArrayString}
-use Rattle.af_child.specs.Acts.{words_of}
+use Rattle.af_process.specs.Acts.{words_of}
 use Rattle.af_program.proofs.running.command_of.Given as goal
 
 abbrev pub invariant-loop-word : goal.invariant-loop-word

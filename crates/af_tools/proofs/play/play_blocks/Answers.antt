@@ -5,7 +5,7 @@ use Rattle.std.specs.Prelude.{Err}
 use Rattle.std.specs.declared.option.Option.TheVariants.{Some}
 use Rattle.af_tool.specs.declared.end.ToolEnd.{ToolEnd}
 use Rattle.af_tool.specs.declared.end.ToolEnd.TheVariants as end
-use Rattle.af_tools.specs.Most.{most_bytes}
+use Rattle.af_tools.specs.Limits.{most_bytes}
 use Rattle.af_tools.specs.Fill.{fill_end, left_before, ConsumedAbove, ConsumedBeyond, ConsumedUpTo}
 use Rattle.af_tools.specs.Sounds.{as_served, block_bytes, source_width, stated_part, stated_room}
 use Rattle.af_tools.specs.Play.{blocks, plays, plays_sound}

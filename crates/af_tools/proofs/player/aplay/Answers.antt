@@ -7,7 +7,7 @@ use Rattle.af_tool.specs.Trace.{done, ends, writing}
 use Rattle.af_tool.specs.Ends.{client_of, TracePart}
 use Rattle.af_tools.specs.declared.player.Played.{Played}
 use Rattle.af_tools.specs.declared.sound.SourceSound.{SourceSound}
-use Rattle.af_tools.specs.Most.{most_bytes}
+use Rattle.af_tools.specs.Limits.{most_bytes}
 use Rattle.af_tools.specs.Play.{played, played_on}
 use Rattle.af_tool.proofs.FollowedLemmas.{followed_on, followed_stop}
 use Rattle.af_tools.proofs.HavingRun.{aplay_ran}

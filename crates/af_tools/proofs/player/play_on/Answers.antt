@@ -2,8 +2,8 @@ use Rattle.std.proofs.Common.{rules, inr, ◌≡◌, ◌≤◌, ◌-◌, ◌*◌
 use Rattle.std.specs.Prelude.{Result, Ok, Err}
 use Rattle.std.specs.declared.option.Option.TheVariants.{None, Some}
 use Rattle.af_io.proofs.ConsumedLemmas.{consumed_known}
-use Rattle.af_options.specs.Sizes.{block_frames, greatest_block}
-use Rattle.af_options.proofs.FrameSizeLemmas.{frame_size, some_frames}
+use Rattle.af_cli.specs.Sizes.{block_frames, greatest_block}
+use Rattle.af_cli.proofs.FrameSizeLemmas.{frame_size, some_frames}
 use Rattle.af_sample.specs.SampleTypes.{frame_bytes}
 use Rattle.af_tool.specs.declared.end.ToolEnd.{ToolEnd}
 use Rattle.af_tool.specs.declared.end.ToolEnd.TheVariants as end
@@ -11,7 +11,7 @@ use Rattle.af_tool.specs.Ends.{client_of, ObservedPart}
 use Rattle.af_tools.specs.declared.fill.FillFault.{FillFault}
 use Rattle.af_tools.specs.declared.player.Played.{Played}
 use Rattle.af_tools.specs.Fill.{fill_end, left_before, ConsumedBeyond, ConsumedUpTo}
-use Rattle.af_tools.specs.Most.{most_bytes}
+use Rattle.af_tools.specs.Limits.{most_bytes}
 use Rattle.af_tools.specs.Play.{play_context, played_frames, plays_sound, IsBlock}
 use Rattle.af_tool.proofs.PartProgressLemmas.{goes_early}
 use Rattle.af_tools.proofs.PlayTailLemmas.{tail, tail_freed, tail_named, tail_stop, tail_unfreed}

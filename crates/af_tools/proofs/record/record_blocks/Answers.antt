@@ -1,7 +1,7 @@
 use Rattle.std.proofs.Common.{rules, arith, ◌≡◌, ◌≤◌, ◌*◌, ℕ, length, take, refl, ap, ◌∙◌, length-take-le}
 use Rattle.std.specs.Prelude.{Err}
 use Rattle.af_tool.specs.Ends.{client_of}
-use Rattle.af_options.specs.Sizes.{block_frames}
+use Rattle.af_cli.specs.Sizes.{block_frames}
 use Rattle.af_tools.specs.Record.{recorded_frame}
 use Rattle.af_tools.proofs.RecordBlockLemmas.{all_recorded, record_begin, record_done, record_on, record_quiet, record_stopped, some_recorded}
 use Rattle.af_tools.proofs.record.record_blocks.Goals as goal

@@ -4,7 +4,7 @@ use Rattle.af_lib.specs.Calls.{channels_or_one}
 use Rattle.af_tool.specs.Trace.{done, ends}
 use Rattle.af_tool.specs.Ends.{client_of}
 use Rattle.af_tools.specs.Record.{recorded_on}
-use Rattle.af_tools.specs.Ways.{is_of_records}
+use Rattle.af_tools.specs.Outcomes.{is_of_records}
 use Rattle.af_tools.proofs.FiledLemmas.{is_recorded}
 use Rattle.af_tool.proofs.FollowedLemmas.{followed_done, followed_on, followed_stop}
 use Rattle.af_tools.proofs.HavingRun.{arecord_on, missing_ran, there_ran}

@@ -6,7 +6,7 @@ use Rattle.af_io.specs.Dial.{AppendedBack, IsFirstOf, ToldLink}
 use Rattle.af_tool.specs.declared.end.ToolEnd.TheVariants as end
 use Rattle.af_tool.specs.Trace.{ClientState, fault_end}
 use Rattle.af_tools.specs.Run.{RelayRanTo}
-use Rattle.af_options.specs.Words.{relay}
+use Rattle.af_cli.specs.Words.{relay}
 use Rattle.af_io.proofs.AppendedLemmas.{appended_on}
 use Rattle.af_tool.proofs.ToolEndLemmas.{fault_undone}
 use Rattle.af_tool.proofs.TracePartLemmas.{client_begun}

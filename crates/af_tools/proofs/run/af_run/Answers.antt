@@ -1,8 +1,8 @@
 use Rattle.std.proofs.Common.{refl, subst, sym, ap, ◌∙◌}
 use Rattle.std.specs.declared.option.Option.{Option}
 use Rattle.af_tool.specs.declared.end.ToolEnd.TheVariants as end
-use Rattle.af_options.specs.Words.{Job}
-use Rattle.af_options.specs.Call.{job_of_call}
+use Rattle.af_cli.specs.Words.{Job}
+use Rattle.af_cli.specs.Call.{job_of_call}
 use Rattle.af_tools.specs.Reading.{UsesSource}
 use Rattle.af_tools.specs.Run.{JobDone, form_of, job_reads, reads_of}
 use Rattle.af_tools.proofs.OutcomeLemmas.{did, ranged_call}

@@ -1,10 +1,10 @@
 use Rattle.std.proofs.Common.{rules, ◌≡◌, ap, true, false, refl}
 use Rattle.af_tool.specs.declared.end.ToolEnd.{ToolEnd}
 use Rattle.af_tool.specs.declared.end.ToolEnd.TheVariants as end
-use Rattle.af_options.specs.declared.job.Task.TheVariants as task
+use Rattle.af_cli.specs.declared.job.Task.TheVariants as task
 use Rattle.af_standing.specs.List.{is_of_list}
 use Rattle.af_tools.specs.Run.{reads_source}
-use Rattle.af_tools.specs.Ways.{is_of_tool}
+use Rattle.af_tools.specs.Outcomes.{is_of_tool}
 use Rattle.af_tools.proofs.run.perform.Goals as goal
 
 pub returns-in-Play-clause-followed : goal.returns-in-Play-clause-followed

@@ -1,5 +1,5 @@
 use Rattle.std.proofs.Common.{rules, ◌≡◌, ◌∷◌, [], refl}
-use Rattle.af_options.specs.declared.call.Call.TheVariants as call
+use Rattle.af_cli.specs.declared.call.Call.TheVariants as call
 use Rattle.af_tools.proofs.run.run_call.Goals as goal
 
 pub returns-in-One-clause-asked : goal.returns-in-One-clause-asked

@@ -2,7 +2,7 @@ use Rattle.std.proofs.Common.{List, inl, inr, refl, ◌∙◌, subst}
 use Rattle.std.specs.declared.option.Option.{Option}
 use Rattle.af_io.specs.Dial.{IsFirstOf, ToldLink}
 use Rattle.af_tool.specs.declared.end.ToolEnd.TheVariants as end
-use Rattle.af_options.specs.Words.{one}
+use Rattle.af_cli.specs.Words.{one}
 use Rattle.af_tools.specs.Run.{task_trace}
 use Rattle.af_tools.proofs.DialLemmas.{ran_none, ran_one}
 use Rattle.af_tools.proofs.OneServerLemmas.{ran_over}

@@ -1,6 +1,6 @@
 use Rattle.std.proofs.Common.{rules, [], ◌∷◌, length, ap, subst, ◌∙◌, arith}
 use Rattle.af_io.specs.Observed.{Appended}
-use Rattle.af_world.specs.declared.outer.Outer.TheVariants as noted
+use Rattle.af_world.specs.declared.lifecycle.Lifecycle.TheVariants as noted
 use Rattle.std.proofs.lemmas.List.{length-map}
 use Rattle.af_io.proofs.AppendedLemmas.{stays_stays, appended_by_none}
 use Rattle.af_config.specs.Kept.{owned_program}

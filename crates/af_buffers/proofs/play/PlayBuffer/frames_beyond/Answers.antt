@@ -1,5 +1,5 @@
 use Rattle.std.proofs.Common.{◌≡◌, subst, arith}
-use Rattle.af_buffers.specs.PlayBuffer.{Next, frames_beyond}
+use Rattle.af_buffers.specs.PlayBuffer.{PlayWindow, frames_beyond}
 use Rattle.af_buffers.proofs.HorizonLemmas.{horizon_within}
 use Rattle.af_buffers.proofs.play.PlayBuffer.frames_beyond.Goals as goal
 
@@ -9,10 +9,10 @@ returns-in-Before c =
     let listed = horizon_within c.self.inside.horizon c.self.invariant.horizon in
     let enough = listed.0 in
     let few = c.requires in
-    subst (λ (v : Next). 0 ≡ frames_beyond v c.args.start.0 c.args.frames) c.self.view_is (omega (arith, late))
+    subst (λ (v : PlayWindow). 0 ≡ frames_beyond v c.args.start.0 c.args.frames) c.self.view_is (omega (arith, late))
 
 pub returns-in-Ahead : goal.returns-in-Ahead
 returns-in-Ahead c =
     let far = c.in-Ahead.ensures.0 in
     let left = c.saturating_sub.ensures in
-    subst (λ (v : Next). c.saturating_sub.result ≡ frames_beyond v c.args.start.0 c.args.frames) c.self.view_is (omega (arith, far))
+    subst (λ (v : PlayWindow). c.saturating_sub.result ≡ frames_beyond v c.args.start.0 c.args.frames) c.self.view_is (omega (arith, far))

@@ -2,7 +2,7 @@ use Rattle.std.proofs.Common.{◌≡◌, ◌+◌, ◌/◌, ◌%◌, ◌^◌, len
 use Rattle.af_limits.specs.Limits.{longest_tick}
 use Rattle.af_ring.specs.Cells.{ClearsRun, IsRunAt}
 use Rattle.af_sample.specs.Channels.{frame_count}
-use Rattle.af_buffers.specs.PlayBuffer.{Next, next_of, HandsOut, IsRingOf}
+use Rattle.af_buffers.specs.PlayBuffer.{PlayWindow, next_of, HandsOut, IsRingOf}
 use Rattle.af_buffers.proofs.PlayRingLemmas.{hands_out, ring_of_hand_out, whole_of, few_of}
 use Rattle.af_buffers.proofs.play.PlayBuffer.hand_out.Goals as goal
 
@@ -22,7 +22,7 @@ returns-clause-next c =
     let few = few_of c.self.inside.ring c.self.inside.time.0 c.self.inside.channels c.self.inside.horizon longest_tick c.args.self.now c.args.out.now c.read_run.new.out c.self.view_is c.read_run.auto.out c.requires.count in
     let later : c.after-self-inside.result.0 ≡ (c.self.inside.time.0 + frame_count c.self.inside.channels c.read_run.new.out) % 2 ^ 32 =
     c.after-self-inside.ensures ∙ ap (λ m. (c.self.inside.time.0 + length c.read_run.new.out / m) % 2 ^ 32) c.from.ensures in
-    subst (λ (v : Next). HandsOut v (next_of c.clear_run.new.self c.after-self-inside.result.0 c.self.inside.channels c.self.inside.horizon) c.read_run.new.out) c.self.view_is
+    subst (λ (v : PlayWindow). HandsOut v (next_of c.clear_run.new.self c.after-self-inside.result.0 c.self.inside.channels c.self.inside.horizon) c.read_run.new.out) c.self.view_is
     (subst (λ t. HandsOut (next_of c.self.inside.ring c.self.inside.time.0 c.self.inside.channels c.self.inside.horizon) (next_of c.clear_run.new.self t c.self.inside.channels c.self.inside.horizon) c.read_run.new.out) (sym later)
     (hands_out c.self.inside.channels c.self.inside.ring c.clear_run.new.self c.read_run.new.out c.self.inside.time.0 c.self.inside.horizon c.self.invariant few whole
     (subst (IsRunAt c.read_run.new.out c.self.inside.ring) c.first_cell-cell.ensures c.read_run.ensures)

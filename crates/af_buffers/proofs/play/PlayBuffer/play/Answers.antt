@@ -2,7 +2,7 @@ use Rattle.std.proofs.Common.{◌*◌, ◌^◌, ◌<◌, ◌≤◌, subst, arith
 use Rattle.std.proofs.lemmas.Grind.{common_steps}
 use Rattle.af_sample.proofs.FrameLemmas.{some_channel}
 use Rattle.af_buffers.specs.Horizons.{whole_time}
-use Rattle.af_buffers.specs.PlayBuffer.{Next, next_of, accepted_at, accepted_by, Plays, ChangesCovered}
+use Rattle.af_buffers.specs.PlayBuffer.{PlayWindow, next_of, accepted_at, accepted_by, Plays, ChangesCovered}
 use Rattle.af_buffers.proofs.PlaceLemmas.{word_of_start}
 use Rattle.af_buffers.proofs.PlayRingLemmas.{LaysOver, ends_within, lays_ahead, lays_rest, lays_nothing, plays, changes_covered, ring_of_play, whole_of, within_of}
 use Rattle.af_buffers.proofs.HorizonLemmas.{samples_within}
@@ -47,27 +47,27 @@ invariant_of-self c =
 
 pub returns-in-Ahead-clause-next : goal.returns-in-Ahead-clause-next
 returns-in-Ahead-clause-next c =
-    subst (λ (v : Next). Plays v (next_of c.overlay-in-Ahead.new.ring c.self.inside.time.0 c.self.inside.channels c.self.inside.horizon) (accepted_by v c.args.start.0 c.args.samples.now c.args.preempt)) c.self.view_is
+    subst (λ (v : PlayWindow). Plays v (next_of c.overlay-in-Ahead.new.ring c.self.inside.time.0 c.self.inside.channels c.self.inside.horizon) (accepted_by v c.args.start.0 c.args.samples.now c.args.preempt)) c.self.view_is
     (plays c.self.inside.channels c.self.inside.ring c.overlay-in-Ahead.new.ring c.self.inside.time.0 c.self.inside.horizon _ c.self.invariant.room.enough (ahead c))
 
 pub returns-in-Ahead-clause-ring : goal.returns-in-Ahead-clause-ring
 returns-in-Ahead-clause-ring c =
-    subst (λ (v : Next). ChangesCovered v (next_of c.overlay-in-Ahead.new.ring c.self.inside.time.0 c.self.inside.channels c.self.inside.horizon) (accepted_by v c.args.start.0 c.args.samples.now c.args.preempt)) c.self.view_is
+    subst (λ (v : PlayWindow). ChangesCovered v (next_of c.overlay-in-Ahead.new.ring c.self.inside.time.0 c.self.inside.channels c.self.inside.horizon) (accepted_by v c.args.start.0 c.args.samples.now c.args.preempt)) c.self.view_is
     (changes_covered c.self.inside.channels c.self.inside.ring c.overlay-in-Ahead.new.ring c.self.inside.time.0 c.self.inside.horizon _ (ahead c))
 
 pub returns-then-past-samples-clause-next : goal.returns-then-past-samples-clause-next
 returns-then-past-samples-clause-next c =
-    subst (λ (v : Next). Plays v (next_of c.overlay.new.ring c.self.inside.time.0 c.self.inside.channels c.self.inside.horizon) (accepted_by v c.args.start.0 c.args.samples.now c.args.preempt)) c.self.view_is
+    subst (λ (v : PlayWindow). Plays v (next_of c.overlay.new.ring c.self.inside.time.0 c.self.inside.channels c.self.inside.horizon) (accepted_by v c.args.start.0 c.args.samples.now c.args.preempt)) c.self.view_is
     (plays c.self.inside.channels c.self.inside.ring c.overlay.new.ring c.self.inside.time.0 c.self.inside.horizon _ c.self.invariant.room.enough (late c))
 
 pub returns-then-past-samples-clause-ring : goal.returns-then-past-samples-clause-ring
 returns-then-past-samples-clause-ring c =
-    subst (λ (v : Next). ChangesCovered v (next_of c.overlay.new.ring c.self.inside.time.0 c.self.inside.channels c.self.inside.horizon) (accepted_by v c.args.start.0 c.args.samples.now c.args.preempt)) c.self.view_is
+    subst (λ (v : PlayWindow). ChangesCovered v (next_of c.overlay.new.ring c.self.inside.time.0 c.self.inside.channels c.self.inside.horizon) (accepted_by v c.args.start.0 c.args.samples.now c.args.preempt)) c.self.view_is
     (changes_covered c.self.inside.channels c.self.inside.ring c.overlay.new.ring c.self.inside.time.0 c.self.inside.horizon _ (late c))
 
 pub returns-else-past-samples-clause-next : goal.returns-else-past-samples-clause-next
 returns-else-past-samples-clause-next c =
-    subst (λ (v : Next). Plays v v (accepted_by v c.args.start.0 c.args.samples.now c.args.preempt)) c.self.view_is
+    subst (λ (v : PlayWindow). Plays v v (accepted_by v c.args.start.0 c.args.samples.now c.args.preempt)) c.self.view_is
     (plays c.self.inside.channels c.self.inside.ring c.self.inside.ring c.self.inside.time.0 c.self.inside.horizon _ c.self.invariant.room.enough
     (lays_nothing c.self.inside.channels c.self.inside.ring c.args.samples.now c.self.inside.time.0 c.args.start.0 c.in-Before.late c.args.preempt
     (some_channel c.self.inside.channels c.self.invariant.count)

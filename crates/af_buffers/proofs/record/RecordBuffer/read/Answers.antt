@@ -1,18 +1,18 @@
 use Rattle.std.proofs.Common.{◌≡◌, ◌-◌, ◌*◌, ◌/◌, ◌%◌, ◌^◌, ◌++◌, ℕ, min, pos, subst, sym, ap, ◌∙◌, arith, rules, length, refl}
 use Rattle.af_sample.specs.Channels.{frame_count, AreWholeFrames}
 use Rattle.af_ring.specs.Cells.{IsRunAt}
-use Rattle.af_buffers.specs.RecordBuffer.{Last, last_of, frames_before, samples_from}
+use Rattle.af_buffers.specs.RecordBuffer.{RecordWindow, last_of, frames_before, samples_from}
 use Rattle.af_buffers.proofs.RecordRingLemmas.{reads}
 use Rattle.af_buffers.proofs.record.RecordBuffer.read.Goals as goal
 
 pub returns : goal.returns
 returns c =
     let channels : ℕ = c.self.inside.channels in
-    let b : Last = last_of c.self.inside.ring c.self.inside.time.0 channels c.self.inside.horizon in
+    let b : RecordWindow = last_of c.self.inside.ring c.self.inside.time.0 channels c.self.inside.horizon in
     let frames : ℕ = length c.args.out.now / channels in
-    let whole : AreWholeFrames channels c.args.out.now = subst (λ (v : Last). AreWholeFrames v.channels c.args.out.now) (sym c.self.view_is) c.requires.whole in
+    let whole : AreWholeFrames channels c.args.out.now = subst (λ (v : RecordWindow). AreWholeFrames v.channels c.args.out.now) (sym c.self.view_is) c.requires.whole in
     let before : c.frames_before-before.result ≡ frames_before b c.args.start.0 =
-    subst (λ (v : Last). c.frames_before-before.result ≡ frames_before v c.args.start.0) (sym c.self.view_is) c.frames_before-before.ensures in
+    subst (λ (v : RecordWindow). c.frames_before-before.result ≡ frames_before v c.args.start.0) (sym c.self.view_is) c.frames_before-before.ensures in
     let end : c.min-end.result ≡ min frames (frames_before b c.args.start.0) =
     c.min-end.ensures ∙ ap (λ m. min (length c.args.out.now / m) c.frames_before-before.result) c.from-channels.ensures ∙ ap (min frames) before in
     let begin : c.min-begin.result ≡ min c.min-end.result (frames_before b c.args.start.0 - c.self.inside.horizon) =
@@ -25,7 +25,7 @@ returns c =
     let rest' = c.split_at_mut-further_back.ensures.back_len in
     let size = c.fill.ensures.len in
     let size' = c.fill-2.ensures.len in
-    subst (λ (v : Last). (c.fill.new.self ++ c.read_run.new.out) ++ c.fill-2.new.self ≡ samples_from v c.args.start.0 (frame_count v.channels ((c.fill.new.self ++ c.read_run.new.out) ++ c.fill-2.new.self))) c.self.view_is
+    subst (λ (v : RecordWindow). (c.fill.new.self ++ c.read_run.new.out) ++ c.fill-2.new.self ≡ samples_from v c.args.start.0 (frame_count v.channels ((c.fill.new.self ++ c.read_run.new.out) ++ c.fill-2.new.self))) c.self.view_is
     (reads c.self.inside.ring c.fill.new.self c.read_run.new.out c.fill-2.new.self c.self.inside.time.0 channels c.self.inside.horizon c.args.start.0 c.min-begin.result c.min-end.result frames c.self.invariant
     (search rules) end begin (omega arith) (omega arith) (omega arith)
     (λ j low. c.fill.ensures.clones j (pos 0) (omega arith) refl)

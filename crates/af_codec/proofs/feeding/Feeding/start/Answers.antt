@@ -1,5 +1,5 @@
 use Rattle.std.proofs.Common.{refl, arith}
-use Rattle.af_child.specs.declared.act.BeganGot.TheVariants.{Child}
+use Rattle.af_process.specs.declared.act.BeganGot.TheVariants.{Child}
 use Rattle.af_codec.proofs.EmitLemmas.{Starts-made}
 use Rattle.af_codec.proofs.feeding.Feeding.start.Goals as goal
 

@@ -1,5 +1,5 @@
 use Rattle.std.proofs.Common.{◌∙◌, ap, sym, subst, rules, IsSomeAnd}
-use Rattle.af_buffers.specs.RecordBuffer.{Last, Keeps}
+use Rattle.af_buffers.specs.RecordBuffer.{RecordWindow, Keeps}
 use Rattle.af_state.specs.Kept.{KeptDevice, StandForDevices}
 use Rattle.af_core.specs.declared.server.Core.TheInside.{Inside}
 use Rattle.af_core.specs.Stands.{Kept, Stands}
@@ -13,4 +13,4 @@ returns-clause-keeps c = λ s st.
     let kept = subst (λ (x : Inside). StandForDevices x.environment.devices s.devices) (sym c.self-inside.view_is) stands.kept.devices in
     let r = found ds s.devices c.args.device _ (device_at ds _ _ c.index.result.now c.from.ensures (search rules)) kept in
     let same = c.last.ensures ∙ ap (λ (d : KeptDevice). d.last) c.index.ensures in
-    subst (λ o. IsSomeAnd o (λ d. Keeps c.last.result.now d.channels d.captured d.begin d.now)) (sym r.here) (subst (λ (v : Last). Keeps v r.state.channels r.state.captured r.state.begin r.state.now) (sym same) r.stands.keeps)
+    subst (λ o. IsSomeAnd o (λ d. Keeps c.last.result.now d.channels d.captured d.begin d.now)) (sym r.here) (subst (λ (v : RecordWindow). Keeps v r.state.channels r.state.captured r.state.begin r.state.now) (sym same) r.stands.keeps)

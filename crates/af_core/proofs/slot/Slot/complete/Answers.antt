@@ -1,7 +1,7 @@
 use Rattle.std.proofs.Common.{◌≡◌, ◌∙◌, ap, sym, cond}
 use Rattle.std.specs.declared.option.Option.TheVariants.{None, Some}
 use Rattle.af_state.proofs.DeferredRequestLemmas.{due_waits}
-use Rattle.af_core.proofs.EnvironmentLemmas.{around_inside, due_inside}
+use Rattle.af_core.proofs.SharedStateLemmas.{around_inside, due_inside}
 use Rattle.af_core.proofs.CompletionLemmas.{completes_closed}
 use Rattle.af_core.proofs.slot.Slot.complete.Goals as goal
 

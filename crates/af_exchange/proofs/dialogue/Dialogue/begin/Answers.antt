@@ -5,7 +5,7 @@ use Rattle.af_program.specs.declared.starts.Starts.{Starts}
 use Rattle.af_program.specs.Waits.{after_end}
 use Rattle.af_exchange.specs.Dialogue.{DialogueState, Accounts, CanBegin}
 use Rattle.af_program.specs.Acts.{launched}
-use Rattle.af_child.specs.Acts.{words_of}
+use Rattle.af_process.specs.Acts.{words_of}
 use Rattle.af_exchange.proofs.NoteLemmas.{notes}
 use Rattle.af_exchange.proofs.DialogueLemmas.{Accounts-begun, Accounts-not-begun}
 use Rattle.af_exchange.proofs.dialogue.Dialogue.begin.Goals as goal

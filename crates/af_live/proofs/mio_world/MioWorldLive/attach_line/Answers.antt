@@ -1,7 +1,7 @@
 use Rattle.std.proofs.Common.{◌≡◌, ◌≤◌, true, subst}
 use Rattle.std.proofs.Math.Nat.{le_refl}
 use Rattle.af_world.specs.declared.live.Ready.TheVariants.{Done, Failed}
-use Rattle.af_child.specs.Acts.{words_of}
+use Rattle.af_process.specs.Acts.{words_of}
 use Rattle.af_lines.specs.HeldLines.{is_quiet, line_at, AttachesLine}
 use Rattle.af_live.specs.Counting.{CountsOne}
 use Rattle.af_live.specs.RealWorld.{RealState}

@@ -1,0 +1,312 @@
+-- The words of the tools: each tool is one simple command of clap, and its job is that of the matches that clap defines.
+use Rattle.std.specs.Prelude.{ℕ, ◌-◌, pos, ◌&&◌, Bool, true, false, nat_le, List, [], ◌∷◌, length, Option}
+use Rattle.std.specs.Prelude.{Some, None, codes, is_some, map, option_and_then, option_map, if◌then◌else◌}
+use Rattle.std.specs.Str.{bytes_eq}
+use Rattle.std.specs.Option.{option_map_or}
+use Rattle.af_limits.specs.Limits.{most_devices, longest_address}
+use Rattle.clap.specs.Words.{App, Row, Rule, Text, first_of, matches_of, new_app, new_rule, takes, with_rule}
+use Rattle.clap.specs.declared.builder.ArgAction.TheVariants.{SetTrue}
+use Rattle.af_cli.specs.declared.command.ArgumentKind.{ArgumentKind}
+use Rattle.af_cli.specs.declared.command.ArgumentKind.TheVariants.{Place, NeededOption, FreeOption, Flag}
+use Rattle.af_cli.specs.declared.command.Argument.{Argument}
+use Rattle.af_cli.specs.declared.job.PassJob.{PassJob}
+use Rattle.af_cli.specs.declared.job.PlayJob.{PlayJob}
+use Rattle.af_cli.specs.declared.job.RecordJob.{RecordJob}
+use Rattle.af_cli.specs.declared.job.SetJob.{SetJob}
+use Rattle.af_cli.specs.declared.job.Task.{Task}
+use Rattle.af_cli.specs.declared.job.Task.TheVariants as task
+use Rattle.af_cli.specs.declared.tool.Tool.{Tool}
+use Rattle.af_cli.specs.declared.tool.Tool.TheVariants as tool
+use Rattle.af_cli.specs.declared.words.CommonOptions.{CommonOptions}
+use Rattle.af_sample.specs.declared.sample_type.SampleType.{SampleType}
+use Rattle.af_sound.specs.declared.head.SoundForm.{SoundForm}
+use Rattle.af_text.specs.Sound.{type_of}
+use Rattle.af_wire.specs.declared.order.Order.{Order}
+use Rattle.af_wire.specs.declared.order.Order.TheVariants.{Big}
+use Rattle.af_cli.specs.Numbers.{form_in, gain_in, if_there, number_in, or_default, order_in, switch_in}
+
+-- `--id VALUE` or `--id=VALUE`
+abbrev pub option_rule : Text → Rule
+option_rule id = record (new_rule id) { long = Some id }
+
+-- what one argument of a tool is to clap
+abbrev pub rule_at : Text → ArgumentKind → Rule
+rule_at id Place = record (new_rule id) { required = true }
+rule_at id NeededOption = record (option_rule id) { required = true }
+rule_at id FreeOption = option_rule id
+rule_at id Flag = record (option_rule id) { action = Some SetTrue }
+
+abbrev pub rule_for : Argument → Rule
+rule_for w = rule_at w.0.now w.1
+
+-- the command with these arguments too, in order
+abbrev pub with_rules : App → List Rule → App
+with_rules a [] = a
+with_rules a (r ∷ rs) = with_rules (with_rule a r) rs
+
+-- the command of this name with the arguments of a table
+abbrev pub command_app : Text → List Argument → App
+command_app name words = with_rules (new_app name) (map rule_for words)
+
+-- the command of aplay
+unfoldable pub aplay_app : App
+aplay_app = with_rules (new_app (codes "aplay")) (
+    rule_at (codes "SERVER") Place ∷
+    rule_at (codes "order") FreeOption ∷
+    rule_at (codes "device") FreeOption ∷
+    rule_at (codes "file") FreeOption ∷
+    rule_at (codes "type") FreeOption ∷
+    rule_at (codes "gain") FreeOption ∷
+    rule_at (codes "block") FreeOption ∷
+    rule_at (codes "lead") FreeOption ∷
+    rule_at (codes "time") FreeOption ∷
+    rule_at (codes "preempt") Flag ∷ [])
+
+-- the command of arecord
+unfoldable pub arecord_app : App
+arecord_app = with_rules (new_app (codes "arecord")) (
+    rule_at (codes "SERVER") Place ∷
+    rule_at (codes "order") FreeOption ∷
+    rule_at (codes "device") FreeOption ∷
+    rule_at (codes "file") FreeOption ∷
+    rule_at (codes "type") FreeOption ∷
+    rule_at (codes "gain") FreeOption ∷
+    rule_at (codes "block") FreeOption ∷
+    rule_at (codes "time") FreeOption ∷
+    rule_at (codes "frames") NeededOption ∷
+    rule_at (codes "stop-peak") FreeOption ∷
+    rule_at (codes "stop-blocks") FreeOption ∷ [])
+
+-- the command of aset
+unfoldable pub aset_app : App
+aset_app = with_rules (new_app (codes "aset")) (
+    rule_at (codes "SERVER") Place ∷
+    rule_at (codes "order") FreeOption ∷
+    rule_at (codes "device") FreeOption ∷
+    rule_at (codes "input-gain") FreeOption ∷
+    rule_at (codes "output-gain") FreeOption ∷
+    rule_at (codes "input") FreeOption ∷
+    rule_at (codes "output") FreeOption ∷
+    rule_at (codes "hook") FreeOption ∷ [])
+
+-- the command of apass
+unfoldable pub apass_app : App
+apass_app = with_rules (new_app (codes "apass")) (
+    rule_at (codes "FROM") Place ∷
+    rule_at (codes "TO") Place ∷
+    rule_at (codes "order") FreeOption ∷
+    rule_at (codes "from-device") FreeOption ∷
+    rule_at (codes "to-device") FreeOption ∷
+    rule_at (codes "type") FreeOption ∷
+    rule_at (codes "gain") FreeOption ∷
+    rule_at (codes "blocks") NeededOption ∷
+    rule_at (codes "block") FreeOption ∷
+    rule_at (codes "delay") FreeOption ∷
+    rule_at (codes "slack") FreeOption ∷ [])
+
+-- the command of list
+unfoldable pub list_app : App
+list_app = with_rules (new_app (codes "list")) (
+    rule_at (codes "SERVER") Place ∷
+    rule_at (codes "order") FreeOption ∷ [])
+
+-- a number between these two, or its default
+abbrev pub number_at : Text → (default low high : ℕ) → List Row → Option ℕ
+number_at id default low high rows = or_default default (number_in low high) (first_of id rows)
+
+-- the address of a server: 1 to 64 bytes
+abbrev pub address_in : Text → Option Text
+address_in text = if nat_le 1 (length text) && nat_le (length text) longest_address then Some text else None
+
+abbrev pub address_at : Text → List Row → Option Text
+address_at id rows = option_and_then address_in (first_of id rows)
+
+-- the order of the bytes of a connection, Big by default
+abbrev pub order_at : List Row → Option Order
+order_at rows = or_default Big order_in (first_of (codes "order") rows)
+
+-- what aplay and arecord have in common, where each value is in its range
+abbrev pub basics_of : List Row → Option CommonOptions
+basics_of rows =
+    option_and_then (λ device.
+    option_and_then (λ ty.
+    option_and_then (λ gain.
+    option_and_then (λ block.
+    option_map (λ time. record { device = device; ty = ty; gain = gain; block = block; time = time })
+    (if_there (number_in 0 4294967295) (first_of (codes "time") rows)))
+    (number_at (codes "block") 1000 1 4000 rows))
+    (or_default (pos 0) gain_in (first_of (codes "gain") rows)))
+    (if_there type_of (first_of (codes "type") rows)))
+    (number_at (codes "device") 0 0 (most_devices - 1) rows)
+
+-- the form of a source, which is no file where a type is stated: a file says itself of which type its samples are
+abbrev pub form_beside : Option SampleType → Option SoundForm → Option (Option SoundForm)
+form_beside ty form = if is_some form && is_some ty then None else Some form
+
+-- the flag was given
+abbrev pub is_set : Text → List Row → Bool
+is_set id rows = option_map_or (λ value. bytes_eq value (codes "true")) (first_of id rows) false
+
+-- the job of aplay
+abbrev pub play_job : List Row → Option PlayJob
+play_job rows =
+    option_and_then (λ (basics : CommonOptions).
+    option_and_then (λ form.
+    option_map (λ lead. record {
+      device = basics.device;
+      form = form;
+      ty = basics.ty;
+      gain = basics.gain;
+      block = basics.block;
+      lead = lead;
+      time = basics.time;
+      preempt = is_set (codes "preempt") rows;
+    })
+    (number_at (codes "lead") 100 0 60000 rows))
+    (option_and_then (form_beside basics.ty) (or_default None form_in (first_of (codes "file") rows))))
+    (basics_of rows)
+
+-- the job of arecord
+abbrev pub record_job : List Row → Option RecordJob
+record_job rows =
+    option_and_then (λ (basics : CommonOptions).
+    option_and_then (λ form.
+    option_and_then (λ frames.
+    option_and_then (λ stop_peak.
+    option_map (λ stop_blocks. record {
+      device = basics.device;
+      form = form;
+      ty = basics.ty;
+      gain = basics.gain;
+      block = basics.block;
+      time = basics.time;
+      frames = frames;
+      stop_peak = stop_peak;
+      stop_blocks = stop_blocks;
+    })
+    (number_at (codes "stop-blocks") 1 1 1000000 rows))
+    (number_at (codes "stop-peak") 0 0 32768 rows))
+    (option_and_then (number_in 1 2147483647) (first_of (codes "frames") rows)))
+    (or_default None form_in (first_of (codes "file") rows)))
+    (basics_of rows)
+
+-- the job of aset
+abbrev pub set_job : List Row → Option SetJob
+set_job rows =
+    option_and_then (λ device.
+    option_and_then (λ input_gain.
+    option_and_then (λ output_gain.
+    option_and_then (λ input_on.
+    option_and_then (λ output_on.
+    option_map (λ hook_off. record {
+      device = device;
+      input_gain = input_gain;
+      output_gain = output_gain;
+      input_on = input_on;
+      output_on = output_on;
+      hook_off = hook_off;
+    })
+    (if_there (switch_in (codes "off") (codes "on")) (first_of (codes "hook") rows)))
+    (if_there (switch_in (codes "on") (codes "off")) (first_of (codes "output") rows)))
+    (if_there (switch_in (codes "on") (codes "off")) (first_of (codes "input") rows)))
+    (if_there gain_in (first_of (codes "output-gain") rows)))
+    (if_there gain_in (first_of (codes "input-gain") rows)))
+    (number_at (codes "device") 0 0 (most_devices - 1) rows)
+
+-- the job of apass
+abbrev pub pass_job : List Row → Option PassJob
+pass_job rows =
+    option_and_then (λ from_device.
+    option_and_then (λ to_device.
+    option_and_then (λ ty.
+    option_and_then (λ gain.
+    option_and_then (λ blocks.
+    option_and_then (λ block.
+    option_and_then (λ delay.
+    option_map (λ slack. record {
+      from_device = from_device;
+      to_device = to_device;
+      ty = ty;
+      gain = gain;
+      blocks = blocks;
+      block = block;
+      delay = delay;
+      slack = slack;
+    })
+    (number_at (codes "slack") 100 0 3000 rows))
+    (number_at (codes "delay") 200 0 3000 rows))
+    (number_at (codes "block") 1000 1 4000 rows))
+    (option_and_then (number_in 1 1000000) (first_of (codes "blocks") rows)))
+    (or_default (pos 0) gain_in (first_of (codes "gain") rows)))
+    (if_there type_of (first_of (codes "type") rows)))
+    (number_at (codes "to-device") 0 0 (most_devices - 1) rows))
+    (number_at (codes "from-device") 0 0 (most_devices - 1) rows)
+
+-- what a tool is asked to do: a task with one server, or to pass blocks from one server to another; and the order of its
+-- connections
+pub data Job : Type 0 where
+  one : (server : Text) (order : Order) (task : Task) → Job
+  relay : (from to : Text) (order : Order) (job : PassJob) → Job
+
+-- a task with one server, if all is there
+abbrev pub job_with : Option Task → List Row → Option Job
+job_with found rows =
+    option_and_then (λ task.
+    option_and_then (λ server.
+    option_map (λ order. one server order task)
+    (order_at rows))
+    (address_at (codes "SERVER") rows))
+    found
+
+-- a relay, if all is there
+abbrev pub relay_with : Option PassJob → List Row → Option Job
+relay_with found rows =
+    option_and_then (λ job.
+    option_and_then (λ from.
+    option_and_then (λ to.
+    option_map (λ order. relay from to order job)
+    (order_at rows))
+    (address_at (codes "TO") rows))
+    (address_at (codes "FROM") rows))
+    found
+
+-- the job of a tool, by the matches of its command, where each value is in its range
+abbrev pub job_in : Tool → List Row → Option Job
+job_in tool.Play rows = job_with (option_map (λ job. task.Play job) (play_job rows)) rows
+job_in tool.Record rows = job_with (option_map (λ job. task.Record job) (record_job rows)) rows
+job_in tool.Set rows = job_with (option_map (λ job. task.Set job) (set_job rows)) rows
+job_in tool.Pass rows = relay_with (pass_job rows) rows
+job_in tool.List rows = job_with (Some task.List) rows
+
+-- the tool with a name
+abbrev pub tool_named : Text → Option Tool
+tool_named name =
+    if bytes_eq name (codes "aplay") then Some tool.Play
+    else if bytes_eq name (codes "arecord") then Some tool.Record
+    else if bytes_eq name (codes "aset") then Some tool.Set
+    else if bytes_eq name (codes "apass") then Some tool.Pass
+    else if bytes_eq name (codes "list") then Some tool.List
+    else None
+
+-- the command of a tool
+abbrev pub tool_app : Tool → App
+tool_app tool.Play = aplay_app
+tool_app tool.Record = arecord_app
+tool_app tool.Set = aset_app
+tool_app tool.Pass = apass_app
+tool_app tool.List = list_app
+
+-- The job of some words, the first of which names a tool: that of the matches that clap defines for them, where each value is in
+-- its range.
+unfoldable pub job : List Text → Option Job
+job [] = None
+job (name ∷ words) = option_and_then (λ tool. job_in tool (matches_of (tool_app tool) (name ∷ words))) (tool_named name)
+
+-- the command of the named tool takes the words
+unfoldable pub is_taken : List Text → Bool
+is_taken [] = false
+is_taken (name ∷ words) = option_map_or (λ tool. takes (tool_app tool) (name ∷ words)) (tool_named name) false
+
+-- the words are spelled: they name a tool, its command takes them, and each value is in its range
+abbrev pub is_spelled : List Text → Bool
+is_spelled words = is_taken words && is_some (job words)

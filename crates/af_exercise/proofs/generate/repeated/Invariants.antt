@@ -1,9 +1,0 @@
-use Rattle.std.proofs.Common.{◌≡◌, ◌*◌, length}
-use Rattle.af_exercise.specs.Exercise.{repeated}
-use Rattle.af_exercise.proofs.generate.repeated.Given as goal
-
-abbrev pub invariant-loop-round : goal.invariant-loop-round
-invariant-loop-round l = record {
-  same : l.bytes.items ≡ repeated l.round l.pattern;
-  size : length l.bytes.items ≡ l.round * 2;
-}

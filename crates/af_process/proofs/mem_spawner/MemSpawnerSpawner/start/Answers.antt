@@ -1,0 +1,5 @@
+use Rattle.af_process.proofs.ActLemmas.{children_in-appended}
+use Rattle.af_process.proofs.mem_spawner.MemSpawnerSpawner.start.Goals as goal
+
+pub invariant_of-self : goal.invariant_of-self
+invariant_of-self c = children_in-appended c.self.inside.notes c.add.new.self _ _ c.self.inside.started c.began.ensures c.add.ensures c.self.invariant

@@ -1,0 +1,183 @@
+// Child programs in memory, of which chosen calls fail.
+ghost use Rattle.std.specs.Prelude.{◌≡◌, ◌≢◌, ◌↔◌, ◌⊎◌, ◌≤◌, ◌^◌, ◌-◌, [], ◌∷◌, map, is_some, IsTrue, Contains, IfOk, IfSome};
+ghost use Rattle.std.specs.declared.option.Option.TheVariants.{None, Some};
+ghost use Rattle.arrayvec.specs.ArrayVec.{array_vec_len};
+ghost use Rattle.af_io.specs.Observed.{Appended, CountsOneFault, counted, faults_after};
+ghost use Rattle.af_process.specs.Acts.{told, noted, began, given, finished, began_got, status_of, is_given, words_of, started_after, IsNextChild, RunsWhereTold};
+ghost use Rattle.af_process.specs.Memory.{status_at, ended_after};
+
+use crate::notes::{self, Notes};
+use crate::{Act, BeganGot, Finished, Spawner, Started, Words};
+use af_io::{Put, faults_after};
+use af_time::OutOfMemory;
+use std::alloc::Global;
+use std::marker::Model;
+
+/// Numbers its children, keeps every act, and does nothing else. The starts, gives and finishes whose numbers are listed fail,
+/// counted together from 0; a give that fails gives nothing. The children end with the statuses that are stated, in the order of
+/// their ends, and with 0 past them.
+///
+/// The number of a call and the counts stand still at 2^64 - 1.
+#[derive(Drop)]
+pub struct MemSpawner {
+    notes: Notes,
+    fails: Vec<u64>,
+    statuses: Vec<i32>,
+    calls: u64,
+    faults: u64,
+    started: u32,
+    ended: u64,
+}
+
+impl Model for MemSpawner {
+    ghost use Rattle.std.specs.Prelude.{◌≡◌, IfSome};
+    ghost use Rattle.af_process.specs.Acts.{children_in};
+    ghost use Rattle.af_process.specs.Memory.{MemSpawnerState};
+
+    ghost Value = { MemSpawnerState };
+
+    ghost view = { λ a. record {
+      acts = a.notes;
+      fails = a.fails.items;
+      statuses = a.statuses.items;
+      calls = a.calls;
+      faults = a.faults;
+      started = a.started;
+      ended = a.ended;
+    } };
+
+    ghost invariant = { λ a. IfSome a.notes (λ acts. a.started ≡ children_in acts) };
+}
+
+impl MemSpawner {
+    /// A spawner that has done nothing. The starts, gives and finishes with these numbers, from 0, fail, and the children end
+    /// with these statuses.
+    pub fn new(alloc: Global, fails: &[u64], statuses: &[i32]) -> Result<MemSpawner, OutOfMemory>
+        ensures { IfOk result (λ spawner. spawner ≡ record { acts = Some []; fails = fails.now; statuses = statuses.now; calls = 0; faults = 0; started = 0; ended = 0 }) }
+    {
+        Ok(MemSpawner {
+            notes: Notes::new(alloc),
+            fails: Vec::from_slice(alloc, fails)?,
+            statuses: Vec::from_slice(alloc, statuses)?,
+            calls: 0,
+            faults: 0,
+            started: 0,
+            ended: 0,
+        })
+    }
+
+    /// All acts so far, in order, if they are observed.
+    pub fn acts(&self) -> &[Act]
+        ensures { IfSome self.now.acts (λ acts. acts ≡ map told result.now) }
+    {
+        self.notes.acts()
+    }
+
+    /// Whether the acts are observed: always, but after memory ran out for one.
+    pub fn tells(&self) -> bool
+        ensures { result ≡ is_some self.now.acts }
+    {
+        self.notes.tells()
+    }
+}
+
+impl Spawner for MemSpawner {
+    ghost acts = { λ spawner. spawner.acts };
+
+    ghost started = { λ spawner. spawner.started };
+
+    ghost faults = { λ spawner. spawner.faults };
+
+    fn note(&mut self, sound: &[u8])
+        ensures acts { Appended self.old.acts (noted sound.now ∷ []) self.new.acts }
+        ensures rest { self.new ≡ record self.old { acts = self.new.acts } }
+    {
+        let act = notes::noted(self.notes.allocator(), sound);
+        self.notes.add(act);
+    }
+
+    fn start(&mut self, alloc: Global, words: &Words) -> Started
+        requires { 1 ≤ array_vec_len words.now }
+        ensures acts { Appended self.old.acts (began (words_of words.now) (began_got result) ∷ []) self.new.acts }
+        ensures next { IsNextChild self.old.acts result }
+        ensures faults { CountsOneFault (result ≡ Started.Failed) self.old.faults self.new.faults }
+        ensures failed { (result ≡ Started.Failed) ↔ (Contains self.old.fails self.old.calls ⊎ (self.old.started ≡ 2 ^ 32 - 1)) }
+        ensures child { result ≢ Started.Failed → result ≡ Started.Child self.old.started }
+        ensures calls { self.new.calls ≡ counted self.old.calls }
+        ensures rest { self.new ≡ record self.old { acts = self.new.acts; calls = self.new.calls; faults = self.new.faults; started = started_after self.old.started result } }
+    {
+        let number = self.started;
+        let fails = next_fails(self.fails.as_slice(), &mut self.calls) || number == u32::MAX;
+        self.faults = faults_after(self.faults, fails);
+        if fails {
+            self.notes.add(Ok(notes::began(words, BeganGot::Failed)));
+            return Started::Failed;
+        }
+        self.started = number + 1;
+        self.notes
+            .add(Ok(notes::began(words, BeganGot::Child(number))));
+        Started::Child(number)
+    }
+
+    fn give(&mut self, child: u32, bytes: &[u8]) -> Put
+        requires { RunsWhereTold child self.old.acts }
+        ensures acts { Appended self.old.acts (given child bytes.now (is_given result) ∷ []) self.new.acts }
+        ensures faults { CountsOneFault (result ≡ Put.Failed) self.old.faults self.new.faults }
+        ensures failed { (result ≡ Put.Failed) ↔ Contains self.old.fails self.old.calls }
+        ensures calls { self.new.calls ≡ counted self.old.calls }
+        ensures rest { self.new ≡ record self.old { acts = self.new.acts; calls = self.new.calls; faults = self.new.faults } }
+    {
+        let fails = next_fails(self.fails.as_slice(), &mut self.calls);
+        self.faults = faults_after(self.faults, fails);
+        let act = notes::given(self.notes.allocator(), child, bytes, !fails);
+        self.notes.add(act);
+        if fails { Put::Failed } else { Put::Done }
+    }
+
+    fn finish(&mut self, child: u32) -> Finished
+        requires { RunsWhereTold child self.old.acts }
+        ensures acts { Appended self.old.acts (finished child (status_of result) ∷ []) self.new.acts }
+        ensures faults { CountsOneFault (result ≡ Finished.Failed) self.old.faults self.new.faults }
+        ensures failed { (result ≡ Finished.Failed) ↔ Contains self.old.fails self.old.calls }
+        ensures status { result ≢ Finished.Failed → result ≡ Finished.Ended (status_at self.old.statuses self.old.ended) }
+        ensures calls { self.new.calls ≡ counted self.old.calls }
+        ensures rest { self.new ≡ record self.old { acts = self.new.acts; calls = self.new.calls; faults = self.new.faults; ended = ended_after self.old.ended result } }
+    {
+        let fails = next_fails(self.fails.as_slice(), &mut self.calls);
+        self.faults = faults_after(self.faults, fails);
+        if fails {
+            self.notes.add(Ok(Act::Finished {
+                child,
+                status: None,
+            }));
+            return Finished::Failed;
+        }
+        let status = stated_status(self.statuses.as_slice(), self.ended);
+        self.ended = self.ended.saturating_add(1);
+        self.notes.add(Ok(Act::Finished {
+            child,
+            status: Some(status),
+        }));
+        Finished::Ended(status)
+    }
+}
+
+// Counts a call, and says whether it fails, since its number is listed.
+fn next_fails(fails: &[u64], calls: &mut u64) -> bool
+    ensures fails { IsTrue result ↔ Contains fails.now calls.old }
+    ensures number { calls.new ≡ counted calls.old }
+{
+    let fails = fails.contains(calls);
+    *calls = calls.saturating_add(1);
+    fails
+}
+
+// The status of the child that ends as this one, counted from 0.
+fn stated_status(statuses: &[i32], number: u64) -> i32
+    ensures { result ≡ status_at statuses.now number }
+{
+    match statuses.get(number as usize) {
+        Some(status) => *status,
+        None => 0,
+    }
+}

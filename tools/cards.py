@@ -141,10 +141,11 @@ class Trial(Trials):
         return server
 
     def ends(self, server, is_logged=False):
-        """Ends a server, which said nothing unless it keeps a log, and neither did its programs."""
-        runs = server.end()
+        """Ends a server that runs. It said nothing unless it keeps a log, and neither did its programs."""
+        runs, is_silent = server.process.poll() is None, server.end()
         server.said.seek(0)
-        self.holds("the server runs, and says nothing: %s" % (b"" if is_logged else server.said.read()[:200]), runs)
+        said = b"" if is_logged else server.said.read()[:200]
+        self.holds("the server runs, and says nothing: %s" % said, runs and (is_logged or is_silent))
 
 
 def told_lost(server):

@@ -36,9 +36,9 @@ telling_begin devices first input told wire sent held is_told is = record {
 }
 
 -- a device and those after it
-pub device_next : (devices stated : List DeviceInfo) (number : ℕ) (device : DeviceInfo) → stated ≡ devices → device ≡ slice_index_or stated number device → number < length devices → drop number devices ≡ device ∷ drop (number + 1) devices
-device_next devices stated number device same is within =
-    drop_more devices number device within ∙ ap (λ (d : DeviceInfo). d ∷ drop (number + 1) devices) (sym (is ∙ ap (λ (l : List DeviceInfo). slice_index_or l number device) same))
+pub device_next : (devices stated : List DeviceInfo) (number : ℕ) (d : DeviceInfo) → stated ≡ devices → number < length devices → drop number devices ≡ slice_index_or stated number d ∷ drop (number + 1) devices
+device_next devices stated number d same within =
+    drop_more devices number d within ∙ ap (λ (l : List DeviceInfo). slice_index_or l number d ∷ drop (number + 1) devices) (sym same)
 
 tell_next : (devices : List DeviceInfo) (number : ℕ) (device : DeviceInfo) (w : ClientState) → drop number devices ≡ device ∷ drop (number + 1) devices → (next : Unit {0} → ClientState → Trace) →
     left_to_tell devices number w next ≡ tells_device number device w (λ _ w. left_to_tell devices (number + 1) w next)

@@ -58,7 +58,8 @@ fn tell_devices<L: Link + Drop, K: Sink>(conn: &mut Conn<L>, sink: &mut K) -> Re
     ensures end { IfErr result (λ how. is_of_lines how ≡ true) }
     ensures fault { CountsFault (result ≡ Err ToolEnd.SinkFault) (K.faults sink.old) (K.faults sink.new) }
 {
-    for number in 0..conn.devices().len() {
+    let count = conn.devices().len();
+    for number in 0..count {
         let device = conn.devices()[number];
         tell_device(number as u8, device, conn, sink)?;
     }

@@ -33,7 +33,8 @@ use Rattle.af_tools.specs.Play.{aplay_trace}
 use Rattle.af_tools.specs.Record.{arecord_trace}
 use Rattle.af_tool.specs.Ends.{ObservedTrace, is_outer}
 use Rattle.af_relay.specs.Relayed.{IsRelayed}
-use Rattle.af_tools.specs.Run.{JobDone, ReturnedLinks, PlayRan, JobRan, RecordRan, RelayRan, one_trace, task_trace}
+use Rattle.af_standing.proofs.ListLemmas.{list_ran}
+use Rattle.af_tools.specs.Run.{DevicesListed, JobDone, ReturnedLinks, PlayRan, JobRan, RecordRan, RelayRan, one_trace, task_trace}
 use Rattle.af_cli.specs.Words.{Job, one, relay}
 use Rattle.af_tool.proofs.ToolEndLemmas.{finish_done, reply_of}
 use Rattle.af_relay.proofs.RelayedLemmas.{answered_from, answered_to, trace_relayed}
@@ -245,6 +246,24 @@ module _ (order : Order) where
         link = d.link;
       }
 
+  -- list that is done has told each device
+  ran_listed : (server : Text) (bytes : List ℕ) (how : ToolEnd) (links : List ToldLink) (links' : Option (List ToldLink)) (held held' : Option (List ℕ)) (back back' : Option (List (List ℕ))) →
+      JobRan (one server order task.List) bytes how links links' held held' back back' → how ≡ end.Done → DevicesListed order links held held'
+  ran_listed server bytes how links links' held held' back back' r way =
+      let d = one_done server task.List bytes how links links' held held' back back' r way in
+      let b = d.after in
+      let l = list_ran b.devices (set_up order b.first.gives) how _ _ held held' d.followed in
+      record {
+        first = b.first;
+        rest = b.rest;
+        links_are = b.links_are;
+        devices = b.devices;
+        set = b.set;
+        output = l.followed.output;
+        lines = l.listed way;
+        sink = l.followed.sink;
+      }
+
 -- what a tool did that ran
 pub did : (j : Job) (bytes : List ℕ) (how : ToolEnd) (links : List ToldLink) (links' : Option (List ToldLink)) (held held' : Option (List ℕ)) (back back' : Option (List (List ℕ))) →
     JobRan j bytes how links links' held held' back back' → (how ≡ end.Done → IsInRange j) → JobDone j bytes how links links' held held' back back'
@@ -258,6 +277,7 @@ did j bytes how links links' held held' back back' r ranged = record {
       let range = subst IsInRange same (ranged way) in
       ran_played order server play bytes how links links' held held' back back' (subst (λ (x : Job). JobRan x bytes how links links' held held' back back') same r) range.0 way;
   recorded = λ server order recording same way. ran_recorded order server recording bytes how links links' held held' back back' (subst (λ (x : Job). JobRan x bytes how links links' held held' back back') same r) way;
+  listed = λ server order same way. ran_listed order server bytes how links links' held held' back back' (subst (λ (x : Job). JobRan x bytes how links links' held held' back back') same r) way;
   relayed = λ from to order pass same way.
       ran_relayed order from to pass bytes how links links' held held' back back' (subst (λ (x : Job). JobRan x bytes how links links' held held' back back') same r) (subst IsInRange same (ranged way)) way;
   complete = run_done j links bytes _ _ how r.recorded;

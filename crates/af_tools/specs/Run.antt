@@ -16,7 +16,7 @@ use Rattle.af_tools.specs.Limits.{most_bytes}
 use Rattle.af_tools.specs.Play.{aplay_trace}
 use Rattle.af_tools.specs.Record.{arecord_trace}
 use Rattle.af_tools.specs.Set.{aset_trace}
-use Rattle.af_standing.specs.List.{list_trace}
+use Rattle.af_standing.specs.List.{list_trace, HasLines}
 use Rattle.af_cli.specs.declared.job.PassJob.{PassJob}
 use Rattle.af_cli.specs.declared.job.PlayJob.{PlayJob}
 use Rattle.af_wire.specs.declared.order.Order.{Order}
@@ -222,6 +222,17 @@ pub record RecordRan (order : Order) (job : RecordJob) (links : List ToldLink) (
   pub recorded : IsRecorded job devices (set_up order first.gives) (Some []) (Some sends) held held'
   pub link : ReturnedLinks links links' (setup_bytes order ++ sends) [] back back'
 
+-- What list has told of its server: its link was set up, and the sink gained a line for each device.
+pub record DevicesListed (order : Order) (links : List ToldLink) (held held' : Option (List ℕ)) : Type 0 where
+  pub first : ToldLink
+  pub rest : List ToldLink
+  pub links_are : links ≡ first ∷ rest
+  pub devices : List DeviceInfo
+  pub set : setup_answer order first.gives ≡ Ok devices
+  pub output : List ℕ
+  pub lines : HasLines 0 devices output
+  pub sink : Appended held output held'
+
 -- the same by what the links that a dial gives, a sink, and a source if the job reads it tell
 abbrev pub RunsJob : {D S K : Type 0} → (links : D → Option (List ToldLink)) → (back : D → Option (List (List ℕ))) →
     (gives : S → Option (List ℕ)) → (held : K → Option (List ℕ)) →
@@ -276,8 +287,8 @@ pub record IsServed (trace : Trace) : Type 0 where
   pub answered : IsAnswered trace
 
 -- What the tools did for a job: it ran, and each end that replies or devices cause is that of its trace. Done, what aplay played
--- is heard as it was intended, arecord left a recording, and a relay has passed all blocks. If the source gives no more than a
--- tool takes, and the job is served, it is done, unless something from outside ended it.
+-- is heard as it was intended, arecord left a recording, list told each device, and a relay has passed all blocks. If the source
+-- gives no more than a tool takes, and the job is served, it is done, unless something from outside ended it.
 pub record JobDone (j : Job) (bytes : List ℕ) (how : ToolEnd) (links : List ToldLink) (links' : Option (List ToldLink))
     (held held' : Option (List ℕ)) (back back' : Option (List (List ℕ))) : Type 0 where
   pub ran : JobRan j bytes how links links' held held' back back'
@@ -289,6 +300,8 @@ pub record JobDone (j : Job) (bytes : List ℕ) (how : ToolEnd) (links : List To
       PlayRan order play bytes links links' held held' back back'
   pub recorded : (server : Text) (order : Order) (recording : RecordJob) → j ≡ one server order (task.Record recording) →
       how ≡ end.Done → RecordRan order recording links links' held held' back back'
+  pub listed : (server : Text) (order : Order) → j ≡ one server order task.List → how ≡ end.Done →
+      DevicesListed order links held held'
   pub relayed : (from to : Text) (order : Order) (pass : PassJob) → j ≡ relay from to order pass → how ≡ end.Done →
       RelayRan order pass links links' held held' back back'
   pub complete : length bytes ≤ most_bytes → IsServed (on_from (run_trace j links bytes)) →
